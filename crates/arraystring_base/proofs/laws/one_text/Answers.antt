@@ -1,0 +1,5 @@
+use Rattle.arraystring_base.specs.TextLaws.{bytes_same}
+use Rattle.arraystring_base.proofs.laws.one_text.Goals as goal
+
+pub returns : goal.returns
+returns c = bytes_same

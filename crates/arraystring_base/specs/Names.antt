@@ -1,0 +1,9 @@
+-- The names under which the errors are printed.
+use Rattle.std.specs.Prelude.{List, ℕ, codes}
+use Rattle.arraystring_base.specs.declared.error.Error.{Error}
+use Rattle.arraystring_base.specs.declared.error.Error.TheVariants.{Utf8, Utf16, OutOfBounds}
+
+abbrev pub error_name : Error → List ℕ
+error_name Utf8 = codes "Utf8"
+error_name Utf16 = codes "Utf16"
+error_name OutOfBounds = codes "OutOfBounds"

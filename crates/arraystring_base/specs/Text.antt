@@ -1,0 +1,73 @@
+-- Texts, which are lists of characters, and their UTF-8. Numbers have no upper bound here.
+use Rattle.std.specs.Prelude.{◌≡◌, ℕ, ◌+◌, ◌-◌, ◌/◌, ◌%◌, ◌<◌, ◌≤◌, ◌⊎◌, ◌==◌, ⊤, Bool, min, List, [], ◌∷◌, ◌++◌, if◌then◌else◌, nat_lt, nat_le}
+
+-- a Unicode scalar value: any code point but a surrogate
+abbrev pub IsScalarValue : ℕ → Type 0
+IsScalarValue c = (c < 0xD800) ⊎ ((0xE000 ≤ c) × (c < 0x11_0000))
+
+-- a text: each of its characters is a scalar value
+abbrev pub IsText : List ℕ → Type 0
+IsText [] = ⊤
+IsText (c ∷ cs) = IsScalarValue c × IsText cs
+
+-- how many bytes of UTF-8 a character takes
+unfoldable pub width : ℕ → ℕ
+width c = if nat_lt c 0x80 then 1 else if nat_lt c 0x800 then 2 else if nat_lt c 0x1_0000 then 3 else 4
+
+-- a byte that continues a character, with the last six bits of `bits`
+abbrev pub continuation : ℕ → ℕ
+continuation bits = 0x80 + bits % 64
+
+-- the UTF-8 of a character, by the four ranges of its width
+unfoldable pub utf8 : ℕ → List ℕ
+utf8 c =
+    if nat_lt c 0x80 then c ∷ [] else
+    if nat_lt c 0x800 then (0xC0 + c / 64) ∷ continuation c ∷ [] else
+    if nat_lt c 0x1_0000 then (0xE0 + c / 4096) ∷ continuation (c / 64) ∷ continuation c ∷ [] else
+    (0xF0 + c / 262144) ∷ continuation (c / 4096) ∷ continuation (c / 64) ∷ continuation c ∷ []
+
+-- how many bytes of UTF-8 a text takes
+abbrev pub size : List ℕ → ℕ
+size [] = 0
+size (c ∷ cs) = width c + size cs
+
+-- the UTF-8 of a text
+abbrev pub bytes : List ℕ → List ℕ
+bytes [] = []
+bytes (c ∷ cs) = utf8 c ++ bytes cs
+
+-- well-formed UTF-8: the bytes of some text
+abbrev pub IsWellFormed : List ℕ → Type 0
+IsWellFormed bs = (t : List ℕ) × (IsText t × (bytes t ≡ bs))
+
+-- the capacity of N places: a length is kept in one byte
+abbrev pub cap : ℕ → ℕ
+cap n = min n 255
+
+-- the longest leading part of t of size at most n
+abbrev pub cut : List ℕ → ℕ → List ℕ
+cut [] n = []
+cut (c ∷ cs) n = if nat_le (width c) n then c ∷ cut cs (n - width c) else []
+
+-- the part of t before the boundary i
+abbrev pub front : List ℕ → ℕ → List ℕ
+front t i = cut t i
+
+-- the part of t from the boundary i on
+abbrev pub back : List ℕ → ℕ → List ℕ
+back [] i = []
+back (c ∷ cs) i = if nat_le (width c) i then back cs (i - width c) else c ∷ cs
+
+-- whether i is a boundary of t: the longest leading part that fits into i bytes fills them
+abbrev pub boundary : List ℕ → ℕ → Bool
+boundary t i = size (front t i) == i
+
+-- p is a leading part of t
+abbrev pub IsLeadingPart : List ℕ → List ℕ → Type 0
+IsLeadingPart p t = (rest : List ℕ) × (t ≡ p ++ rest)
+
+-- p is a leading part of t of size at most n, and each such part is a leading part of p
+pub record IsLongestFitting (p t : List ℕ) (n : ℕ) : Type 0 where
+  pub leads : IsLeadingPart p t
+  pub fits : size p ≤ n
+  pub longest : (q : List ℕ) → IsLeadingPart q t → size q ≤ n → IsLeadingPart q p

@@ -1,0 +1,40 @@
+//! Laws of texts, which callers may rely on. Each does nothing when it is called and carries its
+//! fact in its contract.
+ghost use Rattle.std.specs.Prelude.{◌≡◌, ◌≤◌, ◌↔◌, ◌++◌, ℕ, List, IsTrue, chars};
+ghost use Rattle.arraystring_base.specs.Text.{bytes, cut, size, front, back, boundary, IsText, IsWellFormed, IsLeadingPart, IsLongestFitting};
+
+/// The cut of a text to `n` bytes is a leading part of it that fits, and no leading part that fits
+/// is longer; no other text is so.
+pub fn longest_cut()
+    ensures { (t p : List ℕ) (n : ℕ) → (p ≡ cut t n) ↔ IsLongestFitting p t n }
+{}
+
+/// The cut of a longer cut is the cut.
+pub fn cut_of_cut()
+    ensures { (t : List ℕ) (m n : ℕ) → n ≤ m → cut (cut t m) n ≡ cut t n }
+{}
+
+/// `i` is a boundary of a text exactly where one of its leading parts has size `i`.
+pub fn boundaries()
+    ensures { (t : List ℕ) (i : ℕ) → IsTrue (boundary t i) ↔ ((p : List ℕ) × IsLeadingPart p t × (size p ≡ i)) }
+{}
+
+/// The parts before and from a place are the text; before a boundary stand as many bytes as it
+/// says, and where two texts are joined, the parts are those two.
+pub fn parts()
+    ensures joined { (t : List ℕ) (i : ℕ) → front t i ++ back t i ≡ t }
+    ensures size { (t : List ℕ) (i : ℕ) → IsTrue (boundary t i) → size (front t i) ≡ i }
+    ensures before { (p q : List ℕ) → front (p ++ q) (size p) ≡ p }
+    ensures behind { (p q : List ℕ) → back (p ++ q) (size p) ≡ q }
+{}
+
+/// Bytes spell one text.
+pub fn one_text()
+    ensures { (a b : List ℕ) → bytes a ≡ bytes b → a ≡ b }
+{}
+
+/// Every `&str` is the bytes of its characters, and each of these is a Unicode scalar value.
+pub fn lent_text(given: &str)
+    ensures text { IsText (chars given.now) }
+    ensures bytes { bytes (chars given.now) ≡ given.now }
+{}

@@ -1,0 +1,70 @@
+//! Counting what a call does to bytes.
+ghost use Rattle.std.specs.Prelude.{◌≡◌, ◌+◌, ◌-◌, ◌^◌, ◌<◌, ◌≤◌, length, slice_index};
+
+use std::marker::Model;
+
+/// How many bytes were looked at, and how many were moved.
+#[derive(Clone, Copy)]
+pub struct Steps {
+    looked: u64,
+    moved: u64,
+}
+
+impl Model for Steps {
+    ghost use Rattle.std.specs.Prelude.{ℕ};
+    ghost use Rattle.arraystring_base.specs.Counts.{Counts};
+
+    ghost Value = { Counts };
+
+    ghost view = { λ s. record { looked = s.looked; moved = s.moved } };
+
+    ghost inverse = { λ s. record { looked = s.looked; moved = s.moved } };
+}
+
+impl Steps {
+    /// A fresh counter: no byte was looked at, and none was moved.
+    pub const fn new() -> Self
+        ensures looked { result.looked ≡ 0 }
+        ensures moved { result.moved ≡ 0 }
+    {
+        Steps {
+            looked: 0,
+            moved: 0,
+        }
+    }
+
+    /// How many bytes were looked at.
+    pub const fn looked(&self) -> u64
+        ensures { result ≡ self.now.looked }
+    {
+        self.looked
+    }
+
+    /// How many bytes were moved.
+    pub const fn moved(&self) -> u64
+        ensures { result ≡ self.now.moved }
+    {
+        self.moved
+    }
+
+    /// Counts `len` moves.
+    pub(crate) fn count_moves(&mut self, len: usize)
+        requires { self.old.moved + len < 2 ^ 64 }
+        ensures moved { self.new.moved ≡ self.old.moved + len }
+        ensures looked { self.new.looked ≡ self.old.looked }
+    {
+        self.moved += len as u64;
+    }
+}
+
+/// The byte at `at`, counted as one look. It must be there, and the count must not be at its end.
+pub fn look(bytes: &[u8], at: usize, steps: &mut Steps) -> u8
+    requires in_bounds { at < length bytes.now }
+    requires countable { steps.old.looked < 2 ^ 64 - 1 }
+    ensures value { result ≡ slice_index bytes.now at }
+    ensures looked { steps.new.looked ≡ steps.old.looked + 1 }
+    ensures moved { steps.new.moved ≡ steps.old.moved }
+{
+    steps.looked += 1;
+    bytes[at]
+}

@@ -1,0 +1,183 @@
+//! Boundaries, cuts and moves of bytes. Sizes and places count bytes of UTF-8.
+ghost use Rattle.std.specs.Prelude.{◌≡◌, ◌+◌, ◌-◌, ◌^◌, ◌==◌, if◌then◌else◌, ◌≤◌, ◌<◌, ◌↔◌, ◌++◌, ◌∷◌, [], ℕ, List, length, take, drop, chars, IsTrue, IsOk, IfSome, IfNone, IsCharBoundary};
+ghost use Rattle.arraystring_base.specs.Text.{bytes, cut, utf8, width, size, boundary};
+
+use crate::error::OutOfBounds;
+pub use crate::steps::{Steps, look};
+use std::str;
+
+/// Whether `size` is at most `limit`; refused with `OutOfBounds` where it is greater.
+pub fn is_inside_boundary(size: usize, limit: usize) -> Result<(), OutOfBounds>
+    ensures { IsOk result ↔ (size ≤ limit) }
+{
+    if size > limit {
+        return Err(OutOfBounds);
+    }
+    Ok(())
+}
+
+/// Whether `at` is a boundary of `text`, the size of one of its leading parts of whole characters.
+/// It is false past the length of the text.
+pub fn is_boundary(text: &str, at: usize) -> bool
+    ensures { result ≡ boundary (chars text.now) at }
+{
+    text.is_char_boundary(at)
+}
+
+/// The longest leading run of whole characters of `text` that takes at most `size` bytes, lent
+/// from the text.
+pub fn truncate_str(text: &str, size: u8) -> &str
+    ensures { result.now ≡ bytes (cut (chars text.now) size) }
+{
+    truncate_str_counted(text, size, &mut Steps::new())
+}
+
+/// The same as `truncate_str`. It looks at no more than four bytes and moves none. The count of
+/// looks must be at most 2^63.
+pub fn truncate_str_counted<'a>(text: &'a str, size: u8, steps: &mut Steps) -> &'a str
+    requires { steps.old.looked ≤ 2 ^ 63 }
+    ensures value { result.now ≡ bytes (cut (chars text.now) size) }
+    ensures looked { steps.new.looked ≤ steps.old.looked + 4 }
+    ensures counted { steps.old.looked ≤ steps.new.looked }
+    ensures moved { steps.new.moved ≡ steps.old.moved }
+{
+    let limit = size as usize;
+    if text.len() <= limit {
+        return text;
+    }
+    let end = last_boundary(text, limit, steps);
+    &text[..end]
+}
+
+/// The last character of `text` and the place where it begins, or `None` where the text is empty.
+/// It looks at no more than four bytes and moves none. The count of looks must be at most 2^63.
+pub fn last_char(text: &str, steps: &mut Steps) -> Option<(usize, char)>
+    requires { steps.old.looked ≤ 2 ^ 63 }
+    ensures some { IfSome result (λ last. (front : List ℕ) × (chars text.now ≡ front ++ last.1 ∷ []) × (size front ≡ last.0)) }
+    ensures none { IfNone result (chars text.now ≡ []) }
+    ensures looked { steps.new.looked ≤ steps.old.looked + 4 }
+    ensures counted { steps.old.looked ≤ steps.new.looked }
+    ensures moved { steps.new.moved ≡ steps.old.moved }
+{
+    if text.is_empty() {
+        return None;
+    }
+    let (start, ch) = char_before_end(text, steps);
+    Some((start, ch))
+}
+
+/// Writes the UTF-8 of `ch` from `at` on and answers how many bytes it takes. It must fit into the
+/// array from there; no other byte changes.
+#[tactic(auto, unfolding(crate::specs::Text::width, crate::specs::Text::utf8))]
+pub fn encode<const N: usize>(ch: char, array: &mut [u8; N], at: usize) -> usize
+    requires { at + width ch ≤ N }
+    ensures width { result ≡ width ch }
+    ensures bytes { array.new ≡ take at array.old ++ (utf8 ch ++ drop (at + width ch) array.old) }
+{
+    let code = ch as u32;
+    let all = &mut array[..];
+    if code < 0x80 {
+        all[at] = code as u8;
+        1
+    } else if code < 0x800 {
+        let first = (0xC0 + code / 64) as u8;
+        let second = (0x80 + code % 64) as u8;
+        all[at..at + 2].copy_from_slice(&[first, second]);
+        2
+    } else if code < 0x1_0000 {
+        let first = (0xE0 + code / 4096) as u8;
+        let second = (0x80 + code / 64 % 64) as u8;
+        let third = (0x80 + code % 64) as u8;
+        all[at..at + 3].copy_from_slice(&[first, second, third]);
+        3
+    } else {
+        let first = (0xF0 + code / 262_144) as u8;
+        let second = (0x80 + code / 4096 % 64) as u8;
+        let third = (0x80 + code / 64 % 64) as u8;
+        let fourth = (0x80 + code % 64) as u8;
+        all[at..at + 4].copy_from_slice(&[first, second, third, fourth]);
+        4
+    }
+}
+
+/// Takes the `len` bytes that stand from `from` on to `to`, overlapping or not, and counts them as
+/// moves, none where they stay. Both runs must lie in the array and the count of moves must have
+/// room for them; no byte outside the target changes.
+pub fn shift<const N: usize>(
+    array: &mut [u8; N],
+    from: usize,
+    to: usize,
+    len: usize,
+    steps: &mut Steps,
+)
+    requires source { from + len ≤ N }
+    requires target { to + len ≤ N }
+    requires countable { steps.old.moved + len < 2 ^ 64 }
+    ensures bytes { array.new ≡ take to array.old ++ (take len (drop from array.old) ++ drop (to + len) array.old) }
+    ensures moved { steps.new.moved ≡ steps.old.moved + (if from == to then 0 else len) }
+    ensures looked { steps.new.looked ≡ steps.old.looked }
+{
+    let all = &mut array[..];
+    all.copy_within(from..from + len, to);
+    if from != to {
+        steps.count_moves(len);
+    }
+}
+
+/// Whether a byte continues a character that began before it.
+fn continues(byte: u8) -> bool
+    ensures { IsTrue result ↔ ((128 ≤ byte) × (byte < 192)) }
+{
+    byte >= 0x80 && byte < 0xC0
+}
+
+/// The last boundary that is not past `limit`.
+fn last_boundary(text: &str, limit: usize, steps: &mut Steps) -> usize
+    requires within { limit < length text.now }
+    requires countable { steps.old.looked ≤ 2 ^ 63 }
+    ensures at_most { result ≤ limit }
+    ensures boundary { IsCharBoundary text.now result }
+    ensures nearest { (i : ℕ) → result < i → i ≤ limit → ¬ (IsCharBoundary text.now i) }
+    ensures looked { steps.new.looked ≤ steps.old.looked + 4 }
+    ensures counted { steps.old.looked ≤ steps.new.looked }
+    ensures moved { steps.new.moved ≡ steps.old.moved }
+{
+    let all = text.as_bytes();
+    let mut end = limit;
+    while end > 0 && continues(look(all, end, steps)) {
+        end -= 1;
+    }
+    end
+}
+
+/// The last character of a text that has one, and where it begins.
+fn char_before_end(text: &str, steps: &mut Steps) -> (usize, char)
+    requires some { 0 < length text.now }
+    requires countable { steps.old.looked ≤ 2 ^ 63 }
+    ensures before { result.0 < length text.now }
+    ensures boundary { IsCharBoundary text.now result.0 }
+    ensures last { drop result.0 text.now ≡ utf8 result.1 }
+    ensures looked { steps.new.looked ≤ steps.old.looked + 4 }
+    ensures counted { steps.old.looked ≤ steps.new.looked }
+    ensures moved { steps.new.moved ≡ steps.old.moved }
+{
+    let all = text.as_bytes();
+    let mut start = all.len() - 1;
+    let mut seen = [0; 4];
+    let mut place = 3;
+    seen[3] = look(all, start, steps);
+    while start > 0 && continues(seen[place]) {
+        start -= 1;
+        place -= 1;
+        seen[place] = look(all, start, steps);
+    }
+    let copy = &seen[..];
+    let last = unsafe { str::from_utf8_unchecked(&copy[place..]) };
+    let Some(ch) = last.chars().next() else {
+        unreachable!();
+    };
+    (start, ch)
+}
+
+#[cfg(test)]
+mod tests;

@@ -1,0 +1,11 @@
+use Rattle.std.proofs.Common.{sym, ap, ◌∙◌, eq-eqb}
+use Rattle.std.proofs.lemmas.Bool.{eqb-true}
+use Rattle.arraystring_base.specs.Text.{size}
+use Rattle.arraystring_core.specs.StoredLaws.{opened-size}
+use Rattle.arraystring_base.specs.TextLaws.{empty-size}
+use Rattle.arraystring_core.proofs.array_string.ArrayString.is_empty.Goals as goal
+
+pub returns : goal.returns
+returns g c =
+    let long = opened-size g.row.N _ _ c.self.invariant _ c.self.view_is in
+    (λ e. empty-size c.args.self.now.text (long ∙ eqb-true _ 0 e), λ e. eq-eqb _ 0 (sym long ∙ ap size e))

@@ -1,0 +1,65 @@
+-- Laws of edits: when a cause holds, and what an edit then does.
+use Rattle.std.proofs.Common.{◌≡◌, ℕ, ◌+◌, ◌<◌, ◌≤◌, List, [], ◌∷◌, ◌++◌, ap, ◌∙◌, inl, inr, refl, sym, subst, Option, Some, None, Result, Ok, Err}
+use Rattle.std.proofs.lemmas.Bool.{cases_lt, lt-ltb, le-ltb}
+use Rattle.arraystring_base.specs.Text.{size}
+use Rattle.arraystring_core.specs.Edits.{Cause, Room, Edit, Makes, first_cause, text_of, error_of, ok_unless, addition, from_out_of_bounds, last_of, all_but_last}
+use Rattle.arraystring_base.specs.declared.error.Error.{Error}
+
+-- an edit with a cause, and one without
+module _ {A : Type 0} (edit : Edit A) (t : List ℕ) where
+  pub refuses : (cause : Cause) → first_cause edit.tests ≡ Some cause → Makes edit t (Err (error_of cause)) t
+  refuses cause e = record { answer = ap (λ f. ok_unless f edit.answer) (sym e); ok = tt; err = refl }
+
+  pub makes : (answer : A) (new : List ℕ) → first_cause edit.tests ≡ None → answer ≡ edit.answer → new ≡ edit.after
+      → Makes edit t (Ok answer) new
+  makes answer new e a n = record { answer = ap Ok a ∙ ap (λ f. ok_unless f edit.answer) (sym e); ok = n; err = tt }
+
+-- where no cause holds, the edit is made
+pub Makes-done : {A : Type 0} (edit : Edit A) (t : List ℕ) (r : Result A Error) (new : List ℕ) → first_cause edit.tests ≡ None
+    → Makes edit t r new → (r ≡ Ok edit.answer) × (new ≡ edit.after)
+Makes-done edit t r new none m =
+    let is = m.answer ∙ ap (λ f. ok_unless f edit.answer) none in (is, rw is at m.ok)
+
+-- what it leaves, as one equation
+left_by : {A : Type 0} (edit : Edit A) (t new : List ℕ) (f : Option Cause) → first_cause edit.tests ≡ f
+    → Makes edit t (ok_unless f edit.answer) new → new ≡ text_of edit t
+left_by edit t new None e m = rw e m.ok
+left_by edit t new (Some cause) e m = rw e m.err
+
+pub Makes-text : {A : Type 0} (edit : Edit A) (t : List ℕ) (r : Result A Error) (new : List ℕ) → Makes edit t r new → new ≡ text_of edit t
+Makes-text edit t r new m = left_by edit t new (first_cause edit.tests) refl (subst (λ x. Makes edit t x new) m.answer m)
+
+-- the last character of a text, and those before it
+pub last_of-push : (t : List ℕ) (c : ℕ) → last_of (t ++ c ∷ []) ≡ Some c
+last_of-push [] c = refl
+last_of-push (a ∷ []) c = refl
+last_of-push (a ∷ b ∷ t) c = last_of-push (b ∷ t) c
+
+pub all_but_last-push : (t : List ℕ) (c : ℕ) → all_but_last (t ++ c ∷ []) ≡ t
+all_but_last-push [] c = refl
+all_but_last-push (a ∷ []) c = refl
+all_but_last-push (a ∷ b ∷ t) c = ap (λ l. a ∷ l) (all_but_last-push (b ∷ t) c)
+
+-- an addition is refused exactly where it does not fit
+pub addition-fits : (t given : List ℕ) (n : ℕ) → size t + size given ≤ n → first_cause (addition t given n).tests ≡ None
+addition-fits t given n fits = rw (le-ltb n (size t + size given) fits) refl
+
+pub addition-over : (t given : List ℕ) (n : ℕ) → n < size t + size given → first_cause (addition t given n).tests ≡ Some Room
+addition-over t given n over = rw (lt-ltb n (size t + size given) over) refl
+
+-- what an addition did, by what it answered
+pub addition-ok : (E : Type 0) (t given new : List ℕ) (n : ℕ) → Makes (addition t given n) t (from_out_of_bounds {E = E} (Ok tt)) new
+    → (size t + size given ≤ n) × (new ≡ t ++ given)
+addition-ok E t given new n m =
+    elim (cases_lt n (size t + size given)) [
+      | inl over ↦ let is = m.answer ∙ ap (λ f. ok_unless f tt) (addition-over t given n over) in absurd (cc)
+      | inr fits ↦ (fits, m.ok)
+    ]
+
+pub addition-err : {E : Type 0} (t given new : List ℕ) (n : ℕ) (e : E) → Makes (addition t given n) t (from_out_of_bounds (Err e)) new
+    → (n < size t + size given) × (new ≡ t)
+addition-err t given new n e m =
+    elim (cases_lt n (size t + size given)) [
+      | inl over ↦ (over, m.err)
+      | inr fits ↦ let is = m.answer ∙ ap (λ f. ok_unless f tt) (addition-fits t given n fits) in absurd (cc)
+    ]

@@ -1,0 +1,10 @@
+pub use Rattle.arraystring_base.specs.Text
+pub use Rattle.arraystring_base.specs.TextLaws
+pub use Rattle.arraystring_base.specs.CutLaws
+pub use Rattle.arraystring_base.specs.BoundaryLaws
+pub use Rattle.arraystring_base.specs.Counts
+pub use Rattle.arraystring_base.specs.Names
+pub mod Stored
+pub mod StoredLaws
+pub mod Edits
+pub mod EditLaws

@@ -1,0 +1,199 @@
+//! `ArrayString`: the type, what it shows, and what is added and taken at its end.
+ghost use Rattle.std.specs.Prelude.{◌≡◌, ◌+◌, ◌-◌, ◌≤◌, ◌↔◌, length, take, drop, Ok, [], ◌∷◌, ◌++◌, IsTrue, chars, nat_eq};
+ghost use Rattle.std.specs.Cmp.{on_equiv, on_per, partial_equiv_from_equiv};
+ghost use Rattle.std.specs.Cmp.Lexicographic.{pointwise, nat_list_eq_equiv};
+ghost use Rattle.arraystring_base.specs.Text.{size, width, bytes, cap, front, boundary, IsText};
+ghost use Rattle.arraystring_core.specs.Edits.{Makes, from_out_of_bounds, addition, addition_of_cut, popping};
+
+use arraystring_base::error::OutOfBounds;
+use arraystring_base::utils::{Steps, encode, last_char, truncate_str};
+use std::marker::Model;
+use std::{fmt, str};
+
+/// A string of at most `N` bytes of UTF-8, and at most 255, that lies in the value itself.
+///
+/// Contracts name its text, the list of its characters, and no byte of the array.
+#[derive(Clone, Copy)]
+pub struct ArrayString<const N: usize> {
+    array: [u8; N],
+    size: u8,
+}
+
+impl<const N: usize> Model for ArrayString<N> {
+    ghost use Rattle.std.specs.Prelude.{◌++◌};
+    ghost use Rattle.arraystring_base.specs.Text.{bytes, size as text_size};
+    ghost use Rattle.arraystring_core.specs.Stored.{Stored, stored, IsStored};
+    ghost use Rattle.arraystring_core.specs.StoredLaws.{stored-size, stored-all};
+
+    ghost Value = { Stored };
+
+    ghost view = { λ s. stored s.array s.size };
+
+    ghost invariant = { λ s. IsStored N s.array s.size };
+
+    ghost inverse = { λ v. record { array = bytes v.text ++ v.spare; size = text_size v.text } };
+
+    ghost inverse_ok = { λ s h i. record {
+      array = stored-all N s.array s.size h i;
+      size = stored-size N s.array s.size h i;
+    } };
+}
+
+impl<const N: usize> ArrayString<N> {
+    /// The empty string.
+    pub const fn new() -> Self
+        ensures { result.text ≡ [] }
+    {
+        ArrayString {
+            array: [0; N],
+            size: 0,
+        }
+    }
+
+    /// How many bytes fit: the lesser of `N` and 255.
+    pub const fn capacity() -> u8
+        ensures { result ≡ cap N }
+    {
+        if N < 255 { N as u8 } else { 255 }
+    }
+
+    /// How many bytes the text takes, which is never more than the capacity.
+    pub const fn len(&self) -> u8
+        ensures value { result ≡ size self.now.text }
+        ensures fits { result ≤ cap N }
+    {
+        self.size
+    }
+
+    /// Whether the text has no character.
+    pub const fn is_empty(&self) -> bool
+        ensures { IsTrue result ↔ (self.now.text ≡ []) }
+    {
+        self.size == 0
+    }
+
+    /// The text, lent without a copy. Each of its characters is a Unicode scalar value.
+    pub fn as_str(&self) -> &str
+        ensures bytes { result.now ≡ bytes self.now.text }
+        ensures text { IsText self.now.text }
+        ensures fits { size self.now.text ≤ cap N }
+    {
+        unsafe { str::from_utf8_unchecked(&self.array[..self.size as usize]) }
+    }
+
+    /// The UTF-8 of the text, lent without a copy.
+    pub fn as_bytes(&self) -> &[u8]
+        ensures { result.now ≡ bytes self.now.text }
+    {
+        &self.array[..self.size as usize]
+    }
+
+    /// Adds `ch` at the end. Refused with `OutOfBounds` where it does not fit; the text is then as
+    /// it was.
+    pub fn try_push(&mut self, ch: char) -> Result<(), OutOfBounds>
+        ensures { Makes (addition self.old.text (ch ∷ []) (cap N)) self.old.text (from_out_of_bounds result) self.new.text }
+    {
+        if self.len() as usize + ch.len_utf8() > Self::capacity() as usize {
+            return Err(OutOfBounds);
+        }
+        self.push_unchecked(ch);
+        Ok(())
+    }
+
+    /// Adds `ch` at the end. It must fit.
+    pub fn push_unchecked(&mut self, ch: char)
+        requires { size self.old.text + width ch ≤ cap N }
+        ensures { self.new.text ≡ self.old.text ++ ch ∷ [] }
+    {
+        let len = self.size as usize;
+        self.size = (len + ch.len_utf8()) as u8;
+        encode(ch, &mut self.array, len);
+    }
+
+    /// Adds `string` at the end. Refused with `OutOfBounds` where not all of it fits; the text is
+    /// then as it was.
+    pub fn try_push_str(&mut self, string: &str) -> Result<(), OutOfBounds>
+        ensures { Makes (addition self.old.text (chars string.now) (cap N)) self.old.text (from_out_of_bounds result) self.new.text }
+    {
+        if self.len() as usize + string.len() > Self::capacity() as usize {
+            return Err(OutOfBounds);
+        }
+        self.push_str_unchecked(string);
+        Ok(())
+    }
+
+    /// Adds the longest leading run of whole characters of `string` that fits at the end.
+    pub fn push_str(&mut self, string: &str)
+        ensures { Makes (addition_of_cut self.old.text (chars string.now) (cap N)) self.old.text (Ok result) self.new.text }
+    {
+        let room = Self::capacity() - self.len();
+        self.push_str_unchecked(truncate_str(string, room));
+    }
+
+    /// Adds `string` at the end. All of it must fit.
+    pub fn push_str_unchecked(&mut self, string: &str)
+        requires { size self.old.text + size (chars string.now) ≤ cap N }
+        ensures { self.new.text ≡ self.old.text ++ chars string.now }
+    {
+        let len = self.size as usize;
+        self.size = (len + string.len()) as u8;
+        copy_in(&mut self.array, len, string.as_bytes());
+    }
+
+    /// Takes the last character; `None` where the text is empty.
+    pub fn pop(&mut self) -> Option<char>
+        ensures { Makes (popping self.old.text) self.old.text (Ok result) self.new.text }
+    {
+        let (start, ch) = last_char(self.as_str(), &mut Steps::new())?;
+        self.keep(start as u8);
+        Some(ch)
+    }
+
+    /// Keeps the part before a boundary.
+    fn keep(&mut self, size: u8)
+        requires { IsTrue (boundary self.old.text size) }
+        ensures { self.new.text ≡ front self.old.text size }
+    {
+        self.size = size;
+    }
+}
+
+/// Writes `given` over the bytes from `at` on.
+fn copy_in<const N: usize>(array: &mut [u8; N], at: usize, given: &[u8])
+    requires { at + length given.now ≤ N }
+    ensures { array.new ≡ take at array.old ++ (given.now ++ drop (at + length given.now) array.old) }
+{
+    let all = &mut array[..];
+    all[at..at + given.len()].copy_from_slice(given);
+}
+
+impl<const N: usize> Default for ArrayString<N> {
+    ghost is_default = { λ s. s.text ≡ [] };
+
+    fn default() -> Self {
+        Self::new()
+    }
+}
+
+impl<const N: usize> PartialEq for ArrayString<N> {
+    ghost eq = { λ s t. pointwise nat_eq s.text t.text };
+
+    ghost laws = { on_per (λ s. s.text) (partial_equiv_from_equiv nat_list_eq_equiv) };
+
+    fn eq(&self, other: &Self) -> bool {
+        self.as_str() == other.as_str()
+    }
+}
+
+impl<const N: usize> Eq for ArrayString<N> {
+    ghost laws = { on_equiv (λ s. s.text) nat_list_eq_equiv };
+}
+
+impl<const N: usize> fmt::Debug for ArrayString<N> {
+    fn fmt<W: fmt::Write>(&self, f: &mut fmt::Formatter<W>) -> fmt::Result {
+        f.debug_struct("ArrayString")
+            .field("array", &self.as_str())
+            .field("size", &self.size)
+            .finish()
+    }
+}

@@ -1,0 +1,7 @@
+//! `ArrayString`, a string of bounded size in an array inside the value, and its laws. It takes no
+//! memory.
+#![tactic(auto)]
+
+pub mod array_string;
+
+pub use array_string::ArrayString;
