@@ -1,9 +1,9 @@
 -- Laws of the cut.
-use Rattle.std.proofs.Common.{◌≡◌, ℕ, ◌+◌, ◌-◌, ◌<◌, ◌≤◌, List, [], ◌∷◌, ◌++◌, length, subst, refl, sym, ap, ◌∙◌, arith, IsUtf8, chars, length-append, append_assoc, inl, inr}
+use Rattle.std.proofs.Common.{◌≡◌, ℕ, ◌+◌, ◌-◌, ◌<◌, ◌≤◌, List, [], ◌∷◌, ◌++◌, length, refl, sym, ap, ◌∙◌, arith, IsUtf8, chars, length-append, inl, inr}
 use Rattle.std.proofs.lemmas.Bool.{le-leb, lt-leb, cases_lt}
 use Rattle.std.proofs.lemmas.List.{append-nil}
 use Rattle.arraystring_base.specs.Text.{width, size, bytes, cut, IsLeadingPart, IsLongestFitting}
-use Rattle.arraystring_base.specs.TextLaws.{size-append, size-lent, bytes-chars}
+use Rattle.arraystring_base.specs.TextLaws.{size-lent, bytes-chars}
 
 -- p is the cut of p ++ q, where the first character of q would pass n
 pub cut-is : (p q : List ℕ) (n : ℕ) → size p ≤ n → ((c : ℕ) (es : List ℕ) → q ≡ c ∷ es → n < size p + width c)

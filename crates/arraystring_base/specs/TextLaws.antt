@@ -1,8 +1,8 @@
 -- Laws of texts and their bytes.
-use Rattle.std.proofs.Common.{◌≡◌, ℕ, ◌+◌, ◌≤◌, ◌⊎◌, List, [], ◌∷◌, ◌++◌, length, drop, refl, sym, ap, ◌∙◌, arith, IsUtf8, IsCharBoundary, chars, nat_eq, encode_utf8_all, true, inl, inr, length-append, append_assoc}
+use Rattle.std.proofs.Common.{◌≡◌, ℕ, ◌+◌, ◌≤◌, List, [], ◌∷◌, ◌++◌, length, drop, refl, sym, ap, ◌∙◌, arith, IsUtf8, IsCharBoundary, chars, nat_eq, encode_utf8_all, true, inl, inr, length-append, append_assoc}
 use Rattle.std.proofs.lemmas.Bool.{and_parts, lt-ltb, le-ltb, le-leb}
 use Rattle.std.proofs.lemmas.Bool.Decides.{same_from_decides}
-use Rattle.std.proofs.lemmas.Str.{IsUtf8-had, encodes-chars, encodes_same, length-encode, len_utf8_bounds, IsCharBoundary-past_char, scalars-chars}
+use Rattle.std.proofs.lemmas.Str.{encodes-chars, encodes_same, length-encode, len_utf8_bounds, IsCharBoundary-past_char, scalars-chars}
 use Rattle.std.proofs.Math.Utf8.{scalars, scalar, scalar_cases}
 use Rattle.std.specs.Char.{len_utf8, encode_utf8}
 use Rattle.std.specs.Cmp.Lexicographic.{pointwise, bytes_decides}

@@ -66,6 +66,7 @@ fn the_last_character(rt: HostRuntime) {
 }
 
 #[test]
+#[tactic(auto, unfolding(crate::specs::Text::width))]
 fn characters_are_encoded_in_place(rt: HostRuntime) {
     let mut array = [b'.'; 6];
     assert_eq!(rt; encode('a', &mut array, 0), 1);
