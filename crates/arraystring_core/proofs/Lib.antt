@@ -1,2 +1,3 @@
 pub mod AppendLemmas
 pub mod SpliceLemmas
+pub mod TakenLemmas

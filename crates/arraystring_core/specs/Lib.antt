@@ -8,3 +8,6 @@ pub mod Stored
 pub mod StoredLaws
 pub mod Edits
 pub mod EditLaws
+pub mod Made
+pub mod Taken
+pub mod TakenLaws

@@ -10,6 +10,9 @@ use arraystring_base::utils::{Steps, encode, last_char, truncate_str};
 use std::marker::Model;
 use std::{fmt, str};
 
+mod construct;
+mod extend;
+
 /// A string of at most `N` bytes of UTF-8, and at most 255, that lies in the value itself.
 ///
 /// Contracts name its text, the list of its characters, and no byte of the array.

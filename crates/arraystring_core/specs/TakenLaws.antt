@@ -1,0 +1,98 @@
+-- Laws of texts that are joined, and of what is taken from an iterator.
+use Rattle.std.proofs.Common.{◌≡◌, ℕ, ◌+◌, ◌-◌, ◌<◌, ◌≤◌, List, [], ◌∷◌, ◌++◌, ◌⊎◌, refl, sym, ap, subst, ◌∙◌, arith, map, append_assoc, None, inl, inr, Option}
+use Rattle.std.proofs.lemmas.List.{append-nil, map-id}
+use Rattle.std.specs.Iterator.{AlwaysYields, Yields, Drains}
+use Rattle.std.specs.Borrow.{Bor}
+use Rattle.arraystring_base.specs.Text.{size, bytes, cut}
+use Rattle.arraystring_base.specs.TextLaws.{size-append, bytes-append}
+use Rattle.arraystring_base.specs.CutLaws.{cut-past}
+use Rattle.arraystring_core.specs.Taken.{joined, joined_pieces, piece_text, Takes, Fits, Gives}
+
+-- texts joined
+pub joined-append : (a b : List (List ℕ)) → joined (a ++ b) ≡ joined a ++ joined b
+joined-append [] b = refl
+joined-append (t ∷ a) b = ap (λ l. t ++ l) (joined-append a b) ∙ sym (append_assoc t (joined a) (joined b))
+
+-- the bytes of the texts, one behind the other, are those of the joined text
+pub bytes-joined : (ts : List (List ℕ)) → bytes (joined ts) ≡ joined (map bytes ts)
+bytes-joined [] = refl
+bytes-joined (t ∷ ts) = bytes-append t (joined ts) ∙ ap (λ l. bytes t ++ l) (bytes-joined ts)
+
+-- texts behind the first that no longer fits change no cut
+pub cut-joined_past : (taken more : List (List ℕ)) (n : ℕ) → n < size (joined taken) → cut (joined (taken ++ more)) n ≡ cut (joined taken) n
+cut-joined_past taken more n past = ap (λ l. cut l n) (joined-append taken more) ∙ cut-past (joined taken) (joined more) n past
+
+-- an iterator whose items are known gives a leading part of them, and ends with all
+module _ {S A B : Type 0} (steps : S → Option A → S → Type 0) (value : A → B) where
+  always-leads : (s : S) (all : List B) (items : List A) (t : S) → AlwaysYields steps value s all → Yields steps s items t
+      → (more : List B) × (all ≡ map value items ++ more) × AlwaysYields steps value t more
+  always-leads s all [] t always yields = (all, refl, subst (λ u. AlwaysYields steps value u all) yields always)
+  always-leads s [] (x ∷ items) t always yields = absurd (always x yields.0 yields.1)
+  always-leads s (y ∷ all) (x ∷ items) t always yields =
+      let on = always.1 x yields.0 yields.1 in
+      let rest = always-leads yields.0 all items t on.1 yields.2 in
+      (rest.0, ap (λ l. y ∷ l) rest.1 ∙ ap (λ k. k ∷ (map value items ++ rest.0)) (sym on.0), rest.2)
+
+  none-left : (t u : S) (more : List B) → AlwaysYields steps value t more → steps t None u → more ≡ []
+  none-left t u [] always none = refl
+  none-left t u (y ∷ more) always none = absurd (always.0 u none)
+
+  always-all : (s : S) (all : List B) (items : List A) → AlwaysYields steps value s all → Drains steps s items → all ≡ map value items
+  always-all s all items always drains =
+      let rest = always-leads s all items drains.1.0 always drains.1.1 in
+      rest.1 ∙ ap (λ l. map value items ++ l) (none-left drains.1.0 drains.0 rest.0 rest.2 drains.1.2) ∙ append-nil (map value items)
+
+-- `spelled` is the text of items, and `whole` that of their values
+module _ {U T A B : Type 0} (becomes : U → T → Type 0) (steps : T → Option A → T → Type 0) (spelled : List A → List ℕ)
+    (value : A → B) (whole : List B → List ℕ) (is : (items : List A) → spelled items ≡ whole (map value items))
+    (parts : (a b : List B) → whole (a ++ b) ≡ whole a ++ whole b) where
+  pub leads-text : (it : T) (all : List B) (items : List A) (t : T) → AlwaysYields steps value it all → Yields steps it items t
+      → (more : List ℕ) × (whole all ≡ spelled items ++ more)
+  leads-text it all items t always yields =
+      let rest = always-leads steps value it all items t always yields in (
+        whole rest.0,
+        ap whole rest.1 ∙ parts (map value items) rest.0 ∙ ap (λ l. l ++ whole rest.0) (sym (is items)),
+      )
+
+  -- all that comes is its text
+  pub all-text : (it : T) (all : List B) (items : List A) → AlwaysYields steps value it all → Drains steps it items → spelled items ≡ whole all
+  all-text it all items always drains = is items ∙ sym (ap whole (always-all steps value it all items always drains))
+
+  -- where all fits, whatever comes fits
+  pub gives-fit : (iter : U) (room : ℕ) (all : List B) → Gives becomes steps value iter all → size (whole all) ≤ room → Fits becomes steps spelled iter room
+  gives-fit iter room all gives fits = λ it b items rest yields.
+      let lead = leads-text it all items rest (gives it b) yields in
+      omega (arith, ap size lead.1, size-append (spelled items) lead.0)
+
+  -- what was taken is all, or so much that it is larger than the room
+  pub takes-text : (iter : U) (room : ℕ) (items : List A) (all : List B) → Takes becomes steps spelled iter room items → Gives becomes steps value iter all
+      → ((spelled items ≡ whole all) × (size (spelled items) ≤ room)) ⊎ ((more : List ℕ) × (whole all ≡ spelled items ++ more) × (room < size (spelled items)))
+  takes-text iter room items all takes gives = elim takes.2 [
+    | inl ends ↦ inl (all-text takes.0 all items (gives takes.0 takes.1) ends.0, ends.1)
+    | inr stops ↦
+        let lead = leads-text takes.0 all items stops.0 (gives takes.0 takes.1) stops.1 in inr (lead.0, lead.1, stops.2.4)
+  ]
+
+  -- so its cut is the cut of all
+  pub takes-cut : (iter : U) (room : ℕ) (items : List A) (all : List B) → Takes becomes steps spelled iter room items → Gives becomes steps value iter all
+      → cut (spelled items) room ≡ cut (whole all) room
+  takes-cut iter room items all takes gives = elim (takes-text iter room items all takes gives) [
+    | inl ends ↦ ap (λ l. cut l room) ends.0
+    | inr stops ↦ sym (ap (λ l. cut l room) stops.1 ∙ cut-past (spelled items) stops.0 room stops.2)
+  ]
+
+-- the same of characters, which are their own text
+module _ {U T : Type 0} (becomes : U → T → Type 0) (steps : T → Option ℕ → T → Type 0) (iter : U) (room : ℕ) (taken all : List ℕ)
+    (takes : Takes becomes steps (λ cs. cs) iter room taken) (gives : Gives becomes steps (λ c. c) iter all) where
+  themselves : (cs : List ℕ) → cs ≡ map (λ c. c) cs
+  themselves cs = sym (map-id cs)
+
+  pub chars-cut : cut taken room ≡ cut all room
+  chars-cut = takes-cut becomes steps (λ (cs : List ℕ). cs) (λ (c : ℕ). c) (λ (cs : List ℕ). cs) themselves (λ (a b : List ℕ). refl) iter room taken all takes gives
+
+-- and of pieces
+module _ {U T : Type 0} (becomes : U → T → Type 0) (steps : T → Option (Bor (List ℕ)) → T → Type 0) (iter : U) (room : ℕ)
+    (taken : List (Bor (List ℕ))) (all : List (List ℕ))
+    (takes : Takes becomes steps joined_pieces iter room taken) (gives : Gives becomes steps piece_text iter all) where
+  pub pieces-cut : cut (joined_pieces taken) room ≡ cut (joined all) room
+  pieces-cut = takes-cut becomes steps joined_pieces piece_text joined (λ (pieces : List (Bor (List ℕ))). refl) joined-append iter room taken all takes gives
