@@ -58,3 +58,10 @@ module _ {A : Type 0} (spelled : List A → List ℕ) (one : A → List ℕ)
       ∙ append_assoc old (spelled items) (cut (one x) (n - size now))
       ∙ ap (λ l. old ++ l) (ap (λ k. spelled items ++ cut (one x) k) left
       ∙ sym (ap (λ l. cut l (n - size old)) (more items x) ∙ cut-past_part (spelled items) (one x) (n - size old) fits))
+
+-- the text `now` is the items, and with the item x they fit
+module _ {A : Type 0} (spelled : List A → List ℕ) (one : A → List ℕ)
+    (more : (items : List A) (x : A) → spelled (items ++ x ∷ []) ≡ spelled items ++ one x)
+    (now : List ℕ) (n : ℕ) (items : List A) (is : now ≡ spelled items) (x : A) where
+  pub next-fits : size (spelled (items ++ x ∷ [])) ≤ n → size now + size (one x) ≤ n
+  next-fits fits = omega (arith, fits, ap size is, ap size (more items x), size-append (spelled items) (one x))

@@ -9,5 +9,6 @@ pub mod StoredLaws
 pub mod Edits
 pub mod EditLaws
 pub mod Made
+pub mod MadeLaws
 pub mod Taken
 pub mod TakenLaws

@@ -1,12 +1,16 @@
 -- Laws of texts that are joined, and of what is taken from an iterator.
-use Rattle.std.proofs.Common.{◌≡◌, ℕ, ◌+◌, ◌-◌, ◌<◌, ◌≤◌, List, [], ◌∷◌, ◌++◌, ◌⊎◌, refl, sym, ap, subst, ◌∙◌, arith, map, append_assoc, None, inl, inr, Option}
+use Rattle.std.proofs.Common.{◌≡◌, ℕ, ◌+◌, ◌-◌, ◌<◌, ◌≤◌, List, [], ◌∷◌, ◌++◌, ◌⊎◌, refl, sym, ap, subst, ◌∙◌, arith, map, append_assoc, None, inl, inr, Option, Result}
 use Rattle.std.proofs.lemmas.List.{append-nil, map-id}
 use Rattle.std.specs.Iterator.{AlwaysYields, Yields, Drains}
 use Rattle.std.specs.Borrow.{Bor}
 use Rattle.arraystring_base.specs.Text.{size, bytes, cut}
 use Rattle.arraystring_base.specs.TextLaws.{size-append, bytes-append}
 use Rattle.arraystring_base.specs.CutLaws.{cut-past}
-use Rattle.arraystring_core.specs.Taken.{joined, joined_pieces, piece_text, Takes, Fits, Gives}
+use Rattle.arraystring_base.specs.declared.error.Error.{Error}
+use Rattle.arraystring_core.specs.Stored.{Stored}
+use Rattle.arraystring_core.specs.Made.{IsWholeOrRefused}
+use Rattle.arraystring_core.specs.MadeLaws.{made-more}
+use Rattle.arraystring_core.specs.Taken.{joined, joined_pieces, piece_text, TakesAll, Takes, Fits, Gives}
 
 -- texts joined
 pub joined-append : (a b : List (List ℕ)) → joined (a ++ b) ≡ joined a ++ joined b
@@ -82,17 +86,38 @@ module _ {U T A B : Type 0} (becomes : U → T → Type 0) (steps : T → Option
   ]
 
 -- the same of characters, which are their own text
-module _ {U T : Type 0} (becomes : U → T → Type 0) (steps : T → Option ℕ → T → Type 0) (iter : U) (room : ℕ) (taken all : List ℕ)
-    (takes : Takes becomes steps (λ cs. cs) iter room taken) (gives : Gives becomes steps (λ c. c) iter all) where
+module _ {U T : Type 0} (becomes : U → T → Type 0) (steps : T → Option ℕ → T → Type 0) (iter : U) (all : List ℕ)
+    (gives : Gives becomes steps (λ c. c) iter all) (taken : List ℕ) where
   themselves : (cs : List ℕ) → cs ≡ map (λ c. c) cs
   themselves cs = sym (map-id cs)
 
-  pub chars-cut : cut taken room ≡ cut all room
-  chars-cut = takes-cut becomes steps (λ (cs : List ℕ). cs) (λ (c : ℕ). c) (λ (cs : List ℕ). cs) themselves (λ (a b : List ℕ). refl) iter room taken all takes gives
+  parts : (a b : List ℕ) → a ++ b ≡ a ++ b
+  parts a b = refl
+
+  pub chars-all : TakesAll becomes steps iter taken → taken ≡ all
+  chars-all takes = all-text becomes steps (λ (cs : List ℕ). cs) (λ (c : ℕ). c) (λ (cs : List ℕ). cs) themselves parts takes.0 all taken (gives takes.0 takes.1) takes.2
+
+  module _ (room : ℕ) (takes : Takes becomes steps (λ cs. cs) iter room taken) where
+    pub chars-cut : cut taken room ≡ cut all room
+    chars-cut = takes-cut becomes steps (λ (cs : List ℕ). cs) (λ (c : ℕ). c) (λ (cs : List ℕ). cs) themselves parts iter room taken all takes gives
+
+    pub chars-made : (result : Result Stored Error) → IsWholeOrRefused taken room result → IsWholeOrRefused all room result
+    chars-made result = made-more result taken all room
+        (takes-text becomes steps (λ (cs : List ℕ). cs) (λ (c : ℕ). c) (λ (cs : List ℕ). cs) themselves parts iter room taken all takes gives)
 
 -- and of pieces
-module _ {U T : Type 0} (becomes : U → T → Type 0) (steps : T → Option (Bor (List ℕ)) → T → Type 0) (iter : U) (room : ℕ)
-    (taken : List (Bor (List ℕ))) (all : List (List ℕ))
-    (takes : Takes becomes steps joined_pieces iter room taken) (gives : Gives becomes steps piece_text iter all) where
-  pub pieces-cut : cut (joined_pieces taken) room ≡ cut (joined all) room
-  pieces-cut = takes-cut becomes steps joined_pieces piece_text joined (λ (pieces : List (Bor (List ℕ))). refl) joined-append iter room taken all takes gives
+module _ {U T : Type 0} (becomes : U → T → Type 0) (steps : T → Option (Bor (List ℕ)) → T → Type 0) (iter : U) (all : List (List ℕ))
+    (gives : Gives becomes steps piece_text iter all) (taken : List (Bor (List ℕ))) where
+  spelled : (pieces : List (Bor (List ℕ))) → joined_pieces pieces ≡ joined (map piece_text pieces)
+  spelled pieces = refl
+
+  pub pieces-all : TakesAll becomes steps iter taken → joined_pieces taken ≡ joined all
+  pieces-all takes = all-text becomes steps joined_pieces piece_text joined spelled joined-append takes.0 all taken (gives takes.0 takes.1) takes.2
+
+  module _ (room : ℕ) (takes : Takes becomes steps joined_pieces iter room taken) where
+    pub pieces-cut : cut (joined_pieces taken) room ≡ cut (joined all) room
+    pieces-cut = takes-cut becomes steps joined_pieces piece_text joined spelled joined-append iter room taken all takes gives
+
+    pub pieces-made : (result : Result Stored Error) → IsWholeOrRefused (joined_pieces taken) room result → IsWholeOrRefused (joined all) room result
+    pieces-made result = made-more result (joined_pieces taken) (joined all) room
+        (takes-text becomes steps joined_pieces piece_text joined spelled joined-append iter room taken all takes gives)

@@ -3,5 +3,7 @@
 #![tactic(auto)]
 
 pub mod array_string;
+pub mod laws;
+pub mod utils;
 
 pub use array_string::ArrayString;

@@ -9,5 +9,5 @@ pub returns-clause-whole : goal.returns-clause-whole
 returns-clause-whole g c = λ all gives.
     let old = c.args.self.now.text in
     let told = c.add_chars.ensures in
-    let same = chars-cut g.I.IntoIterator.into_iter_gives g.I.IntoIter.Iterator.next_gives c.args.characters (cap g.row.N - size old) told.0 all told.1 gives in
+    let same = chars-cut g.I.IntoIterator.into_iter_gives g.I.IntoIter.Iterator.next_gives c.args.characters all gives told.0 (cap g.row.N - size old) told.1 in
     makes (addition_of_cut old all (cap g.row.N)) old tt c.add_chars.new.self.text refl refl (told.3 ∙ ap (λ l. old ++ l) same)

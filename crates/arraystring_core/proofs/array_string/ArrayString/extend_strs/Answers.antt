@@ -10,5 +10,5 @@ pub returns-clause-whole : goal.returns-clause-whole
 returns-clause-whole g c = λ all gives.
     let old = c.args.self.now.text in
     let told = c.add_strs.ensures in
-    let same = pieces-cut g.I.IntoIterator.into_iter_gives g.I.IntoIter.Iterator.next_gives c.args.pieces (cap g.row.N - size old) told.0 all told.1 gives in
+    let same = pieces-cut g.I.IntoIterator.into_iter_gives g.I.IntoIter.Iterator.next_gives c.args.pieces all gives told.0 (cap g.row.N - size old) told.1 in
     makes (addition_of_cut old (joined all) (cap g.row.N)) old tt c.add_strs.new.self.text refl refl (told.3 ∙ ap (λ l. old ++ l) same)
