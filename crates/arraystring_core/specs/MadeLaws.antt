@@ -1,5 +1,5 @@
 -- Laws of what a constructor makes.
-use Rattle.std.proofs.Common.{◌≡◌, ℕ, ◌+◌, ◌-◌, ◌<◌, ◌≤◌, List, [], ◌++◌, ◌⊎◌, refl, sym, ap, ◌∙◌, arith, inl, inr, Result, Ok, Err, subst}
+use Rattle.std.proofs.Common.{◌≡◌, ℕ, ◌-◌, ◌<◌, ◌≤◌, List, [], ◌++◌, ◌⊎◌, refl, ap, ◌∙◌, arith, inl, inr, Result, Ok, Err, subst}
 use Rattle.std.specs.Result.{IsErr}
 use Rattle.arraystring_base.specs.Text.{size, cut}
 use Rattle.arraystring_base.specs.TextLaws.{size-append}

@@ -200,3 +200,6 @@ impl<const N: usize> fmt::Debug for ArrayString<N> {
             .finish()
     }
 }
+
+#[cfg(test)]
+mod tests;

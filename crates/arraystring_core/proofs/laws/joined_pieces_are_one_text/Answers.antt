@@ -1,4 +1,4 @@
-use Rattle.std.proofs.Common.{◌∙◌, sym, ap, chars}
+use Rattle.std.proofs.Common.{◌∙◌, sym, ap}
 use Rattle.arraystring_base.specs.Text.{cut}
 use Rattle.arraystring_base.specs.TextLaws.{chars-bytes}
 use Rattle.arraystring_core.specs.Taken.{joined}

@@ -1,5 +1,4 @@
-use Rattle.std.proofs.Common.{◌≡◌, ◌+◌, ◌-◌, ◌<◌, ◌≤◌, ◌++◌, ◌∷◌, [], sym, ap, ◌∙◌, arith, inl, inr}
-use Rattle.std.proofs.lemmas.List.{append-nil}
+use Rattle.std.proofs.Common.{◌+◌, ◌-◌, ◌≤◌, ◌++◌, ◌∷◌, [], sym, ap, ◌∙◌, arith, inl, inr}
 use Rattle.std.proofs.iter.Next.{Yields-more}
 use Rattle.arraystring_base.specs.Text.{size, cap, cut}
 use Rattle.arraystring_base.specs.CutLaws.{cut-all}

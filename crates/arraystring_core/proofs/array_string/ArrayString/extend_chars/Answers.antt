@@ -1,4 +1,4 @@
-use Rattle.std.proofs.Common.{◌-◌, ◌++◌, ◌∙◌, ap, refl, ℕ}
+use Rattle.std.proofs.Common.{◌-◌, ◌++◌, ◌∙◌, ap, refl}
 use Rattle.arraystring_base.specs.Text.{size, cap}
 use Rattle.arraystring_core.specs.Edits.{addition_of_cut}
 use Rattle.arraystring_core.specs.EditLaws.{makes}

@@ -1,4 +1,4 @@
-use Rattle.std.proofs.Common.{◌≡◌, ◌+◌, ◌≤◌, ◌∙◌, rules, arith}
+use Rattle.std.proofs.Common.{◌+◌, ◌≤◌, ◌∙◌, rules, arith}
 use Rattle.std.proofs.iter.Next.{Yields-more}
 use Rattle.arraystring_base.specs.Text.{width, size, cap}
 use Rattle.arraystring_core.specs.TakenLaws.{chars-all}

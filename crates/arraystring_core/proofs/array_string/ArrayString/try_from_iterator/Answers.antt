@@ -1,4 +1,4 @@
-use Rattle.std.proofs.Common.{ℕ, ◌-◌, ◌<◌, ◌≤◌, subst, arith, Ok}
+use Rattle.std.proofs.Common.{◌<◌, subst, arith, Ok}
 use Rattle.arraystring_base.specs.Text.{size, cap}
 use Rattle.arraystring_core.specs.Edits.{from_out_of_bounds}
 use Rattle.arraystring_core.specs.Taken.{joined_pieces, Takes}

@@ -1,4 +1,4 @@
-use Rattle.std.proofs.Common.{◌≡◌, ◌<◌, ◌≤◌, ◌∙◌, sym, ap, arith, chars, IsUtf8, refl}
+use Rattle.std.proofs.Common.{◌≡◌, ◌<◌, ◌≤◌, ◌∙◌, sym, ap, arith, chars, refl}
 use Rattle.arraystring_base.specs.Text.{size, bytes, cap}
 use Rattle.arraystring_base.specs.TextLaws.{well_formed-utf8, utf8-well_formed, chars-bytes, bytes-chars}
 use Rattle.arraystring_core.proofs.array_string.ArrayString.try_from_utf8.Goals as goal
