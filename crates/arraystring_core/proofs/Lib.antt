@@ -1,2 +1,5 @@
 pub mod AppendLemmas
 pub mod SpliceLemmas
+pub mod AsciiLemmas
+pub mod TrimLemmas
+pub mod RetainLemmas

@@ -8,3 +8,4 @@ pub mod Stored
 pub mod StoredLaws
 pub mod Edits
 pub mod EditLaws
+pub mod Asked
