@@ -1,3 +1,6 @@
 pub mod AppendLemmas
 pub mod SpliceLemmas
 pub mod TakenLemmas
+pub mod AsciiLemmas
+pub mod TrimLemmas
+pub mod RetainLemmas

@@ -1,8 +1,9 @@
 -- Laws of edits: when a cause holds, and what an edit then does.
-use Rattle.std.proofs.Common.{◌≡◌, ℕ, ◌+◌, ◌<◌, ◌≤◌, List, [], ◌∷◌, ◌++◌, ap, ◌∙◌, inl, inr, refl, sym, subst, Option, Some, None, Result, Ok, Err}
-use Rattle.std.proofs.lemmas.Bool.{cases_lt, lt-ltb, le-ltb}
-use Rattle.arraystring_base.specs.Text.{size}
-use Rattle.arraystring_core.specs.Edits.{Cause, Room, Edit, Makes, first_cause, text_of, error_of, ok_unless, addition, from_out_of_bounds, last_of, all_but_last}
+use Rattle.std.proofs.Common.{◌≡◌, ℕ, ◌+◌, ◌<◌, ◌≤◌, List, [], ◌∷◌, ◌++◌, ap, ◌∙◌, arith, true, false, inl, inr, refl, sym, subst, Option, Some, None, Result, Ok, Err}
+use Rattle.std.proofs.lemmas.Bool.{cases_lt, lt-ltb, le-ltb, and_right, both_ways}
+use Rattle.arraystring_base.specs.Text.{size, boundary}
+use Rattle.arraystring_base.specs.BoundaryLaws.{boundary-end}
+use Rattle.arraystring_core.specs.Edits.{Cause, Room, Edit, Makes, first_cause, text_of, error_of, ok_unless, inside, addition, from_out_of_bounds, last_of, all_but_last}
 use Rattle.arraystring_base.specs.declared.error.Error.{Error}
 
 -- an edit with a cause, and one without
@@ -39,6 +40,23 @@ pub all_but_last-push : (t : List ℕ) (c : ℕ) → all_but_last (t ++ c ∷ []
 all_but_last-push [] c = refl
 all_but_last-push (a ∷ []) c = refl
 all_but_last-push (a ∷ b ∷ t) c = ap (λ l. a ∷ l) (all_but_last-push (b ∷ t) c)
+
+-- a boundary is not inside, and a place in the text that is no boundary is
+pub inside-not : (t : List ℕ) (i : ℕ) → boundary t i ≡ true → (inside t i).holds ≡ false
+inside-not t i b = rw b (and_right _ false refl)
+
+pub inside-so : (t : List ℕ) (i : ℕ) → i ≤ size t → boundary t i ≡ false → (inside t i).holds ≡ true
+inside-so t i le b =
+    elim (cases_lt i (size t)) [
+      | inl lt ↦ rw (b, lt-ltb i (size t) lt)
+      | inr ge ↦
+          let end : i ≡ size t = omega arith in
+          absurd (both_ways (boundary t i) b (ap (boundary t) end ∙ boundary-end t))
+    ]
+
+-- nor is a place past the text
+pub inside-past : (t : List ℕ) (i : ℕ) → size t ≤ i → (inside t i).holds ≡ false
+inside-past t i ge = rw (le-ltb i (size t) ge)
 
 -- an addition is refused exactly where it does not fit
 pub addition-fits : (t given : List ℕ) (n : ℕ) → size t + size given ≤ n → first_cause (addition t given n).tests ≡ None

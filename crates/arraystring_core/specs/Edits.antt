@@ -1,6 +1,8 @@
 -- What each edit does to a text: its causes in the order of its tests, its answer, and the text after.
-use Rattle.std.specs.Prelude.{◌≡◌, ℕ, ◌+◌, ◌-◌, List, [], ◌∷◌, ◌++◌, Bool, Option, Some, None, Result, Ok, Err, OnOk, OnErr, if◌then◌else◌, nat_lt, is_none}
-use Rattle.arraystring_base.specs.Text.{size, cut}
+use Rattle.std.specs.Prelude.{◌≡◌, ℕ, ◌+◌, ◌-◌, List, [], ◌∷◌, ◌++◌, Bool, not, ◌&&◌, ◌==◌, Option, Some, None, Result, Ok, Err, OnOk, OnErr, if◌then◌else◌, nat_lt, nat_le, is_none, slice_index, drop, map, reverse}
+use Rattle.std.specs.Char.{to_ascii_uppercase, to_ascii_lowercase}
+use Rattle.arraystring_base.specs.Text.{size, cut, front, back, boundary}
+use Rattle.arraystring_core.specs.Stored.{Stored}
 use Rattle.arraystring_base.specs.declared.error.Error.{Error}
 use Rattle.arraystring_base.specs.declared.error.Error.TheVariants as error
 
@@ -19,6 +21,18 @@ error_of Inside = error.Utf8
 pub record Test : Type 0 where
   pub holds : Bool
   pub cause : Cause
+
+-- i is greater than the size of t
+abbrev pub past : List ℕ → ℕ → Test
+past t i = record { holds = nat_lt (size t) i; cause = Past }
+
+-- no character of t begins at i or behind it
+abbrev pub at_end : List ℕ → ℕ → Test
+at_end t i = record { holds = nat_le (size t) i; cause = Past }
+
+-- i is not past the text and no boundary of it
+abbrev pub inside : List ℕ → ℕ → Test
+inside t i = record { holds = nat_lt i (size t) && not (boundary t i); cause = Inside }
 
 -- a result of this size does not fit into n bytes
 abbrev pub no_room : ℕ → ℕ → Test
@@ -57,6 +71,16 @@ abbrev pub from_out_of_bounds : {A E : Type 0} → Result A E → Result A Error
 from_out_of_bounds (Ok answer) = Ok answer
 from_out_of_bounds (Err e) = Err error.OutOfBounds
 
+-- the result of a call that has `Utf8` as its one error
+abbrev pub from_utf8_error : {A E : Type 0} → Result A E → Result A Error
+from_utf8_error (Ok answer) = Ok answer
+from_utf8_error (Err e) = Err error.Utf8
+
+-- the result of a call that answers a string
+abbrev pub with_text : Result Stored Error → Result (List ℕ) Error
+with_text (Ok s) = Ok s.text
+with_text (Err e) = Err e
+
 -- the last character of a text, and those before it
 abbrev pub last_of : List ℕ → Option ℕ
 last_of [] = None
@@ -68,6 +92,21 @@ all_but_last [] = []
 all_but_last (c ∷ []) = []
 all_but_last (c ∷ d ∷ ds) = c ∷ all_but_last (d ∷ ds)
 
+-- a text without the characters at its start that pass, and without those at its end
+abbrev pub without_leading : (ℕ → Bool) → List ℕ → List ℕ
+without_leading passes [] = []
+without_leading passes (c ∷ cs) = if passes c then without_leading passes cs else c ∷ cs
+
+abbrev pub without_trailing : (ℕ → Bool) → List ℕ → List ℕ
+without_trailing passes t = reverse (without_leading passes (reverse t))
+
+-- the part of t between two boundaries
+abbrev pub part : List ℕ → ℕ → ℕ → List ℕ
+part t start end = back (front t end) start
+
+abbrev pub is_space : ℕ → Bool
+is_space c = c == 0x20
+
 -- the table
 
 abbrev pub addition : List ℕ → List ℕ → ℕ → Edit (Unit {0})
@@ -78,3 +117,45 @@ addition_of_cut t given n = record { tests = []; answer = tt; after = t ++ cut g
 
 abbrev pub popping : List ℕ → Edit (Option ℕ)
 popping t = record { tests = []; answer = last_of t; after = all_but_last t }
+
+abbrev pub insertion : List ℕ → ℕ → List ℕ → ℕ → Edit (Unit {0})
+insertion t i given n = record {
+  tests = past t i ∷ no_room (size t + size given) n ∷ inside t i ∷ [];
+  answer = tt;
+  after = front t i ++ (given ++ back t i);
+}
+
+abbrev pub insertion_of_cut : List ℕ → ℕ → List ℕ → ℕ → Edit (Unit {0})
+insertion_of_cut t i given n = record {
+  tests = past t i ∷ inside t i ∷ [];
+  answer = tt;
+  after = front t i ++ (cut given (n - size t) ++ back t i);
+}
+
+abbrev pub truncation : List ℕ → ℕ → Edit (Unit {0})
+truncation t i = record { tests = inside t i ∷ []; answer = tt; after = front t i }
+
+abbrev pub trimming : List ℕ → Edit (Unit {0})
+trimming t = record { tests = []; answer = tt; after = without_leading is_space (without_trailing is_space t) }
+
+-- the character that begins at i is taken out
+abbrev pub removal : List ℕ → ℕ → Edit ℕ
+removal t i = record {
+  tests = at_end t i ∷ inside t i ∷ [];
+  answer = slice_index (back t i) 0;
+  after = front t i ++ drop 1 (back t i);
+}
+
+abbrev pub clearing : Edit (Unit {0})
+clearing = record { tests = []; answer = tt; after = [] }
+
+-- the part from i on is the answer
+abbrev pub split : List ℕ → ℕ → Edit (List ℕ)
+split t i = record { tests = past t i ∷ inside t i ∷ []; answer = back t i; after = front t i }
+
+-- a..z become A..Z, and A..Z become a..z
+abbrev pub uppercase : List ℕ → Edit (Unit {0})
+uppercase t = record { tests = []; answer = tt; after = map to_ascii_uppercase t }
+
+abbrev pub lowercase : List ℕ → Edit (Unit {0})
+lowercase t = record { tests = []; answer = tt; after = map to_ascii_lowercase t }

@@ -12,3 +12,4 @@ pub mod Made
 pub mod MadeLaws
 pub mod Taken
 pub mod TakenLaws
+pub mod Asked

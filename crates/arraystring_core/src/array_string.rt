@@ -1,17 +1,21 @@
-//! `ArrayString`: the type, what it shows, and what is added and taken at its end.
-ghost use Rattle.std.specs.Prelude.{◌≡◌, ◌+◌, ◌-◌, ◌≤◌, ◌↔◌, length, take, drop, Ok, [], ◌∷◌, ◌++◌, IsTrue, chars, nat_eq};
+//! `ArrayString`: the type, what it shows, and what is added and taken at its end. The modules
+//! below hold its other calls.
+ghost use Rattle.std.specs.Prelude.{◌≡◌, ◌≢◌, ◌+◌, ◌-◌, ◌^◌, ◌==◌, ◌<◌, ◌≤◌, ◌↔◌, if◌then◌else◌, min, length, take, drop, Ok, [], ◌∷◌, ◌++◌, IsTrue, chars, nat_eq};
 ghost use Rattle.std.specs.Cmp.{on_equiv, on_per, partial_equiv_from_equiv};
 ghost use Rattle.std.specs.Cmp.Lexicographic.{pointwise, nat_list_eq_equiv};
-ghost use Rattle.arraystring_base.specs.Text.{size, width, bytes, cap, front, boundary, IsText};
+ghost use Rattle.arraystring_base.specs.Text.{size, width, utf8, bytes, cap, front, back, boundary, IsText};
 ghost use Rattle.arraystring_core.specs.Edits.{Makes, from_out_of_bounds, addition, addition_of_cut, popping};
 
 use arraystring_base::error::OutOfBounds;
-use arraystring_base::utils::{Steps, encode, last_char, truncate_str};
+use arraystring_base::utils::{Steps, encode, is_boundary, last_char, shift, truncate_str};
 use std::marker::Model;
 use std::{fmt, str};
 
+mod ascii;
 mod construct;
 mod extend;
+mod insert;
+mod remove;
 
 /// A string of at most `N` bytes of UTF-8, and at most 255, that lies in the value itself.
 ///
@@ -152,6 +156,32 @@ impl<const N: usize> ArrayString<N> {
         Some(ch)
     }
 
+    /// Whether a character begins at `at`, or the text ends there.
+    fn is_boundary(&self, at: usize) -> bool
+        ensures { result ≡ boundary self.now.text at }
+    {
+        is_boundary(self.as_str(), at)
+    }
+
+    /// Puts `given` in place of the text between two boundaries. There must be room for it.
+    fn splice(&mut self, start: usize, end: usize, given: &str, steps: &mut Steps)
+        requires order { start ≤ end }
+        requires start { IsTrue (boundary self.old.text start) }
+        requires end { IsTrue (boundary self.old.text end) }
+        requires room { size self.old.text - (end - start) + size (chars given.now) ≤ cap N }
+        requires countable { steps.old.moved ≤ 2 ^ 63 }
+        ensures text { self.new.text ≡ front self.old.text start ++ (chars given.now ++ back self.old.text end) }
+        ensures tail_alone { size (chars given.now) ≤ end - start → steps.new.moved ≤ steps.old.moved + (size self.old.text - end) }
+        ensures most { steps.new.moved ≤ steps.old.moved + (start + (size self.old.text - end)) }
+        ensures least { end ≢ start + size (chars given.now) → steps.old.moved + min start (size self.old.text - end) ≤ steps.new.moved }
+        ensures counted { steps.old.moved ≤ steps.new.moved }
+        ensures looked { steps.new.looked ≡ steps.old.looked }
+    {
+        let tail = self.size as usize - end;
+        join(&mut self.array, start, given.as_bytes(), end, tail, steps);
+        self.size = (start + (given.len() + tail)) as u8;
+    }
+
     /// Keeps the part before a boundary.
     fn keep(&mut self, size: u8)
         requires { IsTrue (boundary self.old.text size) }
@@ -159,6 +189,40 @@ impl<const N: usize> ArrayString<N> {
     {
         self.size = size;
     }
+}
+
+/// Puts `given` behind the first `start` bytes, and behind it the `tail` bytes that stand from
+/// `from` on.
+fn join<const N: usize>(
+    array: &mut [u8; N],
+    start: usize,
+    given: &[u8],
+    from: usize,
+    tail: usize,
+    steps: &mut Steps,
+)
+    requires source { from + tail ≤ N }
+    requires room { start + (length given.now + tail) ≤ N }
+    requires countable { steps.old.moved + tail < 2 ^ 64 }
+    ensures len { length array.new ≡ N }
+    ensures bytes { take (start + (length given.now + tail)) array.new ≡ take start array.old ++ (given.now ++ take tail (drop from array.old)) }
+    ensures moved { steps.new.moved ≡ steps.old.moved + (if from == start + length given.now then 0 else tail) }
+    ensures looked { steps.new.looked ≡ steps.old.looked }
+{
+    shift(array, from, start + given.len(), tail, steps);
+    copy_in(array, start, given);
+}
+
+/// Puts `ch` behind the first `start` bytes, and behind it the `tail` bytes that stood there.
+fn join_char<const N: usize>(array: &mut [u8; N], start: usize, ch: char, tail: usize)
+    requires source { start + tail ≤ N }
+    requires room { start + (width ch + tail) ≤ N }
+    ensures len { length array.new ≡ N }
+    ensures bytes { take (start + (width ch + tail)) array.new ≡ take start array.old ++ (utf8 ch ++ take tail (drop start array.old)) }
+{
+    let steps = &mut Steps::new();
+    shift(array, start, start + ch.len_utf8(), tail, steps);
+    encode(ch, array, start);
 }
 
 /// Writes `given` over the bytes from `at` on.

@@ -1,0 +1,148 @@
+-- ASCII letters in the other case, in characters and in bytes.
+use Rattle.std.proofs.Common.{◌≡◌, ℕ, ◌+◌, ◌-◌, ◌/◌, ◌%◌, ◌<◌, ◌≤◌, List, [], ◌∷◌, ◌++◌, map, length, take, drop, chars, refl, sym, ap, subst, ◌∙◌, arith, true, inl, inr, IsUtf8, take-take, length-append, length-take-le, length-drop, append_assoc}
+use Rattle.std.proofs.lemmas.Bool.{cases_lt, lt-ltb, le-ltb}
+use Rattle.std.proofs.lemmas.List.{map-append, length-map, drop-take}
+use Rattle.std.proofs.Math.Seq.{take-append-add}
+use Rattle.std.proofs.lemmas.Str.Ascii.{uppercase_ascii, lowercase_ascii, uppercase_is, lowercase_is}
+use Rattle.std.specs.Char.{to_ascii_uppercase, to_ascii_lowercase}
+use Rattle.arraystring_base.specs.Text.{IsScalarValue, IsText, size, utf8, bytes, cap, front, back, boundary}
+use Rattle.arraystring_base.specs.TextLaws.{bytes-utf8, chars-bytes}
+use Rattle.arraystring_base.specs.BoundaryLaws.{boundary-within, bytes-part, front-text, back-text}
+use Rattle.arraystring_core.specs.Stored.{Stored, stored, IsStored}
+use Rattle.arraystring_core.specs.StoredLaws.{opened-bytes, opened-size, opened-text}
+use Rattle.arraystring_core.specs.Edits.{part}
+use Rattle.arraystring_core.proofs.SpliceLemmas.{spliced-stored, spliced-text}
+
+-- a change of ASCII characters alone
+pub record IsAsciiChange (f : ℕ → ℕ) : Type 0 where
+  pub low : (c : ℕ) → c < 128 → f c < 128
+  pub high : (c : ℕ) → 128 ≤ c → f c ≡ c
+
+pub uppercase-change : IsAsciiChange to_ascii_uppercase
+uppercase-change = record { low = uppercase_ascii; high = λ c ge. (uppercase_is c).2 (omega arith) }
+
+pub lowercase-change : IsAsciiChange to_ascii_lowercase
+lowercase-change = record { low = lowercase_ascii; high = λ c ge. (lowercase_is c).2 (omega arith) }
+
+module _ (f : ℕ → ℕ) (is : IsAsciiChange f) where
+  same-byte : (k : ℕ) → f (128 + k) ≡ 128 + k
+  same-byte k = is.high (128 + k) (omega arith)
+
+  same-lead : (a k : ℕ) → 128 ≤ a → f (a + k) ≡ a + k
+  same-lead a k le = is.high (a + k) (omega arith)
+
+  utf8-high : (c : ℕ) → 128 ≤ c → utf8 c ≡ map f (utf8 c)
+  unfolding utf8
+  utf8-high c ge =
+      elim (cases_lt c 2048) [
+        | inl two ↦
+            rw (le-ltb c 128 ge, lt-ltb c 2048 two, same-byte (c % 64), same-lead 192 (c / 64) (omega arith)) refl
+        | inr more ↦ elim (cases_lt c 65536) [
+          | inl three ↦
+              rw (le-ltb c 128 ge, le-ltb c 2048 more, lt-ltb c 65536 three, same-byte (c % 64), same-byte (c / 64 % 64), same-lead 224 (c / 4096) (omega arith)) refl
+          | inr four ↦
+              rw (le-ltb c 128 ge, le-ltb c 2048 more, le-ltb c 65536 four, same-byte (c % 64), same-byte (c / 64 % 64), same-byte (c / 4096 % 64), same-lead 240 (c / 262144) (omega arith)) refl
+        ]
+      ]
+
+  utf8-low : (c : ℕ) → c < 128 → utf8 (f c) ≡ map f (utf8 c)
+  unfolding utf8
+  utf8-low c lt = rw (lt-ltb c 128 lt, lt-ltb (f c) 128 (is.low c lt)) refl
+
+  utf8-change : (c : ℕ) → utf8 (f c) ≡ map f (utf8 c)
+  utf8-change c =
+      elim (cases_lt c 128) [
+        | inl lt ↦ utf8-low c lt
+        | inr ge ↦ ap utf8 (is.high c ge) ∙ utf8-high c ge
+      ]
+
+  bytes-change : (t : List ℕ) → bytes (map f t) ≡ map f (bytes t)
+  bytes-change [] = refl
+  bytes-change (c ∷ cs) =
+      ap (λ l. l ++ bytes (map f cs)) (utf8-change c) ∙ ap (λ l. map f (utf8 c) ++ l) (bytes-change cs)
+      ∙ sym (map-append f (utf8 c) (bytes cs))
+
+  scalar-change : (c : ℕ) → IsScalarValue c → IsScalarValue (f c)
+  scalar-change c s =
+      elim (cases_lt c 128) [
+        | inl lt ↦ inl (omega (arith, is.low c lt))
+        | inr ge ↦ rw (is.high c ge) s
+      ]
+
+  text-change : (t : List ℕ) → IsText t → IsText (map f t)
+  text-change [] s = s
+  text-change (c ∷ cs) s = (scalar-change c s.0, text-change cs s.1)
+
+  -- the changed bytes of a text are its changed characters
+  pub changed-utf8 : (t : List ℕ) → IsText t → IsUtf8 (map f (bytes t))
+  changed-utf8 t s = rw (← bytes-change t) (bytes-utf8 (map f t) (text-change t s))
+
+  pub changed-chars : (t : List ℕ) → IsText t → chars (map f (bytes t)) ≡ map f t
+  changed-chars t s = chars-bytes (map f (bytes t)) (map f t) (changed-utf8 t s) (sym (bytes-change t))
+
+-- the bytes from start to end of the text that is stored are changed
+module _ (f : ℕ → ℕ) (is : IsAsciiChange f) (places : ℕ) (array : List ℕ) (n : ℕ) (held : IsStored places array n) (v : Stored)
+    (e : stored array n ≡ v) (start end : ℕ) (order : start ≤ end) (b : boundary v.text start ≡ true) (d : boundary v.text end ≡ true)
+    (after : List ℕ) (written : after ≡ take start array ++ (map f (take (end - start) (drop start array)) ++ drop end array)) where
+  reached : end ≤ n
+  reached = omega (arith, opened-size places array n held v e, boundary-within v.text end d)
+
+  abbrev given : List ℕ
+  given = map f (take (end - start) (drop start array))
+
+  part-stored : take (end - start) (drop start array) ≡ bytes (part v.text start end)
+  part-stored =
+      let whole : start + (end - start) ≡ end = omega arith in
+      sym (drop-take start (end - start) array) ∙ ap (λ k. drop start (take k array)) whole
+      ∙ ap (drop start) (sym (take-take end n array reached)) ∙ ap (λ l. drop start (take end l)) (sym (opened-bytes places array n held v e))
+      ∙ bytes-part v.text start end order b d
+
+  part-text : IsText (part v.text start end)
+  part-text =
+      back-text (front v.text end) start (front-text v.text end (opened-text places array n held v e))
+
+  given-utf8 : IsUtf8 given
+  given-utf8 = rw part-stored (changed-utf8 f is (part v.text start end) part-text)
+
+  given-chars : chars given ≡ map f (part v.text start end)
+  given-chars =
+      let spelled : given ≡ map f (bytes (part v.text start end)) = ap (map f) part-stored in
+      ap chars spelled ∙ changed-chars f is (part v.text start end) part-text
+
+  given-length : length given ≡ end - start
+  given-length =
+      length-map (take (end - start) (drop start array)) f
+      ∙ length-take-le (end - start) (drop start array) (omega (arith, length-drop start array, reached, held.0, held.1))
+
+  room : size v.text - (end - start) + length given ≤ cap places
+  room = omega (arith, given-length, opened-size places array n held v e, reached, held.0)
+
+  front-length : length (take start array) ≡ start
+  front-length = length-take-le start array (omega (arith, reached, held.0, held.1))
+
+  whole-length : start + (length given + (n - end)) ≡ n
+  whole-length = omega (arith, given-length, reached)
+
+  visible : take (start + (length given + (n - end))) after ≡ take start array ++ (given ++ take (n - end) (drop end array))
+  visible =
+      let first = take start array ++ given in
+      let long : length first ≡ start + length given = omega (arith, length-append (take start array) given, front-length) in
+      let sum : start + (length given + (n - end)) ≡ length first + (n - end) = omega (arith, long) in
+      ap (take (start + (length given + (n - end)))) (written ∙ sym (append_assoc (take start array) given (drop end array)))
+      ∙ ap (λ k. take k (first ++ drop end array)) sum ∙ take-append-add first (drop end array) (n - end)
+      ∙ append_assoc (take start array) given (take (n - end) (drop end array))
+
+  after-length : length after ≡ places
+  after-length =
+      omega (arith, ap length written, length-append (take start array) (given ++ drop end array), length-append given (drop end array), length-drop end array, front-length, given-length, reached, held.0, held.1)
+
+  pub changed-stored : IsStored places after n
+  changed-stored =
+      subst (λ k. IsStored places after k) whole-length
+      (spliced-stored places array n held v e start end given order b d room given-utf8 after after-length visible)
+
+  pub changed-text : chars (take n after) ≡ front v.text start ++ (map f (part v.text start end) ++ back v.text end)
+  changed-text =
+      ap (λ k. chars (take k after)) (sym whole-length)
+      ∙ spliced-text places array n held v e start end given order b d room given-utf8 after after-length visible
+      ∙ ap (λ l. front v.text start ++ (l ++ back v.text end)) given-chars

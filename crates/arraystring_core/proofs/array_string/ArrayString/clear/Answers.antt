@@ -1,0 +1,12 @@
+use Rattle.std.proofs.Common.{◌∙◌, refl, rules}
+use Rattle.arraystring_base.specs.BoundaryLaws.{front-start, boundary-is}
+use Rattle.arraystring_core.specs.Edits.{clearing}
+use Rattle.arraystring_core.specs.EditLaws.{makes}
+use Rattle.std.proofs.Common.{[]}
+use Rattle.arraystring_core.proofs.array_string.ArrayString.clear.Goals as goal
+
+pub keep-requires : goal.keep-requires
+keep-requires g c = (search rules, boundary-is [] c.args.self.now.text 0 refl)
+
+pub returns : goal.returns
+returns g c = makes clearing c.args.self.now.text tt _ refl refl (c.keep.ensures ∙ front-start c.args.self.now.text)

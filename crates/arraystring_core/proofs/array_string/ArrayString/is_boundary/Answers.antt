@@ -1,0 +1,8 @@
+use Rattle.std.proofs.Common.{◌∙◌, ap}
+use Rattle.arraystring_base.specs.Text.{boundary}
+use Rattle.arraystring_base.specs.TextLaws.{chars-bytes}
+use Rattle.arraystring_core.proofs.array_string.ArrayString.is_boundary.Goals as goal
+
+pub returns : goal.returns
+returns g c =
+    c.is_boundary.ensures ∙ ap (λ t. boundary t c.args.at) (chars-bytes _ c.args.self.now.text c.as_str.utf8 c.as_str.ensures.bytes)

@@ -1,0 +1,8 @@
+-- A closure that is asked about characters.
+use Rattle.std.specs.Prelude.{◌≡◌, ℕ, Bool, List, ◌∷◌, ◌++◌}
+use Rattle.std.specs.List.{FoldsTo}
+
+-- it may be asked about each of these characters in turn, in each state that its answers leave
+pub record MayBeAsked {F : Type 0} (can : F → ℕ → Type 0) (steps : F → ℕ → Bool → F → Type 0) (f : F) (cs : List ℕ) : Type 0 where
+  pub at : (before : List ℕ) (c : ℕ) (after : List ℕ) (g : F) → cs ≡ before ++ c ∷ after
+      → FoldsTo (λ p x q. (b : Bool) × steps p x b q) f before g → can g c

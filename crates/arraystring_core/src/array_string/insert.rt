@@ -1,0 +1,88 @@
+//! Texts and characters that are put into a string before an index.
+ghost use Rattle.std.specs.Prelude.{◌≡◌, ◌+◌, ◌≤◌, [], ◌∷◌, ◌++◌, IsTrue, chars};
+ghost use Rattle.arraystring_base.specs.Text.{size, width, cap, front, back, boundary};
+ghost use Rattle.arraystring_core.specs.Edits.{Makes, insertion, insertion_of_cut};
+
+use super::{ArrayString, join_char};
+use arraystring_base::error::Error;
+use arraystring_base::utils::{Steps, truncate_str};
+
+impl<const N: usize> ArrayString<N> {
+    /// Inserts `ch` before the byte `index`. Refused with `OutOfBounds` where the index is past the
+    /// text, then with `OutOfBounds` where `ch` does not fit, then with `Utf8` where the index is
+    /// inside a character; the text is then as it was.
+    pub fn try_insert(&mut self, index: u8, ch: char) -> Result<(), Error>
+        ensures { Makes (insertion self.old.text index (ch ∷ []) (cap N)) self.old.text result self.new.text }
+    {
+        if index > self.len() {
+            return Err(Error::OutOfBounds);
+        }
+        if self.len() as usize + ch.len_utf8() > Self::capacity() as usize {
+            return Err(Error::OutOfBounds);
+        }
+        if !self.is_boundary(index as usize) {
+            return Err(Error::Utf8);
+        }
+        self.insert_unchecked(index, ch);
+        Ok(())
+    }
+
+    /// Inserts `ch` before the byte `index`. The index must be a boundary, and `ch` must fit.
+    pub fn insert_unchecked(&mut self, index: u8, ch: char)
+        requires boundary { IsTrue (boundary self.old.text index) }
+        requires room { size self.old.text + width ch ≤ cap N }
+        ensures { self.new.text ≡ front self.old.text index ++ (ch ∷ back self.old.text index) }
+    {
+        let start = index as usize;
+        let tail = self.size as usize - start;
+        join_char(&mut self.array, start, ch, tail);
+        self.size = (start + (ch.len_utf8() + tail)) as u8;
+    }
+
+    /// Inserts `string` before the byte `index`. Refused with `OutOfBounds` where the index is past
+    /// the text, then with `OutOfBounds` where not all of `string` fits, then with `Utf8` where the
+    /// index is inside a character; the text is then as it was.
+    pub fn try_insert_str(&mut self, index: u8, string: &str) -> Result<(), Error>
+        ensures { Makes (insertion self.old.text index (chars string.now) (cap N)) self.old.text result self.new.text }
+    {
+        if index > self.len() {
+            return Err(Error::OutOfBounds);
+        }
+        if self.len() as usize + string.len() > Self::capacity() as usize {
+            return Err(Error::OutOfBounds);
+        }
+        if !self.is_boundary(index as usize) {
+            return Err(Error::Utf8);
+        }
+        self.insert_str_unchecked(index, string);
+        Ok(())
+    }
+
+    /// Inserts the longest leading run of whole characters of `string` that fits before the byte
+    /// `index`. Refused with `OutOfBounds` where the index is past the text, then with `Utf8` where
+    /// it is inside a character; the text is then as it was.
+    pub fn insert_str(&mut self, index: u8, string: &str) -> Result<(), Error>
+        ensures { Makes (insertion_of_cut self.old.text index (chars string.now) (cap N)) self.old.text result self.new.text }
+    {
+        if index > self.len() {
+            return Err(Error::OutOfBounds);
+        }
+        if !self.is_boundary(index as usize) {
+            return Err(Error::Utf8);
+        }
+        let room = Self::capacity() - self.len();
+        self.insert_str_unchecked(index, truncate_str(string, room));
+        Ok(())
+    }
+
+    /// Inserts `string` before the byte `index`. The index must be a boundary, and all of `string`
+    /// must fit.
+    pub fn insert_str_unchecked(&mut self, index: u8, string: &str)
+        requires boundary { IsTrue (boundary self.old.text index) }
+        requires room { size self.old.text + size (chars string.now) ≤ cap N }
+        ensures { self.new.text ≡ front self.old.text index ++ (chars string.now ++ back self.old.text index) }
+    {
+        let start = index as usize;
+        self.splice(start, start, string, &mut Steps::new());
+    }
+}
