@@ -24,6 +24,10 @@ joined-more pieces piece =
     ap joined (map-append piece_text pieces (piece ∷ [])) ∙ joined-append (map piece_text pieces) (piece_text piece ∷ [])
     ∙ ap (λ l. joined_pieces pieces ++ l) (append-nil (piece_text piece))
 
+-- a text behind another
+pub behind : (old a b new : List ℕ) → new ≡ old ++ a → a ≡ b → new ≡ old ++ b
+behind old a b new e f = e ∙ ap (λ l. old ++ l) f
+
 -- a character that does not fit has no cut
 pub cut-none : (c n : ℕ) → n < width c → cut (c ∷ []) n ≡ []
 cut-none c n over = rw (lt-leb (width c) n over) refl
@@ -50,7 +54,7 @@ module _ {A : Type 0} (spelled : List A → List ℕ) (one : A → List ℕ)
       let past : n - size old < size (spelled (items ++ x ∷ [])) = omega (arith, sum, next-sum) in
       (items, x, refl, fits, past)
 
-  pub added-cut : now ++ cut (one x) (n - size now) ≡ old ++ cut (spelled (items ++ x ∷ [])) (n - size old)
+  added-cut : now ++ cut (one x) (n - size now) ≡ old ++ cut (spelled (items ++ x ∷ [])) (n - size old)
   added-cut =
       let left : n - size now ≡ n - size old - size (spelled items) = omega (arith, sum) in
       let fits : size (spelled items) ≤ n - size old = omega arith in
@@ -59,9 +63,20 @@ module _ {A : Type 0} (spelled : List A → List ℕ) (one : A → List ℕ)
       ∙ ap (λ l. old ++ l) (ap (λ k. spelled items ++ cut (one x) k) left
       ∙ sym (ap (λ l. cut l (n - size old)) (more items x) ∙ cut-past_part (spelled items) (one x) (n - size old) fits))
 
+  -- where a part of x was added, and where x has none
+  pub added-part : (before new : List ℕ) → before ≡ now → new ≡ before ++ cut (one x) (n - size before)
+      → new ≡ old ++ cut (spelled (items ++ x ∷ [])) (n - size old)
+  added-part before new e f = f ∙ ap (λ s. s ++ cut (one x) (n - size s)) e ∙ added-cut
+
+  pub added-none : (new : List ℕ) → new ≡ now → cut (one x) (n - size now) ≡ [] → new ≡ old ++ cut (spelled (items ++ x ∷ [])) (n - size old)
+  added-none new e none = e ∙ sym (ap (λ l. now ++ l) none ∙ append-nil now) ∙ added-cut
+
 -- the text `now` is the items, and with the item x they fit
 module _ {A : Type 0} (spelled : List A → List ℕ) (one : A → List ℕ)
     (more : (items : List A) (x : A) → spelled (items ++ x ∷ []) ≡ spelled items ++ one x)
     (now : List ℕ) (n : ℕ) (items : List A) (is : now ≡ spelled items) (x : A) where
   pub next-fits : size (spelled (items ++ x ∷ [])) ≤ n → size now + size (one x) ≤ n
   next-fits fits = omega (arith, fits, ap size is, ap size (more items x), size-append (spelled items) (one x))
+
+  pub next-text : (new : List ℕ) → new ≡ now ++ one x → new ≡ spelled (items ++ x ∷ [])
+  next-text new e = e ∙ ap (λ l. l ++ one x) is ∙ sym (more items x)

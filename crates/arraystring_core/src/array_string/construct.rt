@@ -156,10 +156,10 @@ impl<const N: usize> ArrayString<N> {
         ensures well_formed { IsOk result ↔ IsWellFormed given.now }
         ensures cut { (t : List ℕ) → IsText t → bytes t ≡ given.now → IfOk result (λ made. made.text ≡ cut t (cap N)) }
     {
-        match str::from_utf8(given) {
-            Ok(string) => Ok(Self::from_str_truncate(string)),
-            Err(_) => Err(Utf8),
-        }
+        let Ok(string) = str::from_utf8(given) else {
+            return Err(Utf8);
+        };
+        Ok(Self::from_str_truncate(string))
     }
 
     /// The text whose UTF-8 is `given`. It must be well-formed UTF-8 (the Unicode Standard,

@@ -44,7 +44,8 @@ impl<const N: usize> ArrayString<N> {
             × MatchResult result (λ _. size taken ≤ cap N - size self.old.text) (λ _. cap N - size self.old.text < size taken)
             × (self.new.text ≡ self.old.text ++ cut taken (cap N - size self.old.text)) }
     {
-        let _length = self.len();
+        // From here on it is known that the text fits.
+        let _ = self.len();
         for ch in characters {
             if let Err(refusal) = self.try_push(ch) {
                 return Err(refusal);
@@ -64,7 +65,8 @@ impl<const N: usize> ArrayString<N> {
             × MatchResult result (λ _. size (joined_pieces taken) ≤ cap N - size self.old.text) (λ _. cap N - size self.old.text < size (joined_pieces taken))
             × (self.new.text ≡ self.old.text ++ cut (joined_pieces taken) (cap N - size self.old.text)) }
     {
-        let _length = self.len();
+        // From here on it is known that the text fits.
+        let _ = self.len();
         for piece in pieces {
             if let Err(refusal) = self.try_push_str(piece) {
                 self.push_str(piece);

@@ -1,12 +1,11 @@
-use Rattle.std.proofs.Common.{◌≡◌, ◌+◌, ◌-◌, ◌<◌, ◌≤◌, ◌++◌, ◌∷◌, [], sym, ap, ◌∙◌, arith, inl, inr}
-use Rattle.std.proofs.lemmas.List.{append-nil}
+use Rattle.std.proofs.Common.{◌≡◌, ◌+◌, ◌-◌, ◌<◌, ◌≤◌, ◌++◌, ◌∷◌, [], sym, arith, inl, inr}
 use Rattle.std.proofs.iter.Next.{Yields-more}
 use Rattle.arraystring_base.specs.Text.{size, cap, cut}
 use Rattle.arraystring_base.specs.TextLaws.{width-bounds}
 use Rattle.arraystring_base.specs.CutLaws.{cut-all}
 use Rattle.arraystring_base.specs.declared.error.OutOfBounds.{OutOfBounds}
 use Rattle.arraystring_core.specs.EditLaws.{addition-ok, addition-err}
-use Rattle.arraystring_core.proofs.TakenLemmas.{cut-none, chars_text, char_text, chars-more, added-text, added-fits, added-past, added-cut}
+use Rattle.arraystring_core.proofs.TakenLemmas.{cut-none, chars_text, char_text, chars-more, added-text, added-fits, added-past, added-none, behind}
 use Rattle.arraystring_core.proofs.array_string.ArrayString.add_chars.Goals as goal
 
 pub loop-ch-preserved : goal.loop-ch-preserved
@@ -45,8 +44,7 @@ returns-in-Err g c =
         inr (c.next.new.self, Yields-more g.I.IntoIter.Iterator.next_gives _ xs _ x _ c.loop-ch.yielded_by c.in-Some.ensures.steps, past),
       ),
       past.4,
-      refused.1 ∙ sym (ap (λ l. now ++ l) none ∙ append-nil now)
-          ∙ added-cut chars_text char_text chars-more old now (cap g.row.N) xs inv.text inv.fits x,
+      added-none chars_text char_text chars-more old now (cap g.row.N) xs inv.text inv.fits x c.try_push.new.self.text refused.1 none,
     )
 
 pub returns : goal.returns
@@ -62,5 +60,5 @@ returns g c =
         inl ((c.next.new.self, (c.loop-ch.ch-iterator, c.loop-ch.yielded_by, c.in-None.ensures.steps)), fits),
       ),
       fits,
-      inv.text ∙ ap (λ l. old ++ l) (sym (cut-all xs _ fits)),
+      behind old xs _ c.loop-ch.self.text inv.text (sym (cut-all xs _ fits)),
     )

@@ -1,11 +1,11 @@
-use Rattle.std.proofs.Common.{◌+◌, ◌-◌, ◌≤◌, ◌++◌, ◌∷◌, [], sym, ap, ◌∙◌, arith, inl, inr}
+use Rattle.std.proofs.Common.{◌+◌, ◌-◌, ◌≤◌, ◌++◌, ◌∷◌, [], sym, arith, inl, inr}
 use Rattle.std.proofs.iter.Next.{Yields-more}
-use Rattle.arraystring_base.specs.Text.{size, cap, cut}
+use Rattle.arraystring_base.specs.Text.{size, cap}
 use Rattle.arraystring_base.specs.CutLaws.{cut-all}
 use Rattle.arraystring_base.specs.declared.error.OutOfBounds.{OutOfBounds}
 use Rattle.arraystring_core.specs.Taken.{joined_pieces, piece_text}
 use Rattle.arraystring_core.specs.EditLaws.{addition-ok, addition-err}
-use Rattle.arraystring_core.proofs.TakenLemmas.{joined-more, added-text, added-fits, added-past, added-cut}
+use Rattle.arraystring_core.proofs.TakenLemmas.{joined-more, added-text, added-fits, added-past, added-part, behind}
 use Rattle.arraystring_core.proofs.array_string.ArrayString.add_strs.Goals as goal
 
 pub loop-piece-preserved : goal.loop-piece-preserved
@@ -41,8 +41,7 @@ returns-in-Err g c =
         inr (c.next.new.self, Yields-more g.I.IntoIter.Iterator.next_gives _ xs _ x _ c.loop-piece.yielded_by c.in-Some.ensures.steps, past),
       ),
       past.4,
-      c.push_str.ensures.ok ∙ ap (λ s. s ++ cut (piece_text x) (cap g.row.N - size s)) refused.1
-          ∙ added-cut joined_pieces piece_text joined-more old now (cap g.row.N) xs inv.text inv.fits x,
+      added-part joined_pieces piece_text joined-more old now (cap g.row.N) xs inv.text inv.fits x c.try_push_str.new.self.text c.push_str.new.self.text refused.1 c.push_str.ensures.ok,
     )
 
 pub returns : goal.returns
@@ -59,5 +58,5 @@ returns g c =
         inl ((c.next.new.self, (c.loop-piece.piece-iterator, c.loop-piece.yielded_by, c.in-None.ensures.steps)), fits),
       ),
       fits,
-      inv.text ∙ ap (λ l. old ++ l) (sym (cut-all (joined_pieces xs) _ fits)),
+      behind old (joined_pieces xs) _ c.loop-piece.self.text inv.text (sym (cut-all (joined_pieces xs) _ fits)),
     )

@@ -1,9 +1,9 @@
-use Rattle.std.proofs.Common.{◌+◌, ◌≤◌, ◌++◌, ◌∙◌, sym, ap, rules}
+use Rattle.std.proofs.Common.{◌+◌, ◌≤◌, ◌∙◌, rules}
 use Rattle.std.proofs.iter.Next.{Yields-more}
 use Rattle.arraystring_base.specs.Text.{size, cap}
 use Rattle.arraystring_core.specs.Taken.{joined_pieces, piece_text}
 use Rattle.arraystring_core.specs.TakenLaws.{pieces-all}
-use Rattle.arraystring_core.proofs.TakenLemmas.{joined-more, next-fits}
+use Rattle.arraystring_core.proofs.TakenLemmas.{joined-more, next-fits, next-text}
 use Rattle.arraystring_core.proofs.array_string.ArrayString.from_iterator_unchecked.Goals as goal
 
 pub push_str_unchecked-requires : goal.push_str_unchecked-requires
@@ -24,7 +24,7 @@ loop-piece-preserved g c =
     record {
       can = on.0;
       ends = on.1;
-      text = c.push_str_unchecked.ensures ∙ ap (λ l. l ++ piece_text x) c.loop-piece.invariant.text ∙ sym (joined-more xs x);
+      text = next-text joined_pieces piece_text joined-more c.loop-piece.made.text (cap g.row.N) xs c.loop-piece.invariant.text x c.push_str_unchecked.new.self.text c.push_str_unchecked.ensures;
     }
 
 pub returns-clause-whole : goal.returns-clause-whole

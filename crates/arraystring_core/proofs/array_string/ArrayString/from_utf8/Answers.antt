@@ -3,8 +3,8 @@ use Rattle.arraystring_base.specs.Text.{cap, cut}
 use Rattle.arraystring_base.specs.TextLaws.{well_formed-utf8, utf8-well_formed, chars-bytes}
 use Rattle.arraystring_core.proofs.array_string.ArrayString.from_utf8.Goals as goal
 
-pub returns-in-Ok : goal.returns-in-Ok
-returns-in-Ok g c =
+pub returns : goal.returns
+returns g c =
     let given = c.args.given.now in
     let read = c.in-Ok.ensures.cases in
     record {
@@ -13,5 +13,5 @@ returns-in-Ok g c =
           ∙ ap (λ l. cut l (cap g.row.N)) (chars-bytes given t read.1 (sym e));
     }
 
-pub returns-in-Err-clause-well_formed : goal.returns-in-Err-clause-well_formed
-returns-in-Err-clause-well_formed g c = (λ e. cc, λ well. absurd (c.in-Err.ensures.cases.0 (well_formed-utf8 c.args.given.now well)))
+pub returns-in_default-clause-well_formed : goal.returns-in_default-clause-well_formed
+returns-in_default-clause-well_formed g c = (λ e. cc, λ well. absurd (c.in_default.ensures.cases.0 (well_formed-utf8 c.args.given.now well)))
