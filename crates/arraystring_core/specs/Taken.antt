@@ -4,7 +4,7 @@ use Rattle.std.specs.Iterator.{Drains, Yields, AlwaysYields}
 use Rattle.std.specs.Borrow.{Bor}
 use Rattle.arraystring_base.specs.Text.{size}
 
--- texts, one behind the other
+-- texts, or the bytes of texts, one behind the other
 abbrev pub joined : List (List ℕ) → List ℕ
 joined [] = []
 joined (t ∷ ts) = t ++ joined ts
@@ -21,6 +21,7 @@ abbrev pub IsFirstPast : {A : Type 0} → (List A → List ℕ) → ℕ → List
 IsFirstPast {A} spelled room items = (before : List A) × (last : A) × (items ≡ before ++ last ∷ [])
     × (size (spelled before) ≤ room) × (room < size (spelled items))
 
+-- `becomes` says which iterators what is handed in may become, and `steps` what one call of `next` may give
 module _ {U T A : Type 0} (becomes : U → T → Type 0) (steps : T → Option A → T → Type 0) where
   -- the items are all that come
   abbrev pub TakesAll : U → List A → Type 0

@@ -3,8 +3,11 @@ use Rattle.arraystring_base.specs.Text.{cut}
 use Rattle.arraystring_base.specs.TextLaws.{chars-bytes}
 use Rattle.arraystring_core.specs.Taken.{joined}
 use Rattle.arraystring_core.specs.TakenLaws.{bytes-joined}
-use Rattle.arraystring_core.proofs.laws.joined_pieces_are_one_text.Goals as goal
+use Rattle.arraystring_core.proofs.laws.pieces_make_one_text.Goals as goal
 
-pub returns : goal.returns
-returns c = λ pieces n e.
+pub returns-clause-text : goal.returns-clause-text
+returns-clause-text c = λ pieces e. chars-bytes c.args.whole.now (joined pieces) c.utf8.whole (e ∙ sym (bytes-joined pieces))
+
+pub returns-clause-cut : goal.returns-clause-cut
+returns-clause-cut c = λ pieces n e.
     ap (λ l. cut l n) (sym (chars-bytes c.args.whole.now (joined pieces) c.utf8.whole (e ∙ sym (bytes-joined pieces))))
