@@ -9,3 +9,5 @@ pub mod StoredLaws
 pub mod Edits
 pub mod EditLaws
 pub mod Asked
+pub mod Ranges
+pub mod Drained

@@ -13,6 +13,7 @@ use std::{fmt, str};
 
 mod ascii;
 mod insert;
+mod range;
 mod remove;
 
 /// A string of at most `N` bytes of UTF-8, and at most 255, that lies in the value itself.

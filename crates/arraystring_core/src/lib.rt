@@ -3,5 +3,8 @@
 #![tactic(auto)]
 
 pub mod array_string;
+pub mod drain;
+mod ranges;
 
 pub use array_string::ArrayString;
+pub use drain::Drain;
