@@ -2,6 +2,8 @@ pub use Rattle.arraystring_base.specs.Text
 pub use Rattle.arraystring_base.specs.TextLaws
 pub use Rattle.arraystring_base.specs.CutLaws
 pub use Rattle.arraystring_base.specs.BoundaryLaws
+pub use Rattle.arraystring_base.specs.Utf16
+pub use Rattle.arraystring_base.specs.Utf16Laws
 pub use Rattle.arraystring_base.specs.Counts
 pub use Rattle.arraystring_base.specs.Names
 pub mod Stored
@@ -11,3 +13,4 @@ pub mod EditLaws
 pub mod Asked
 pub mod Ranges
 pub mod Drained
+pub mod FromUtf16

@@ -17,13 +17,11 @@ fn reads(units: &[u16], wanted: &[Unit16]) -> bool {
 fn pairs_are_characters(rt: HostRuntime) {
     assert!(rt; reads(&[], &[]));
     let music = [0xD834, 0xDD1E, 0x6D, 0x75];
-    let wanted = [
-        Unit16::Char('𝄞'),
-        Unit16::Char('m'),
-        Unit16::Char('u'),
-    ];
+    let wanted = [Unit16::Char('𝄞'), Unit16::Char('m'), Unit16::Char('u')];
     assert!(rt; reads(&music, &wanted));
-    let edges = [0xD800, 0xDC00, 0xD800, 0xDFFF, 0xDBFF, 0xDC00, 0xDBFF, 0xDFFF];
+    let edges = [
+        0xD800, 0xDC00, 0xD800, 0xDFFF, 0xDBFF, 0xDC00, 0xDBFF, 0xDFFF,
+    ];
     let wanted = [
         Unit16::Char('\u{10000}'),
         Unit16::Char('\u{103FF}'),

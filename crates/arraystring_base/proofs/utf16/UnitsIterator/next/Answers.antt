@@ -1,4 +1,4 @@
-use Rattle.std.proofs.Common.{◌≡◌, ◌∷◌, sym, ap, ◌∙◌, arith, length}
+use Rattle.std.proofs.Common.{◌∷◌, sym, ap, ◌∙◌, arith, length}
 use Rattle.arraystring_base.specs.declared.utf16.Unit16.TheVariants.{Char}
 use Rattle.arraystring_base.specs.Reading.{reading}
 use Rattle.arraystring_base.proofs.ReadingLemmas.{reading-pair, reading-single}
