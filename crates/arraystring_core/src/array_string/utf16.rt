@@ -82,3 +82,6 @@ fn shown(item: Unit16) -> char
         Unit16::Lone(_) => char::REPLACEMENT_CHARACTER,
     }
 }
+
+#[cfg(test)]
+mod tests;

@@ -15,8 +15,7 @@ loop-item-preserved g c =
     let left = lossy_text c.next.new.self in
     let added = addition-ok OutOfBounds run (ch ∷ []) c.try_push.new.self.text (cap g.row.N) c.in-Ok.ensures in
     let first = ap lossy_text c.in-Some.ensures.steps ∙ ap (λ d. d ∷ left) (sym c.shown.ensures) in
-    let fits : size (run ++ ch ∷ []) ≤ cap g.row.N = omega (arith, added.0, size-append run (ch ∷ [])) in
-    (
+    let fits : size (run ++ ch ∷ []) ≤ cap g.row.N = omega (arith, added.0, size-append run (ch ∷ [])) in (
       rw added.1 fits,
       inv.1 ∙ ap (λ l. run ++ l) first ∙ sym (append_assoc run (ch ∷ []) left) ∙ ap (λ l. l ++ left) (sym added.1),
     )
@@ -31,7 +30,7 @@ returns-in-Err g c = λ items is.
     let past : cap g.row.N < size run + width ch = omega (arith, refused.0) in
     let first = ap lossy_text c.in-Some.ensures.steps ∙ ap (λ d. d ∷ left) (sym c.shown.ensures) in
     let same = ap lossy_text (c.only_reading.ensures.only items _ is c.new-item-items.ensures
-        ∙ sym c.into_iter-item-iterator.ensures.into_iter_gives) ∙ inv.1 ∙ ap (λ l. run ++ l) first in
+    ∙ sym c.into_iter-item-iterator.ensures.into_iter_gives) ∙ inv.1 ∙ ap (λ l. run ++ l) first in
     let ends = cut-is run (ch ∷ left) (cap g.row.N) inv.0 (λ d es e. let one : ch ≡ d = cc in rw (← one) past) in
     refused.1 ∙ sym (ap (λ l. cut l (cap g.row.N)) same ∙ ends)
 
@@ -40,6 +39,6 @@ returns g c = λ items is.
     let inv = c.loop-item.invariant in
     let run = c.loop-item.text.text in
     let same = ap lossy_text (c.only_reading.ensures.only items _ is c.new-item-items.ensures
-        ∙ sym c.into_iter-item-iterator.ensures.into_iter_gives) ∙ inv.1 in
+    ∙ sym c.into_iter-item-iterator.ensures.into_iter_gives) ∙ inv.1 in
     let whole = ap (λ l. run ++ lossy_text l) c.in-None.ensures.steps.0 ∙ append-nil run in
     sym (ap (λ l. cut l (cap g.row.N)) (same ∙ whole) ∙ cut-all run (cap g.row.N) inv.0)
