@@ -56,7 +56,7 @@ pub data Stop : Type 0 where
   Fault : List ℕ → Stop
   Full : List ℕ → Stop
 
--- what it is that the items stop so at n bytes, where the run is as long as can be
+-- the items stop so at n bytes: the run leads them and fits, and a character behind it would no longer fit
 abbrev pub StopsAt : List Unit16 → ℕ → Stop → Type 0
 StopsAt items n (End run) = (items ≡ map Char run) × (size run ≤ n)
 StopsAt items n (Fault run) =
