@@ -2,5 +2,8 @@ pub mod Text
 pub mod TextLaws
 pub mod CutLaws
 pub mod BoundaryLaws
+pub mod Utf16
+pub mod Utf16Laws
+pub mod Reading
 pub mod Counts
 pub mod Names

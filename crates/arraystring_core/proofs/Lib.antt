@@ -4,3 +4,5 @@ pub mod TakenLemmas
 pub mod AsciiLemmas
 pub mod TrimLemmas
 pub mod RetainLemmas
+pub mod RangeLemmas
+pub mod DrainLemmas

@@ -2,6 +2,8 @@ pub use Rattle.arraystring_base.specs.Text
 pub use Rattle.arraystring_base.specs.TextLaws
 pub use Rattle.arraystring_base.specs.CutLaws
 pub use Rattle.arraystring_base.specs.BoundaryLaws
+pub use Rattle.arraystring_base.specs.Utf16
+pub use Rattle.arraystring_base.specs.Utf16Laws
 pub use Rattle.arraystring_base.specs.Counts
 pub use Rattle.arraystring_base.specs.Names
 pub mod Stored
@@ -13,3 +15,6 @@ pub mod MadeLaws
 pub mod Taken
 pub mod TakenLaws
 pub mod Asked
+pub mod Ranges
+pub mod Drained
+pub mod FromUtf16

@@ -15,7 +15,9 @@ mod ascii;
 mod construct;
 mod extend;
 mod insert;
+mod range;
 mod remove;
+mod utf16;
 
 /// A string of at most `N` bytes of UTF-8, and at most 255, that lies in the value itself.
 ///

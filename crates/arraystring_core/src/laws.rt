@@ -1,8 +1,16 @@
-//! Laws of what callers do with an `ArrayString`. Each does nothing when it is called and carries
-//! its fact in its contract.
-ghost use Rattle.std.specs.Prelude.{◌≡◌, ◌<◌, ◌++◌, ℕ, List, map, chars};
-ghost use Rattle.arraystring_base.specs.Text.{size, bytes, cut};
+//! Laws of strings, which callers may rely on. Each does nothing when it is called and carries its
+//! fact in its contract.
+ghost use Rattle.std.specs.Prelude.{◌≡◌, ◌<◌, ◌≤◌, ◌++◌, ℕ, List, Result, IsOkAnd, map, chars};
+ghost use Rattle.arraystring_base.specs.declared.error.Error.{Error};
+ghost use Rattle.arraystring_base.specs.declared.error.Utf16.{Utf16};
+ghost use Rattle.arraystring_base.specs.declared.utf16.Unit16.{Unit16};
+ghost use Rattle.arraystring_base.specs.Text.{IsText, bytes, cut, size};
+ghost use Rattle.arraystring_base.specs.Utf16.{IsReading, first_stop, lossy_text, text_units};
+ghost use Rattle.arraystring_core.specs.FromUtf16.{GivesWhole, GivesRun};
+ghost use Rattle.arraystring_core.specs.Stored.{Stored};
 ghost use Rattle.arraystring_core.specs.Taken.{joined};
+
+use arraystring_base::laws::text_reading;
 
 /// What comes behind characters or pieces that no longer fit changes no cut.
 pub fn what_comes_past_the_room()
@@ -16,3 +24,14 @@ pub fn pieces_make_one_text(whole: &str)
     ensures text { (pieces : List (List ℕ)) → whole.now ≡ joined (map bytes pieces) → chars whole.now ≡ joined pieces }
     ensures cut { (pieces : List (List ℕ)) (n : ℕ) → whole.now ≡ joined (map bytes pieces) → cut (joined pieces) n ≡ cut (chars whole.now) n }
 {}
+
+/// The UTF-16 of a text that fits is read back as that text by `try_from_utf16`, `from_utf16` and
+/// `from_utf16_lossy`: no other result meets their contracts.
+pub fn units_read_back()
+    ensures reading { (t : List ℕ) → IsText t → (items : List Unit16) × IsReading (text_units t) items }
+    ensures whole { (t : List ℕ) (n : ℕ) (items : List Unit16) (result : Result Stored Error) → IsText t → size t ≤ n → IsReading (text_units t) items → GivesWhole (first_stop items n) result → IsOkAnd result (λ string. string.text ≡ t) }
+    ensures run { (t : List ℕ) (n : ℕ) (items : List Unit16) (result : Result Stored Utf16) → IsText t → size t ≤ n → IsReading (text_units t) items → GivesRun (first_stop items n) result → IsOkAnd result (λ string. string.text ≡ t) }
+    ensures lossy { (t : List ℕ) (n : ℕ) (items : List Unit16) → IsText t → size t ≤ n → IsReading (text_units t) items → cut (lossy_text items) n ≡ t }
+{
+    text_reading();
+}

@@ -3,7 +3,10 @@
 #![tactic(auto)]
 
 pub mod array_string;
+pub mod drain;
 pub mod laws;
+mod ranges;
 pub mod utils;
 
 pub use array_string::ArrayString;
+pub use drain::Drain;
