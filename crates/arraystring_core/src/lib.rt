@@ -4,6 +4,7 @@
 
 pub mod array_string;
 pub mod drain;
+mod place;
 mod ranges;
 
 pub use array_string::ArrayString;

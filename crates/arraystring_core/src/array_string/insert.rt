@@ -3,7 +3,7 @@ ghost use Rattle.std.specs.Prelude.{◌≡◌, ◌+◌, ◌≤◌, [], ◌∷◌
 ghost use Rattle.arraystring_base.specs.Text.{size, width, cap, front, back, boundary};
 ghost use Rattle.arraystring_core.specs.Edits.{Makes, insertion, insertion_of_cut};
 
-use super::{ArrayString, join_char};
+use crate::ArrayString;
 use arraystring_base::error::Error;
 use arraystring_base::utils::{Steps, truncate_str};
 
@@ -33,10 +33,7 @@ impl<const N: usize> ArrayString<N> {
         requires room { size self.old.text + width ch ≤ cap N }
         ensures { self.new.text ≡ front self.old.text index ++ (ch ∷ back self.old.text index) }
     {
-        let start = index as usize;
-        let tail = self.size as usize - start;
-        join_char(&mut self.array, start, ch, tail);
-        self.size = (start + (ch.len_utf8() + tail)) as u8;
+        self.put_char(index as usize, ch);
     }
 
     /// Inserts `string` before the byte `index`. Refused with `OutOfBounds` where the index is past

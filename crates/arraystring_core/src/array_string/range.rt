@@ -128,7 +128,7 @@ impl<const N: usize> ArrayString<N> {
         }
         let mut removed = Self::new();
         removed.push_str_unchecked(self.between(from, to));
-        self.splice(from, to, "", &mut Steps::new());
+        self.take_out(from, to, &mut Steps::new());
         Ok(removed)
     }
 

@@ -36,7 +36,7 @@ impl<const N: usize> ArrayString<N> {
             self.keep(start as u8);
         }
         let start = leading_spaces(self.as_str());
-        self.splice(0, start, "", &mut Steps::new());
+        self.drop_front(start);
     }
 
     /// Takes the character that begins at the byte `index`. Refused with `OutOfBounds` where the
@@ -53,7 +53,7 @@ impl<const N: usize> ArrayString<N> {
             return Err(Error::Utf8);
         }
         let ch = self.char_at(start);
-        self.splice(start, start + ch.len_utf8(), "", &mut Steps::new());
+        self.take_out(start, start + ch.len_utf8(), &mut Steps::new());
         Ok(ch)
     }
 

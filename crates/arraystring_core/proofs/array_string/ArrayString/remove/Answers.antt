@@ -1,19 +1,16 @@
-use Rattle.std.proofs.Common.{◌≡◌, ◌+◌, ◌-◌, ◌≤◌, ◌<◌, [], ◌++◌, chars, sym, arith, ◌∙◌, ap, rules}
+use Rattle.std.proofs.Common.{◌≡◌, ◌+◌, ◌<◌, ◌++◌, sym, arith, ◌∙◌, ap, rules}
 use Rattle.std.proofs.lemmas.Bool.{lt-leb}
-use Rattle.std.proofs.lemmas.Str.{chars-nil}
-use Rattle.arraystring_base.specs.Text.{cap, size, width, back, front}
+use Rattle.arraystring_base.specs.Text.{size, width, back, front}
 use Rattle.arraystring_base.specs.TextLaws.{width-is}
 use Rattle.arraystring_core.specs.EditLaws.{inside-not, makes}
 use Rattle.arraystring_core.proofs.array_string.ArrayString.remove.Goals as goal
 
-pub splice-requires : goal.splice-requires
-splice-requires g c =
+pub take_out-requires : goal.take_out-requires
+take_out-requires g c =
     let at = sym c.is_boundary.ensures ∙ c.if-not-is_boundary.false in
     let wide : width c.char_at-ch.result ≡ c.len_utf8.result = width-is c.char_at-ch.result ∙ sym c.len_utf8.ensures.value in
     let next = rw wide at c.char_at-ch.ensures.next in
-    let none : size (chars []) ≡ 0 = ap size chars-nil in
-    let fits : size c.args.self.now.text - (c.args.index + c.len_utf8.result - c.args.index) + size (chars []) ≤ cap g.row.N = omega arith in
-    (search rules, (omega arith, (at, (next, (fits, omega arith)))))
+    (search rules, (omega arith, (at, (next, omega arith))))
 
 pub returns : goal.returns
 returns g c =
@@ -23,4 +20,4 @@ returns g c =
     let wide : c.len_utf8.result ≡ width c.char_at-ch.result = c.len_utf8.ensures.value ∙ sym (width-is c.char_at-ch.result) in
     let rest = ap (λ w. back t (c.args.index + w)) wide ∙ c.char_at-ch.ensures.rest in
     makes _ _ _ _ (rw (lt-leb _ _ before, outside)) c.char_at-ch.ensures.first
-    (c.splice.ensures.text ∙ ap (λ l. front t c.args.index ++ (l ++ back t (c.args.index + c.len_utf8.result))) chars-nil ∙ ap (λ l. front t c.args.index ++ l) rest)
+    (c.take_out.ensures.text ∙ ap (λ l. front t c.args.index ++ l) rest)

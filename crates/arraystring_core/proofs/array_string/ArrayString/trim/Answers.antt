@@ -1,10 +1,9 @@
-use Rattle.std.proofs.Common.{◌≡◌, ◌+◌, ◌-◌, ◌≤◌, ◌++◌, ◌∷◌, [], chars, length, sym, ap, ◌∙◌, refl, arith, rules, true, eq-eqb}
-use Rattle.std.proofs.lemmas.Str.{chars-nil}
+use Rattle.std.proofs.Common.{◌≡◌, ◌++◌, ◌∷◌, [], length, sym, ap, ◌∙◌, refl, arith, rules, true, eq-eqb}
 use Rattle.std.proofs.lemmas.Bool.{ne_eqb}
 use Rattle.std.specs.Prelude.{take_while}
-use Rattle.arraystring_base.specs.Text.{size, cap, front, back, boundary}
+use Rattle.arraystring_base.specs.Text.{size, front, boundary}
 use Rattle.arraystring_base.specs.TextLaws.{chars-bytes, size-append, width-bounds}
-use Rattle.arraystring_base.specs.BoundaryLaws.{boundary-is, front-start, front-is}
+use Rattle.arraystring_base.specs.BoundaryLaws.{boundary-is, front-is}
 use Rattle.arraystring_core.specs.Edits.{trimming, without_leading, without_trailing, is_space}
 use Rattle.arraystring_core.specs.EditLaws.{makes}
 use Rattle.arraystring_core.proofs.TrimLemmas.{leading-boundary, back-leading, without_trailing-passes, without_trailing-stops}
@@ -55,14 +54,12 @@ loop-start-preserved g c =
     ap (without_trailing is_space) kept ∙ sym (ap (without_trailing is_space) parts ∙ without_trailing-passes is_space found.0 space passes)
     ∙ c.loop-start.invariant
 
-pub splice-requires : goal.splice-requires
-splice-requires g c =
+pub drop_front-requires : goal.drop_front-requires
+drop_front-requires g c =
     let text = c.loop-start.self.text in
     let spaces : c.leading_spaces-start.result ≡ length (take_while is_space text) =
     c.leading_spaces-start.ensures ∙ ap (λ l. length (take_while is_space l)) (chars-bytes _ text c.as_str-2.utf8 c.as_str-2.ensures.bytes) in
-    let none : size (chars []) ≡ 0 = ap size chars-nil in
-    let fits : size text - (c.leading_spaces-start.result - 0) + size (chars []) ≤ cap g.row.N = omega (arith, none, c.as_str-2.ensures.fits) in
-    (search rules, (omega arith, (boundary-is [] text 0 refl, (leading-boundary text c.leading_spaces-start.result spaces, (fits, omega arith)))))
+    (search rules, leading-boundary text c.leading_spaces-start.result spaces)
 
 pub returns : goal.returns
 returns g c =
@@ -83,5 +80,4 @@ returns g c =
     ] in
     let trimmed : text ≡ without_trailing is_space c.args.self.now.text = sym ended ∙ c.loop-start.invariant in
     makes (trimming c.args.self.now.text) c.args.self.now.text tt _ refl refl
-    (c.splice.ensures.text ∙ ap (λ l. l ++ (chars [] ++ back text k)) (front-start text) ∙ ap (λ l. l ++ back text k) chars-nil
-    ∙ back-leading text k spaces ∙ ap (without_leading is_space) trimmed)
+    (c.drop_front.ensures ∙ back-leading text k spaces ∙ ap (without_leading is_space) trimmed)
