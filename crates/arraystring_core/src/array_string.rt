@@ -155,7 +155,20 @@ impl<const N: usize> ArrayString<N> {
     pub fn pop(&mut self) -> Option<char>
         ensures { Makes (popping self.old.text) self.old.text (Ok result) self.new.text }
     {
-        let (start, ch) = last_char(self.as_str(), &mut Steps::new())?;
+        self.pop_counted(&mut Steps::new())
+    }
+
+    /// The same as `pop`. It looks at no more than four bytes and moves none. Both counts must be
+    /// at most 2^63.
+    pub fn pop_counted(&mut self, steps: &mut Steps) -> Option<char>
+        requires looks { steps.old.looked ≤ 2 ^ 63 }
+        requires moves { steps.old.moved ≤ 2 ^ 63 }
+        ensures edit { Makes (popping self.old.text) self.old.text (Ok result) self.new.text }
+        ensures looked { steps.new.looked ≤ steps.old.looked + 4 }
+        ensures counted { steps.old.looked ≤ steps.new.looked }
+        ensures moved { steps.new.moved ≡ steps.old.moved }
+    {
+        let (start, ch) = last_char(self.as_str(), steps)?;
         self.keep(start as u8);
         Some(ch)
     }

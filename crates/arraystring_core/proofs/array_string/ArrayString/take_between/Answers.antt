@@ -7,15 +7,15 @@ use Rattle.arraystring_core.proofs.RangeLemmas.{part-size-le}
 use Rattle.arraystring_core.specs.EditLaws.{inside-so, inside-not, refuses, makes}
 use Rattle.arraystring_core.proofs.array_string.ArrayString.take_between.Goals as goal
 
-pub returns-then-not-is_boundary : goal.returns-then-not-is_boundary
-returns-then-not-is_boundary g c =
+pub returns-then-not-is_boundary-clause-edit : goal.returns-then-not-is_boundary-clause-edit
+returns-then-not-is_boundary-clause-edit g c =
     let t = c.args.self.now.text in
     let reached : c.args.end ≤ size t = omega arith in
     let within = inside-so t c.args.start (omega arith) (sym c.is_boundary.ensures ∙ c.if-not-is_boundary.true) in
     refuses _ _ Inside (rw (le-ltb _ _ c.if-start-end.false, le-ltb _ _ reached, within))
 
-pub returns-then-not-is_boundary-2 : goal.returns-then-not-is_boundary-2
-returns-then-not-is_boundary-2 g c =
+pub returns-then-not-is_boundary-2-clause-edit : goal.returns-then-not-is_boundary-2-clause-edit
+returns-then-not-is_boundary-2-clause-edit g c =
     let t = c.args.self.now.text in
     let reached : c.args.end ≤ size t = omega arith in
     let outside = inside-not t c.args.start (sym c.is_boundary.ensures ∙ c.if-not-is_boundary.false) in
@@ -42,10 +42,10 @@ pub take_out-requires : goal.take_out-requires
 take_out-requires g c =
     let at = sym c.is_boundary.ensures ∙ c.if-not-is_boundary.false in
     let to = sym c.is_boundary-2.ensures ∙ c.if-not-is_boundary-2.false in
-    (search rules, (c.if-start-end.false, (at, (to, omega arith))))
+    (search rules, (c.if-start-end.false, (at, (to, c.requires))))
 
-pub returns : goal.returns
-returns g c =
+pub returns-clause-edit : goal.returns-clause-edit
+returns-clause-edit g c =
     let t = c.args.self.now.text in
     let reached : c.args.end ≤ size t = omega arith in
     let at = sym c.is_boundary.ensures ∙ c.if-not-is_boundary.false in
