@@ -117,9 +117,9 @@ pub fn shift<const N: usize>(
     ensures moved { steps.new.moved ≡ steps.old.moved + (if from == to then 0 else len) }
     ensures looked { steps.new.looked ≡ steps.old.looked }
 {
-    let all = &mut array[..];
-    all.copy_within(from..from + len, to);
     if from != to {
+        let all = &mut array[..];
+        all.copy_within(from..from + len, to);
         steps.count_moves(len);
     }
 }

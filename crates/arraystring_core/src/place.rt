@@ -1,8 +1,11 @@
 //! Bytes that stand at a place of an array.
-ghost use Rattle.std.specs.Prelude.{◌≡◌, ◌≢◌, ◌+◌, ◌-◌, ◌^◌, ◌≤◌, ◌++◌, min, length, take, drop};
-ghost use Rattle.arraystring_base.specs.Text.{cap};
+ghost use Rattle.std.specs.Prelude.{◌≡◌, ◌≢◌, ◌+◌, ◌-◌, ◌^◌, ◌<◌, ◌≤◌, ◌++◌, ℕ, List, min, length, take, drop, chars, IsUtf8};
+ghost use Rattle.std.specs.List.Retain.{IsFiltered};
+ghost use Rattle.arraystring_base.specs.Text.{cap, utf8};
+ghost use Rattle.arraystring_core.specs.Asked.{MayBeAsked};
 
 use arraystring_base::utils::{Steps, shift};
+use std::str;
 
 /// Opens a gap of `len` bytes in place of the bytes from `start` to `end` of the `size` bytes that
 /// stand from `place` on, and answers where they stand afterwards. They stay where they are if
@@ -41,6 +44,68 @@ pub(crate) fn open_gap<const N: usize>(
     shift(array, place, 0, start, steps);
     shift(array, place + end, start + len, tail, steps);
     0
+}
+
+/// Asks `f` once for each character of the text in the `size` bytes that stand from `place` on, in
+/// order, and moves those for which it answers true together at `place`; answers how many bytes
+/// they take. A run of kept characters is moved as one piece, and to the left at most.
+pub(crate) fn retain_at<const N: usize, F: FnMut(char) -> bool + Drop>(
+    array: &mut [u8; N],
+    place: usize,
+    size: usize,
+    mut f: F,
+) -> usize
+    requires held { place + size ≤ N }
+    requires text { IsUtf8 (take size (drop place array.old)) }
+    requires asked { MayBeAsked F.pre F.step f (chars (take size (drop place array.old))) }
+    ensures len { length array.new ≡ N }
+    ensures at_most { result ≤ size }
+    ensures text { IsUtf8 (take result (drop place array.new)) }
+    ensures filtered { IsFiltered F.step f (chars (take size (drop place array.old))) (chars (take result (drop place array.new))) }
+{
+    // The first `kept` bytes stay, and so do those from `run` to `read`, which were not moved yet.
+    let mut kept = 0;
+    let mut run = 0;
+    let mut read = 0;
+    while read < size {
+        let ch = char_at(array, place + read, place + size);
+        let width = ch.len_utf8();
+        if !f(ch) {
+            shift(
+                array,
+                place + run,
+                place + kept,
+                read - run,
+                &mut Steps::new(),
+            );
+            kept += read - run;
+            run = read + width;
+        }
+        read += width;
+    }
+    shift(
+        array,
+        place + run,
+        place + kept,
+        size - run,
+        &mut Steps::new(),
+    );
+    kept + (size - run)
+}
+
+/// The first character of the text in the bytes from `start` to `end`.
+fn char_at<const N: usize>(array: &[u8; N], start: usize, end: usize) -> char
+    requires some { start < end }
+    requires within { end ≤ N }
+    requires text { IsUtf8 (take (end - start) (drop start array.now)) }
+    ensures { (rest : List ℕ) × (take (end - start) (drop start array.now) ≡ utf8 result ++ rest) }
+{
+    let all = &array[..];
+    let text = unsafe { str::from_utf8_unchecked(&all[start..end]) };
+    let Some(ch) = text.chars().next() else {
+        unreachable!();
+    };
+    ch
 }
 
 /// Writes `given` over the bytes from `at` on.

@@ -6,6 +6,7 @@ ghost use Rattle.arraystring_core.specs.Edits.{Makes, from_utf8_error, with_text
 ghost use Rattle.arraystring_core.specs.Asked.{MayBeAsked};
 
 use crate::ArrayString;
+use crate::place::retain_at;
 use arraystring_base::error::{Error, Utf8};
 use arraystring_base::utils::{Steps, last_char};
 
@@ -89,17 +90,12 @@ impl<const N: usize> ArrayString<N> {
 
     /// Asks `f` once for each character, in order, and keeps those for which it answers true. It
     /// may be asked about each of them, in each state that its answers leave.
-    pub fn retain<F: FnMut(char) -> bool + Drop>(&mut self, mut f: F)
+    pub fn retain<F: FnMut(char) -> bool + Drop>(&mut self, f: F)
         requires { MayBeAsked F.pre F.step f self.old.text }
         ensures { IsFiltered F.step f self.old.text self.new.text }
     {
-        let old = *self;
-        self.clear();
-        for ch in old.as_str().chars() {
-            if f(ch) {
-                self.push_unchecked(ch);
-            }
-        }
+        let (place, size) = (self.start as usize, self.size as usize);
+        self.size = retain_at(&mut self.array, place, size, f) as u8;
     }
 
     /// Empties the string.
