@@ -5,6 +5,7 @@
 pub mod array_string;
 pub mod drain;
 pub mod laws;
+mod place;
 mod ranges;
 pub mod utils;
 

@@ -4,10 +4,10 @@ use Rattle.arraystring_base.specs.TextLaws.{chars-bytes, size-append}
 use Rattle.arraystring_base.specs.BoundaryLaws.{boundary-is, front-is}
 use Rattle.arraystring_core.specs.Edits.{popping, last_of, all_but_last}
 use Rattle.arraystring_core.specs.EditLaws.{makes, last_of-push, all_but_last-push}
-use Rattle.arraystring_core.proofs.array_string.ArrayString.pop.Goals as goal
+use Rattle.arraystring_core.proofs.array_string.ArrayString.pop_counted.Goals as goal
 
-pub returns-in_err-start : goal.returns-in_err-start
-returns-in_err-start g c =
+pub returns-in_err-start-clause-edit : goal.returns-in_err-start-clause-edit
+returns-in_err-start-clause-edit g c =
     let text = c.args.self.now.text in
     let none : text ≡ [] = sym (chars-bytes _ text c.as_str.utf8 c.as_str.ensures.bytes) ∙ c.in_err-start.ensures.none in
     makes (popping text) text c.from_residual.result text refl (c.from_residual.ensures ∙ sym (ap last_of none))
@@ -32,8 +32,8 @@ keep-requires g c =
     ap (λ l. boundary l start) parts ∙ boundary-is found.0 (c.in_ok-start.ch ∷ []) start found.2 in
     (search rules, is)
 
-pub returns : goal.returns
-returns g c =
+pub returns-clause-edit : goal.returns-clause-edit
+returns-clause-edit g c =
     let text = c.args.self.now.text in
     let start = c.in_ok-start.start in
     let ch = c.in_ok-start.ch in

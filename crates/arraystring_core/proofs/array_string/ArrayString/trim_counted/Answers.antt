@@ -1,15 +1,24 @@
-use Rattle.std.proofs.Common.{◌≡◌, ◌+◌, ◌-◌, ◌≤◌, ◌++◌, ◌∷◌, [], chars, length, sym, ap, ◌∙◌, refl, arith, rules, true, eq-eqb}
-use Rattle.std.proofs.lemmas.Str.{chars-nil}
+use Rattle.std.proofs.Common.{◌≡◌, ◌++◌, ◌∷◌, [], length, sym, ap, ◌∙◌, refl, arith, rules, true, eq-eqb}
 use Rattle.std.proofs.lemmas.Bool.{ne_eqb}
 use Rattle.std.specs.Prelude.{take_while}
-use Rattle.arraystring_base.specs.Text.{size, cap, front, back, boundary}
+use Rattle.arraystring_base.specs.Text.{size, front, boundary}
 use Rattle.arraystring_base.specs.TextLaws.{chars-bytes, size-append, width-bounds}
-use Rattle.arraystring_base.specs.BoundaryLaws.{boundary-is, front-start, front-is}
+use Rattle.arraystring_base.specs.BoundaryLaws.{boundary-is, front-is}
 use Rattle.arraystring_core.specs.Edits.{trimming, without_leading, without_trailing, is_space}
 use Rattle.arraystring_core.specs.EditLaws.{makes}
+use Rattle.arraystring_core.specs.StoredLaws.{opened-size}
 use Rattle.arraystring_core.proofs.TrimLemmas.{leading-boundary, back-leading, without_trailing-passes, without_trailing-stops}
-use Rattle.arraystring_core.proofs.array_string.ArrayString.trim.Goals as goal
-use Rattle.arraystring_core.proofs.array_string.ArrayString.trim.Goals.{in-Some+then-ch-ne32, in_default}
+use Rattle.arraystring_core.proofs.array_string.ArrayString.trim_counted.Goals as goal
+use Rattle.arraystring_core.proofs.array_string.ArrayString.trim_counted.Goals.{in-Some+then-ch-ne32, in_default}
+
+pub loop-start-init : goal.loop-start-init
+loop-start-init g c =
+    let long = opened-size g.row.N _ _ _ c.self.invariant _ c.self.view_is in
+    record { trimmed = refl; looked = omega arith; fits = omega (arith, long, c.self.invariant.0); counted = omega arith; moved = refl }
+
+pub last_char-requires : goal.last_char-requires
+last_char-requires g c =
+    let inv = c.loop-start.invariant in omega (arith, inv.looked, inv.fits, c.requires.looks)
 
 pub overflow_cast-start : goal.overflow_cast-start
 overflow_cast-start g c =
@@ -52,20 +61,26 @@ loop-start-preserved g c =
     let kept : c.keep.new.self.text ≡ found.0 =
     c.keep.ensures ∙ ap (λ l. front l start) parts ∙ front-is found.0 (space ∷ []) start found.2 in
     let passes : is_space space ≡ true = eq-eqb space 32 c.if-ch-ne32.false in
-    ap (without_trailing is_space) kept ∙ sym (ap (without_trailing is_space) parts ∙ without_trailing-passes is_space found.0 space passes)
-    ∙ c.loop-start.invariant
+    let inv = c.loop-start.invariant in
+    let told = c.last_char.ensures in
+    record {
+      trimmed = ap (without_trailing is_space) kept
+          ∙ sym (ap (without_trailing is_space) parts ∙ without_trailing-passes is_space found.0 space passes) ∙ inv.trimmed;
+      looked = omega (arith, inv.looked, told.looked, ap size parts, ap size kept, size-append found.0 (space ∷ []), width-bounds space);
+      fits = inv.fits;
+      counted = omega (arith, inv.counted, told.counted);
+      moved = told.moved ∙ inv.moved;
+    }
 
-pub splice-requires : goal.splice-requires
-splice-requires g c =
+pub drop_front-requires : goal.drop_front-requires
+drop_front-requires g c =
     let text = c.loop-start.self.text in
     let spaces : c.leading_spaces-start.result ≡ length (take_while is_space text) =
     c.leading_spaces-start.ensures ∙ ap (λ l. length (take_while is_space l)) (chars-bytes _ text c.as_str-2.utf8 c.as_str-2.ensures.bytes) in
-    let none : size (chars []) ≡ 0 = ap size chars-nil in
-    let fits : size text - (c.leading_spaces-start.result - 0) + size (chars []) ≤ cap g.row.N = omega (arith, none, c.as_str-2.ensures.fits) in
-    (search rules, (omega arith, (boundary-is [] text 0 refl, (leading-boundary text c.leading_spaces-start.result spaces, (fits, omega arith)))))
+    (search rules, leading-boundary text c.leading_spaces-start.result spaces)
 
-pub returns : goal.returns
-returns g c =
+pub returns-clause-edit : goal.returns-clause-edit
+returns-clause-edit g c =
     let text = c.loop-start.self.text in
     let k = c.leading_spaces-start.result in
     let spaces : k ≡ length (take_while is_space text) =
@@ -81,7 +96,6 @@ returns g c =
           let none : text ≡ [] = sym lent ∙ (rw w.in_default.is at c.last_char.ensures.none) in
           ap (without_trailing is_space) none ∙ sym none
     ] in
-    let trimmed : text ≡ without_trailing is_space c.args.self.now.text = sym ended ∙ c.loop-start.invariant in
+    let trimmed : text ≡ without_trailing is_space c.args.self.now.text = sym ended ∙ c.loop-start.invariant.trimmed in
     makes (trimming c.args.self.now.text) c.args.self.now.text tt _ refl refl
-    (c.splice.ensures.text ∙ ap (λ l. l ++ (chars [] ++ back text k)) (front-start text) ∙ ap (λ l. l ++ back text k) chars-nil
-    ∙ back-leading text k spaces ∙ ap (without_leading is_space) trimmed)
+    (c.drop_front.ensures ∙ back-leading text k spaces ∙ ap (without_leading is_space) trimmed)
