@@ -9,3 +9,4 @@ pub use Rattle.arraystring_core.specs.StoredLaws
 pub use Rattle.arraystring_core.specs.Edits
 pub use Rattle.arraystring_core.specs.EditLaws
 pub mod Runs
+pub mod Script

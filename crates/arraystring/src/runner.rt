@@ -4,8 +4,13 @@ ghost use Rattle.arraystring_core.specs.Text.{cap, size};
 ghost use Rattle.arraystring_core.specs.Edits.{from_out_of_bounds};
 ghost use Rattle.arraystring.specs.Runs.{said, said_of, char_or_none, Done, edit, tight, adds_less, after, first_tight_from, earlier_of};
 
+mod player;
+mod printing;
+mod script;
+
 use crate::ArrayString;
 use crate::error::{Error, OutOfBounds};
+pub use player::{PlayFault, play, serve};
 use std::alloc::{AllocError, Global};
 
 /// One edit of a text, or one question about it. Sizes count bytes of UTF-8.

@@ -1,4 +1,4 @@
-use Rattle.std.proofs.Common.{◌≡◌, ◌-◌, ◌∙◌, sym, ap, arith, chars, nat_lt}
+use Rattle.std.proofs.Common.{◌≡◌, ◌-◌, ◌∙◌, sym, ap, chars, nat_lt}
 use Rattle.arraystring_core.specs.Text.{size, cap}
 use Rattle.arraystring_core.specs.TextLaws.{size-lent}
 use Rattle.arraystring.proofs.RunLemmas.{is_cut-larger}

@@ -1,0 +1,78 @@
+-- Scripts, which are lines of bytes, and what is printed of a run.
+use Rattle.std.specs.Prelude.{◌≡◌, ℕ, ◌+◌, ◌==◌, ⊤, length, List, [], ◌∷◌, ◌++◌, if◌then◌else◌, codes, decimal}
+use Rattle.arraystring_core.specs.Text.{utf8, bytes, IsScalarValue, IsWellFormed}
+use Rattle.arraystring_core.specs.Names.{error_name}
+use Rattle.arraystring.specs.Runs.{Said, Done, Char, NoChar, Text, Number, Refused}
+use Rattle.arraystring.specs.declared.runner.Command.{Command}
+use Rattle.arraystring.specs.declared.runner.Command.TheVariants.{TryPush, TryPushStr, PushStr, Pop, Len, Capacity, AsStr}
+use Rattle.arraystring.specs.declared.runner.player.PlayFault.{PlayFault}
+use Rattle.arraystring.specs.declared.runner.player.PlayFault.TheVariants.{BadLine}
+
+-- the byte that ends a line
+abbrev pub line_feed : ℕ
+line_feed = 0x0A
+
+-- b is the first byte of the first line
+abbrev pub first_byte : ℕ → List (List ℕ) → List (List ℕ)
+first_byte b [] = (b ∷ []) ∷ []
+first_byte b (line ∷ rest) = (b ∷ line) ∷ rest
+
+-- the lines of an input, without their ends; the last may lack its end, and no bytes have no lines
+abbrev pub lines : List ℕ → List (List ℕ)
+lines [] = []
+lines (b ∷ bs) = if b == line_feed then [] ∷ lines bs else first_byte b (lines bs)
+
+-- the bytes of a line are those of a command: its word, and after one space what it is given
+abbrev pub IsLineOf : List ℕ → Command → Type 0
+IsLineOf bs (TryPush c) = IsScalarValue c × (bs ≡ codes "try_push " ++ utf8 c)
+IsLineOf bs (TryPushStr given) = IsWellFormed given.now × (bs ≡ codes "try_push_str " ++ given.now)
+IsLineOf bs (PushStr given) = IsWellFormed given.now × (bs ≡ codes "push_str " ++ given.now)
+IsLineOf bs Pop = bs ≡ codes "pop"
+IsLineOf bs Len = bs ≡ codes "len"
+IsLineOf bs Capacity = bs ≡ codes "capacity"
+IsLineOf bs AsStr = bs ≡ codes "as_str"
+
+-- each line is that of the command beside it
+abbrev pub AreLinesOf : List (List ℕ) → List Command → Type 0
+AreLinesOf [] [] = ⊤
+AreLinesOf [] (c ∷ cs) = ⊥
+AreLinesOf (line ∷ rest) [] = ⊥
+AreLinesOf (line ∷ rest) (c ∷ cs) = IsLineOf line c × AreLinesOf rest cs
+
+-- the lines before line k, from 1, are those of commands, and line k is that of no command
+pub record IsBadAt (all : List (List ℕ)) (k : ℕ) : Type 0 where
+  pub front : List (List ℕ)
+  pub commands : List Command
+  pub line : List ℕ
+  pub rest : List (List ℕ)
+  pub whole : all ≡ front ++ line ∷ rest
+  pub number : k ≡ length front + 1
+  pub before : AreLinesOf front commands
+  pub bad : (c : Command) → IsLineOf line c → ⊥
+
+-- what a fault says where it is a bad line
+abbrev pub IfBadLine : PlayFault → (ℕ → Type 0) → Type 0
+IfBadLine (BadLine k) P = P k
+IfBadLine _ P = ⊤
+
+-- a line of the output, with its end
+abbrev pub ended : List ℕ → List ℕ
+ended bs = bs ++ line_feed ∷ []
+
+-- the line of a reply
+abbrev pub printed : Said → List ℕ
+printed Done = codes "done"
+printed (Char c) = codes "char " ++ utf8 c
+printed NoChar = codes "no char"
+printed (Text t) = codes "text " ++ bytes t
+printed (Number n) = codes "number " ++ decimal n
+printed (Refused e) = codes "refused " ++ error_name e
+
+-- a line for each reply
+abbrev pub replies_printed : List Said → List ℕ
+replies_printed [] = []
+replies_printed (r ∷ rs) = ended (printed r) ++ replies_printed rs
+
+-- and one for the last text
+abbrev pub all_printed : List Said → List ℕ → List ℕ
+all_printed rs t = replies_printed rs ++ ended (codes "final " ++ bytes t)
