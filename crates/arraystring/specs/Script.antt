@@ -1,12 +1,15 @@
 -- Scripts, which are lines of bytes, and what is printed of a run.
-use Rattle.std.specs.Prelude.{◌≡◌, ℕ, ◌+◌, ◌==◌, ⊤, length, List, [], ◌∷◌, ◌++◌, if◌then◌else◌, codes, decimal}
+use Rattle.std.specs.Prelude.{◌≡◌, ℕ, ◌+◌, ◌==◌, ⊤, length, List, [], ◌∷◌, ◌++◌, if◌then◌else◌, Option, Some, None, Result, Ok, Err, codes, decimal, nat_eq}
+use Rattle.std.specs.Borrow.{Bor}
+use Rattle.std.specs.Cmp.Lexicographic.{pointwise}
+use Rattle.std.specs.Io.KnownBytes.{Appends}
 use Rattle.arraystring_core.specs.Text.{utf8, bytes, IsScalarValue, IsWellFormed}
 use Rattle.arraystring_core.specs.Names.{error_name}
-use Rattle.arraystring.specs.Runs.{Said, Done, Char, NoChar, Text, Number, Refused}
+use Rattle.arraystring.specs.Runs.{after, Said, Done, Char, NoChar, Text, Number, Refused}
 use Rattle.arraystring.specs.declared.runner.Command.{Command}
 use Rattle.arraystring.specs.declared.runner.Command.TheVariants.{TryPush, TryPushStr, PushStr, Pop, Len, Capacity, AsStr}
 use Rattle.arraystring.specs.declared.runner.player.PlayFault.{PlayFault}
-use Rattle.arraystring.specs.declared.runner.player.PlayFault.TheVariants.{BadLine}
+use Rattle.arraystring.specs.declared.runner.player.PlayFault.TheVariants.{BadLine, Memory, Read, Write}
 
 -- the byte that ends a line
 abbrev pub line_feed : ℕ
@@ -76,3 +79,27 @@ replies_printed (r ∷ rs) = ended (printed r) ++ replies_printed rs
 -- and one for the last text
 abbrev pub all_printed : List Said → List ℕ → List ℕ
 all_printed rs t = replies_printed rs ++ ended (codes "final " ++ bytes t)
+
+-- the printed lines of a run from the empty text at the capacity n
+abbrev pub run_printed : List Command → ℕ → List ℕ
+run_printed cs n = let ran = after cs [] n in all_printed ran.replies ran.text
+
+-- the input is the lines of some commands, and the writer's bytes grew by the printed lines of their run
+abbrev pub IsPlayed : List ℕ → ℕ → Option (List ℕ) → Option (List ℕ) → Type 0
+IsPlayed input n old new = (cs : List Command) × AreLinesOf (lines input) cs × Appends old new (run_printed cs n)
+
+-- the capacity that a word names
+abbrev pub capacity_named : Option (Bor (List ℕ)) → Option ℕ
+capacity_named None = None
+capacity_named (Some word) =
+    if pointwise nat_eq word.now (codes "small") then Some 23 else
+    if pointwise nat_eq word.now (codes "cache") then Some 63 else
+    if pointwise nat_eq word.now (codes "max") then Some 255 else None
+
+-- the exit status of a script that was played, or not
+abbrev pub status_of : {A : Type 0} → Result A PlayFault → ℕ
+status_of (Ok _) = 0
+status_of (Err (BadLine k)) = 2
+status_of (Err Memory) = 3
+status_of (Err Read) = 4
+status_of (Err Write) = 4

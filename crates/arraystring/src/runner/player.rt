@@ -1,10 +1,8 @@
 //! A script played from a reader to a writer.
-ghost use Rattle.std.specs.Prelude.{◌≡◌, ◌≢◌, ◌^◌, ◌<◌, [], ℕ, List, IfOk, IfErr, IfSome, OnOk};
-ghost use Rattle.std.specs.Io.KnownBytes.{Keeps, IsAtEnd, Consumes, Appends};
+ghost use Rattle.std.specs.Prelude.{◌≡◌, ◌≢◌, ◌≤◌, [], ℕ, None, IfOk, IfErr, IfSome, OnOk};
+ghost use Rattle.std.specs.Io.KnownBytes.{Keeps};
 ghost use Rattle.arraystring_core.specs.Text.{cap};
-ghost use Rattle.arraystring.specs.Runs.{after};
-ghost use Rattle.arraystring.specs.Script.{lines, AreLinesOf, IsBadAt, IfBadLine, all_printed};
-ghost use Rattle.arraystring.specs.declared.runner.Command.{Command as Edit};
+ghost use Rattle.arraystring.specs.Script.{lines, IsBadAt, IfBadLine, IsPlayed, capacity_named, status_of};
 
 use super::printing::write_all_replies;
 use super::run;
@@ -43,8 +41,7 @@ pub fn play<const N: usize, I: Read, O: Write>(
     input: &mut I,
     output: &mut O,
 ) -> Result<(), PlayFault>
-    ensures played { OnOk result (IfSome (I.remaining input.old) (λ given. (cs : List Edit) × AreLinesOf (lines given) cs
-        × Appends (O.contents output.old) (O.contents output.new) (all_printed (after cs [] (cap N)).replies (after cs [] (cap N)).text))) }
+    ensures played { OnOk result (IfSome (I.remaining input.old) (λ given. IsPlayed given (cap N) (O.contents output.old) (O.contents output.new))) }
     ensures bad_line { IfErr result (λ e. IfBadLine e (λ k. IfSome (I.remaining input.old) (λ given. IsBadAt (lines given) k))) }
     ensures unwritten { IfErr result (λ e. e ≢ PlayFault.Write → Keeps (O.contents output.old) (O.contents output.new)) }
 {
@@ -76,16 +73,31 @@ pub fn serve<I: Read, O: Write, E: Write>(
     input: &mut I,
     output: &mut O,
     errors: &mut E,
-) -> u8 {
-    let played = match word {
-        Some("small") => play::<23, I, O>(alloc, input, output),
-        Some("cache") => play::<63, I, O>(alloc, input, output),
-        Some("max") => play::<255, I, O>(alloc, input, output),
+) -> u8
+    ensures other_word { capacity_named word.entry ≡ None → (result ≡ 2) × (input.new ≡ input.old) }
+    ensures played { IfSome (capacity_named word.entry) (λ n. result ≡ 0
+        → IfSome (I.remaining input.old) (λ given. IsPlayed given n (O.contents output.old) (O.contents output.new))) }
+    ensures bad_line { IfSome (capacity_named word.entry) (λ _. result ≡ 2
+        → IfSome (I.remaining input.old) (λ given. (k : ℕ) × IsBadAt (lines given) k)) }
+    ensures unwritten { result ≢ 0 → result ≢ 4 → Keeps (O.contents output.old) (O.contents output.new) }
+    // 0, 2, 3 or 4
+    ensures status { (result ≤ 4) × (result ≢ 1) }
+{
+    match word {
+        Some("small") => told(play::<23, I, O>(alloc, input, output), errors),
+        Some("cache") => told(play::<63, I, O>(alloc, input, output), errors),
+        Some("max") => told(play::<255, I, O>(alloc, input, output), errors),
         _ => {
             let _ = errors.write_all(b"usage: arraystring_run small or cache or max\n");
-            return 2;
+            2
         }
-    };
+    }
+}
+
+/// Writes the line of a fault, and answers the status.
+fn told<E: Write>(played: Result<(), PlayFault>, errors: &mut E) -> u8
+    ensures { result ≡ status_of played }
+{
     match played {
         Ok(()) => 0,
         Err(PlayFault::BadLine(number)) => {
