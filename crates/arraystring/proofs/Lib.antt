@@ -1,3 +1,4 @@
 pub mod RunLemmas
 pub mod ScriptLemmas
 pub mod PrintLemmas
+pub mod ReadingLemmas

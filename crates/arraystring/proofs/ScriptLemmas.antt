@@ -12,7 +12,7 @@ use Rattle.arraystring.specs.declared.runner.Command.TheVariants.{TryPush, TryPu
 use Rattle.arraystring.specs.Script.{lines, line_feed, first_byte, IsLineOf, AreLinesOf, IsBadAt}
 
 -- the line of a command is UTF-8
-char-utf8 : (c : ℕ) → IsScalarValue c → IsUtf8 (utf8 c)
+pub char-utf8 : (c : ℕ) → IsScalarValue c → IsUtf8 (utf8 c)
 char-utf8 c is = subst IsUtf8 (append-nil (utf8 c)) (bytes-utf8 (c ∷ []) (is, tt))
 
 pub line-utf8 : (bs : List ℕ) (c : Command) → IsLineOf bs c → IsUtf8 bs

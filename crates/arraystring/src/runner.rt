@@ -4,6 +4,7 @@ ghost use Rattle.arraystring_core.specs.Text.{cap, size};
 ghost use Rattle.arraystring_core.specs.Edits.{from_out_of_bounds};
 ghost use Rattle.arraystring.specs.Runs.{said, said_of, char_or_none, Done, edit, tight, adds_less, after, first_tight_from, earlier_of};
 
+pub mod laws;
 mod player;
 mod printing;
 mod script;
