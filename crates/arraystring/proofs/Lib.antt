@@ -2,3 +2,4 @@ pub mod RunLemmas
 pub mod ScriptLemmas
 pub mod PrintLemmas
 pub mod ReadingLemmas
+pub mod LineLemmas

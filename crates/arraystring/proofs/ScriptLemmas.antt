@@ -59,7 +59,7 @@ other-byte : (b : Bool) → (b ≡ true → ⊥) → b ≡ false
 other-byte true not = absurd (not refl)
 other-byte false not = refl
 
-not_line_feed : (b : ℕ) → b ≢ line_feed → eqb b line_feed ≡ false
+pub not_line_feed : (b : ℕ) → b ≢ line_feed → eqb b line_feed ≡ false
 not_line_feed b other = other-byte (eqb b line_feed) (λ e. other (eqb-true b line_feed e))
 
 -- the first line ends at its line feed, and the others follow it

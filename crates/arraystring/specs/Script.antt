@@ -1,5 +1,5 @@
 -- Scripts, which are lines of bytes, and what is printed of a run.
-use Rattle.std.specs.Prelude.{◌≡◌, ℕ, ◌+◌, ◌==◌, ⊤, length, List, [], ◌∷◌, ◌++◌, if◌then◌else◌, Option, Some, None, Result, Ok, Err, codes, decimal, nat_eq}
+use Rattle.std.specs.Prelude.{◌≡◌, ◌≢◌, ℕ, ◌+◌, ◌==◌, ⊤, length, List, [], ◌∷◌, ◌++◌, if◌then◌else◌, Option, Some, None, Result, Ok, Err, codes, decimal, nat_eq}
 use Rattle.std.specs.Borrow.{Bor}
 use Rattle.std.specs.Cmp.Lexicographic.{pointwise}
 use Rattle.std.specs.Io.KnownBytes.{Appends}
@@ -14,6 +14,23 @@ use Rattle.arraystring.specs.declared.runner.player.PlayFault.TheVariants.{BadLi
 -- the byte that ends a line
 abbrev pub line_feed : ℕ
 line_feed = 0x0A
+
+-- a line with its end
+abbrev pub ended : List ℕ → List ℕ
+ended bs = bs ++ line_feed ∷ []
+
+abbrev pub all_ended : List (List ℕ) → List ℕ
+all_ended [] = []
+all_ended (line ∷ rest) = ended line ++ all_ended rest
+
+-- no byte ends a line
+abbrev pub IsOneLine : List ℕ → Type 0
+IsOneLine [] = ⊤
+IsOneLine (b ∷ bs) = (b ≢ line_feed) × IsOneLine bs
+
+abbrev pub AreOneLine : List (List ℕ) → Type 0
+AreOneLine [] = ⊤
+AreOneLine (line ∷ rest) = IsOneLine line × AreOneLine rest
 
 -- b is the first byte of the first line
 abbrev pub first_byte : ℕ → List (List ℕ) → List (List ℕ)
@@ -57,10 +74,6 @@ pub record IsBadAt (all : List (List ℕ)) (k : ℕ) : Type 0 where
 abbrev pub IfBadLine : PlayFault → (ℕ → Type 0) → Type 0
 IfBadLine (BadLine k) P = P k
 IfBadLine _ P = ⊤
-
--- a line of the output, with its end
-abbrev pub ended : List ℕ → List ℕ
-ended bs = bs ++ line_feed ∷ []
 
 -- the line of a reply
 abbrev pub printed : Said → List ℕ

@@ -1,9 +1,19 @@
 //! Laws of scripts, which callers may rely on. Each does nothing when it is called and carries its
 //! fact in its contract.
-ghost use Rattle.std.specs.Prelude.{◌≡◌, ℕ, List};
+ghost use Rattle.std.specs.Prelude.{◌≡◌, ◌<◌, ◌⊎◌, ◌++◌, ◌∷◌, [], ℕ, List, length};
 ghost use Rattle.arraystring.specs.Runs.{after};
-ghost use Rattle.arraystring.specs.Script.{AreLinesOf, IsBadAt};
+ghost use Rattle.arraystring.specs.Script.{lines, ended, all_ended, IsOneLine, AreOneLine, AreLinesOf, IsBadAt};
 ghost use Rattle.arraystring.specs.declared.runner.Command.{Command as Edit};
+
+/// The lines of lines that are each ended are those lines, and so they are where a last line that
+/// is not empty lacks its end. Each input is of one of these two forms.
+pub fn lines_of_input()
+    ensures all_ended { (all : List (List ℕ)) → AreOneLine all → lines (all_ended all) ≡ all }
+    ensures last_open { (all : List (List ℕ)) (last : List ℕ) → AreOneLine all → IsOneLine last → 0 < length last
+        → lines (all_ended all ++ last) ≡ all ++ last ∷ [] }
+    ensures no_ends { (input : List ℕ) → AreOneLine (lines input) }
+    ensures input { (input : List ℕ) → (all_ended (lines input) ≡ input) ⊎ (all_ended (lines input) ≡ ended input) }
+{}
 
 /// A script has one reading: whatever commands its lines are taken for, they are answered alike
 /// and leave the same text.
