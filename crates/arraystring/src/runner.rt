@@ -75,6 +75,7 @@ pub fn run<const N: usize>(
     ensures unchanged { OnErr result (text.new.text ≡ text.old.text) }
     ensures empty { commands.now ≡ [] → IsOk result }
 {
+    // `len` says that the text fits, before the first command and after the last
     let _fits = text.len();
     let mut replies = Vec::with_capacity(alloc, commands.len())?;
     let mut first_tight = None;
@@ -83,6 +84,7 @@ pub fn run<const N: usize>(
         first_tight = earlier(first_tight, is_tight, position);
         replies.push_reserved(reply);
     }
+    let _fits = text.len();
     Ok(Outcome {
         replies,
         first_tight,
@@ -95,9 +97,8 @@ fn step<const N: usize>(text: &mut ArrayString<N>, command: Command<'_>) -> (Rep
     ensures reply { said result.0 ≡ (edit command.entry text.old.text (cap N)).reply }
     ensures text { text.new.text ≡ (edit command.entry text.old.text (cap N)).text }
     ensures tight { result.1 ≡ tight command.entry text.old.text (cap N) }
-    ensures fits { size text.new.text ≤ cap N }
 {
-    let made = match command {
+    match command {
         Command::TryPush(ch) => added(text.try_push(ch)),
         Command::TryPushStr(given) => added(text.try_push_str(given)),
         Command::PushStr(given) => {
@@ -109,9 +110,7 @@ fn step<const N: usize>(text: &mut ArrayString<N>, command: Command<'_>) -> (Rep
         Command::Len => (Reply::Number(text.len()), false),
         Command::Capacity => (Reply::Number(ArrayString::<N>::capacity()), false),
         Command::AsStr => (Reply::Text(*text), false),
-    };
-    let _fits = text.len();
-    made
+    }
 }
 
 /// The reply to an addition; one that is refused is tight, since only room refuses it.
