@@ -1,4 +1,5 @@
-//! The lines that are printed of a run. Nothing here is given an allocator, so nothing takes memory.
+//! The lines that are printed of a run. Nothing here is given an allocator, so nothing takes
+//! memory.
 ghost use Rattle.std.specs.Prelude.{◌≡◌, map, OnOk};
 ghost use Rattle.std.specs.Io.KnownBytes.{Appends};
 ghost use Rattle.arraystring.specs.Runs.{said};
