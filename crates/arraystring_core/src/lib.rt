@@ -4,6 +4,7 @@
 
 pub mod array_string;
 pub mod drain;
+pub mod laws;
 mod ranges;
 
 pub use array_string::ArrayString;
