@@ -9,3 +9,6 @@ mod ranges;
 
 pub use array_string::ArrayString;
 pub use drain::Drain;
+
+#[cfg(test)]
+mod tests;

@@ -157,3 +157,6 @@ impl<const N: usize> ArrayString<N> {
         Ok(())
     }
 }
+
+#[cfg(test)]
+mod tests;
