@@ -12,6 +12,7 @@ use std::marker::Model;
 use std::{fmt, str};
 
 mod ascii;
+mod compare;
 mod insert;
 mod remove;
 
