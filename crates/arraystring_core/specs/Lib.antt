@@ -2,6 +2,7 @@ pub use Rattle.arraystring_base.specs.Text
 pub use Rattle.arraystring_base.specs.TextLaws
 pub use Rattle.arraystring_base.specs.CutLaws
 pub use Rattle.arraystring_base.specs.BoundaryLaws
+pub use Rattle.arraystring_base.specs.OrderLaws
 pub use Rattle.arraystring_base.specs.Counts
 pub use Rattle.arraystring_base.specs.Names
 pub mod Stored
@@ -9,3 +10,5 @@ pub mod StoredLaws
 pub mod Edits
 pub mod EditLaws
 pub mod Asked
+pub mod Json
+pub mod JsonLaws

@@ -3,5 +3,7 @@
 #![tactic(auto)]
 
 pub mod array_string;
+pub mod integration;
+pub mod laws;
 
 pub use array_string::ArrayString;

@@ -92,3 +92,6 @@ impl<const N: usize> fmt::Write for ArrayString<N> {
         }
     }
 }
+
+#[cfg(test)]
+mod tests;
