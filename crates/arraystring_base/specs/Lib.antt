@@ -3,5 +3,8 @@ pub mod TextLaws
 pub mod CutLaws
 pub mod BoundaryLaws
 pub mod OrderLaws
+pub mod Utf16
+pub mod Utf16Laws
+pub mod Reading
 pub mod Counts
 pub mod Names

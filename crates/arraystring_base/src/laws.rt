@@ -1,10 +1,13 @@
 //! Laws of texts, which callers may rely on. Each does nothing when it is called and carries its
 //! fact in its contract.
-ghost use Rattle.std.specs.Prelude.{◌≡◌, ◌≤◌, ◌↔◌, ◌⊎◌, ◌++◌, ℕ, List, IsTrue, chars};
+ghost use Rattle.std.specs.Prelude.{◌≡◌, ◌≤◌, ◌↔◌, ◌⊎◌, ◌++◌, ℕ, List, IsTrue, chars, map};
 ghost use Rattle.std.specs.Ordering.{nat_cmp};
 ghost use Rattle.std.specs.Cmp.Lexicographic.{slice_cmp};
 ghost use Rattle.std.specs.declared.cmp.Ordering.TheVariants.{Less, Equal, Greater};
 ghost use Rattle.arraystring_base.specs.Text.{bytes, cut, size, front, back, boundary, IsText, IsWellFormed, IsLeadingPart, IsLongestFitting, IsBefore};
+ghost use Rattle.arraystring_base.specs.Utf16.{IsReading, Stop, StopsAt, first_stop, text_units};
+ghost use Rattle.arraystring_base.specs.declared.utf16.Unit16.{Unit16};
+ghost use Rattle.arraystring_base.specs.declared.utf16.Unit16.TheVariants.{Char};
 
 /// The cut of a text to `n` bytes is a leading part of it that fits, and no leading part that fits
 /// is longer; no other text is so.
@@ -57,4 +60,21 @@ pub fn order_of_texts()
     ensures total { (a b : List ℕ) → IsBefore a b ⊎ (a ≡ b) ⊎ IsBefore b a }
     ensures transitive { (a b c : List ℕ) → IsBefore a b → IsBefore b c → IsBefore a c }
     ensures itself { (a : List ℕ) → ¬ (IsBefore a a) }
+{}
+
+/// The units have a reading, and any two readings of them are the same.
+pub fn only_reading(units: &[u16])
+    ensures some { (items : List Unit16) × IsReading units.now items }
+    ensures only { (a b : List Unit16) → IsReading units.now a → IsReading units.now b → a ≡ b }
+{}
+
+/// The UTF-16 of a text is read as its characters, and as nothing else.
+pub fn text_reading()
+    ensures { (t : List ℕ) (items : List Unit16) → IsText t → (IsReading (text_units t) items) ↔ (items ≡ map Char t) }
+{}
+
+/// The first stop of items at `n` bytes is where the longest leading run of characters that fits
+/// ends, with what stands behind it; no other stop is so.
+pub fn one_stop()
+    ensures { (items : List Unit16) (n : ℕ) (stop : Stop) → (StopsAt items n stop) ↔ (first_stop items n ≡ stop) }
 {}

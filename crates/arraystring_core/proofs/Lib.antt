@@ -3,3 +3,5 @@ pub mod SpliceLemmas
 pub mod AsciiLemmas
 pub mod TrimLemmas
 pub mod RetainLemmas
+pub mod RangeLemmas
+pub mod DrainLemmas

@@ -26,6 +26,10 @@ pub record Test : Type 0 where
 abbrev pub past : List ℕ → ℕ → Test
 past t i = record { holds = nat_lt (size t) i; cause = Past }
 
+-- a range that ends before it starts
+abbrev pub crossed : ℕ → ℕ → Test
+crossed start end = record { holds = nat_lt end start; cause = Past }
+
 -- no character of t begins at i or behind it
 abbrev pub at_end : List ℕ → ℕ → Test
 at_end t i = record { holds = nat_le (size t) i; cause = Past }
@@ -104,6 +108,10 @@ without_trailing passes t = reverse (without_leading passes (reverse t))
 abbrev pub part : List ℕ → ℕ → ℕ → List ℕ
 part t start end = back (front t end) start
 
+-- the part in a range, if there is one: both ends are boundaries, and in order
+abbrev pub part_in : List ℕ → ℕ → ℕ → Option (List ℕ)
+part_in t start end = if nat_le start end && (boundary t start && boundary t end) then Some (part t start end) else None
+
 abbrev pub is_space : ℕ → Bool
 is_space c = c == 0x20
 
@@ -159,3 +167,17 @@ uppercase t = record { tests = []; answer = tt; after = map to_ascii_uppercase t
 
 abbrev pub lowercase : List ℕ → Edit (Unit {0})
 lowercase t = record { tests = []; answer = tt; after = map to_ascii_lowercase t }
+
+abbrev pub draining : List ℕ → ℕ → ℕ → Edit (List ℕ)
+draining t start end = record {
+  tests = crossed start end ∷ past t end ∷ inside t start ∷ inside t end ∷ [];
+  answer = part t start end;
+  after = front t start ++ back t end;
+}
+
+abbrev pub replacement : List ℕ → ℕ → ℕ → List ℕ → ℕ → Edit (Unit {0})
+replacement t start end given n = record {
+  tests = crossed start end ∷ past t end ∷ no_room (size t - (end - start) + size given) n ∷ inside t start ∷ inside t end ∷ [];
+  answer = tt;
+  after = front t start ++ (given ++ back t end);
+}

@@ -3,6 +3,8 @@ pub use Rattle.arraystring_base.specs.TextLaws
 pub use Rattle.arraystring_base.specs.CutLaws
 pub use Rattle.arraystring_base.specs.BoundaryLaws
 pub use Rattle.arraystring_base.specs.OrderLaws
+pub use Rattle.arraystring_base.specs.Utf16
+pub use Rattle.arraystring_base.specs.Utf16Laws
 pub use Rattle.arraystring_base.specs.Counts
 pub use Rattle.arraystring_base.specs.Names
 pub mod Stored
@@ -10,5 +12,8 @@ pub mod StoredLaws
 pub mod Edits
 pub mod EditLaws
 pub mod Asked
+pub mod Ranges
+pub mod Drained
+pub mod FromUtf16
 pub mod Json
 pub mod JsonLaws

@@ -14,7 +14,9 @@ use std::{fmt, str};
 mod ascii;
 mod compare;
 mod insert;
+mod range;
 mod remove;
+mod utf16;
 
 /// A string of at most `N` bytes of UTF-8, and at most 255, that lies in the value itself.
 ///

@@ -22,7 +22,7 @@ impl<const N: usize> ArrayString<N> {
     }
 
     /// Changes a..z to A..Z between two boundaries.
-    fn uppercase_between(&mut self, start: usize, end: usize)
+    pub(super) fn uppercase_between(&mut self, start: usize, end: usize)
         requires order { start ≤ end }
         requires start { IsTrue (boundary self.old.text start) }
         requires end { IsTrue (boundary self.old.text end) }
@@ -32,7 +32,7 @@ impl<const N: usize> ArrayString<N> {
     }
 
     /// Changes A..Z to a..z between two boundaries.
-    fn lowercase_between(&mut self, start: usize, end: usize)
+    pub(super) fn lowercase_between(&mut self, start: usize, end: usize)
         requires order { start ≤ end }
         requires start { IsTrue (boundary self.old.text start) }
         requires end { IsTrue (boundary self.old.text end) }

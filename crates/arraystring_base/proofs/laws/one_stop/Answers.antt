@@ -1,0 +1,5 @@
+use Rattle.arraystring_base.specs.Utf16Laws.{first_stop-is}
+use Rattle.arraystring_base.proofs.laws.one_stop.Goals as goal
+
+pub returns : goal.returns
+returns c = first_stop-is

@@ -1,0 +1,31 @@
+use Rattle.std.proofs.Common.{◌∷◌, sym, ap, ◌∙◌, arith, length}
+use Rattle.arraystring_base.specs.declared.utf16.Unit16.TheVariants.{Char}
+use Rattle.arraystring_base.specs.Reading.{reading}
+use Rattle.arraystring_base.proofs.ReadingLemmas.{reading-pair, reading-single}
+use Rattle.arraystring_base.proofs.utf16.UnitsIterator.next.Goals as goal
+
+pub returns-in-Some-clause-steps : goal.returns-in-Some-clause-steps
+returns-in-Some-clause-steps c =
+    let first = c.in_ok-first.first.now in
+    let told = c.in-Some.ensures.some in
+    let left = reading c.in-Some.rest.now in
+    let units = c.in_ok-first.ensures.cases.0 ∙ ap (λ l. first ∷ l) told.4 in
+    sym c.self.view_is ∙ ap reading units ∙ reading-pair first told.0 c.in-Some.rest.now told.1 told.2
+    ∙ ap (λ ch. Char ch ∷ left) (sym told.3)
+
+pub returns-in-Some-clause-goes : goal.returns-in-Some-clause-goes
+returns-in-Some-clause-goes c =
+    let fewer = ap length (returns-in-Some-clause-steps c) in
+    record { on = λ _. (tt, tt, omega (arith, fewer)); keeps = tt; rests = λ _. tt }
+
+pub returns-clause-steps : goal.returns-clause-steps
+returns-clause-steps c =
+    let first = c.in_ok-first.first.now in
+    let left = c.in_ok-first.rest.now in
+    sym c.self.view_is ∙ ap reading c.in_ok-first.ensures.cases.0 ∙ reading-single first left c.in_default.ensures.none
+    ∙ ap (λ item. item ∷ reading left) (sym c.single_item.ensures)
+
+pub returns-clause-goes : goal.returns-clause-goes
+returns-clause-goes c =
+    let fewer = ap length (returns-clause-steps c) in
+    record { on = λ _. (tt, tt, omega (arith, fewer)); keeps = tt; rests = λ _. tt }

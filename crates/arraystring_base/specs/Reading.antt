@@ -1,0 +1,31 @@
+-- What a contract sees of `Units`: the reading of the units that are left, found from the last unit on.
+use Rattle.std.specs.Prelude.{ℕ, Bool, ◌+◌, ◌-◌, ◌*◌, List, [], ◌∷◌, nat_lt, nat_le, ◌&&◌, if◌then◌else◌}
+use Rattle.arraystring_base.specs.declared.utf16.Unit16.{Unit16}
+use Rattle.arraystring_base.specs.declared.utf16.Unit16.TheVariants.{Char, Lone}
+
+-- the tests of a high and of a low surrogate
+abbrev pub is_high : ℕ → Bool
+is_high unit = nat_le 0xD800 unit && nat_lt unit 0xDC00
+
+abbrev pub is_low : ℕ → Bool
+is_low unit = nat_le 0xDC00 unit && nat_lt unit 0xE000
+
+-- the character of a pair
+abbrev pub pair_character : ℕ → ℕ → ℕ
+pair_character high low = 0x1_0000 + ((high - 0xD800) * 0x400 + (low - 0xDC00))
+
+-- the item of a unit that stands by itself
+unfoldable pub single_item : ℕ → Unit16
+single_item unit = if nat_le 0xD800 unit && nat_lt unit 0xE000 then Lone unit else Char unit
+
+-- a unit before items that are read already
+unfoldable pub read_before : ℕ → List Unit16 → List Unit16
+read_before unit [] = single_item unit ∷ []
+read_before unit (Char c ∷ items) = single_item unit ∷ Char c ∷ items
+read_before unit (Lone next ∷ items) =
+    if is_high unit && is_low next then Char (pair_character unit next) ∷ items else single_item unit ∷ Lone next ∷ items
+
+-- the reading of the units
+abbrev pub reading : List ℕ → List Unit16
+reading [] = []
+reading (unit ∷ units) = read_before unit (reading units)

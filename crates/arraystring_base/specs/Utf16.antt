@@ -1,0 +1,86 @@
+-- UTF-16: how units are read, where a reading stops, and the units of a text. Numbers have no upper bound here.
+use Rattle.std.specs.Prelude.{◌≡◌, ℕ, ◌+◌, ◌-◌, ◌/◌, ◌%◌, ◌<◌, ◌≤◌, List, [], ◌∷◌, ◌++◌, map, nat_lt, nat_le, if◌then◌else◌}
+use Rattle.std.specs.List.{All}
+use Rattle.arraystring_base.specs.Text.{IsScalarValue, width, size}
+use Rattle.arraystring_base.specs.declared.utf16.Unit16.{Unit16}
+use Rattle.arraystring_base.specs.declared.utf16.Unit16.TheVariants.{Char, Lone}
+
+-- a surrogate that begins a pair
+abbrev pub IsHigh : ℕ → Type 0
+IsHigh unit = (0xD800 ≤ unit) × (unit < 0xDC00)
+
+-- a surrogate that ends a pair
+abbrev pub IsLow : ℕ → Type 0
+IsLow unit = (0xDC00 ≤ unit) × (unit < 0xE000)
+
+-- the UTF-16 of a character: one unit up to FFFF, and a high and a low surrogate above
+abbrev pub utf16 : ℕ → List ℕ
+utf16 c =
+    if nat_lt c 0x1_0000 then c ∷ [] else (0xD800 + (c - 0x1_0000) / 0x400) ∷ (0xDC00 + (c - 0x1_0000) % 0x400) ∷ []
+
+-- the UTF-16 of a text
+abbrev pub text_units : List ℕ → List ℕ
+text_units [] = []
+text_units (c ∷ cs) = utf16 c ++ text_units cs
+
+-- an item is a scalar value or a surrogate
+abbrev pub IsItem : Unit16 → Type 0
+IsItem (Char c) = IsScalarValue c
+IsItem (Lone unit) = (0xD800 ≤ unit) × (unit < 0xE000)
+
+-- the units of an item
+abbrev pub item_units : Unit16 → List ℕ
+item_units (Char c) = utf16 c
+item_units (Lone unit) = unit ∷ []
+
+-- the units of items, one after the other
+abbrev pub joined_units : List Unit16 → List ℕ
+joined_units [] = []
+joined_units (item ∷ items) = item_units item ++ joined_units items
+
+-- no lone high surrogate stands directly before a lone low one
+abbrev pub NoPairApart : List Unit16 → Type 0
+NoPairApart items =
+    (before after : List Unit16) (high low : ℕ) → items ≡ before ++ Lone high ∷ Lone low ∷ after → IsHigh high → IsLow low → ⊥
+
+-- the items are a reading of the units
+pub record IsReading (units : List ℕ) (items : List Unit16) : Type 0 where
+  pub each_unit : All (λ unit. unit < 0x1_0000) units
+  pub each_item : All IsItem items
+  pub joined : units ≡ joined_units items
+  pub apart : NoPairApart items
+
+-- the leading run of characters that fits, and what stands behind it: nothing, a lone surrogate, or a character
+pub data Stop : Type 0 where
+  End : List ℕ → Stop
+  Fault : List ℕ → Stop
+  Full : List ℕ → Stop
+
+-- the items stop so at n bytes: the run leads them and fits, and a character behind it would no longer fit
+abbrev pub StopsAt : List Unit16 → ℕ → Stop → Type 0
+StopsAt items n (End run) = (items ≡ map Char run) × (size run ≤ n)
+StopsAt items n (Fault run) =
+    (unit : ℕ) × (rest : List Unit16) × (items ≡ map Char run ++ Lone unit ∷ rest) × (size run ≤ n)
+StopsAt items n (Full run) =
+    (c : ℕ) × (rest : List Unit16) × (items ≡ map Char run ++ Char c ∷ rest) × (size run ≤ n) × (n < size run + width c)
+
+-- the same stop, with a character before the run
+abbrev pub stop_behind : ℕ → Stop → Stop
+stop_behind c (End run) = End (c ∷ run)
+stop_behind c (Fault run) = Fault (c ∷ run)
+stop_behind c (Full run) = Full (c ∷ run)
+
+-- the first stop of the items at n bytes
+abbrev pub first_stop : List Unit16 → ℕ → Stop
+first_stop [] n = End []
+first_stop (Lone unit ∷ items) n = Fault []
+first_stop (Char c ∷ items) n = if nat_le (width c) n then stop_behind c (first_stop items (n - width c)) else Full []
+
+-- an item as a character, where a lone surrogate is U+FFFD
+abbrev pub shown : Unit16 → ℕ
+shown (Char c) = c
+shown (Lone unit) = 0xFFFD
+
+-- the items as a text
+abbrev pub lossy_text : List Unit16 → List ℕ
+lossy_text items = map shown items

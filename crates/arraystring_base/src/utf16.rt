@@ -1,0 +1,109 @@
+//! UTF-16, read as characters and lone surrogates (the Unicode Standard, section 3.9).
+ghost use Rattle.std.specs.Prelude.{◌≡◌, ◌+◌, ◌-◌, ◌*◌, ◌<◌, ◌≤◌, ◌↔◌, ℕ, List, [], ◌∷◌, Some, None, IsTrue, IfSome, IfNone};
+ghost use Rattle.std.specs.Iterator.{YieldsFirst, item_count};
+ghost use Rattle.arraystring_base.specs.Utf16.{IsReading, IsHigh, IsLow};
+ghost use Rattle.arraystring_base.specs.Reading.{pair_character, single_item};
+
+use std::char;
+use std::iter::FusedIterator;
+use std::marker::Model;
+
+/// An item of a reading.
+#[derive(Clone, Copy, PartialEq, Eq, Debug)]
+pub enum Unit16 {
+    /// A character: a unit that is no surrogate, or a high surrogate and the low one behind it.
+    Char(char),
+    /// A surrogate that has no partner.
+    Lone(u16),
+}
+
+/// A walk over the one reading of some units, item by item. It takes no memory.
+///
+/// Contracts see it as the list of the items that are left.
+#[derive(Drop)]
+pub struct Units<'a> {
+    rest: &'a [u16],
+}
+
+impl<'a> Model for Units<'a> {
+    ghost use Rattle.std.specs.Prelude.{List};
+    ghost use Rattle.arraystring_base.specs.declared.utf16.Unit16.{Unit16};
+    ghost use Rattle.arraystring_base.specs.Reading.{reading};
+
+    ghost Value = { List Unit16 };
+
+    ghost view = { λ units. reading units.rest.now };
+}
+
+impl<'a> Units<'a> {
+    /// The walk over the reading of `units`, from its first item on.
+    pub fn new(units: &'a [u16]) -> Self
+        ensures { IsReading units.now result }
+    {
+        Units { rest: units }
+    }
+}
+
+impl<'a> Iterator for Units<'a> {
+    type Item = Unit16;
+
+    ghost next_gives = { YieldsFirst (λ items. items) };
+
+    ghost remaining = { item_count (λ items. items) };
+
+    /// The next item of the reading; `None` where none is left, and from then on.
+    fn next(&mut self) -> Option<Unit16> {
+        let (first, rest) = self.rest.split_first()?;
+        let unit = *first;
+        if let Some((ch, rest)) = pair(unit, rest) {
+            self.rest = rest;
+            return Some(Unit16::Char(ch));
+        }
+        self.rest = rest;
+        Some(single_item(unit))
+    }
+}
+
+impl<'a> FusedIterator for Units<'a> {}
+
+/// The character of the pair that `high` begins, and the units behind the pair.
+fn pair<'a>(high: u16, rest: &'a [u16]) -> Option<(char, &'a [u16])>
+    ensures some { IfSome result (λ p. (low : ℕ) × IsHigh high × IsLow low × (p.0 ≡ pair_character high low) × (rest.now ≡ low ∷ p.1.now)) }
+    ensures none { IfNone result ((low : ℕ) (more : List ℕ) → rest.now ≡ low ∷ more → IsHigh high → IsLow low → ⊥) }
+{
+    let (second, rest) = rest.split_first()?;
+    let low = *second;
+    if !is_high(high) || !is_low(low) {
+        return None;
+    }
+    let ch = char::from_u32(0x1_0000 + (high as u32 - 0xD800) * 0x400 + (low as u32 - 0xDC00))?;
+    Some((ch, rest))
+}
+
+/// Whether a unit is a surrogate that begins a pair.
+fn is_high(unit: u16) -> bool
+    ensures { IsTrue result ↔ IsHigh unit }
+{
+    unit >= 0xD800 && unit < 0xDC00
+}
+
+/// Whether a unit is a surrogate that ends a pair.
+fn is_low(unit: u16) -> bool
+    ensures { IsTrue result ↔ IsLow unit }
+{
+    unit >= 0xDC00 && unit < 0xE000
+}
+
+/// The item of a unit that stands by itself.
+#[tactic(auto, unfolding(crate::specs::Reading::single_item))]
+fn single_item(unit: u16) -> Unit16
+    ensures { result ≡ single_item unit }
+{
+    match char::from_u32(unit as u32) {
+        Some(ch) => Unit16::Char(ch),
+        None => Unit16::Lone(unit),
+    }
+}
+
+#[cfg(test)]
+mod tests;

@@ -1,0 +1,19 @@
+use Rattle.std.proofs.Common.{ap, sym, ◌∙◌, Some}
+use Rattle.arraystring_base.specs.Text.{size}
+use Rattle.arraystring_base.specs.TextLaws.{chars-bytes}
+use Rattle.arraystring_core.specs.Edits.{part, part_in}
+use Rattle.arraystring_core.proofs.RangeLemmas.{part_in-some}
+use Rattle.std.specs.Range.Bound.{end_index}
+use Rattle.arraystring_core.proofs.array_string.ArrayString.get.Goals as goal
+
+pub returns : goal.returns
+returns g c =
+    let t = c.args.self.now.text in
+    let ends = c.plain_ends-start in
+    let at = sym c.is_boundary.ensures ∙ c.if-not-is_boundary.false in
+    let to = sym c.is_boundary-else-not-is_boundary.ensures ∙ c.if-not-is_boundary-2.false in
+    let lent = chars-bytes _ (part t ends.result.0 ends.result.1) c.between.utf8 c.between.ensures in
+    ap (λ i. part_in t i (end_index (g.R.RangeBounds.end_bound c.args.range) (size t))) (sym ends.ensures.start)
+    ∙ ap (λ n. part_in t ends.result.0 (end_index (g.R.RangeBounds.end_bound c.args.range) n)) (sym c.len.ensures.value)
+    ∙ ap (part_in t ends.result.0) (sym ends.ensures.end)
+    ∙ part_in-some t ends.result.0 ends.result.1 c.if-start-end.false at to ∙ ap Some (sym lent)

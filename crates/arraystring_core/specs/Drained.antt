@@ -1,0 +1,41 @@
+-- What a contract sees of a `Drain`.
+use Rattle.std.specs.Prelude.{◌≡◌, ℕ, ◌≤◌, ◌++◌, List, Result, Ok, Err, IsTrue}
+use Rattle.std.proofs.Common.{ap}
+use Rattle.arraystring_base.specs.Text.{size, cap, front, back, boundary}
+use Rattle.arraystring_base.specs.BoundaryLaws.{front-back, front-size}
+use Rattle.arraystring_base.specs.declared.error.Error.{Error}
+use Rattle.arraystring_core.specs.Stored.{Stored}
+
+-- the characters that are left, those that were given from the front, and numbers that no public clause names
+pub record Drained : Type 0 where
+  pub left : List ℕ
+  pub given : List ℕ
+  pub spare : List ℕ
+
+-- the part of `removed` from the boundary i on is left
+abbrev pub drained : Stored → ℕ → Drained
+drained removed i = record { left = back removed.text i; given = front removed.text i; spare = removed.spare }
+
+-- the answer of `drain`, seen as what is left
+abbrev pub with_left : Result Drained Error → Result (List ℕ) Error
+with_left (Ok d) = Ok d.left
+with_left (Err e) = Err e
+
+-- `removed` is within the capacity of `places` bytes, and i is a boundary of it
+pub record IsDrained (places : ℕ) (removed : Stored) (i : ℕ) : Type 0 where
+  pub fits : size removed.text ≤ cap places
+  pub at : IsTrue (boundary removed.text i)
+
+-- nothing is forgotten
+module _ (places : ℕ) (removed : Stored) (i : ℕ) (is : IsDrained places removed i) where
+  abbrev pub given_back : Stored
+  given_back = record { text = (drained removed i).given ++ (drained removed i).left; spare = (drained removed i).spare }
+
+  pub drained-removed : given_back ≡ removed
+  drained-removed = ap with_spare (front-back removed.text i)
+    where
+      with_spare : List ℕ → Stored
+      with_spare t = record { text = t; spare = removed.spare }
+
+  pub drained-front : size (drained removed i).given ≡ i
+  drained-front = front-size removed.text i is.at

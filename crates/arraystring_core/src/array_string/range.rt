@@ -1,0 +1,159 @@
+//! Parts of a string by a range of bytes. Any `RangeBounds<u8>` serves.
+ghost use Rattle.std.specs.Prelude.{◌≡◌, ◌-◌, ◌≤◌, ◌++◌, IsTrue, MatchOption, Some, None, chars, map};
+ghost use Rattle.std.specs.Char.{to_ascii_uppercase, to_ascii_lowercase};
+ghost use Rattle.std.specs.Range.Bound.{start_index, end_index};
+ghost use Rattle.arraystring_base.specs.Text.{bytes, cap, size, front, back, boundary};
+ghost use Rattle.arraystring_core.specs.Ranges.{lo, hi};
+ghost use Rattle.arraystring_core.specs.Drained.{with_left};
+ghost use Rattle.arraystring_core.specs.Edits.{Makes, with_text, draining, replacement, part, part_in};
+
+use crate::ranges::{plain_ends, saturating_ends};
+use crate::{ArrayString, Drain};
+use arraystring_base::error::Error;
+use arraystring_base::utils::Steps;
+use std::ops::RangeBounds;
+
+impl<const N: usize> ArrayString<N> {
+    /// The part in the range, lent without a copy. The range must end no earlier than it starts,
+    /// and both ends must be boundaries; they are plain numbers, so `..=255` ends at 256.
+    pub fn slice<R: RangeBounds<u8> + Drop>(&self, range: R) -> &str
+        requires known { R.has_bounds range }
+        requires order { start_index (R.start_bound range) ≤ end_index (R.end_bound range) (size self.now.text) }
+        requires start { IsTrue (boundary self.now.text (start_index (R.start_bound range))) }
+        requires end { IsTrue (boundary self.now.text (end_index (R.end_bound range) (size self.now.text))) }
+        ensures { let t = self.now.text in
+            result.now ≡ bytes (part t (start_index (R.start_bound range)) (end_index (R.end_bound range) (size t))) }
+    {
+        let (start, end) = plain_ends(range, self.len());
+        self.between(start, end)
+    }
+
+    /// The part in the range, lent without a copy; `None` where the range ends before it starts,
+    /// or an end is not a boundary. The ends are plain numbers, so `..=255` ends at 256.
+    pub fn get<R: RangeBounds<u8> + Drop>(&self, range: R) -> Option<&str>
+        requires { R.has_bounds range }
+        ensures { let found = part_in self.now.text (start_index (R.start_bound range)) (end_index (R.end_bound range) (size self.now.text)) in
+            MatchOption result (found ≡ None) (λ s. found ≡ Some (chars s.now)) }
+    {
+        let (start, end) = plain_ends(range, self.len());
+        if start > end || !self.is_boundary(start) || !self.is_boundary(end) {
+            return None;
+        }
+        Some(self.between(start, end))
+    }
+
+    /// Takes the part in the range out of the string, at once, and gives its characters. An
+    /// excluded start and an included end add 1, and stop at 255. Refused with `OutOfBounds` where
+    /// the range ends before it starts, then where it ends past the text, then with `Utf8` where its
+    /// start is inside a character, then where its end is; the text is then as it was.
+    pub fn drain<R: RangeBounds<u8> + Drop>(&mut self, range: R) -> Result<Drain<N>, Error>
+        requires { R.has_bounds range }
+        ensures { let t = self.old.text in
+            Makes (draining t (lo (R.start_bound range)) (hi (R.end_bound range) (size t))) t (with_left result) self.new.text }
+    {
+        let (start, end) = saturating_ends(range, self.len());
+        let removed = self.take_between(start, end)?;
+        Ok(Drain::new(removed))
+    }
+
+    /// Puts `with` in place of the part in the range. An excluded start and an included end add 1,
+    /// and stop at 255. Refused with `OutOfBounds` where the range ends before it starts, then where
+    /// it ends past the text, then where the result does not fit, then with `Utf8` where its start
+    /// is inside a character, then where its end is; the text is then as it was.
+    pub fn replace_range<R: RangeBounds<u8> + Drop>(
+        &mut self,
+        range: R,
+        with: &str,
+    ) -> Result<(), Error>
+        requires { R.has_bounds range }
+        ensures { let t = self.old.text in
+            Makes (replacement t (lo (R.start_bound range)) (hi (R.end_bound range) (size t)) (chars with.now) (cap N)) t result self.new.text }
+    {
+        let (start, end) = saturating_ends(range, self.len());
+        self.replace_between(start, end, with)
+    }
+
+    /// Changes a..z to A..Z in the range. All other characters stay. The range is as for `slice`.
+    pub fn make_ascii_uppercase_in<R: RangeBounds<u8> + Drop>(&mut self, range: R)
+        requires known { R.has_bounds range }
+        requires order { start_index (R.start_bound range) ≤ end_index (R.end_bound range) (size self.old.text) }
+        requires start { IsTrue (boundary self.old.text (start_index (R.start_bound range))) }
+        requires end { IsTrue (boundary self.old.text (end_index (R.end_bound range) (size self.old.text))) }
+        ensures { let t = self.old.text in let start = start_index (R.start_bound range) in let end = end_index (R.end_bound range) (size t) in
+            self.new.text ≡ front t start ++ (map to_ascii_uppercase (part t start end) ++ back t end) }
+    {
+        let (start, end) = plain_ends(range, self.len());
+        self.uppercase_between(start, end);
+    }
+
+    /// Changes A..Z to a..z in the range. All other characters stay. The range is as for `slice`.
+    pub fn make_ascii_lowercase_in<R: RangeBounds<u8> + Drop>(&mut self, range: R)
+        requires known { R.has_bounds range }
+        requires order { start_index (R.start_bound range) ≤ end_index (R.end_bound range) (size self.old.text) }
+        requires start { IsTrue (boundary self.old.text (start_index (R.start_bound range))) }
+        requires end { IsTrue (boundary self.old.text (end_index (R.end_bound range) (size self.old.text))) }
+        ensures { let t = self.old.text in let start = start_index (R.start_bound range) in let end = end_index (R.end_bound range) (size t) in
+            self.new.text ≡ front t start ++ (map to_ascii_lowercase (part t start end) ++ back t end) }
+    {
+        let (start, end) = plain_ends(range, self.len());
+        self.lowercase_between(start, end);
+    }
+
+    /// The part between two boundaries.
+    fn between(&self, start: usize, end: usize) -> &str
+        requires order { start ≤ end }
+        requires start { IsTrue (boundary self.now.text start) }
+        requires end { IsTrue (boundary self.now.text end) }
+        ensures { result.now ≡ bytes (part self.now.text start end) }
+    {
+        &self.as_str()[start..end]
+    }
+
+    /// Takes the bytes from `start` to `end` out of the string and answers them.
+    fn take_between(&mut self, start: u8, end: u8) -> Result<Self, Error>
+        ensures { Makes (draining self.old.text start end) self.old.text (with_text result) self.new.text }
+    {
+        if start > end {
+            return Err(Error::OutOfBounds);
+        }
+        if end > self.len() {
+            return Err(Error::OutOfBounds);
+        }
+        let (from, to) = (start as usize, end as usize);
+        if !self.is_boundary(from) {
+            return Err(Error::Utf8);
+        }
+        if !self.is_boundary(to) {
+            return Err(Error::Utf8);
+        }
+        let mut removed = Self::new();
+        removed.push_str_unchecked(self.between(from, to));
+        self.splice(from, to, "", &mut Steps::new());
+        Ok(removed)
+    }
+
+    /// Puts `with` in place of the bytes from `start` to `end`.
+    fn replace_between(&mut self, start: u8, end: u8, with: &str) -> Result<(), Error>
+        ensures { Makes (replacement self.old.text start end (chars with.now) (cap N)) self.old.text result self.new.text }
+    {
+        if start > end {
+            return Err(Error::OutOfBounds);
+        }
+        if end > self.len() {
+            return Err(Error::OutOfBounds);
+        }
+        let kept = (self.len() - (end - start)) as usize;
+        if kept + with.len() > Self::capacity() as usize {
+            return Err(Error::OutOfBounds);
+        }
+        let (from, to) = (start as usize, end as usize);
+        if !self.is_boundary(from) {
+            return Err(Error::Utf8);
+        }
+        if !self.is_boundary(to) {
+            return Err(Error::Utf8);
+        }
+        self.splice(from, to, with, &mut Steps::new());
+        Ok(())
+    }
+}

@@ -1,0 +1,87 @@
+//! Strings from UTF-16.
+ghost use Rattle.std.specs.Prelude.{◌≡◌, List};
+ghost use Rattle.arraystring_base.specs.declared.utf16.Unit16.{Unit16};
+ghost use Rattle.arraystring_base.specs.Text.{cap, cut};
+ghost use Rattle.arraystring_base.specs.Utf16.{IsReading, first_stop, shown, lossy_text};
+ghost use Rattle.arraystring_core.specs.FromUtf16.{GivesWhole, GivesRun, stop_at};
+
+use super::ArrayString;
+use arraystring_base::error::{Error, Utf16};
+use arraystring_base::laws::only_reading;
+use arraystring_base::utf16::{Unit16, Units};
+use std::char;
+
+impl<const N: usize> ArrayString<N> {
+    /// The text whose UTF-16 `units` is. It is read item by item up to the first that ends it: a
+    /// lone surrogate is refused with `Utf16`, a character that does not fit with `OutOfBounds`.
+    pub fn try_from_utf16(units: &[u16]) -> Result<Self, Error>
+        ensures { (items : List Unit16) → IsReading units.now items → GivesWhole (first_stop items (cap N)) result }
+    {
+        let (run, behind) = leading_run(units);
+        match behind {
+            None => Ok(run),
+            Some(Unit16::Lone(_)) => Err(Error::Utf16),
+            Some(Unit16::Char(_)) => Err(Error::OutOfBounds),
+        }
+    }
+
+    /// The longest leading run of characters of `units` that fits. Refused with `Utf16` where a
+    /// lone surrogate stands right behind it, also where the string is full; what stands behind a
+    /// character that does not fit is not looked at.
+    pub fn from_utf16(units: &[u16]) -> Result<Self, Utf16>
+        ensures { (items : List Unit16) → IsReading units.now items → GivesRun (first_stop items (cap N)) result }
+    {
+        let (run, behind) = leading_run(units);
+        match behind {
+            Some(Unit16::Lone(_)) => Err(Utf16),
+            _ => Ok(run),
+        }
+    }
+
+    /// The text of `units`, where each lone surrogate is read as U+FFFD, which takes three bytes.
+    /// The first character that does not fit ends it.
+    pub fn from_utf16_lossy(units: &[u16]) -> Self
+        ensures { (items : List Unit16) → IsReading units.now items → result.text ≡ cut (lossy_text items) (cap N) }
+    {
+        only_reading(units);
+        let mut text = Self::new();
+        for item in Units::new(units) {
+            match text.try_push(shown(item)) {
+                Ok(()) => {}
+                Err(_) => return text,
+            }
+        }
+        text
+    }
+}
+
+/// The longest leading run of characters of `units` that fits, and the item right behind it.
+fn leading_run<const N: usize>(units: &[u16]) -> (ArrayString<N>, Option<Unit16>)
+    ensures { (items : List Unit16) → IsReading units.now items → first_stop items (cap N) ≡ stop_at result.1 result.0.text }
+{
+    only_reading(units);
+    let mut run = ArrayString::new();
+    for item in Units::new(units) {
+        match item {
+            Unit16::Char(ch) => match run.try_push(ch) {
+                Ok(()) => {}
+                Err(_) => return (run, Some(item)),
+            },
+            Unit16::Lone(_) => return (run, Some(item)),
+        }
+    }
+    (run, None)
+}
+
+/// An item as a character, where a lone surrogate is U+FFFD.
+fn shown(item: Unit16) -> char
+    ensures { result ≡ shown item }
+{
+    match item {
+        Unit16::Char(ch) => ch,
+        Unit16::Lone(_) => char::REPLACEMENT_CHARACTER,
+    }
+}
+
+#[cfg(test)]
+mod tests;

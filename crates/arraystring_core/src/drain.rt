@@ -1,0 +1,91 @@
+//! `Drain`: what was taken out of a string, given from both ends.
+ghost use Rattle.std.specs.Prelude.{◌≡◌, ◌≤◌, []};
+ghost use Rattle.std.specs.Iterator.{YieldsFirst, YieldsLast, item_count};
+ghost use Rattle.arraystring_base.specs.Text.{bytes, cap, size, IsText};
+
+use crate::ArrayString;
+use std::iter::FusedIterator;
+use std::marker::Model;
+
+/// The characters that `drain` took out of a string. They are given from the front and from the
+/// back, each once; what is not given stays in its order.
+///
+/// Contracts name the list of the characters that are left. It keeps the removed text and two
+/// places in it, and takes no memory.
+#[derive(Clone, Copy)]
+pub struct Drain<const N: usize> {
+    removed: ArrayString<N>,
+    front: u8,
+}
+
+impl<const N: usize> Model for Drain<N> {
+    ghost use Rattle.std.specs.Prelude.{◌++◌};
+    ghost use Rattle.arraystring_base.specs.Text.{size as text_size};
+    ghost use Rattle.arraystring_core.specs.Drained.{Drained, IsDrained, drained, drained-removed, drained-front};
+
+    ghost Value = { Drained };
+
+    ghost view = { λ d. drained d.removed d.front };
+
+    ghost invariant = { λ d. IsDrained N d.removed d.front };
+
+    ghost inverse = { λ v. record { removed = record { text = v.given ++ v.left; spare = v.spare }; front = text_size v.given } };
+
+    ghost inverse_ok = { λ d h i. record {
+      removed = drained-removed N d.removed d.front h i;
+      front = drained-front N d.removed d.front h i;
+    } };
+}
+
+impl<const N: usize> Drain<N> {
+    /// All of `removed` is left.
+    pub(crate) fn new(removed: ArrayString<N>) -> Self
+        requires { size removed.text ≤ cap N }
+        ensures { result.left ≡ removed.entry.text }
+    {
+        Drain { removed, front: 0 }
+    }
+
+    /// What is left, lent without a copy.
+    pub fn as_str(&self) -> &str
+        ensures bytes { result.now ≡ bytes self.now.left }
+        ensures text { IsText self.now.left }
+    {
+        &self.removed.as_str()[self.front as usize..]
+    }
+}
+
+impl<const N: usize> Default for Drain<N> {
+    ghost is_default = { λ d. d.left ≡ [] };
+
+    fn default() -> Self {
+        Drain::new(ArrayString::new())
+    }
+}
+
+impl<const N: usize> Iterator for Drain<N> {
+    type Item = char;
+
+    ghost next_gives = { YieldsFirst (λ d. d.left) };
+
+    ghost remaining = { item_count (λ d. d.left) };
+
+    fn next(&mut self) -> Option<char> {
+        let ch = self.as_str().chars().next()?;
+        self.front += ch.len_utf8() as u8;
+        Some(ch)
+    }
+}
+
+impl<const N: usize> DoubleEndedIterator for Drain<N> {
+    ghost next_back_gives = { YieldsLast (λ d. d.left) };
+
+    fn next_back(&mut self) -> Option<char> {
+        if self.front == self.removed.len() {
+            return None;
+        }
+        self.removed.pop()
+    }
+}
+
+impl<const N: usize> FusedIterator for Drain<N> {}
