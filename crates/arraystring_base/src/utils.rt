@@ -50,9 +50,9 @@ pub fn truncate_str_counted<'a>(text: &'a str, size: u8, steps: &mut Steps) -> &
 }
 
 /// The last character of `text` and the place where it begins, or `None` where the text is empty.
-/// It looks at no more than four bytes and moves none. The count of looks must be at most 2^63.
+/// It looks at no more than four bytes and moves none. The count of looks must have room for four.
 pub fn last_char(text: &str, steps: &mut Steps) -> Option<(usize, char)>
-    requires { steps.old.looked ≤ 2 ^ 63 }
+    requires { steps.old.looked + 4 < 2 ^ 64 }
     ensures some { IfSome result (λ last. (front : List ℕ) × (chars text.now ≡ front ++ last.1 ∷ []) × (size front ≡ last.0)) }
     ensures none { IfNone result (chars text.now ≡ []) }
     ensures looked { steps.new.looked ≤ steps.old.looked + 4 }
@@ -117,9 +117,9 @@ pub fn shift<const N: usize>(
     ensures moved { steps.new.moved ≡ steps.old.moved + (if from == to then 0 else len) }
     ensures looked { steps.new.looked ≡ steps.old.looked }
 {
-    let all = &mut array[..];
-    all.copy_within(from..from + len, to);
     if from != to {
+        let all = &mut array[..];
+        all.copy_within(from..from + len, to);
         steps.count_moves(len);
     }
 }
@@ -153,7 +153,7 @@ fn last_boundary(text: &str, limit: usize, steps: &mut Steps) -> usize
 /// The last character of a text that has one, and where it begins.
 fn char_before_end(text: &str, steps: &mut Steps) -> (usize, char)
     requires some { 0 < length text.now }
-    requires countable { steps.old.looked ≤ 2 ^ 63 }
+    requires countable { steps.old.looked + 4 < 2 ^ 64 }
     ensures before { result.0 < length text.now }
     ensures boundary { IsCharBoundary text.now result.0 }
     ensures last { drop result.0 text.now ≡ utf8 result.1 }

@@ -1,8 +1,7 @@
 -- ASCII letters in the other case, in characters and in bytes.
-use Rattle.std.proofs.Common.{◌≡◌, ℕ, ◌+◌, ◌-◌, ◌/◌, ◌%◌, ◌<◌, ◌≤◌, List, [], ◌∷◌, ◌++◌, map, length, take, drop, chars, refl, sym, ap, subst, ◌∙◌, arith, true, inl, inr, IsUtf8, take-take, length-append, length-take-le, length-drop, append_assoc}
+use Rattle.std.proofs.Common.{◌≡◌, ℕ, ◌+◌, ◌-◌, ◌/◌, ◌%◌, ◌<◌, ◌≤◌, List, [], ◌∷◌, ◌++◌, map, length, take, drop, chars, refl, sym, ap, subst, ◌∙◌, arith, true, inl, inr, IsUtf8, take-take, length-take-le, length-drop}
 use Rattle.std.proofs.lemmas.Bool.{cases_lt, lt-ltb, le-ltb}
-use Rattle.std.proofs.lemmas.List.{map-append, length-map, drop-take}
-use Rattle.std.proofs.Math.Seq.{take-append-add}
+use Rattle.std.proofs.lemmas.List.{map-append, length-map, drop-take, drop-drop}
 use Rattle.std.proofs.lemmas.Str.Ascii.{uppercase_ascii, lowercase_ascii, uppercase_is, lowercase_is}
 use Rattle.std.specs.Char.{to_ascii_uppercase, to_ascii_lowercase}
 use Rattle.arraystring_base.specs.Text.{IsScalarValue, IsText, size, utf8, bytes, cap, front, back, boundary}
@@ -11,7 +10,8 @@ use Rattle.arraystring_base.specs.BoundaryLaws.{boundary-within, bytes-part, fro
 use Rattle.arraystring_core.specs.Stored.{Stored, stored, IsStored}
 use Rattle.arraystring_core.specs.StoredLaws.{opened-bytes, opened-size, opened-text}
 use Rattle.arraystring_core.specs.Edits.{part}
-use Rattle.arraystring_core.proofs.SpliceLemmas.{spliced-stored, spliced-text}
+use Rattle.arraystring_core.proofs.GapLemmas.{written-length, written-parts}
+use Rattle.arraystring_core.proofs.PlaceLemmas.{replaced-stored, replaced-chars}
 
 -- a change of ASCII characters alone
 pub record IsAsciiChange (f : ℕ → ℕ) : Type 0 where
@@ -80,26 +80,29 @@ module _ (f : ℕ → ℕ) (is : IsAsciiChange f) where
   pub changed-chars : (t : List ℕ) → IsText t → chars (map f (bytes t)) ≡ map f t
   changed-chars t s = chars-bytes (map f (bytes t)) (map f t) (changed-utf8 t s) (sym (bytes-change t))
 
--- the bytes from start to end of the text that is stored are changed
-module _ (f : ℕ → ℕ) (is : IsAsciiChange f) (places : ℕ) (array : List ℕ) (n : ℕ) (held : IsStored places array n) (v : Stored)
-    (e : stored array n ≡ v) (start end : ℕ) (order : start ≤ end) (b : boundary v.text start ≡ true) (d : boundary v.text end ≡ true)
-    (after : List ℕ) (written : after ≡ take start array ++ (map f (take (end - start) (drop start array)) ++ drop end array)) where
+-- the bytes from start to end of the text that stands from p on are changed
+module _ (f : ℕ → ℕ) (is : IsAsciiChange f) (places : ℕ) (array : List ℕ) (p n : ℕ) (held : IsStored places array p n) (v : Stored)
+    (e : stored array p n ≡ v) (start end : ℕ) (order : start ≤ end) (b : boundary v.text start ≡ true) (d : boundary v.text end ≡ true)
+    (after : List ℕ)
+    (written : after ≡ take (p + start) array ++ (map f (take (p + end - (p + start)) (drop (p + start) array)) ++ drop (p + end) array)) where
   reached : end ≤ n
-  reached = omega (arith, opened-size places array n held v e, boundary-within v.text end d)
+  reached = omega (arith, opened-size places array p n held v e, boundary-within v.text end d)
 
   abbrev given : List ℕ
-  given = map f (take (end - start) (drop start array))
+  given = map f (take (p + end - (p + start)) (drop (p + start) array))
 
-  part-stored : take (end - start) (drop start array) ≡ bytes (part v.text start end)
+  part-stored : take (p + end - (p + start)) (drop (p + start) array) ≡ bytes (part v.text start end)
   part-stored =
       let whole : start + (end - start) ≡ end = omega arith in
-      sym (drop-take start (end - start) array) ∙ ap (λ k. drop start (take k array)) whole
-      ∙ ap (drop start) (sym (take-take end n array reached)) ∙ ap (λ l. drop start (take end l)) (sym (opened-bytes places array n held v e))
+      let wide : p + end - (p + start) ≡ end - start = omega arith in
+      ap (λ k. take k (drop (p + start) array)) wide ∙ ap (take (end - start)) (sym (drop-drop start p array))
+      ∙ sym (drop-take start (end - start) (drop p array)) ∙ ap (λ k. drop start (take k (drop p array))) whole
+      ∙ ap (drop start) (sym (take-take end n (drop p array) reached))
+      ∙ ap (λ l. drop start (take end l)) (sym (opened-bytes places array p n held v e))
       ∙ bytes-part v.text start end order b d
 
   part-text : IsText (part v.text start end)
-  part-text =
-      back-text (front v.text end) start (front-text v.text end (opened-text places array n held v e))
+  part-text = back-text (front v.text end) start (front-text v.text end (opened-text places array p n held v e))
 
   given-utf8 : IsUtf8 given
   given-utf8 = rw part-stored (changed-utf8 f is (part v.text start end) part-text)
@@ -111,38 +114,47 @@ module _ (f : ℕ → ℕ) (is : IsAsciiChange f) (places : ℕ) (array : List �
 
   given-length : length given ≡ end - start
   given-length =
-      length-map (take (end - start) (drop start array)) f
-      ∙ length-take-le (end - start) (drop start array) (omega (arith, length-drop start array, reached, held.0, held.1))
+      length-map (take (p + end - (p + start)) (drop (p + start) array)) f
+      ∙ length-take-le (p + end - (p + start)) (drop (p + start) array) (omega (arith, length-drop (p + start) array, reached, held.0, held.1))
+      ∙ sum-less
+    where
+      sum-less : p + end - (p + start) ≡ end - start
+      sum-less = omega arith
 
   room : size v.text - (end - start) + length given ≤ cap places
-  room = omega (arith, given-length, opened-size places array n held v e, reached, held.0)
+  room = omega (arith, given-length, opened-size places array p n held v e, reached, held.0)
 
-  front-length : length (take start array) ≡ start
-  front-length = length-take-le start array (omega (arith, reached, held.0, held.1))
+  behind : p + start + length given ≡ p + end
+  behind = omega (arith, given-length)
+
+  over : after ≡ take (p + start) array ++ (given ++ drop (p + start + length given) array)
+  over = written ∙ ap (λ k. take (p + start) array ++ (given ++ drop k array)) (sym behind)
+
+  within : p + start + length given ≤ length array
+  within = omega (arith, behind, reached, held.0, held.1)
+
+  visible : take (start + (length given + (n - end))) (drop p after) ≡ take start (drop p array) ++ (given ++ take (n - end) (drop end (drop p array)))
+  visible =
+      written-parts array after given (p + start) within over p start (n - end) refl
+      ∙ ap (λ k. take start (drop p array) ++ (given ++ take (n - end) (drop k array))) behind
+      ∙ ap (λ l. take start (drop p array) ++ (given ++ take (n - end) l)) (sym (drop-drop end p array))
 
   whole-length : start + (length given + (n - end)) ≡ n
   whole-length = omega (arith, given-length, reached)
 
-  visible : take (start + (length given + (n - end))) after ≡ take start array ++ (given ++ take (n - end) (drop end array))
-  visible =
-      let first = take start array ++ given in
-      let long : length first ≡ start + length given = omega (arith, length-append (take start array) given, front-length) in
-      let sum : start + (length given + (n - end)) ≡ length first + (n - end) = omega (arith, long) in
-      ap (take (start + (length given + (n - end)))) (written ∙ sym (append_assoc (take start array) given (drop end array)))
-      ∙ ap (λ k. take k (first ++ drop end array)) sum ∙ take-append-add first (drop end array) (n - end)
-      ∙ append_assoc (take start array) given (take (n - end) (drop end array))
-
   after-length : length after ≡ places
-  after-length =
-      omega (arith, ap length written, length-append (take start array) (given ++ drop end array), length-append given (drop end array), length-drop end array, front-length, given-length, reached, held.0, held.1)
+  after-length = written-length array after given (p + start) within over ∙ held.1
 
-  pub changed-stored : IsStored places after n
+  fits : p + (start + (length given + (n - end))) ≤ cap places
+  fits = omega (arith, whole-length, held.0)
+
+  pub changed-stored : IsStored places after p n
   changed-stored =
-      subst (λ k. IsStored places after k) whole-length
-      (spliced-stored places array n held v e start end given order b d room given-utf8 after after-length visible)
+      subst (λ k. IsStored places after p k) whole-length
+      (replaced-stored places array p n held v e start end given order b d room given-utf8 after p after-length fits visible)
 
-  pub changed-text : chars (take n after) ≡ front v.text start ++ (map f (part v.text start end) ++ back v.text end)
+  pub changed-text : chars (take n (drop p after)) ≡ front v.text start ++ (map f (part v.text start end) ++ back v.text end)
   changed-text =
-      ap (λ k. chars (take k after)) (sym whole-length)
-      ∙ spliced-text places array n held v e start end given order b d room given-utf8 after after-length visible
+      ap (λ k. chars (take k (drop p after))) (sym whole-length)
+      ∙ replaced-chars places array p n held v e start end given order b d room given-utf8 after p after-length fits visible
       ∙ ap (λ l. front v.text start ++ (l ++ back v.text end)) given-chars

@@ -1,5 +1,6 @@
-pub mod AppendLemmas
-pub mod SpliceLemmas
+pub mod GapLemmas
+pub mod PlaceLemmas
+pub mod TakenLemmas
 pub mod AsciiLemmas
 pub mod TrimLemmas
 pub mod RetainLemmas

@@ -11,6 +11,10 @@ pub mod Stored
 pub mod StoredLaws
 pub mod Edits
 pub mod EditLaws
+pub mod Made
+pub mod MadeLaws
+pub mod Taken
+pub mod TakenLaws
 pub mod Asked
 pub mod Ranges
 pub mod Drained

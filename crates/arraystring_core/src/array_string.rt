@@ -1,18 +1,21 @@
 //! `ArrayString`: the type, what it shows, and what is added and taken at its end. The modules
 //! below hold its other calls.
-ghost use Rattle.std.specs.Prelude.{◌≡◌, ◌≢◌, ◌+◌, ◌-◌, ◌^◌, ◌==◌, ◌<◌, ◌≤◌, ◌↔◌, if◌then◌else◌, min, length, take, drop, Ok, [], ◌∷◌, ◌++◌, IsTrue, chars, nat_eq};
+ghost use Rattle.std.specs.Prelude.{◌≡◌, ◌≢◌, ◌+◌, ◌-◌, ◌^◌, ◌≤◌, ◌↔◌, min, Ok, [], ◌∷◌, ◌++◌, IsTrue, chars, nat_eq};
 ghost use Rattle.std.specs.Cmp.{on_equiv, on_per, partial_equiv_from_equiv};
 ghost use Rattle.std.specs.Cmp.Lexicographic.{pointwise, nat_list_eq_equiv};
-ghost use Rattle.arraystring_base.specs.Text.{size, width, utf8, bytes, cap, front, back, boundary, IsText};
+ghost use Rattle.arraystring_base.specs.Text.{size, width, bytes, cap, front, back, boundary, IsText};
 ghost use Rattle.arraystring_core.specs.Edits.{Makes, from_out_of_bounds, addition, addition_of_cut, popping};
 
+use crate::place::{copy_in, open_gap};
 use arraystring_base::error::OutOfBounds;
-use arraystring_base::utils::{Steps, encode, is_boundary, last_char, shift, truncate_str};
+use arraystring_base::utils::{Steps, encode, is_boundary, last_char, truncate_str};
 use std::marker::Model;
 use std::{fmt, str};
 
 mod ascii;
 mod compare;
+mod construct;
+mod extend;
 mod insert;
 mod range;
 mod remove;
@@ -24,26 +27,27 @@ mod utf16;
 #[derive(Clone, Copy)]
 pub struct ArrayString<const N: usize> {
     array: [u8; N],
+    start: u8,
     size: u8,
 }
 
 impl<const N: usize> Model for ArrayString<N> {
-    ghost use Rattle.std.specs.Prelude.{◌++◌};
-    ghost use Rattle.arraystring_base.specs.Text.{bytes, size as text_size};
-    ghost use Rattle.arraystring_core.specs.Stored.{Stored, stored, IsStored};
+    ghost use Rattle.arraystring_base.specs.Text.{size as text_size};
+    ghost use Rattle.arraystring_core.specs.Stored.{Stored, stored, IsStored, start_of, array_of};
     ghost use Rattle.arraystring_core.specs.StoredLaws.{stored-size, stored-all};
 
     ghost Value = { Stored };
 
-    ghost view = { λ s. stored s.array s.size };
+    ghost view = { λ s. stored s.array s.start s.size };
 
-    ghost invariant = { λ s. IsStored N s.array s.size };
+    ghost invariant = { λ s. IsStored N s.array s.start s.size };
 
-    ghost inverse = { λ v. record { array = bytes v.text ++ v.spare; size = text_size v.text } };
+    ghost inverse = { λ v. record { array = array_of v; start = start_of v; size = text_size v.text } };
 
     ghost inverse_ok = { λ s h i. record {
-      array = stored-all N s.array s.size h i;
-      size = stored-size N s.array s.size h i;
+      array = stored-all N s.array s.start s.size h i;
+      start = s.start;
+      size = stored-size N s.array s.start s.size h i;
     } };
 }
 
@@ -54,6 +58,7 @@ impl<const N: usize> ArrayString<N> {
     {
         ArrayString {
             array: [0; N],
+            start: 0,
             size: 0,
         }
     }
@@ -86,14 +91,18 @@ impl<const N: usize> ArrayString<N> {
         ensures text { IsText self.now.text }
         ensures fits { size self.now.text ≤ cap N }
     {
-        unsafe { str::from_utf8_unchecked(&self.array[..self.size as usize]) }
+        let start = self.start as usize;
+        let all = &self.array[..];
+        unsafe { str::from_utf8_unchecked(&all[start..start + self.size as usize]) }
     }
 
     /// The UTF-8 of the text, lent without a copy.
     pub fn as_bytes(&self) -> &[u8]
         ensures { result.now ≡ bytes self.now.text }
     {
-        &self.array[..self.size as usize]
+        let start = self.start as usize;
+        let all = &self.array[..];
+        &all[start..start + self.size as usize]
     }
 
     /// Adds `ch` at the end. Refused with `OutOfBounds` where it does not fit; the text is then as
@@ -113,9 +122,8 @@ impl<const N: usize> ArrayString<N> {
         requires { size self.old.text + width ch ≤ cap N }
         ensures { self.new.text ≡ self.old.text ++ ch ∷ [] }
     {
-        let len = self.size as usize;
-        self.size = (len + ch.len_utf8()) as u8;
-        encode(ch, &mut self.array, len);
+        let len = self.len() as usize;
+        self.put_char(len, ch);
     }
 
     /// Adds `string` at the end. Refused with `OutOfBounds` where not all of it fits; the text is
@@ -143,16 +151,28 @@ impl<const N: usize> ArrayString<N> {
         requires { size self.old.text + size (chars string.now) ≤ cap N }
         ensures { self.new.text ≡ self.old.text ++ chars string.now }
     {
-        let len = self.size as usize;
-        self.size = (len + string.len()) as u8;
-        copy_in(&mut self.array, len, string.as_bytes());
+        let len = self.len() as usize;
+        self.splice(len, len, string, &mut Steps::new());
     }
 
     /// Takes the last character; `None` where the text is empty.
     pub fn pop(&mut self) -> Option<char>
         ensures { Makes (popping self.old.text) self.old.text (Ok result) self.new.text }
     {
-        let (start, ch) = last_char(self.as_str(), &mut Steps::new())?;
+        self.pop_counted(&mut Steps::new())
+    }
+
+    /// The same as `pop`. It looks at no more than four bytes and moves none. Both counts must be
+    /// at most 2^63.
+    pub fn pop_counted(&mut self, steps: &mut Steps) -> Option<char>
+        requires looks { steps.old.looked ≤ 2 ^ 63 }
+        requires moves { steps.old.moved ≤ 2 ^ 63 }
+        ensures edit { Makes (popping self.old.text) self.old.text (Ok result) self.new.text }
+        ensures looked { steps.new.looked ≤ steps.old.looked + 4 }
+        ensures counted { steps.old.looked ≤ steps.new.looked }
+        ensures moved { steps.new.moved ≡ steps.old.moved }
+    {
+        let (start, ch) = last_char(self.as_str(), steps)?;
         self.keep(start as u8);
         Some(ch)
     }
@@ -178,9 +198,57 @@ impl<const N: usize> ArrayString<N> {
         ensures counted { steps.old.moved ≤ steps.new.moved }
         ensures looked { steps.new.looked ≡ steps.old.looked }
     {
-        let tail = self.size as usize - end;
-        join(&mut self.array, start, given.as_bytes(), end, tail, steps);
-        self.size = (start + (given.len() + tail)) as u8;
+        let (place, size) = (self.start as usize, self.size as usize);
+        let len = given.len();
+        let place = open_gap(&mut self.array, place, size, start, end, len, steps);
+        self.start = place as u8;
+        self.size = (start + (len + (size - end))) as u8;
+        copy_in(&mut self.array, place + start, given.as_bytes());
+    }
+
+    /// Puts `ch` at a boundary. There must be room for it.
+    fn put_char(&mut self, at: usize, ch: char)
+        requires boundary { IsTrue (boundary self.old.text at) }
+        requires room { size self.old.text + width ch ≤ cap N }
+        ensures { self.new.text ≡ front self.old.text at ++ (ch ∷ back self.old.text at) }
+    {
+        let (place, size) = (self.start as usize, self.size as usize);
+        let len = ch.len_utf8();
+        let place = open_gap(&mut self.array, place, size, at, at, len, &mut Steps::new());
+        self.start = place as u8;
+        self.size = (at + (len + (size - at))) as u8;
+        encode(ch, &mut self.array, place + at);
+    }
+
+    /// Takes out the text between two boundaries, without a move where it stands at the start.
+    fn take_out(&mut self, start: usize, end: usize, steps: &mut Steps)
+        requires order { start ≤ end }
+        requires start { IsTrue (boundary self.old.text start) }
+        requires end { IsTrue (boundary self.old.text end) }
+        requires countable { steps.old.moved ≤ 2 ^ 63 }
+        ensures text { self.new.text ≡ front self.old.text start ++ back self.old.text end }
+        ensures free { start ≡ 0 → steps.new.moved ≡ steps.old.moved }
+        ensures tail_alone { steps.new.moved ≤ steps.old.moved + (size self.old.text - end) }
+        ensures least { start ≢ end → steps.old.moved + min start (size self.old.text - end) ≤ steps.new.moved }
+        ensures counted { steps.old.moved ≤ steps.new.moved }
+        ensures looked { steps.new.looked ≡ steps.old.looked }
+    {
+        // A look at a field, after which the proof knows that the text fits.
+        let _ = &self.array;
+        if start == 0 {
+            self.drop_front(end);
+        } else {
+            self.splice(start, end, "", steps);
+        }
+    }
+
+    /// Drops the part before a boundary, without a move.
+    fn drop_front(&mut self, end: usize)
+        requires { IsTrue (boundary self.old.text end) }
+        ensures { self.new.text ≡ back self.old.text end }
+    {
+        self.start = (self.start as usize + end) as u8;
+        self.size = (self.size as usize - end) as u8;
     }
 
     /// Keeps the part before a boundary.
@@ -190,49 +258,6 @@ impl<const N: usize> ArrayString<N> {
     {
         self.size = size;
     }
-}
-
-/// Puts `given` behind the first `start` bytes, and behind it the `tail` bytes that stand from
-/// `from` on.
-fn join<const N: usize>(
-    array: &mut [u8; N],
-    start: usize,
-    given: &[u8],
-    from: usize,
-    tail: usize,
-    steps: &mut Steps,
-)
-    requires source { from + tail ≤ N }
-    requires room { start + (length given.now + tail) ≤ N }
-    requires countable { steps.old.moved + tail < 2 ^ 64 }
-    ensures len { length array.new ≡ N }
-    ensures bytes { take (start + (length given.now + tail)) array.new ≡ take start array.old ++ (given.now ++ take tail (drop from array.old)) }
-    ensures moved { steps.new.moved ≡ steps.old.moved + (if from == start + length given.now then 0 else tail) }
-    ensures looked { steps.new.looked ≡ steps.old.looked }
-{
-    shift(array, from, start + given.len(), tail, steps);
-    copy_in(array, start, given);
-}
-
-/// Puts `ch` behind the first `start` bytes, and behind it the `tail` bytes that stood there.
-fn join_char<const N: usize>(array: &mut [u8; N], start: usize, ch: char, tail: usize)
-    requires source { start + tail ≤ N }
-    requires room { start + (width ch + tail) ≤ N }
-    ensures len { length array.new ≡ N }
-    ensures bytes { take (start + (width ch + tail)) array.new ≡ take start array.old ++ (utf8 ch ++ take tail (drop start array.old)) }
-{
-    let steps = &mut Steps::new();
-    shift(array, start, start + ch.len_utf8(), tail, steps);
-    encode(ch, array, start);
-}
-
-/// Writes `given` over the bytes from `at` on.
-fn copy_in<const N: usize>(array: &mut [u8; N], at: usize, given: &[u8])
-    requires { at + length given.now ≤ N }
-    ensures { array.new ≡ take at array.old ++ (given.now ++ drop (at + length given.now) array.old) }
-{
-    let all = &mut array[..];
-    all[at..at + given.len()].copy_from_slice(given);
 }
 
 impl<const N: usize> Default for ArrayString<N> {
@@ -265,3 +290,6 @@ impl<const N: usize> fmt::Debug for ArrayString<N> {
             .finish()
     }
 }
+
+#[cfg(test)]
+mod tests;

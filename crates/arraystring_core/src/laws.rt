@@ -1,6 +1,6 @@
 //! Laws of strings, which callers may rely on. Each does nothing when it is called and carries its
 //! fact in its contract.
-ghost use Rattle.std.specs.Prelude.{◌≡◌, ◌≤◌, ◌↔◌, ℕ, List, IsTrue, Some, nat_eq, Result, IsOkAnd};
+ghost use Rattle.std.specs.Prelude.{◌≡◌, ◌≤◌, ◌↔◌, ℕ, List, IsTrue, Some, nat_eq, Result, IsOkAnd, ◌<◌, ◌++◌, map, chars};
 ghost use Rattle.std.specs.Cmp.Lexicographic.{pointwise};
 ghost use Rattle.std.specs.Hash as fed;
 ghost use Rattle.arraystring_base.specs.Text.{IsText, size, bytes, cut};
@@ -11,8 +11,22 @@ ghost use Rattle.arraystring_base.specs.declared.utf16.Unit16.{Unit16};
 ghost use Rattle.arraystring_base.specs.Utf16.{IsReading, first_stop, lossy_text, text_units};
 ghost use Rattle.arraystring_core.specs.FromUtf16.{GivesWhole, GivesRun};
 ghost use Rattle.arraystring_core.specs.Stored.{Stored};
+ghost use Rattle.arraystring_core.specs.Taken.{joined};
 
 use arraystring_base::laws::text_reading;
+
+/// What comes behind characters or pieces that no longer fit changes no cut.
+pub fn what_comes_past_the_room()
+    ensures characters { (taken more : List ℕ) (n : ℕ) → n < size taken → cut (taken ++ more) n ≡ cut taken n }
+    ensures pieces { (taken more : List (List ℕ)) (n : ℕ) → n < size (joined taken) → cut (joined (taken ++ more)) n ≡ cut (joined taken) n }
+{}
+
+/// The text whose bytes are those of pieces, one behind the other, is the pieces joined, and so has
+/// the same cuts. So `from_iterator` of pieces is `from_str_truncate` of the text that they make.
+pub fn pieces_make_one_text(whole: &str)
+    ensures text { (pieces : List (List ℕ)) → whole.now ≡ joined (map bytes pieces) → chars whole.now ≡ joined pieces }
+    ensures cut { (pieces : List (List ℕ)) (n : ℕ) → whole.now ≡ joined (map bytes pieces) → cut (joined pieces) n ≡ cut (chars whole.now) n }
+{}
 
 /// The UTF-16 of a text that fits is read back as that text by `try_from_utf16`, `from_utf16` and
 /// `from_utf16_lossy`: no other result meets their contracts.

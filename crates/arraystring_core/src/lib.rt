@@ -6,7 +6,9 @@ pub mod array_string;
 pub mod drain;
 pub mod integration;
 pub mod laws;
+mod place;
 mod ranges;
+pub mod utils;
 
 pub use array_string::ArrayString;
 pub use drain::Drain;

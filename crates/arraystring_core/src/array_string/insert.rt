@@ -1,9 +1,9 @@
 //! Texts and characters that are put into a string before an index.
-ghost use Rattle.std.specs.Prelude.{◌≡◌, ◌+◌, ◌≤◌, [], ◌∷◌, ◌++◌, IsTrue, chars};
+ghost use Rattle.std.specs.Prelude.{◌≡◌, ◌≢◌, ◌+◌, ◌-◌, ◌^◌, ◌≤◌, [], ◌∷◌, ◌++◌, min, IsTrue, OnOk, OnErr, chars};
 ghost use Rattle.arraystring_base.specs.Text.{size, width, cap, front, back, boundary};
 ghost use Rattle.arraystring_core.specs.Edits.{Makes, insertion, insertion_of_cut};
 
-use super::{ArrayString, join_char};
+use crate::ArrayString;
 use arraystring_base::error::Error;
 use arraystring_base::utils::{Steps, truncate_str};
 
@@ -33,10 +33,7 @@ impl<const N: usize> ArrayString<N> {
         requires room { size self.old.text + width ch ≤ cap N }
         ensures { self.new.text ≡ front self.old.text index ++ (ch ∷ back self.old.text index) }
     {
-        let start = index as usize;
-        let tail = self.size as usize - start;
-        join_char(&mut self.array, start, ch, tail);
-        self.size = (start + (ch.len_utf8() + tail)) as u8;
+        self.put_char(index as usize, ch);
     }
 
     /// Inserts `string` before the byte `index`. Refused with `OutOfBounds` where the index is past
@@ -45,16 +42,38 @@ impl<const N: usize> ArrayString<N> {
     pub fn try_insert_str(&mut self, index: u8, string: &str) -> Result<(), Error>
         ensures { Makes (insertion self.old.text index (chars string.now) (cap N)) self.old.text result self.new.text }
     {
+        self.try_insert_str_counted(index, string, &mut Steps::new())
+    }
+
+    /// The same as `try_insert_str`. It moves no more bytes than the text had; an insertion that is
+    /// made and is not empty moves at least the lesser of the bytes before and behind the index, and
+    /// a refused one moves none. Both counts must be at most 2^63.
+    pub fn try_insert_str_counted(
+        &mut self,
+        index: u8,
+        string: &str,
+        steps: &mut Steps,
+    ) -> Result<(), Error>
+        requires looks { steps.old.looked ≤ 2 ^ 63 }
+        requires moves { steps.old.moved ≤ 2 ^ 63 }
+        ensures edit { Makes (insertion self.old.text index (chars string.now) (cap N)) self.old.text result self.new.text }
+        ensures refused { OnErr result (steps.new.moved ≡ steps.old.moved) }
+        ensures most { steps.new.moved ≤ steps.old.moved + size self.old.text }
+        ensures least { OnOk result (chars string.now ≢ [] → steps.old.moved + min index (size self.old.text - index) ≤ steps.new.moved) }
+        ensures counted { steps.old.moved ≤ steps.new.moved }
+        ensures looked { steps.new.looked ≡ steps.old.looked }
+    {
         if index > self.len() {
             return Err(Error::OutOfBounds);
         }
         if self.len() as usize + string.len() > Self::capacity() as usize {
             return Err(Error::OutOfBounds);
         }
-        if !self.is_boundary(index as usize) {
+        let start = index as usize;
+        if !self.is_boundary(start) {
             return Err(Error::Utf8);
         }
-        self.insert_str_unchecked(index, string);
+        self.splice(start, start, string, steps);
         Ok(())
     }
 

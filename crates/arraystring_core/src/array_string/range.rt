@@ -1,5 +1,5 @@
 //! Parts of a string by a range of bytes. Any `RangeBounds<u8>` serves.
-ghost use Rattle.std.specs.Prelude.{◌≡◌, ◌-◌, ◌≤◌, ◌++◌, IsTrue, MatchOption, Some, None, chars, map};
+ghost use Rattle.std.specs.Prelude.{◌≡◌, ◌≢◌, ◌+◌, ◌-◌, ◌^◌, ◌≤◌, ◌++◌, min, IsTrue, MatchOption, OnOk, OnErr, Some, None, chars, map};
 ghost use Rattle.std.specs.Char.{to_ascii_uppercase, to_ascii_lowercase};
 ghost use Rattle.std.specs.Range.Bound.{start_index, end_index};
 ghost use Rattle.arraystring_base.specs.Text.{bytes, cap, size, front, back, boundary};
@@ -51,8 +51,33 @@ impl<const N: usize> ArrayString<N> {
         ensures { let t = self.old.text in
             Makes (draining t (lo (R.start_bound range)) (hi (R.end_bound range) (size t))) t (with_left result) self.new.text }
     {
+        self.drain_counted(range, &mut Steps::new())
+    }
+
+    /// The same as `drain`. It moves no more bytes than stand behind the range, and at least the
+    /// lesser of the bytes before and behind it where the range is not empty; it moves none where
+    /// the range begins at the start, and none where it is refused. Both counts must be at most
+    /// 2^63.
+    pub fn drain_counted<R: RangeBounds<u8> + Drop>(
+        &mut self,
+        range: R,
+        steps: &mut Steps,
+    ) -> Result<Drain<N>, Error>
+        requires known { R.has_bounds range }
+        requires looks { steps.old.looked ≤ 2 ^ 63 }
+        requires moves { steps.old.moved ≤ 2 ^ 63 }
+        ensures edit { let t = self.old.text in
+            Makes (draining t (lo (R.start_bound range)) (hi (R.end_bound range) (size t))) t (with_left result) self.new.text }
+        ensures refused { OnErr result (steps.new.moved ≡ steps.old.moved) }
+        ensures free { lo (R.start_bound range) ≡ 0 → steps.new.moved ≡ steps.old.moved }
+        ensures tail_alone { steps.new.moved ≤ steps.old.moved + (size self.old.text - hi (R.end_bound range) (size self.old.text)) }
+        ensures least { let start = lo (R.start_bound range) in let end = hi (R.end_bound range) (size self.old.text) in
+            OnOk result (start ≢ end → steps.old.moved + min start (size self.old.text - end) ≤ steps.new.moved) }
+        ensures counted { steps.old.moved ≤ steps.new.moved }
+        ensures looked { steps.new.looked ≡ steps.old.looked }
+    {
         let (start, end) = saturating_ends(range, self.len());
-        let removed = self.take_between(start, end)?;
+        let removed = self.take_between(start, end, steps)?;
         Ok(Drain::new(removed))
     }
 
@@ -69,8 +94,35 @@ impl<const N: usize> ArrayString<N> {
         ensures { let t = self.old.text in
             Makes (replacement t (lo (R.start_bound range)) (hi (R.end_bound range) (size t)) (chars with.now) (cap N)) t result self.new.text }
     {
+        self.replace_range_counted(range, with, &mut Steps::new())
+    }
+
+    /// The same as `replace_range`. It moves no more bytes than the text had, and no more than
+    /// stand behind the range where `with` is no larger than it; a replacement that changes the
+    /// length moves at least the lesser of the bytes before and behind the range, and a refused one
+    /// moves none. Both counts must be at most 2^63.
+    pub fn replace_range_counted<R: RangeBounds<u8> + Drop>(
+        &mut self,
+        range: R,
+        with: &str,
+        steps: &mut Steps,
+    ) -> Result<(), Error>
+        requires known { R.has_bounds range }
+        requires looks { steps.old.looked ≤ 2 ^ 63 }
+        requires moves { steps.old.moved ≤ 2 ^ 63 }
+        ensures edit { let t = self.old.text in
+            Makes (replacement t (lo (R.start_bound range)) (hi (R.end_bound range) (size t)) (chars with.now) (cap N)) t result self.new.text }
+        ensures refused { OnErr result (steps.new.moved ≡ steps.old.moved) }
+        ensures tail_alone { let start = lo (R.start_bound range) in let end = hi (R.end_bound range) (size self.old.text) in
+            size (chars with.now) ≤ end - start → steps.new.moved ≤ steps.old.moved + (size self.old.text - end) }
+        ensures most { steps.new.moved ≤ steps.old.moved + size self.old.text }
+        ensures least { let start = lo (R.start_bound range) in let end = hi (R.end_bound range) (size self.old.text) in
+            OnOk result (end ≢ start + size (chars with.now) → steps.old.moved + min start (size self.old.text - end) ≤ steps.new.moved) }
+        ensures counted { steps.old.moved ≤ steps.new.moved }
+        ensures looked { steps.new.looked ≡ steps.old.looked }
+    {
         let (start, end) = saturating_ends(range, self.len());
-        self.replace_between(start, end, with)
+        self.replace_between(start, end, with, steps)
     }
 
     /// Changes a..z to A..Z in the range. All other characters stay. The range is as for `slice`.
@@ -110,8 +162,15 @@ impl<const N: usize> ArrayString<N> {
     }
 
     /// Takes the bytes from `start` to `end` out of the string and answers them.
-    fn take_between(&mut self, start: u8, end: u8) -> Result<Self, Error>
-        ensures { Makes (draining self.old.text start end) self.old.text (with_text result) self.new.text }
+    fn take_between(&mut self, start: u8, end: u8, steps: &mut Steps) -> Result<Self, Error>
+        requires { steps.old.moved ≤ 2 ^ 63 }
+        ensures edit { Makes (draining self.old.text start end) self.old.text (with_text result) self.new.text }
+        ensures refused { OnErr result (steps.new.moved ≡ steps.old.moved) }
+        ensures free { start ≡ 0 → steps.new.moved ≡ steps.old.moved }
+        ensures tail_alone { steps.new.moved ≤ steps.old.moved + (size self.old.text - end) }
+        ensures least { OnOk result (start ≢ end → steps.old.moved + min start (size self.old.text - end) ≤ steps.new.moved) }
+        ensures counted { steps.old.moved ≤ steps.new.moved }
+        ensures looked { steps.new.looked ≡ steps.old.looked }
     {
         if start > end {
             return Err(Error::OutOfBounds);
@@ -128,13 +187,26 @@ impl<const N: usize> ArrayString<N> {
         }
         let mut removed = Self::new();
         removed.push_str_unchecked(self.between(from, to));
-        self.splice(from, to, "", &mut Steps::new());
+        self.take_out(from, to, steps);
         Ok(removed)
     }
 
     /// Puts `with` in place of the bytes from `start` to `end`.
-    fn replace_between(&mut self, start: u8, end: u8, with: &str) -> Result<(), Error>
-        ensures { Makes (replacement self.old.text start end (chars with.now) (cap N)) self.old.text result self.new.text }
+    fn replace_between(
+        &mut self,
+        start: u8,
+        end: u8,
+        with: &str,
+        steps: &mut Steps,
+    ) -> Result<(), Error>
+        requires { steps.old.moved ≤ 2 ^ 63 }
+        ensures edit { Makes (replacement self.old.text start end (chars with.now) (cap N)) self.old.text result self.new.text }
+        ensures refused { OnErr result (steps.new.moved ≡ steps.old.moved) }
+        ensures tail_alone { size (chars with.now) ≤ end - start → steps.new.moved ≤ steps.old.moved + (size self.old.text - end) }
+        ensures most { steps.new.moved ≤ steps.old.moved + size self.old.text }
+        ensures least { OnOk result (end ≢ start + size (chars with.now) → steps.old.moved + min start (size self.old.text - end) ≤ steps.new.moved) }
+        ensures counted { steps.old.moved ≤ steps.new.moved }
+        ensures looked { steps.new.looked ≡ steps.old.looked }
     {
         if start > end {
             return Err(Error::OutOfBounds);
@@ -153,7 +225,7 @@ impl<const N: usize> ArrayString<N> {
         if !self.is_boundary(to) {
             return Err(Error::Utf8);
         }
-        self.splice(from, to, with, &mut Steps::new());
+        self.splice(from, to, with, steps);
         Ok(())
     }
 }

@@ -1,11 +1,12 @@
 //! What is taken out of a string.
-ghost use Rattle.std.specs.Prelude.{◌≡◌, ◌+◌, ◌<◌, Ok, IsTrue, chars, length, slice_index, drop, take_while};
+ghost use Rattle.std.specs.Prelude.{◌≡◌, ◌+◌, ◌-◌, ◌^◌, ◌<◌, ◌≤◌, min, Ok, IsTrue, IfOk, OnErr, chars, length, slice_index, drop, take_while};
 ghost use Rattle.std.specs.List.Retain.{IsFiltered};
 ghost use Rattle.arraystring_base.specs.Text.{size, width, back, boundary};
 ghost use Rattle.arraystring_core.specs.Edits.{Makes, from_utf8_error, with_text, truncation, trimming, removal, clearing, split, is_space};
 ghost use Rattle.arraystring_core.specs.Asked.{MayBeAsked};
 
 use crate::ArrayString;
+use crate::place::retain_at;
 use arraystring_base::error::{Error, Utf8};
 use arraystring_base::utils::{Steps, last_char};
 
@@ -29,14 +30,27 @@ impl<const N: usize> ArrayString<N> {
     pub fn trim(&mut self)
         ensures { Makes (trimming self.old.text) self.old.text (Ok result) self.new.text }
     {
-        while let Some((start, ch)) = last_char(self.as_str(), &mut Steps::new()) {
+        self.trim_counted(&mut Steps::new());
+    }
+
+    /// The same as `trim`. It moves no byte. Both counts must be at most 2^63.
+    pub fn trim_counted(&mut self, steps: &mut Steps)
+        requires looks { steps.old.looked ≤ 2 ^ 63 }
+        requires moves { steps.old.moved ≤ 2 ^ 63 }
+        ensures edit { Makes (trimming self.old.text) self.old.text (Ok result) self.new.text }
+        ensures moved { steps.new.moved ≡ steps.old.moved }
+        ensures counted { steps.old.looked ≤ steps.new.looked }
+    {
+        // A look at a field, after which the proof knows that the text fits.
+        let _ = &self.array;
+        while let Some((start, ch)) = last_char(self.as_str(), steps) {
             if ch != ' ' {
                 break;
             }
             self.keep(start as u8);
         }
         let start = leading_spaces(self.as_str());
-        self.splice(0, start, "", &mut Steps::new());
+        self.drop_front(start);
     }
 
     /// Takes the character that begins at the byte `index`. Refused with `OutOfBounds` where the
@@ -44,6 +58,23 @@ impl<const N: usize> ArrayString<N> {
     /// then as it was.
     pub fn remove(&mut self, index: u8) -> Result<char, Error>
         ensures { Makes (removal self.old.text index) self.old.text result self.new.text }
+    {
+        self.remove_counted(index, &mut Steps::new())
+    }
+
+    /// The same as `remove`. It moves no more bytes than stand behind the character, and at least
+    /// the lesser of the bytes before and behind it; it moves none at the start, and none where it
+    /// is refused. Both counts must be at most 2^63.
+    pub fn remove_counted(&mut self, index: u8, steps: &mut Steps) -> Result<char, Error>
+        requires looks { steps.old.looked ≤ 2 ^ 63 }
+        requires moves { steps.old.moved ≤ 2 ^ 63 }
+        ensures edit { Makes (removal self.old.text index) self.old.text result self.new.text }
+        ensures refused { OnErr result (steps.new.moved ≡ steps.old.moved) }
+        ensures free { index ≡ 0 → steps.new.moved ≡ steps.old.moved }
+        ensures tail_alone { IfOk result (λ ch. steps.new.moved ≤ steps.old.moved + (size self.old.text - (index + width ch))) }
+        ensures least { IfOk result (λ ch. steps.old.moved + min index (size self.old.text - (index + width ch)) ≤ steps.new.moved) }
+        ensures counted { steps.old.moved ≤ steps.new.moved }
+        ensures looked { steps.new.looked ≡ steps.old.looked }
     {
         if index >= self.len() {
             return Err(Error::OutOfBounds);
@@ -53,23 +84,18 @@ impl<const N: usize> ArrayString<N> {
             return Err(Error::Utf8);
         }
         let ch = self.char_at(start);
-        self.splice(start, start + ch.len_utf8(), "", &mut Steps::new());
+        self.take_out(start, start + ch.len_utf8(), steps);
         Ok(ch)
     }
 
     /// Asks `f` once for each character, in order, and keeps those for which it answers true. It
     /// may be asked about each of them, in each state that its answers leave.
-    pub fn retain<F: FnMut(char) -> bool + Drop>(&mut self, mut f: F)
+    pub fn retain<F: FnMut(char) -> bool + Drop>(&mut self, f: F)
         requires { MayBeAsked F.pre F.step f self.old.text }
         ensures { IsFiltered F.step f self.old.text self.new.text }
     {
-        let old = *self;
-        self.clear();
-        for ch in old.as_str().chars() {
-            if f(ch) {
-                self.push_unchecked(ch);
-            }
-        }
+        let (place, size) = (self.start as usize, self.size as usize);
+        self.size = retain_at(&mut self.array, place, size, f) as u8;
     }
 
     /// Empties the string.

@@ -13,6 +13,14 @@ overflow_sub-place c =
     let near = back-near c.args.text.now c.loop-start.start (length c.args.text.now - 1) c.utf8.text (omega arith) (omega (arith, way.before)) way.nearest c.loop-start-test.true goes.0 goes.1 in
     omega (arith, near, way.tied)
 
+pub look-requires-in-loop-start-clause-countable : goal.look-requires-in-loop-start-clause-countable
+look-requires-in-loop-start-clause-countable c =
+    let way = c.loop-start.invariant in
+    let byte = seen-byte c.loop-start.seen c.args.text.now c.loop-start.place c.loop-start.start way.same in
+    let goes = rw byte at (c.continues.ensures.0 c.if-continues.true) in
+    let near = back-near c.args.text.now c.loop-start.start (length c.args.text.now - 1) c.utf8.text (omega arith) (omega (arith, way.before)) way.nearest c.loop-start-test.true goes.0 goes.1 in
+    omega (arith, near, way.looks, c.requires.countable)
+
 pub loop-start-preserved : goal.loop-start-preserved
 loop-start-preserved c =
     let text = c.args.text.now in

@@ -1,20 +1,29 @@
-use Rattle.std.proofs.Common.{◌≤◌, arith, rules}
+use Rattle.std.proofs.Common.{◌+◌, ◌≤◌, arith, rules}
 use Rattle.std.specs.Char.{to_ascii_lowercase}
 use Rattle.arraystring_base.specs.BoundaryLaws.{boundary-within}
 use Rattle.arraystring_core.specs.StoredLaws.{opened-size}
 use Rattle.arraystring_core.proofs.AsciiLemmas.{lowercase-change, changed-stored, changed-text}
 use Rattle.arraystring_core.proofs.array_string.ArrayString.lowercase_between.Goals as goal
 
+pub overflow_add-place : goal.overflow_add-place
+overflow_add-place g c =
+    omega (arith, opened-size g.row.N _ _ _ c.self.invariant _ c.self.view_is, boundary-within c.args.self.now.text c.args.start c.requires.start, c.self.invariant.0)
+
+pub overflow_add-place-2 : goal.overflow_add-place-2
+overflow_add-place-2 g c =
+    omega (arith, opened-size g.row.N _ _ _ c.self.invariant _ c.self.view_is, boundary-within c.args.self.now.text c.args.end c.requires.end, c.self.invariant.0)
+
 pub lowercase_bytes-requires : goal.lowercase_bytes-requires
 lowercase_bytes-requires g c =
-    let within : c.args.end ≤ g.row.N =
-    omega (arith, opened-size g.row.N _ _ c.self.invariant _ c.self.view_is, boundary-within c.args.self.now.text c.args.end c.requires.end) in
-    (search rules, (c.requires.order, within))
+    let order : c.self.inside.start + c.args.start ≤ c.self.inside.start + c.args.end = omega (arith, c.requires.order) in
+    let within : c.self.inside.start + c.args.end ≤ g.row.N =
+    omega (arith, opened-size g.row.N _ _ _ c.self.invariant _ c.self.view_is, boundary-within c.args.self.now.text c.args.end c.requires.end, c.self.invariant.0) in
+    (search rules, (order, within))
 
 pub invariant_of-self : goal.invariant_of-self
 invariant_of-self g c =
-    changed-stored to_ascii_lowercase lowercase-change g.row.N _ _ c.self.invariant _ c.self.view_is _ _ c.requires.order c.requires.start c.requires.end _ c.lowercase_bytes.ensures
+    changed-stored to_ascii_lowercase lowercase-change g.row.N _ _ _ c.self.invariant _ c.self.view_is _ _ c.requires.order c.requires.start c.requires.end _ c.lowercase_bytes.ensures
 
 pub returns : goal.returns
 returns g c =
-    changed-text to_ascii_lowercase lowercase-change g.row.N _ _ c.self.invariant _ c.self.view_is _ _ c.requires.order c.requires.start c.requires.end _ c.lowercase_bytes.ensures
+    changed-text to_ascii_lowercase lowercase-change g.row.N _ _ _ c.self.invariant _ c.self.view_is _ _ c.requires.order c.requires.start c.requires.end _ c.lowercase_bytes.ensures

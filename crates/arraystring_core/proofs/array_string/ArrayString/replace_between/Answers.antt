@@ -6,16 +6,16 @@ use Rattle.arraystring_base.specs.TextLaws.{size-lent}
 use Rattle.arraystring_core.specs.EditLaws.{inside-so, inside-not, refuses, makes}
 use Rattle.arraystring_core.proofs.array_string.ArrayString.replace_between.Goals as goal
 
-pub returns-then-kept-with : goal.returns-then-kept-with
-returns-then-kept-with g c =
+pub returns-then-kept-with-clause-edit : goal.returns-then-kept-with-clause-edit
+returns-then-kept-with-clause-edit g c =
     let t = c.args.self.now.text in
     let long = size-lent c.args.with.now c.utf8.with in
     let reached : c.args.end ≤ size t = omega arith in
     let over : cap g.row.N < size t - (c.args.end - c.args.start) + size (chars c.args.with.now) = omega arith in
     refuses _ _ Room (rw (le-ltb _ _ c.if-start-end.false, le-ltb _ _ reached, lt-ltb _ _ over))
 
-pub returns-then-not-is_boundary : goal.returns-then-not-is_boundary
-returns-then-not-is_boundary g c =
+pub returns-then-not-is_boundary-clause-edit : goal.returns-then-not-is_boundary-clause-edit
+returns-then-not-is_boundary-clause-edit g c =
     let t = c.args.self.now.text in
     let long = size-lent c.args.with.now c.utf8.with in
     let reached : c.args.end ≤ size t = omega arith in
@@ -23,8 +23,8 @@ returns-then-not-is_boundary g c =
     let within = inside-so t c.args.start (omega arith) (sym c.is_boundary.ensures ∙ c.if-not-is_boundary.true) in
     refuses _ _ Inside (rw (le-ltb _ _ c.if-start-end.false, le-ltb _ _ reached, le-ltb _ _ fits, within))
 
-pub returns-then-not-is_boundary-2 : goal.returns-then-not-is_boundary-2
-returns-then-not-is_boundary-2 g c =
+pub returns-then-not-is_boundary-2-clause-edit : goal.returns-then-not-is_boundary-2-clause-edit
+returns-then-not-is_boundary-2-clause-edit g c =
     let t = c.args.self.now.text in
     let long = size-lent c.args.with.now c.utf8.with in
     let reached : c.args.end ≤ size t = omega arith in
@@ -40,10 +40,10 @@ splice-requires g c =
     let fits : size t - (c.args.end - c.args.start) + size (chars c.args.with.now) ≤ cap g.row.N = omega arith in
     let at = sym c.is_boundary.ensures ∙ c.if-not-is_boundary.false in
     let to = sym c.is_boundary-2.ensures ∙ c.if-not-is_boundary-2.false in
-    (search rules, (c.if-start-end.false, (at, (to, (fits, omega arith)))))
+    (search rules, (c.if-start-end.false, (at, (to, (fits, c.requires)))))
 
-pub returns : goal.returns
-returns g c =
+pub returns-clause-edit : goal.returns-clause-edit
+returns-clause-edit g c =
     let t = c.args.self.now.text in
     let long = size-lent c.args.with.now c.utf8.with in
     let reached : c.args.end ≤ size t = omega arith in

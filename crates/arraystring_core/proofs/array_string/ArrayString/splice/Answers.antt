@@ -1,59 +1,62 @@
-use Rattle.std.proofs.Common.{◌+◌, ◌-◌, ◌≤◌, length, arith, rules}
-use Rattle.std.proofs.lemmas.Bool.Decides.{nat_tests}
+use Rattle.std.proofs.Common.{◌+◌, ◌-◌, ◌≤◌, length, ◌∙◌, arith, rules}
 use Rattle.arraystring_base.specs.Text.{size, cap}
 use Rattle.arraystring_base.specs.TextLaws.{size-lent}
 use Rattle.arraystring_core.specs.StoredLaws.{opened-size}
-use Rattle.arraystring_core.proofs.SpliceLemmas.{spliced-within, spliced-room, spliced-stored, spliced-text}
+use Rattle.arraystring_core.proofs.GapLemmas.{gap-filled, written-length}
+use Rattle.arraystring_core.proofs.PlaceLemmas.{replaced-within, replaced-room, replaced-stored, replaced-chars}
 use Rattle.arraystring_core.proofs.array_string.ArrayString.splice.Goals as goal
 
-pub overflow_sub-tail : goal.overflow_sub-tail
-overflow_sub-tail g c =
+pub open_gap-place-requires : goal.open_gap-place-requires
+open_gap-place-requires g c =
     let long = size-lent c.args.given.now c.utf8.given in
     let fits : size c.args.self.now.text - (c.args.end - c.args.start) + length c.args.given.now ≤ cap g.row.N = omega (arith, c.requires.room, long) in
-    spliced-within g.row.N _ _ c.self.invariant _ c.self.view_is _ _ _ c.requires.order c.requires.start c.requires.end fits
+    let within = replaced-within g.row.N _ _ _ c.self.invariant _ c.self.view_is _ _ c.args.given.now c.requires.order c.requires.start c.requires.end fits in
+    let room = replaced-room g.row.N _ _ _ c.self.invariant _ c.self.view_is _ _ c.args.given.now c.requires.order c.requires.start c.requires.end fits in
+    (search rules, (c.requires.order, (within, (c.self.invariant.0, (room, c.requires.countable)))))
 
-pub join-requires : goal.join-requires
-join-requires g c =
+pub overflow_sub-self : goal.overflow_sub-self
+overflow_sub-self g c =
     let long = size-lent c.args.given.now c.utf8.given in
     let fits : size c.args.self.now.text - (c.args.end - c.args.start) + length c.args.given.now ≤ cap g.row.N = omega (arith, c.requires.room, long) in
-    let within = spliced-within g.row.N _ _ c.self.invariant _ c.self.view_is _ _ _ c.requires.order c.requires.start c.requires.end fits in
-    let room = spliced-room g.row.N _ _ c.self.invariant _ c.self.view_is _ _ _ c.requires.order c.requires.start c.requires.end fits in
-    let written : c.args.start + (length c.as_bytes.result.now + (c.self.inside.size - c.args.end)) ≤ g.row.N = omega (arith, room, c.as_bytes.ensures.len) in
-    (search rules, (omega arith, (written, omega arith)))
-
-pub overflow_cast-self : goal.overflow_cast-self
-overflow_cast-self g c =
-    let long = size-lent c.args.given.now c.utf8.given in
-    let fits : size c.args.self.now.text - (c.args.end - c.args.start) + length c.args.given.now ≤ cap g.row.N = omega (arith, c.requires.room, long) in
-    let room = spliced-room g.row.N _ _ c.self.invariant _ c.self.view_is _ _ _ c.requires.order c.requires.start c.requires.end fits in
-    omega (arith, room)
+    replaced-within g.row.N _ _ _ c.self.invariant _ c.self.view_is _ _ c.args.given.now c.requires.order c.requires.start c.requires.end fits
 
 pub invariant_of-self : goal.invariant_of-self
 invariant_of-self g c =
-    let long = size-lent c.args.given.now c.utf8.given in
-    let fits : size c.args.self.now.text - (c.args.end - c.args.start) + length c.args.given.now ≤ cap g.row.N = omega (arith, c.requires.room, long) in
-    spliced-stored g.row.N _ _ c.self.invariant _ c.self.view_is _ _ _ c.requires.order c.requires.start c.requires.end fits c.utf8.given _
-    c.join.ensures.len (rw c.as_bytes.ensures.value at c.join.ensures.bytes)
+    let s = c.self.inside in
+    let given = c.args.given.now in
+    let gap = c.open_gap-place in
+    let q = gap.result in
+    let long = size-lent given c.utf8.given in
+    let fits : size c.args.self.now.text - (c.args.end - c.args.start) + length given ≤ cap g.row.N = omega (arith, c.requires.room, long) in
+    let within : q + c.args.start + length given ≤ length gap.new.array = omega (arith, gap.ensures.held, gap.ensures.len) in
+    let copied = rw c.as_bytes.ensures.value at c.copy_in.ensures in
+    let filled = gap-filled s.array gap.new.array c.copy_in.new.array given s.start q c.args.start c.args.end (s.size - c.args.end) within gap.ensures.front gap.ensures.tail copied in
+    let places = written-length gap.new.array c.copy_in.new.array given (q + c.args.start) within copied ∙ gap.ensures.len in
+    replaced-stored g.row.N _ _ _ c.self.invariant _ c.self.view_is _ _ given c.requires.order c.requires.start c.requires.end fits c.utf8.given
+    c.copy_in.new.array q places gap.ensures.held filled
 
 pub returns-clause-text : goal.returns-clause-text
 returns-clause-text g c =
-    let long = size-lent c.args.given.now c.utf8.given in
-    let fits : size c.args.self.now.text - (c.args.end - c.args.start) + length c.args.given.now ≤ cap g.row.N = omega (arith, c.requires.room, long) in
-    spliced-text g.row.N _ _ c.self.invariant _ c.self.view_is _ _ _ c.requires.order c.requires.start c.requires.end fits c.utf8.given _
-    c.join.ensures.len (rw c.as_bytes.ensures.value at c.join.ensures.bytes)
+    let s = c.self.inside in
+    let given = c.args.given.now in
+    let gap = c.open_gap-place in
+    let q = gap.result in
+    let long = size-lent given c.utf8.given in
+    let fits : size c.args.self.now.text - (c.args.end - c.args.start) + length given ≤ cap g.row.N = omega (arith, c.requires.room, long) in
+    let within : q + c.args.start + length given ≤ length gap.new.array = omega (arith, gap.ensures.held, gap.ensures.len) in
+    let copied = rw c.as_bytes.ensures.value at c.copy_in.ensures in
+    let filled = gap-filled s.array gap.new.array c.copy_in.new.array given s.start q c.args.start c.args.end (s.size - c.args.end) within gap.ensures.front gap.ensures.tail copied in
+    let places = written-length gap.new.array c.copy_in.new.array given (q + c.args.start) within copied ∙ gap.ensures.len in
+    replaced-chars g.row.N _ _ _ c.self.invariant _ c.self.view_is _ _ given c.requires.order c.requires.start c.requires.end fits c.utf8.given
+    c.copy_in.new.array q places gap.ensures.held filled
 
 pub returns-clause-tail_alone : goal.returns-clause-tail_alone
-returns-clause-tail_alone g c le =
-    let long = size-lent c.args.given.now c.utf8.given in
-    let whole = opened-size g.row.N _ _ c.self.invariant _ c.self.view_is in
-    grind (arith, nat_tests, whole, long)
+returns-clause-tail_alone g c =
+    rw (opened-size g.row.N _ _ _ c.self.invariant _ c.self.view_is, size-lent c.args.given.now c.utf8.given) c.open_gap-place.ensures.tail_alone
 
 pub returns-clause-most : goal.returns-clause-most
-returns-clause-most g c =
-    let whole = opened-size g.row.N _ _ c.self.invariant _ c.self.view_is in grind (arith, nat_tests, whole)
+returns-clause-most g c = rw (opened-size g.row.N _ _ _ c.self.invariant _ c.self.view_is) c.open_gap-place.ensures.most
 
 pub returns-clause-least : goal.returns-clause-least
-returns-clause-least g c ne =
-    let long = size-lent c.args.given.now c.utf8.given in
-    let whole = opened-size g.row.N _ _ c.self.invariant _ c.self.view_is in
-    grind (arith, nat_tests, whole, long)
+returns-clause-least g c =
+    rw (opened-size g.row.N _ _ _ c.self.invariant _ c.self.view_is, size-lent c.args.given.now c.utf8.given) c.open_gap-place.ensures.least

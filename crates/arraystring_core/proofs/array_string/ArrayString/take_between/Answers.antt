@@ -1,22 +1,21 @@
-use Rattle.std.proofs.Common.{◌≡◌, ◌+◌, ◌-◌, ◌≤◌, [], ◌++◌, sym, arith, rules, ◌∙◌, ap, chars}
+use Rattle.std.proofs.Common.{◌+◌, ◌≤◌, ◌++◌, sym, arith, rules, ◌∙◌, ap, chars}
 use Rattle.std.proofs.lemmas.Bool.{le-ltb}
-use Rattle.std.proofs.lemmas.Str.{chars-nil}
-use Rattle.arraystring_base.specs.Text.{size, cap, front, back}
+use Rattle.arraystring_base.specs.Text.{size, cap}
 use Rattle.arraystring_core.specs.Edits.{Inside, part}
 use Rattle.arraystring_base.specs.TextLaws.{chars-bytes}
 use Rattle.arraystring_core.proofs.RangeLemmas.{part-size-le}
 use Rattle.arraystring_core.specs.EditLaws.{inside-so, inside-not, refuses, makes}
 use Rattle.arraystring_core.proofs.array_string.ArrayString.take_between.Goals as goal
 
-pub returns-then-not-is_boundary : goal.returns-then-not-is_boundary
-returns-then-not-is_boundary g c =
+pub returns-then-not-is_boundary-clause-edit : goal.returns-then-not-is_boundary-clause-edit
+returns-then-not-is_boundary-clause-edit g c =
     let t = c.args.self.now.text in
     let reached : c.args.end ≤ size t = omega arith in
     let within = inside-so t c.args.start (omega arith) (sym c.is_boundary.ensures ∙ c.if-not-is_boundary.true) in
     refuses _ _ Inside (rw (le-ltb _ _ c.if-start-end.false, le-ltb _ _ reached, within))
 
-pub returns-then-not-is_boundary-2 : goal.returns-then-not-is_boundary-2
-returns-then-not-is_boundary-2 g c =
+pub returns-then-not-is_boundary-2-clause-edit : goal.returns-then-not-is_boundary-2-clause-edit
+returns-then-not-is_boundary-2-clause-edit g c =
     let t = c.args.self.now.text in
     let reached : c.args.end ≤ size t = omega arith in
     let outside = inside-not t c.args.start (sym c.is_boundary.ensures ∙ c.if-not-is_boundary.false) in
@@ -39,18 +38,14 @@ push_str_unchecked-requires g c =
     omega (arith, ap size c.new-removed.ensures, ap size taken, part-size-le t c.args.start c.args.end, filled) in
     (search rules, fits)
 
-pub splice-requires : goal.splice-requires
-splice-requires g c =
-    let t = c.args.self.now.text in
+pub take_out-requires : goal.take_out-requires
+take_out-requires g c =
     let at = sym c.is_boundary.ensures ∙ c.if-not-is_boundary.false in
     let to = sym c.is_boundary-2.ensures ∙ c.if-not-is_boundary-2.false in
-    let none : size (chars []) ≡ 0 = ap size chars-nil in
-    let filled : size t ≤ cap g.row.N = rw (← c.len.ensures.value) c.len.ensures.fits in
-    let fits : size t - (c.args.end - c.args.start) + size (chars []) ≤ cap g.row.N = omega (arith, none, filled) in
-    (search rules, (c.if-start-end.false, (at, (to, (fits, omega arith)))))
+    (search rules, (c.if-start-end.false, (at, (to, c.requires))))
 
-pub returns : goal.returns
-returns g c =
+pub returns-clause-edit : goal.returns-clause-edit
+returns-clause-edit g c =
     let t = c.args.self.now.text in
     let reached : c.args.end ≤ size t = omega arith in
     let at = sym c.is_boundary.ensures ∙ c.if-not-is_boundary.false in
@@ -58,4 +53,4 @@ returns g c =
     let taken = chars-bytes _ (part t c.args.start c.args.end) c.between.utf8 c.between.ensures in
     makes _ _ _ _ (rw (le-ltb _ _ c.if-start-end.false, le-ltb _ _ reached, inside-not t c.args.start at, inside-not t c.args.end to))
     (c.push_str_unchecked.ensures ∙ ap (λ l. l ++ chars c.between.result.now) c.new-removed.ensures ∙ taken)
-    (c.splice.ensures.text ∙ ap (λ l. front t c.args.start ++ (l ++ back t c.args.end)) chars-nil)
+    c.take_out.ensures.text

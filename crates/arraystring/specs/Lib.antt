@@ -1,0 +1,13 @@
+pub use Rattle.arraystring_core.specs.Text
+pub use Rattle.arraystring_core.specs.TextLaws
+pub use Rattle.arraystring_core.specs.CutLaws
+pub use Rattle.arraystring_core.specs.BoundaryLaws
+pub use Rattle.arraystring_core.specs.Counts
+pub use Rattle.arraystring_core.specs.Names
+pub use Rattle.arraystring_core.specs.Stored
+pub use Rattle.arraystring_core.specs.StoredLaws
+pub use Rattle.arraystring_core.specs.Edits
+pub use Rattle.arraystring_core.specs.EditLaws
+pub mod Refusals
+pub mod Runs
+pub mod Script

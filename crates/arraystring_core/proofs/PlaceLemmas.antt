@@ -1,0 +1,116 @@
+-- A text that stands at a place of its array, and what it is once a part of it is replaced, dropped or kept.
+use Rattle.std.proofs.Common.{◌≡◌, ℕ, ◌+◌, ◌-◌, ◌≤◌, List, ◌++◌, length, take, drop, refl, sym, ap, ◌∙◌, arith, IsUtf8, chars, true, take-take}
+use Rattle.std.proofs.lemmas.Str.{IsUtf8-append, IsUtf8-take, IsUtf8-drop}
+use Rattle.std.proofs.lemmas.List.{drop-take, drop-drop}
+use Rattle.arraystring_base.specs.Text.{size, bytes, cap, front, back, boundary}
+use Rattle.arraystring_base.specs.TextLaws.{chars-bytes, bytes-chars, bytes-append}
+use Rattle.arraystring_base.specs.BoundaryLaws.{boundary-within, bytes-front, bytes-back, boundary-to_bytes}
+use Rattle.arraystring_core.specs.Stored.{Stored, stored, IsStored}
+use Rattle.arraystring_core.specs.StoredLaws.{stored-utf8, opened-bytes, opened-size}
+
+-- xs shows the text t in its first n bytes; `new` shows it with `given` in place of the part from start to end
+module _ (t xs : List ℕ) (n : ℕ) (is : bytes t ≡ take n xs) (u : IsUtf8 (take n xs)) (given : List ℕ) (g : IsUtf8 given)
+    (start end : ℕ) (low : start ≤ n) (high : end ≤ n) (b : boundary t start ≡ true) (d : boundary t end ≡ true)
+    (new : List ℕ) (written : new ≡ take start xs ++ (given ++ take (n - end) (drop end xs))) where
+  shown-front : take start xs ≡ bytes (front t start)
+  shown-front = sym (take-take start n xs low) ∙ ap (take start) (sym is) ∙ bytes-front t start b
+
+  shown-back : take (n - end) (drop end xs) ≡ bytes (back t end)
+  shown-back =
+      let whole : end + (n - end) ≡ n = omega arith in
+      sym (drop-take end (n - end) xs) ∙ ap (λ k. drop end (take k xs)) whole ∙ ap (drop end) (sym is) ∙ bytes-back t end d
+
+  text-utf8 : IsUtf8 (bytes t)
+  text-utf8 = rw is u
+
+  front-utf8 : IsUtf8 (bytes (front t start))
+  front-utf8 = rw (← bytes-front t start b) (IsUtf8-take (bytes t) start text-utf8 (boundary-to_bytes t (bytes t) start text-utf8 refl b))
+
+  back-utf8 : IsUtf8 (bytes (back t end))
+  back-utf8 = rw (← bytes-back t end d) (IsUtf8-drop (bytes t) end text-utf8 (boundary-to_bytes t (bytes t) end text-utf8 refl d))
+
+  new-bytes : new ≡ bytes (front t start) ++ (given ++ bytes (back t end))
+  new-bytes = written ∙ ap (λ f. f ++ (given ++ take (n - end) (drop end xs))) shown-front
+      ∙ ap (λ l. bytes (front t start) ++ (given ++ l)) shown-back
+
+  pub restored-utf8 : IsUtf8 new
+  restored-utf8 =
+      rw new-bytes (IsUtf8-append (bytes (front t start)) (given ++ bytes (back t end)) front-utf8 (IsUtf8-append given (bytes (back t end)) g back-utf8))
+
+  pub replaced-text : chars new ≡ front t start ++ (chars given ++ back t end)
+  replaced-text =
+      let f = front t start in
+      let r = back t end in
+      let joined : bytes (f ++ (chars given ++ r)) ≡ bytes f ++ (given ++ bytes r) =
+      bytes-append f (chars given ++ r) ∙ ap (λ l. bytes f ++ l) (bytes-append (chars given) r ∙ ap (λ l. l ++ bytes r) (bytes-chars given g)) in
+      chars-bytes new (f ++ (chars given ++ r)) restored-utf8 (new-bytes ∙ sym joined)
+
+-- the same of the value that a contract sees
+module _ (places : ℕ) (array : List ℕ) (p n : ℕ) (is : IsStored places array p n) (v : Stored) (e : stored array p n ≡ v)
+    (start end : ℕ) (given : List ℕ) (order : start ≤ end) (b : boundary v.text start ≡ true) (d : boundary v.text end ≡ true)
+    (room : size v.text - (end - start) + length given ≤ cap places) where
+  pub replaced-within : end ≤ n
+  replaced-within = omega (arith, opened-size places array p n is v e, boundary-within v.text end d)
+
+  pub replaced-room : start + (length given + (n - end)) ≤ cap places
+  replaced-room = omega (arith, opened-size places array p n is v e, boundary-within v.text end d)
+
+  -- q is where the text stands afterwards
+  module _ (u : IsUtf8 given) (after : List ℕ) (q : ℕ) (long : length after ≡ places)
+      (held : q + (start + (length given + (n - end))) ≤ cap places)
+      (written : take (start + (length given + (n - end))) (drop q after) ≡ take start (drop p array) ++ (given ++ take (n - end) (drop end (drop p array)))) where
+    pub replaced-stored : IsStored places after q (start + (length given + (n - end)))
+    replaced-stored =
+        let low : start ≤ n = omega (arith, replaced-within) in
+        (held, long, ∣ restored-utf8 v.text (drop p array) n (opened-bytes places array p n is v e) (stored-utf8 places array p n is) given u start end low replaced-within b d _ written ∣₁)
+
+    pub replaced-chars : chars (take (start + (length given + (n - end))) (drop q after)) ≡ front v.text start ++ (chars given ++ back v.text end)
+    replaced-chars =
+        let low : start ≤ n = omega (arith, replaced-within) in
+        replaced-text v.text (drop p array) n (opened-bytes places array p n is v e) (stored-utf8 places array p n is) given u start end low replaced-within b d _ written
+
+-- the part before the boundary m is dropped
+module _ (places : ℕ) (array : List ℕ) (p n : ℕ) (is : IsStored places array p n) (v : Stored) (e : stored array p n ≡ v)
+    (m : ℕ) (b : boundary v.text m ≡ true) where
+  pub dropped-within : m ≤ n
+  dropped-within = omega (arith, opened-size places array p n is v e, boundary-within v.text m b)
+
+  whole-utf8 : IsUtf8 (bytes v.text)
+  whole-utf8 = rw (opened-bytes places array p n is v e) (stored-utf8 places array p n is)
+
+  dropped-bytes : take (n - m) (drop (p + m) array) ≡ bytes (back v.text m)
+  dropped-bytes =
+      let whole : m + (n - m) ≡ n = omega (arith, dropped-within) in
+      ap (take (n - m)) (sym (drop-drop m p array)) ∙ sym (drop-take m (n - m) (drop p array))
+      ∙ ap (λ k. drop m (take k (drop p array))) whole ∙ ap (drop m) (sym (opened-bytes places array p n is v e)) ∙ bytes-back v.text m b
+
+  dropped-utf8 : IsUtf8 (take (n - m) (drop (p + m) array))
+  dropped-utf8 =
+      rw (dropped-bytes, ← bytes-back v.text m b) (IsUtf8-drop (bytes v.text) m whole-utf8 (boundary-to_bytes v.text (bytes v.text) m whole-utf8 refl b))
+
+  pub dropped-stored : IsStored places array (p + m) (n - m)
+  dropped-stored = (omega (arith, is.0, dropped-within), is.1, ∣ dropped-utf8 ∣₁)
+
+  pub dropped-chars : chars (take (n - m) (drop (p + m) array)) ≡ back v.text m
+  dropped-chars = chars-bytes _ (back v.text m) dropped-utf8 dropped-bytes
+
+-- the part before the boundary m is kept
+module _ (places : ℕ) (array : List ℕ) (p n : ℕ) (is : IsStored places array p n) (v : Stored) (e : stored array p n ≡ v)
+    (m : ℕ) (b : boundary v.text m ≡ true) where
+  kept-within : m ≤ n
+  kept-within = omega (arith, opened-size places array p n is v e, boundary-within v.text m b)
+
+  kept-bytes : take m (drop p array) ≡ bytes (front v.text m)
+  kept-bytes =
+      sym (take-take m n (drop p array) kept-within) ∙ ap (take m) (sym (opened-bytes places array p n is v e)) ∙ bytes-front v.text m b
+
+  kept-utf8 : IsUtf8 (take m (drop p array))
+  kept-utf8 =
+      let u : IsUtf8 (bytes v.text) = rw (opened-bytes places array p n is v e) (stored-utf8 places array p n is) in
+      rw (kept-bytes, ← bytes-front v.text m b) (IsUtf8-take (bytes v.text) m u (boundary-to_bytes v.text (bytes v.text) m u refl b))
+
+  pub kept-stored : IsStored places array p m
+  kept-stored = (omega (arith, is.0, kept-within), is.1, ∣ kept-utf8 ∣₁)
+
+  pub kept-chars : chars (take m (drop p array)) ≡ front v.text m
+  kept-chars = chars-bytes _ (front v.text m) kept-utf8 kept-bytes

@@ -1,0 +1,82 @@
+-- One turn of a loop that adds what an iterator gives.
+use Rattle.std.proofs.Common.{◌≡◌, ℕ, ◌+◌, ◌-◌, ◌<◌, ◌≤◌, List, [], ◌∷◌, ◌++◌, refl, sym, ap, ◌∙◌, arith, map, append_assoc}
+use Rattle.std.proofs.lemmas.Bool.{lt-leb}
+use Rattle.std.proofs.lemmas.List.{append-nil, map-append}
+use Rattle.std.specs.Borrow.{Bor}
+use Rattle.arraystring_base.specs.Text.{width, size, cut}
+use Rattle.arraystring_base.specs.TextLaws.{size-append}
+use Rattle.arraystring_base.specs.CutLaws.{cut-past_part}
+use Rattle.arraystring_core.specs.Taken.{IsFirstPast, joined, joined_pieces, piece_text}
+use Rattle.arraystring_core.specs.TakenLaws.{joined-append}
+
+-- one more character, and one more piece
+abbrev pub chars_text : List ℕ → List ℕ
+chars_text cs = cs
+
+abbrev pub char_text : ℕ → List ℕ
+char_text c = c ∷ []
+
+pub chars-more : (cs : List ℕ) (c : ℕ) → chars_text (cs ++ c ∷ []) ≡ chars_text cs ++ char_text c
+chars-more cs c = refl
+
+pub joined-more : (pieces : List (Bor (List ℕ))) (piece : Bor (List ℕ)) → joined_pieces (pieces ++ piece ∷ []) ≡ joined_pieces pieces ++ piece_text piece
+joined-more pieces piece =
+    ap joined (map-append piece_text pieces (piece ∷ [])) ∙ joined-append (map piece_text pieces) (piece_text piece ∷ [])
+    ∙ ap (λ l. joined_pieces pieces ++ l) (append-nil (piece_text piece))
+
+-- a text behind another
+pub behind : (old a b new : List ℕ) → new ≡ old ++ a → a ≡ b → new ≡ old ++ b
+behind old a b new e f = e ∙ ap (λ l. old ++ l) f
+
+-- a character that does not fit has no cut
+pub cut-none : (c n : ℕ) → n < width c → cut (c ∷ []) n ≡ []
+cut-none c n over = rw (lt-leb (width c) n over) refl
+
+-- the text `now` is the text `old` and the items behind it, and the item x comes
+module _ {A : Type 0} (spelled : List A → List ℕ) (one : A → List ℕ)
+    (more : (items : List A) (x : A) → spelled (items ++ x ∷ []) ≡ spelled items ++ one x)
+    (old now : List ℕ) (n : ℕ) (items : List A) (is : now ≡ old ++ spelled items) (filled : size old + size (spelled items) ≤ n) (x : A) where
+  sum : size now ≡ size old + size (spelled items)
+  sum = ap size is ∙ size-append old (spelled items)
+
+  next-sum : size (spelled (items ++ x ∷ [])) ≡ size (spelled items) + size (one x)
+  next-sum = ap size (more items x) ∙ size-append (spelled items) (one x)
+
+  pub added-text : (new : List ℕ) → new ≡ now ++ one x → new ≡ old ++ spelled (items ++ x ∷ [])
+  added-text new e = e ∙ ap (λ l. l ++ one x) is ∙ append_assoc old (spelled items) (one x) ∙ ap (λ l. old ++ l) (sym (more items x))
+
+  pub added-fits : size now + size (one x) ≤ n → size old + size (spelled (items ++ x ∷ [])) ≤ n
+  added-fits le = omega (arith, sum, next-sum)
+
+  pub added-past : n < size now + size (one x) → IsFirstPast spelled (n - size old) (items ++ x ∷ [])
+  added-past over =
+      let fits : size (spelled items) ≤ n - size old = omega arith in
+      let past : n - size old < size (spelled (items ++ x ∷ [])) = omega (arith, sum, next-sum) in
+      (items, x, refl, fits, past)
+
+  added-cut : now ++ cut (one x) (n - size now) ≡ old ++ cut (spelled (items ++ x ∷ [])) (n - size old)
+  added-cut =
+      let left : n - size now ≡ n - size old - size (spelled items) = omega (arith, sum) in
+      let fits : size (spelled items) ≤ n - size old = omega arith in
+      ap (λ l. l ++ cut (one x) (n - size now)) is
+      ∙ append_assoc old (spelled items) (cut (one x) (n - size now))
+      ∙ ap (λ l. old ++ l) (ap (λ k. spelled items ++ cut (one x) k) left
+      ∙ sym (ap (λ l. cut l (n - size old)) (more items x) ∙ cut-past_part (spelled items) (one x) (n - size old) fits))
+
+  -- where a part of x was added, and where x has none
+  pub added-part : (before new : List ℕ) → before ≡ now → new ≡ before ++ cut (one x) (n - size before)
+      → new ≡ old ++ cut (spelled (items ++ x ∷ [])) (n - size old)
+  added-part before new e f = f ∙ ap (λ s. s ++ cut (one x) (n - size s)) e ∙ added-cut
+
+  pub added-none : (new : List ℕ) → new ≡ now → cut (one x) (n - size now) ≡ [] → new ≡ old ++ cut (spelled (items ++ x ∷ [])) (n - size old)
+  added-none new e none = e ∙ sym (ap (λ l. now ++ l) none ∙ append-nil now) ∙ added-cut
+
+-- the text `now` is the items, and with the item x they fit
+module _ {A : Type 0} (spelled : List A → List ℕ) (one : A → List ℕ)
+    (more : (items : List A) (x : A) → spelled (items ++ x ∷ []) ≡ spelled items ++ one x)
+    (now : List ℕ) (n : ℕ) (items : List A) (is : now ≡ spelled items) (x : A) where
+  pub next-fits : size (spelled (items ++ x ∷ [])) ≤ n → size now + size (one x) ≤ n
+  next-fits fits = omega (arith, fits, ap size is, ap size (more items x), size-append (spelled items) (one x))
+
+  pub next-text : (new : List ℕ) → new ≡ now ++ one x → new ≡ spelled (items ++ x ∷ [])
+  next-text new e = e ∙ ap (λ l. l ++ one x) is ∙ sym (more items x)

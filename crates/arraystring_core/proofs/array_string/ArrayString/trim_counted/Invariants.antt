@@ -1,0 +1,16 @@
+use Rattle.std.proofs.Common.{◌≡◌, ◌+◌, ◌*◌, ◌≤◌}
+use Rattle.arraystring_base.specs.Text.{size}
+use Rattle.arraystring_core.specs.Edits.{without_trailing, is_space}
+use Rattle.arraystring_core.proofs.array_string.ArrayString.trim_counted.Given as goal
+
+abbrev pub invariant-loop-start : goal.invariant-loop-start
+invariant-loop-start g l = record {
+  trimmed : without_trailing is_space l.self.text ≡ without_trailing is_space l.initial.self.text;
+  looked : l.steps.looked + 4 * size l.self.text ≤ l.initial.steps.looked + 4 * size l.initial.self.text;
+  fits : size l.initial.self.text ≤ 255;
+  counted : l.initial.steps.looked ≤ l.steps.looked;
+  moved : l.steps.moved ≡ l.initial.steps.moved;
+}
+
+abbrev pub decreases-loop-start : goal.decreases-loop-start
+decreases-loop-start g l = size l.self.text

@@ -1,0 +1,13 @@
+use Rattle.std.proofs.Common.{◌∙◌, sym, ap}
+use Rattle.arraystring_base.specs.Text.{cut}
+use Rattle.arraystring_base.specs.TextLaws.{chars-bytes}
+use Rattle.arraystring_core.specs.Taken.{joined}
+use Rattle.arraystring_core.specs.TakenLaws.{bytes-joined}
+use Rattle.arraystring_core.proofs.laws.pieces_make_one_text.Goals as goal
+
+pub returns-clause-text : goal.returns-clause-text
+returns-clause-text c = λ pieces e. chars-bytes c.args.whole.now (joined pieces) c.utf8.whole (e ∙ sym (bytes-joined pieces))
+
+pub returns-clause-cut : goal.returns-clause-cut
+returns-clause-cut c = λ pieces n e.
+    ap (λ l. cut l n) (sym (chars-bytes c.args.whole.now (joined pieces) c.utf8.whole (e ∙ sym (bytes-joined pieces))))

@@ -1,0 +1,63 @@
+use Rattle.std.proofs.Common.{◌≡◌, ◌+◌, ◌-◌, ◌≤◌, ◌++◌, [], take, drop, length, chars, sym, ap, ◌∙◌, arith, rules, refl}
+use Rattle.std.proofs.lemmas.List.{append-nil}
+use Rattle.std.proofs.lemmas.Str.{chars-nil}
+use Rattle.arraystring_base.specs.Text.{width, utf8}
+use Rattle.arraystring_base.specs.TextLaws.{width-is}
+use Rattle.arraystring_core.proofs.RetainLemmas.{asked-now, rest-chars, retained-init, retained-keep, retained-drop, moved-bytes, none-between, kept_bytes, between}
+use Rattle.arraystring_core.proofs.place.retain_at.Goals as goal
+use Rattle.arraystring_core.proofs.place.retain_at.Goals.{then-not-f, else-not-f}
+
+pub loop-read-init : goal.loop-read-init
+loop-read-init g c =
+    retained-init (goal.F-pre g) (goal.F-step g) g.row.N c.args.array.now c.args.f c.args.place c.args.size c.told-array c.requires.text c.requires.asked
+
+pub f-requires : goal.f-requires
+f-requires g c =
+    let l = c.loop-read in
+    let ch = c.char_at-ch.result in
+    let wide : c.args.place + c.args.size - (c.args.place + l.read) ≡ c.args.size - l.read = omega arith in
+    let starts : between l.array c.args.place l.read c.args.size ≡ utf8 ch ++ c.char_at-ch.ensures.0 =
+    ap (λ k. take k (drop (c.args.place + l.read) l.array)) (sym wide) ∙ c.char_at-ch.ensures.1 in
+    let within : c.args.place + c.args.size ≤ length l.array = omega (arith, l.invariant.long) in
+    let left = rest-chars (goal.F-pre g) (goal.F-step g) g.row.N c.args.array.now c.args.f c.args.place c.args.size l.array l.f l.kept l.run l.read l.invariant within ch (search rules) c.char_at-ch.ensures.0 starts l.f in
+    asked-now (goal.F-pre g) (goal.F-step g) _ _ _ (rw left at l.invariant.asked)
+
+pub loop-read-preserved : goal.loop-read-preserved
+loop-read-preserved g c =
+    let l = c.loop-read in
+    let ch = c.char_at-ch.result in
+    let wide : c.args.place + c.args.size - (c.args.place + l.read) ≡ c.args.size - l.read = omega arith in
+    let starts : between l.array c.args.place l.read c.args.size ≡ utf8 ch ++ c.char_at-ch.ensures.0 =
+    ap (λ k. take k (drop (c.args.place + l.read) l.array)) (sym wide) ∙ c.char_at-ch.ensures.1 in
+    let within : c.args.place + c.args.size ≤ length l.array = omega (arith, l.invariant.long) in
+    let next : c.len_utf8-width.result ≡ width ch = c.len_utf8-width.ensures.value ∙ sym (width-is ch) in
+    elim c.if-not-f.branch [
+      | then-not-f w ↦
+          rw (w.array-is, w.kept-is, w.run-is, next)
+          (retained-drop (goal.F-pre g) (goal.F-step g) g.row.N c.args.array.now c.args.f c.args.place c.args.size l.array l.f l.kept l.run l.read l.invariant within ch (search rules) c.char_at-ch.ensures.0 starts c.f.new.self
+          w.shift.new.array w.shift.ensures.bytes w.if-not-f.ensures)
+      | else-not-f w ↦
+          rw (w.array-is, w.kept-is, w.run-is, next)
+          (retained-keep (goal.F-pre g) (goal.F-step g) g.row.N c.args.array.now c.args.f c.args.place c.args.size l.array l.f l.kept l.run l.read l.invariant within ch (search rules) c.char_at-ch.ensures.0 starts c.f.new.self
+          w.if-not-f.ensures)
+    ]
+
+pub returns-clause-text : goal.returns-clause-text
+returns-clause-text g c =
+    let l = c.loop-read in
+    let ended : c.args.size ≡ l.read = omega (arith, l.invariant.read_within) in
+    let within : c.args.place + c.args.size ≤ length l.array = omega (arith, l.invariant.long) in
+    let together = moved-bytes l.array c.shift-2.new.array c.args.place l.kept l.run c.args.size c.args.size l.invariant.kept_first (omega (arith, l.invariant.run_next, ended)) (omega arith) within c.shift-2.ensures.bytes in
+    rw (together ∙ ap (kept_bytes l.array c.args.place l.kept l.run) ended) l.invariant.kept_text
+
+pub returns-clause-filtered : goal.returns-clause-filtered
+returns-clause-filtered g c =
+    let l = c.loop-read in
+    let ended : c.args.size ≡ l.read = omega (arith, l.invariant.read_within) in
+    let within : c.args.place + c.args.size ≤ length l.array = omega (arith, l.invariant.long) in
+    let together = moved-bytes l.array c.shift-2.new.array c.args.place l.kept l.run c.args.size c.args.size l.invariant.kept_first (omega (arith, l.invariant.run_next, ended)) (omega arith) within c.shift-2.ensures.bytes in
+    let over : chars (between l.array c.args.place l.read c.args.size) ≡ [] =
+    ap (λ k. chars (between l.array c.args.place l.read k)) ended ∙ ap chars (none-between l.array c.args.place l.read) ∙ chars-nil in
+    let told = rw over at l.invariant.told in
+    rw (together ∙ ap (kept_bytes l.array c.args.place l.kept l.run) ended, ← append-nil (chars (kept_bytes l.array c.args.place l.kept l.run l.read)))
+    (told [] ([], l.f, refl, refl, refl))

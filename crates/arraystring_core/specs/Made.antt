@@ -1,0 +1,10 @@
+-- What a constructor makes of a text.
+use Rattle.std.specs.Prelude.{◌≡◌, ℕ, ◌<◌, ◌≤◌, List, Result, MatchResult}
+use Rattle.arraystring_base.specs.Text.{size}
+use Rattle.arraystring_base.specs.declared.error.Error.{Error}
+use Rattle.arraystring_base.specs.declared.error.Error.TheVariants as error
+use Rattle.arraystring_core.specs.Stored.{Stored}
+
+-- the whole text t where it fits into n bytes, and else the refusal for room
+abbrev pub IsWholeOrRefused : List ℕ → ℕ → Result Stored Error → Type 0
+IsWholeOrRefused t n result = MatchResult result (λ s. (size t ≤ n) × (s.text ≡ t)) (λ e. (n < size t) × (e ≡ error.OutOfBounds))

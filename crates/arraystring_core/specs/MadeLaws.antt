@@ -1,0 +1,34 @@
+-- Laws of what a constructor makes.
+use Rattle.std.proofs.Common.{◌≡◌, ℕ, ◌-◌, ◌<◌, ◌≤◌, List, [], ◌++◌, ◌⊎◌, refl, ap, ◌∙◌, arith, inl, inr, Result, Ok, Err, subst}
+use Rattle.std.specs.Result.{IsErr}
+use Rattle.arraystring_base.specs.Text.{size, cut}
+use Rattle.arraystring_base.specs.TextLaws.{size-append}
+use Rattle.arraystring_base.specs.CutLaws.{cut-all}
+use Rattle.arraystring_base.specs.declared.error.Error.{Error}
+use Rattle.arraystring_base.specs.declared.error.OutOfBounds.{OutOfBounds}
+use Rattle.arraystring_core.specs.Stored.{Stored}
+use Rattle.arraystring_core.specs.Edits.{from_out_of_bounds}
+use Rattle.arraystring_core.specs.Made.{IsWholeOrRefused}
+
+-- what does not fit is refused
+pub refused-made : (result : Result Stored OutOfBounds) (t : List ℕ) (n : ℕ) → IsErr result → n < size t → IsWholeOrRefused t n (from_out_of_bounds result)
+refused-made (Ok s) t n err past = absurd (cc)
+refused-made (Err e) t n err past = (past, refl)
+
+-- a text that is a larger one's leading part, or is larger than n, decides for the larger one
+pub made-more : (result : Result Stored Error) (t all : List ℕ) (n : ℕ) → ((t ≡ all) × (size t ≤ n)) ⊎ ((more : List ℕ) × (all ≡ t ++ more) × (n < size t))
+    → IsWholeOrRefused t n result → IsWholeOrRefused all n result
+made-more result t all n (inl ends) made = subst (λ l. IsWholeOrRefused l n result) ends.0 made
+made-more (Ok s) t all n (inr stops) made = absurd (omega (arith, made.0, stops.2))
+made-more (Err e) t all n (inr stops) made = (omega (arith, stops.2, ap size stops.1, size-append t stops.0), made.1)
+
+-- what is added to the empty text
+module _ (old t : List ℕ) (n : ℕ) (empty : old ≡ []) where
+  pub fresh-room : n - size old ≡ n
+  fresh-room = omega (arith, ap size empty)
+
+  pub fresh-cut : (new : List ℕ) → new ≡ old ++ cut t (n - size old) → new ≡ cut t n
+  fresh-cut new e = e ∙ ap (λ l. l ++ cut t (n - size old)) empty ∙ ap (cut t) fresh-room
+
+  pub fresh-whole : (new : List ℕ) → size t ≤ n - size old → new ≡ old ++ cut t (n - size old) → (size t ≤ n) × (new ≡ t)
+  fresh-whole new le e = let fits : size t ≤ n = omega (arith, le, fresh-room) in (fits, fresh-cut new e ∙ cut-all t n fits)

@@ -1,0 +1,41 @@
+-- What a call takes from an iterator that is handed in, and the text of the pieces that it gives.
+use Rattle.std.specs.Prelude.{◌≡◌, ℕ, ◌<◌, ◌≤◌, List, [], ◌∷◌, ◌++◌, ◌⊎◌, Option, map, chars}
+use Rattle.std.specs.Iterator.{Drains, Yields, AlwaysYields}
+use Rattle.std.specs.Borrow.{Bor}
+use Rattle.arraystring_base.specs.Text.{size}
+
+-- texts, or the bytes of texts, one behind the other
+abbrev pub joined : List (List ℕ) → List ℕ
+joined [] = []
+joined (t ∷ ts) = t ++ joined ts
+
+-- the text of a piece that is lent, and of pieces, one behind the other
+abbrev pub piece_text : Bor (List ℕ) → List ℕ
+piece_text piece = chars piece.now
+
+abbrev pub joined_pieces : List (Bor (List ℕ)) → List ℕ
+joined_pieces pieces = joined (map piece_text pieces)
+
+-- the last item is the first that no longer fits into the room; `spelled` is the text of items
+abbrev pub IsFirstPast : {A : Type 0} → (List A → List ℕ) → ℕ → List A → Type 0
+IsFirstPast {A} spelled room items = (before : List A) × (last : A) × (items ≡ before ++ last ∷ [])
+    × (size (spelled before) ≤ room) × (room < size (spelled items))
+
+-- `becomes` says which iterators what is handed in may become, and `steps` what one call of `next` may give
+module _ {U T A : Type 0} (becomes : U → T → Type 0) (steps : T → Option A → T → Type 0) where
+  -- the items are all that come
+  abbrev pub TakesAll : U → List A → Type 0
+  TakesAll iter items = (it : T) × becomes iter it × Drains steps it items
+
+  -- the items are all that come, and fit into the room, or all up to the first that no longer fits
+  abbrev pub Takes : (List A → List ℕ) → U → ℕ → List A → Type 0
+  Takes spelled iter room items = (it : T) × becomes iter it
+      × ((Drains steps it items × (size (spelled items) ≤ room)) ⊎ ((rest : T) × Yields steps it items rest × IsFirstPast spelled room items))
+
+  -- whatever items come, they fit into the room
+  abbrev pub Fits : (List A → List ℕ) → U → ℕ → Type 0
+  Fits spelled iter room = (it : T) → becomes iter it → (items : List A) (rest : T) → Yields steps it items rest → size (spelled items) ≤ room
+
+  -- the items that come are all known: `value` takes them to `all`
+  abbrev pub Gives : {B : Type 0} → (A → B) → U → List B → Type 0
+  Gives value iter all = (it : T) → becomes iter it → AlwaysYields steps value it all

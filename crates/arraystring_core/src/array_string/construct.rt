@@ -1,0 +1,197 @@
+//! The constructors: from a text, from pieces, from characters and from bytes of UTF-8.
+ghost use Rattle.std.specs.Prelude.{◌≡◌, ℕ, ◌≤◌, ◌↔◌, List, Ok, Err, IsOk, IfOk, chars, length};
+ghost use Rattle.std.specs.Borrow.{Bor};
+ghost use Rattle.std.specs.Iterator.{IsFiniteIterable};
+ghost use Rattle.arraystring_base.specs.Text.{size, bytes, cap, cut, IsText, IsWellFormed};
+ghost use Rattle.arraystring_core.specs.Edits.{from_out_of_bounds};
+ghost use Rattle.arraystring_core.specs.Made.{IsWholeOrRefused};
+ghost use Rattle.arraystring_core.specs.Taken.{Takes, TakesAll, Fits, Gives, joined, joined_pieces, piece_text};
+
+use super::ArrayString;
+use arraystring_base::error::{Error, OutOfBounds, Utf8};
+use std::str::{self, FromStr};
+
+impl<const N: usize> ArrayString<N> {
+    /// The text `string`. Refused with `OutOfBounds` where it is larger than the capacity.
+    pub fn try_from_str(string: &str) -> Result<Self, OutOfBounds>
+        ensures { IsWholeOrRefused (chars string.now) (cap N) (from_out_of_bounds result) }
+    {
+        let mut made = Self::new();
+        made.try_push_str(string)?;
+        Ok(made)
+    }
+
+    /// The longest leading run of whole characters of `string` that fits.
+    pub fn from_str_truncate(string: &str) -> Self
+        ensures { result.text ≡ cut (chars string.now) (cap N) }
+    {
+        let mut made = Self::new();
+        made.push_str(string);
+        made
+    }
+
+    /// The text `string`. All of it must fit.
+    pub fn from_str_unchecked(string: &str) -> Self
+        requires { size (chars string.now) ≤ cap N }
+        ensures { result.text ≡ chars string.now }
+    {
+        let mut made = Self::new();
+        made.push_str_unchecked(string);
+        made
+    }
+
+    /// The pieces joined. Refused with `OutOfBounds` where they are larger than the capacity; no
+    /// piece is taken behind the first that does not fit. The iterator must end.
+    pub fn try_from_iterator<'a, I: IntoIterator<Item = &'a str> + Drop>(
+        pieces: I,
+    ) -> Result<Self, OutOfBounds>
+        requires { IsFiniteIterable I.into_iter_gives I.IntoIter.can_next I.IntoIter.remaining pieces }
+        ensures taken { (taken : List (Bor (List ℕ))) × Takes I.into_iter_gives I.IntoIter.next_gives joined_pieces pieces (cap N) taken
+            × IsWholeOrRefused (joined_pieces taken) (cap N) (from_out_of_bounds result) }
+        ensures whole { (all : List (List ℕ)) → Gives I.into_iter_gives I.IntoIter.next_gives piece_text pieces all
+            → IsWholeOrRefused (joined all) (cap N) (from_out_of_bounds result) }
+    {
+        let mut made = Self::new();
+        made.add_strs(pieces)?;
+        Ok(made)
+    }
+
+    /// The longest leading run of whole characters of the joined pieces that fits. No piece is
+    /// taken behind the first that does not fit. The iterator must end.
+    pub fn from_iterator<'a, I: IntoIterator<Item = &'a str> + Drop>(pieces: I) -> Self
+        requires { IsFiniteIterable I.into_iter_gives I.IntoIter.can_next I.IntoIter.remaining pieces }
+        ensures taken { (taken : List (Bor (List ℕ))) × Takes I.into_iter_gives I.IntoIter.next_gives joined_pieces pieces (cap N) taken
+            × (result.text ≡ cut (joined_pieces taken) (cap N)) }
+        ensures whole { (all : List (List ℕ)) → Gives I.into_iter_gives I.IntoIter.next_gives piece_text pieces all
+            → result.text ≡ cut (joined all) (cap N) }
+    {
+        let mut made = Self::new();
+        made.extend_strs(pieces);
+        made
+    }
+
+    /// The pieces joined. All of them must fit, and the iterator must end.
+    pub fn from_iterator_unchecked<'a, I: IntoIterator<Item = &'a str> + Drop>(pieces: I) -> Self
+        requires ends { IsFiniteIterable I.into_iter_gives I.IntoIter.can_next I.IntoIter.remaining pieces }
+        requires fits { Fits I.into_iter_gives I.IntoIter.next_gives joined_pieces pieces (cap N) }
+        ensures taken { (taken : List (Bor (List ℕ))) × TakesAll I.into_iter_gives I.IntoIter.next_gives pieces taken
+            × (result.text ≡ joined_pieces taken) }
+        ensures whole { (all : List (List ℕ)) → Gives I.into_iter_gives I.IntoIter.next_gives piece_text pieces all
+            → result.text ≡ joined all }
+    {
+        let mut made = Self::new();
+        for piece in pieces {
+            made.push_str_unchecked(piece);
+        }
+        made
+    }
+
+    /// The characters. Refused with `OutOfBounds` where they are larger than the capacity; no
+    /// character is taken behind the first that does not fit. The iterator must end.
+    pub fn try_from_chars<I: IntoIterator<Item = char> + Drop>(
+        characters: I,
+    ) -> Result<Self, OutOfBounds>
+        requires { IsFiniteIterable I.into_iter_gives I.IntoIter.can_next I.IntoIter.remaining characters }
+        ensures taken { (taken : List ℕ) × Takes I.into_iter_gives I.IntoIter.next_gives (λ cs. cs) characters (cap N) taken
+            × IsWholeOrRefused taken (cap N) (from_out_of_bounds result) }
+        ensures whole { (all : List ℕ) → Gives I.into_iter_gives I.IntoIter.next_gives (λ c. c) characters all
+            → IsWholeOrRefused all (cap N) (from_out_of_bounds result) }
+    {
+        let mut made = Self::new();
+        made.add_chars(characters)?;
+        Ok(made)
+    }
+
+    /// The characters up to the first that does not fit, also where a later shorter one would. No
+    /// character is taken behind it. The iterator must end.
+    pub fn from_chars<I: IntoIterator<Item = char> + Drop>(characters: I) -> Self
+        requires { IsFiniteIterable I.into_iter_gives I.IntoIter.can_next I.IntoIter.remaining characters }
+        ensures taken { (taken : List ℕ) × Takes I.into_iter_gives I.IntoIter.next_gives (λ cs. cs) characters (cap N) taken
+            × (result.text ≡ cut taken (cap N)) }
+        ensures whole { (all : List ℕ) → Gives I.into_iter_gives I.IntoIter.next_gives (λ c. c) characters all
+            → result.text ≡ cut all (cap N) }
+    {
+        let mut made = Self::new();
+        made.extend_chars(characters);
+        made
+    }
+
+    /// The characters. All of them must fit, and the iterator must end.
+    pub fn from_chars_unchecked<I: IntoIterator<Item = char> + Drop>(characters: I) -> Self
+        requires ends { IsFiniteIterable I.into_iter_gives I.IntoIter.can_next I.IntoIter.remaining characters }
+        requires fits { Fits I.into_iter_gives I.IntoIter.next_gives (λ cs. cs) characters (cap N) }
+        ensures taken { (taken : List ℕ) × TakesAll I.into_iter_gives I.IntoIter.next_gives characters taken
+            × (result.text ≡ taken) }
+        ensures whole { (all : List ℕ) → Gives I.into_iter_gives I.IntoIter.next_gives (λ c. c) characters all
+            → result.text ≡ all }
+    {
+        let mut made = Self::new();
+        for ch in characters {
+            made.push_unchecked(ch);
+        }
+        made
+    }
+
+    /// The text whose UTF-8 is `given`. Refused with `Error::Utf8` where the whole slice is not
+    /// well-formed UTF-8 (the Unicode Standard, section 3.9), and else with `Error::OutOfBounds`
+    /// where it is larger than the capacity.
+    pub fn try_from_utf8(given: &[u8]) -> Result<Self, Error>
+        ensures malformed { ¬ (IsWellFormed given.now) → result ≡ Err Error.Utf8 }
+        ensures whole { (t : List ℕ) → IsText t → bytes t ≡ given.now → IsWholeOrRefused t (cap N) result }
+        ensures bytes { IfOk result (λ made. bytes made.text ≡ given.now) }
+    {
+        match str::from_utf8(given) {
+            Ok(string) => match Self::try_from_str(string) {
+                Ok(made) => Ok(made),
+                Err(OutOfBounds) => Err(Error::OutOfBounds),
+            },
+            Err(_) => Err(Error::Utf8),
+        }
+    }
+
+    /// The longest leading run of whole characters that fits of the text whose UTF-8 is `given`.
+    /// Refused with `Utf8` where the whole slice is not well-formed UTF-8 (the Unicode Standard,
+    /// section 3.9), also by bytes past the capacity.
+    pub fn from_utf8(given: &[u8]) -> Result<Self, Utf8>
+        ensures well_formed { IsOk result ↔ IsWellFormed given.now }
+        ensures cut { (t : List ℕ) → IsText t → bytes t ≡ given.now → IfOk result (λ made. made.text ≡ cut t (cap N)) }
+    {
+        let Ok(string) = str::from_utf8(given) else {
+            return Err(Utf8);
+        };
+        Ok(Self::from_str_truncate(string))
+    }
+
+    /// The text whose UTF-8 is `given`. It must be well-formed UTF-8 (the Unicode Standard,
+    /// section 3.9), and all of it must fit.
+    pub fn from_utf8_unchecked(given: &[u8]) -> Self
+        requires well_formed { IsWellFormed given.now }
+        requires fits { length given.now ≤ cap N }
+        ensures { bytes result.text ≡ given.now }
+    {
+        Self::from_str_unchecked(unsafe { str::from_utf8_unchecked(given) })
+    }
+}
+
+/// As `from_str_truncate`.
+impl<'a, const N: usize> From<&'a str> for ArrayString<N> {
+    ghost from_gives = { λ string made. made.text ≡ cut (chars string.now) (cap N) };
+
+    fn from(string: &'a str) -> Self {
+        Self::from_str_truncate(string)
+    }
+}
+
+/// As `try_from_str`.
+impl<const N: usize> FromStr for ArrayString<N> {
+    type Err = OutOfBounds;
+
+    ghost from_str_gives = { λ string result. IsWholeOrRefused (chars string) (cap N) (from_out_of_bounds result) };
+
+    fn from_str(string: &str) -> Result<Self, OutOfBounds> {
+        Self::try_from_str(string)
+    }
+}
+
+#[cfg(test)]
+mod tests;

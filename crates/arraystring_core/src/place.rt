@@ -1,0 +1,118 @@
+//! Bytes that stand at a place of an array.
+ghost use Rattle.std.specs.Prelude.{◌≡◌, ◌≢◌, ◌+◌, ◌-◌, ◌^◌, ◌<◌, ◌≤◌, ◌++◌, ℕ, List, min, length, take, drop, chars, IsUtf8};
+ghost use Rattle.std.specs.List.Retain.{IsFiltered};
+ghost use Rattle.arraystring_base.specs.Text.{cap, utf8};
+ghost use Rattle.arraystring_core.specs.Asked.{MayBeAsked};
+
+use arraystring_base::utils::{Steps, shift};
+use std::str;
+
+/// Opens a gap of `len` bytes in place of the bytes from `start` to `end` of the `size` bytes that
+/// stand from `place` on, and answers where they stand afterwards. They stay where they are if
+/// there is room behind them, and then the bytes behind the gap move alone; else they move to the
+/// start of the array. Each byte moves at most once.
+pub(crate) fn open_gap<const N: usize>(
+    array: &mut [u8; N],
+    place: usize,
+    size: usize,
+    start: usize,
+    end: usize,
+    len: usize,
+    steps: &mut Steps,
+) -> usize
+    requires order { start ≤ end }
+    requires within { end ≤ size }
+    requires held { place + size ≤ cap N }
+    requires room { start + (len + (size - end)) ≤ cap N }
+    requires countable { steps.old.moved ≤ 2 ^ 63 }
+    ensures len { length array.new ≡ N }
+    ensures held { result + (start + (len + (size - end))) ≤ cap N }
+    ensures front { take start (drop result array.new) ≡ take start (drop place array.old) }
+    ensures tail { take (size - end) (drop (result + (start + len)) array.new) ≡ take (size - end) (drop (place + end) array.old) }
+    ensures tail_alone { len ≤ end - start → steps.new.moved ≤ steps.old.moved + (size - end) }
+    ensures most { steps.new.moved ≤ steps.old.moved + (start + (size - end)) }
+    ensures least { end ≢ start + len → steps.old.moved + min start (size - end) ≤ steps.new.moved }
+    ensures counted { steps.old.moved ≤ steps.new.moved }
+    ensures looked { steps.new.looked ≡ steps.old.looked }
+{
+    let tail = size - end;
+    let capacity = if N < 255 { N } else { 255 };
+    if place + (start + (len + tail)) <= capacity {
+        shift(array, place + end, place + (start + len), tail, steps);
+        return place;
+    }
+    shift(array, place, 0, start, steps);
+    shift(array, place + end, start + len, tail, steps);
+    0
+}
+
+/// Asks `f` once for each character of the text in the `size` bytes that stand from `place` on, in
+/// order, and moves those for which it answers true together at `place`; answers how many bytes
+/// they take. A run of kept characters is moved as one piece, and to the left at most.
+pub(crate) fn retain_at<const N: usize, F: FnMut(char) -> bool + Drop>(
+    array: &mut [u8; N],
+    place: usize,
+    size: usize,
+    mut f: F,
+) -> usize
+    requires held { place + size ≤ N }
+    requires text { IsUtf8 (take size (drop place array.old)) }
+    requires asked { MayBeAsked F.pre F.step f (chars (take size (drop place array.old))) }
+    ensures len { length array.new ≡ N }
+    ensures at_most { result ≤ size }
+    ensures text { IsUtf8 (take result (drop place array.new)) }
+    ensures filtered { IsFiltered F.step f (chars (take size (drop place array.old))) (chars (take result (drop place array.new))) }
+{
+    // The first `kept` bytes stay, and so do those from `run` to `read`, which were not moved yet.
+    let mut kept = 0;
+    let mut run = 0;
+    let mut read = 0;
+    while read < size {
+        let ch = char_at(array, place + read, place + size);
+        let width = ch.len_utf8();
+        if !f(ch) {
+            shift(
+                array,
+                place + run,
+                place + kept,
+                read - run,
+                &mut Steps::new(),
+            );
+            kept += read - run;
+            run = read + width;
+        }
+        read += width;
+    }
+    shift(
+        array,
+        place + run,
+        place + kept,
+        size - run,
+        &mut Steps::new(),
+    );
+    kept + (size - run)
+}
+
+/// The first character of the text in the bytes from `start` to `end`.
+fn char_at<const N: usize>(array: &[u8; N], start: usize, end: usize) -> char
+    requires some { start < end }
+    requires within { end ≤ N }
+    requires text { IsUtf8 (take (end - start) (drop start array.now)) }
+    ensures { (rest : List ℕ) × (take (end - start) (drop start array.now) ≡ utf8 result ++ rest) }
+{
+    let all = &array[..];
+    let text = unsafe { str::from_utf8_unchecked(&all[start..end]) };
+    let Some(ch) = text.chars().next() else {
+        unreachable!();
+    };
+    ch
+}
+
+/// Writes `given` over the bytes from `at` on.
+pub(crate) fn copy_in<const N: usize>(array: &mut [u8; N], at: usize, given: &[u8])
+    requires { at + length given.now ≤ N }
+    ensures { array.new ≡ take at array.old ++ (given.now ++ drop (at + length given.now) array.old) }
+{
+    let all = &mut array[..];
+    all[at..at + given.len()].copy_from_slice(given);
+}

@@ -1,0 +1,22 @@
+//! Boundaries of an `ArrayString`. Places count bytes of UTF-8.
+ghost use Rattle.std.specs.Prelude.{◌↔◌, IsOk, IsTrue};
+ghost use Rattle.arraystring_base.specs.Text.{boundary};
+
+use crate::array_string::ArrayString;
+use arraystring_base::error::Utf8;
+use arraystring_base::utils::is_boundary;
+
+/// Whether `idx` is a boundary of `s`, the size of one of its leading parts of whole characters;
+/// refused with `Utf8` where it is not, also past the length.
+pub fn is_char_boundary<const N: usize>(s: &ArrayString<N>, idx: u8) -> Result<(), Utf8>
+    ensures { IsOk result ↔ IsTrue (boundary s.now.text idx) }
+{
+    if is_boundary(s.as_str(), idx as usize) {
+        Ok(())
+    } else {
+        Err(Utf8)
+    }
+}
+
+#[cfg(test)]
+mod tests;
