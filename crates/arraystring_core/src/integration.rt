@@ -49,9 +49,7 @@ impl<const N: usize> ArrayString<N> {
             (λ _. text_within (view value.now) (cap N) ≡ None) }
     {
         let text = value.as_str().ok_or(NotText)?;
-        let mut string = Self::new();
-        string.push_str(text);
-        Ok(string)
+        Ok(Self::from_str_truncate(text))
     }
 }
 

@@ -4,8 +4,7 @@ use std::test::Fail;
 
 #[test]
 fn a_string_is_read_back(rt: HostRuntime) -> Result<(), Fail> {
-    let mut string: ArrayString<8> = ArrayString::new();
-    string.push_str("abcdefg");
+    let string = ArrayString::<8>::from("abcdefg");
     let value = string.to_value(rt.alloc())?;
     assert_eq!(rt; value.as_str(), Some("abcdefg"));
     assert_eq!(rt; value.to_string(rt.alloc())?.as_str(), "\"abcdefg\"");

@@ -4,12 +4,6 @@ use std::fmt::Write;
 use std::hash::DefaultHasher;
 use std::test::Fail;
 
-fn string<const N: usize>(text: &str) -> ArrayString<N> {
-    let mut string = ArrayString::new();
-    string.push_str(text);
-    string
-}
-
 #[test]
 fn texts_are_ordered_by_their_characters(rt: HostRuntime) {
     for (one, other, wanted) in [
@@ -21,8 +15,8 @@ fn texts_are_ordered_by_their_characters(rt: HostRuntime) {
         ("a🤔", "a🤔", Ordering::Equal),
         ("", "\0", Ordering::Less),
     ] {
-        let one: ArrayString<8> = string(one);
-        let other = string(other);
+        let one: ArrayString<8> = ArrayString::from(one);
+        let other = ArrayString::from(other);
         assert_eq!(rt; one.cmp(&other), wanted);
         assert_eq!(rt; one.partial_cmp(&other), Some(wanted));
         assert_eq!(rt; one == other, wanted == Ordering::Equal);
@@ -37,9 +31,9 @@ fn hash_of<T: Hash>(value: &T) -> u64 {
 
 #[test]
 fn what_lies_behind_the_text_is_not_compared(rt: HostRuntime) {
-    let mut shortened: ArrayString<4> = string("abcd");
+    let mut shortened: ArrayString<4> = ArrayString::from("abcd");
     assert_eq!(rt; shortened.pop(), Some('d'));
-    let abc = string("abc");
+    let abc = ArrayString::from("abc");
     assert_eq!(rt; shortened, abc);
     assert_eq!(rt; shortened.cmp(&abc), Ordering::Equal);
     assert_eq!(rt; hash_of(&shortened), hash_of(&abc));
@@ -48,10 +42,10 @@ fn what_lies_behind_the_text_is_not_compared(rt: HostRuntime) {
 
 #[test]
 fn a_width_does_not_pad(rt: HostRuntime) -> Result<(), Fail> {
-    let ab: ArrayString<23> = string("ab");
+    let ab: ArrayString<23> = ArrayString::from("ab");
     let printed = format!(in rt.alloc(); "{ab}|{ab:5}|{ab:>5}")?;
     assert_eq!(rt; printed.as_str(), "ab|ab|ab");
-    let abc: ArrayString<23> = string("abc");
+    let abc: ArrayString<23> = ArrayString::from("abc");
     let printed = format!(in rt.alloc(); "{abc:?}")?;
     assert_eq!(rt; printed.as_str(), "ArrayString { array: \"abc\", size: 3 }");
     Ok(())
@@ -59,7 +53,7 @@ fn a_width_does_not_pad(rt: HostRuntime) -> Result<(), Fail> {
 
 #[test]
 fn a_sum_is_cut(rt: HostRuntime) {
-    let ab: ArrayString<3> = string("ab");
+    let ab: ArrayString<3> = ArrayString::from("ab");
     assert_eq!(rt; (ab + "cd").as_str(), "abc");
     assert_eq!(rt; (ab + "é").as_str(), "ab");
     assert_eq!(rt; (ab + "").as_str(), "ab");

@@ -5,8 +5,7 @@ use std::hash::DefaultHasher;
 use std::test::Fail;
 
 fn drained(text: &str) -> Drain<8> {
-    let mut string = ArrayString::<8>::new();
-    string.push_str(text);
+    let mut string = ArrayString::<8>::from(text);
     string.drain(..).unwrap_or_default()
 }
 
