@@ -256,3 +256,6 @@ impl fmt::Write for CacheString {
         self.0.write_str(string)
     }
 }
+
+#[cfg(test)]
+mod tests;

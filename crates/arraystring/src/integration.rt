@@ -28,3 +28,6 @@ impl CacheString {
         Ok(CacheString(ArrayString::from_value(value)?))
     }
 }
+
+#[cfg(test)]
+mod tests;
