@@ -1,12 +1,21 @@
-//! `ArrayString`, a string of bounded size in an array inside the value, and a runner of commands
-//! that edit one.
+//! `ArrayString`, a string of bounded size in an array inside the value, under all its paths, and a
+//! runner of commands that edit one.
 #![tactic(auto)]
 
+mod cache_string;
+pub mod integration;
 pub mod runner;
 
 pub use arraystring_base::error;
 pub use arraystring_base::error::Error;
-pub use arraystring_core::ArrayString;
+pub use arraystring_core::{ArrayString, drain, laws};
+pub use cache_string::CacheString;
+
+/// A string of at most 23 bytes.
+pub type SmallString = ArrayString<23>;
+
+/// A string of at most 255 bytes, the greatest capacity that there is.
+pub type MaxString = ArrayString<255>;
 
 /// Boundaries, cuts and moves of bytes. Sizes and places count bytes of UTF-8.
 pub mod utils {
@@ -14,4 +23,12 @@ pub mod utils {
         Steps, encode, is_boundary, is_inside_boundary, look, shift, truncate_str,
         truncate_str_counted,
     };
+    pub use arraystring_core::utils::is_char_boundary;
+}
+
+/// What most callers take.
+pub mod prelude {
+    pub use crate::drain::Drain;
+    pub use crate::error::{OutOfBounds, Utf8, Utf16};
+    pub use crate::{ArrayString, CacheString, MaxString, SmallString};
 }

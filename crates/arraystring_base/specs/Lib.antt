@@ -2,6 +2,7 @@ pub mod Text
 pub mod TextLaws
 pub mod CutLaws
 pub mod BoundaryLaws
+pub mod OrderLaws
 pub mod Utf16
 pub mod Utf16Laws
 pub mod Reading

@@ -71,3 +71,9 @@ pub record IsLongestFitting (p t : List ℕ) (n : ℕ) : Type 0 where
   pub leads : IsLeadingPart p t
   pub fits : size p ≤ n
   pub longest : (q : List ℕ) → IsLeadingPart q t → size q ≤ n → IsLeadingPart q p
+
+-- a stands before b: b goes on where a ends, or has the greater character where they first differ
+abbrev pub IsBefore : List ℕ → List ℕ → Type 0
+IsBefore a b =
+    ((c : ℕ) × (rest : List ℕ) × (b ≡ a ++ c ∷ rest))
+    ⊎ ((p : List ℕ) × (c : ℕ) × (d : ℕ) × (x : List ℕ) × (y : List ℕ) × (a ≡ p ++ c ∷ x) × (b ≡ p ++ d ∷ y) × (c < d))

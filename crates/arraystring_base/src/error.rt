@@ -1,8 +1,15 @@
-//! What a call refuses. No printed form pads to a width that is asked for.
+//! What a call refuses, and the conversions to `Error`. No printed form pads to a width that is
+//! asked for.
 ghost use Rattle.std.specs.Prelude.{◌≡◌, Some, codes};
-ghost use Rattle.arraystring_base.specs.Names.{error_name};
+ghost use Rattle.std.proofs.Common.{ap};
+ghost use Rattle.std.specs.Hash as fed;
+ghost use Rattle.arraystring_base.specs.Names.{error_name, same_names};
+ghost use Rattle.arraystring_base.specs.declared.error.Error.TheVariants as cases;
 
+use std::error::Error as StdError;
 use std::fmt;
+use std::hash::{Hash, Hasher};
+use std::str::Utf8Error;
 
 /// Any refusal.
 #[derive(Clone, Copy, PartialEq, Eq)]
@@ -29,8 +36,20 @@ impl Error {
     }
 }
 
+impl Hash for Error {
+    ghost hash_input = { λ e. fed.str (error_name e) };
+
+    ghost respects_eq = { λ x y h. ap fed.str (same_names x y h) };
+
+    fn hash<H: Hasher>(&self, state: &mut H) {
+        self.name().hash(state);
+    }
+}
+
 impl fmt::Display for Error {
     ghost output = { λ e. Some (error_name e) };
+
+    ghost styled_output = { λ e _. Some (error_name e) };
 
     fn fmt<W: fmt::Write>(&self, f: &mut fmt::Formatter<W>) -> fmt::Result {
         f.write_str(self.name())
@@ -44,6 +63,8 @@ impl fmt::Debug for Error {
     }
 }
 
+impl StdError for Error {}
+
 /// Bytes that are not well-formed UTF-8 (the Unicode Standard, section 3.9), or an index inside a
 /// character.
 #[derive(Clone, Copy, Default, PartialEq, Eq)]
@@ -51,6 +72,8 @@ pub struct Utf8;
 
 impl fmt::Display for Utf8 {
     ghost output = { λ _. Some (codes "Utf8") };
+
+    ghost styled_output = { λ _ _. Some (codes "Utf8") };
 
     fn fmt<W: fmt::Write>(&self, f: &mut fmt::Formatter<W>) -> fmt::Result {
         f.write_str("Utf8")
@@ -63,12 +86,16 @@ impl fmt::Debug for Utf8 {
     }
 }
 
+impl StdError for Utf8 {}
+
 /// A lone surrogate in UTF-16 (the Unicode Standard, section 3.9).
 #[derive(Clone, Copy, Default, PartialEq, Eq)]
 pub struct Utf16;
 
 impl fmt::Display for Utf16 {
     ghost output = { λ _. Some (codes "Utf16") };
+
+    ghost styled_output = { λ _ _. Some (codes "Utf16") };
 
     fn fmt<W: fmt::Write>(&self, f: &mut fmt::Formatter<W>) -> fmt::Result {
         f.write_str("Utf16")
@@ -81,12 +108,16 @@ impl fmt::Debug for Utf16 {
     }
 }
 
+impl StdError for Utf16 {}
+
 /// An index or a range outside the text, or a result larger than the capacity.
 #[derive(Clone, Copy, Default, PartialEq, Eq)]
 pub struct OutOfBounds;
 
 impl fmt::Display for OutOfBounds {
     ghost output = { λ _. Some (codes "OutOfBounds") };
+
+    ghost styled_output = { λ _ _. Some (codes "OutOfBounds") };
 
     fn fmt<W: fmt::Write>(&self, f: &mut fmt::Formatter<W>) -> fmt::Result {
         f.write_str("OutOfBounds")
@@ -96,6 +127,48 @@ impl fmt::Display for OutOfBounds {
 impl fmt::Debug for OutOfBounds {
     fn fmt<W: fmt::Write>(&self, f: &mut fmt::Formatter<W>) -> fmt::Result {
         f.write_str("OutOfBounds")
+    }
+}
+
+impl StdError for OutOfBounds {}
+
+/// Bytes that `std` finds not to be UTF-8 are refused as `Utf8`.
+impl From<Utf8Error> for Utf8 {
+    fn from(_error: Utf8Error) -> Self {
+        Utf8
+    }
+}
+
+/// Bytes that `std` finds not to be UTF-8 are refused as `Error::Utf8`.
+impl From<Utf8Error> for Error {
+    ghost from_gives = { λ _ error. error ≡ cases.Utf8 };
+
+    fn from(error: Utf8Error) -> Self {
+        Error::from(Utf8::from(error))
+    }
+}
+
+impl From<Utf8> for Error {
+    ghost from_gives = { λ _ error. error ≡ cases.Utf8 };
+
+    fn from(_error: Utf8) -> Self {
+        Error::Utf8
+    }
+}
+
+impl From<Utf16> for Error {
+    ghost from_gives = { λ _ error. error ≡ cases.Utf16 };
+
+    fn from(_error: Utf16) -> Self {
+        Error::Utf16
+    }
+}
+
+impl From<OutOfBounds> for Error {
+    ghost from_gives = { λ _ error. error ≡ cases.OutOfBounds };
+
+    fn from(_error: OutOfBounds) -> Self {
+        Error::OutOfBounds
     }
 }
 

@@ -1,7 +1,10 @@
 //! Laws of texts, which callers may rely on. Each does nothing when it is called and carries its
 //! fact in its contract.
-ghost use Rattle.std.specs.Prelude.{◌≡◌, ◌≤◌, ◌↔◌, ◌++◌, ℕ, List, IsTrue, chars, map};
-ghost use Rattle.arraystring_base.specs.Text.{bytes, cut, size, front, back, boundary, IsText, IsWellFormed, IsLeadingPart, IsLongestFitting};
+ghost use Rattle.std.specs.Prelude.{◌≡◌, ◌≤◌, ◌↔◌, ◌⊎◌, ◌++◌, ℕ, List, IsTrue, chars, map};
+ghost use Rattle.std.specs.Ordering.{nat_cmp};
+ghost use Rattle.std.specs.Cmp.Lexicographic.{slice_cmp};
+ghost use Rattle.std.specs.declared.cmp.Ordering.TheVariants.{Less, Equal, Greater};
+ghost use Rattle.arraystring_base.specs.Text.{bytes, cut, size, front, back, boundary, IsText, IsWellFormed, IsLeadingPart, IsLongestFitting, IsBefore};
 ghost use Rattle.arraystring_base.specs.Utf16.{IsReading, Stop, StopsAt, first_stop, text_units};
 ghost use Rattle.arraystring_base.specs.declared.utf16.Unit16.{Unit16};
 ghost use Rattle.arraystring_base.specs.declared.utf16.Unit16.TheVariants.{Char};
@@ -40,6 +43,23 @@ pub fn one_text()
 pub fn lent_text(given: &str)
     ensures text { IsText (chars given.now) }
     ensures bytes { bytes (chars given.now) ≡ given.now }
+{}
+
+/// The order of the bytes of two texts is the order of their characters: the bytes are less where
+/// the one text stands before the other, and equal where the texts are the same.
+pub fn order_of_bytes()
+    ensures same { (a b : List ℕ) → slice_cmp nat_cmp (bytes a) (bytes b) ≡ slice_cmp nat_cmp a b }
+    ensures less { (a b : List ℕ) → (slice_cmp nat_cmp (bytes a) (bytes b) ≡ Less) ↔ IsBefore a b }
+    ensures equal { (a b : List ℕ) → (slice_cmp nat_cmp (bytes a) (bytes b) ≡ Equal) ↔ (a ≡ b) }
+    ensures greater { (a b : List ℕ) → (slice_cmp nat_cmp (bytes a) (bytes b) ≡ Greater) ↔ IsBefore b a }
+{}
+
+/// Of two texts that are not the same, one stands before the other; what stands before a text
+/// stands before all that follow it; and no text stands before itself.
+pub fn order_of_texts()
+    ensures total { (a b : List ℕ) → IsBefore a b ⊎ (a ≡ b) ⊎ IsBefore b a }
+    ensures transitive { (a b c : List ℕ) → IsBefore a b → IsBefore b c → IsBefore a c }
+    ensures itself { (a : List ℕ) → ¬ (IsBefore a a) }
 {}
 
 /// The units have a reading, and any two readings of them are the same.

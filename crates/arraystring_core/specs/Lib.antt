@@ -2,6 +2,7 @@ pub use Rattle.arraystring_base.specs.Text
 pub use Rattle.arraystring_base.specs.TextLaws
 pub use Rattle.arraystring_base.specs.CutLaws
 pub use Rattle.arraystring_base.specs.BoundaryLaws
+pub use Rattle.arraystring_base.specs.OrderLaws
 pub use Rattle.arraystring_base.specs.Utf16
 pub use Rattle.arraystring_base.specs.Utf16Laws
 pub use Rattle.arraystring_base.specs.Counts
@@ -18,3 +19,5 @@ pub mod Asked
 pub mod Ranges
 pub mod Drained
 pub mod FromUtf16
+pub mod Json
+pub mod JsonLaws

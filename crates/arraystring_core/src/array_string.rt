@@ -13,6 +13,7 @@ use std::marker::Model;
 use std::{fmt, str};
 
 mod ascii;
+mod compare;
 mod construct;
 mod extend;
 mod insert;

@@ -7,6 +7,8 @@ use crate::ArrayString;
 use std::iter::FusedIterator;
 use std::marker::Model;
 
+mod compare;
+
 /// The characters that `drain` took out of a string. They are given from the front and from the
 /// back, each once; what is not given stays in its order.
 ///

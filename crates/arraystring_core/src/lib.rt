@@ -1,9 +1,10 @@
 //! `ArrayString`, a string of bounded size in an array inside the value, and its laws. It takes no
-//! memory.
+//! memory, but where a JSON value is made.
 #![tactic(auto)]
 
 pub mod array_string;
 pub mod drain;
+pub mod integration;
 pub mod laws;
 mod place;
 mod ranges;

@@ -1,0 +1,261 @@
+//! `CacheString`: a string of 63 bytes under a name of its own. Each call is that of the string
+//! inside.
+ghost use Rattle.std.specs.Prelude.{◌≡◌, ℕ, ◌≤◌, ◌↔◌, ◌++◌, [], List, Ok, Err, Some, IsOk, IfOk, chars, length};
+ghost use Rattle.std.specs.Borrow.{Bor};
+ghost use Rattle.std.specs.Iterator.{IsFiniteIterable};
+ghost use Rattle.arraystring_base.specs.declared.error.Error.TheVariants as error;
+ghost use Rattle.arraystring_base.specs.declared.utf16.Unit16.{Unit16};
+ghost use Rattle.arraystring_base.specs.Text.{size, bytes, cut, IsText, IsWellFormed};
+ghost use Rattle.arraystring_base.specs.Utf16.{IsReading, first_stop, lossy_text};
+ghost use Rattle.arraystring_core.specs.Edits.{Makes, from_out_of_bounds, with_text, addition, addition_of_cut, split};
+ghost use Rattle.arraystring_core.specs.FromUtf16.{GivesWhole, GivesRun};
+ghost use Rattle.arraystring_core.specs.Made.{IsWholeOrRefused};
+ghost use Rattle.arraystring_core.specs.Taken.{Takes, TakesAll, Fits, Gives, joined, joined_pieces, piece_text};
+ghost use Rattle.arraystring.specs.Cached.{inside};
+
+use crate::error::{Error, OutOfBounds, Utf8, Utf16};
+use arraystring_core::ArrayString;
+use std::fmt;
+use std::ops::Add;
+use std::str::FromStr;
+
+/// A string of at most 63 bytes of UTF-8. What it has no call for is called on the string inside.
+#[derive(Clone, Copy, Default, PartialEq, Eq, PartialOrd, Ord, Hash, Debug)]
+pub struct CacheString(pub ArrayString<63>);
+
+impl CacheString {
+    /// The empty string.
+    pub const fn new() -> Self
+        ensures { result.0.text ≡ [] }
+    {
+        CacheString(ArrayString::new())
+    }
+
+    /// How many bytes fit: 63.
+    pub const fn capacity() -> u8
+        ensures { result ≡ 63 }
+    {
+        ArrayString::<63>::capacity()
+    }
+
+    /// The text `string`. Refused with `OutOfBounds` where it is larger than the capacity.
+    pub fn try_from_str(string: &str) -> Result<Self, OutOfBounds>
+        ensures { IsWholeOrRefused (chars string.now) 63 (from_out_of_bounds (inside result)) }
+    {
+        Ok(CacheString(ArrayString::try_from_str(string)?))
+    }
+
+    /// The longest leading run of whole characters of `string` that fits.
+    pub fn from_str_truncate(string: &str) -> Self
+        ensures { result.0.text ≡ cut (chars string.now) 63 }
+    {
+        CacheString(ArrayString::from_str_truncate(string))
+    }
+
+    /// The text `string`. All of it must fit.
+    pub fn from_str_unchecked(string: &str) -> Self
+        requires { size (chars string.now) ≤ 63 }
+        ensures { result.0.text ≡ chars string.now }
+    {
+        CacheString(ArrayString::from_str_unchecked(string))
+    }
+
+    /// The pieces joined. Refused with `OutOfBounds` where they are larger than the capacity; no
+    /// piece is taken behind the first that does not fit. The iterator must end.
+    pub fn try_from_iterator<'a, I: IntoIterator<Item = &'a str> + Drop>(
+        pieces: I,
+    ) -> Result<Self, OutOfBounds>
+        requires { IsFiniteIterable I.into_iter_gives I.IntoIter.can_next I.IntoIter.remaining pieces }
+        ensures taken { (taken : List (Bor (List ℕ))) × Takes I.into_iter_gives I.IntoIter.next_gives joined_pieces pieces 63 taken
+            × IsWholeOrRefused (joined_pieces taken) 63 (from_out_of_bounds (inside result)) }
+        ensures whole { (all : List (List ℕ)) → Gives I.into_iter_gives I.IntoIter.next_gives piece_text pieces all
+            → IsWholeOrRefused (joined all) 63 (from_out_of_bounds (inside result)) }
+    {
+        Ok(CacheString(ArrayString::try_from_iterator(pieces)?))
+    }
+
+    /// The longest leading run of whole characters of the joined pieces that fits. No piece is
+    /// taken behind the first that does not fit. The iterator must end.
+    pub fn from_iterator<'a, I: IntoIterator<Item = &'a str> + Drop>(pieces: I) -> Self
+        requires { IsFiniteIterable I.into_iter_gives I.IntoIter.can_next I.IntoIter.remaining pieces }
+        ensures taken { (taken : List (Bor (List ℕ))) × Takes I.into_iter_gives I.IntoIter.next_gives joined_pieces pieces 63 taken
+            × (result.0.text ≡ cut (joined_pieces taken) 63) }
+        ensures whole { (all : List (List ℕ)) → Gives I.into_iter_gives I.IntoIter.next_gives piece_text pieces all
+            → result.0.text ≡ cut (joined all) 63 }
+    {
+        CacheString(ArrayString::from_iterator(pieces))
+    }
+
+    /// The pieces joined. All of them must fit, and the iterator must end.
+    pub fn from_iterator_unchecked<'a, I: IntoIterator<Item = &'a str> + Drop>(pieces: I) -> Self
+        requires ends { IsFiniteIterable I.into_iter_gives I.IntoIter.can_next I.IntoIter.remaining pieces }
+        requires fits { Fits I.into_iter_gives I.IntoIter.next_gives joined_pieces pieces 63 }
+        ensures taken { (taken : List (Bor (List ℕ))) × TakesAll I.into_iter_gives I.IntoIter.next_gives pieces taken
+            × (result.0.text ≡ joined_pieces taken) }
+        ensures whole { (all : List (List ℕ)) → Gives I.into_iter_gives I.IntoIter.next_gives piece_text pieces all
+            → result.0.text ≡ joined all }
+    {
+        CacheString(ArrayString::from_iterator_unchecked(pieces))
+    }
+
+    /// The characters. Refused with `OutOfBounds` where they are larger than the capacity; no
+    /// character is taken behind the first that does not fit. The iterator must end.
+    pub fn try_from_chars<I: IntoIterator<Item = char> + Drop>(
+        characters: I,
+    ) -> Result<Self, OutOfBounds>
+        requires { IsFiniteIterable I.into_iter_gives I.IntoIter.can_next I.IntoIter.remaining characters }
+        ensures taken { (taken : List ℕ) × Takes I.into_iter_gives I.IntoIter.next_gives (λ cs. cs) characters 63 taken
+            × IsWholeOrRefused taken 63 (from_out_of_bounds (inside result)) }
+        ensures whole { (all : List ℕ) → Gives I.into_iter_gives I.IntoIter.next_gives (λ c. c) characters all
+            → IsWholeOrRefused all 63 (from_out_of_bounds (inside result)) }
+    {
+        Ok(CacheString(ArrayString::try_from_chars(characters)?))
+    }
+
+    /// The characters up to the first that does not fit, also where a later shorter one would. No
+    /// character is taken behind it. The iterator must end.
+    pub fn from_chars<I: IntoIterator<Item = char> + Drop>(characters: I) -> Self
+        requires { IsFiniteIterable I.into_iter_gives I.IntoIter.can_next I.IntoIter.remaining characters }
+        ensures taken { (taken : List ℕ) × Takes I.into_iter_gives I.IntoIter.next_gives (λ cs. cs) characters 63 taken
+            × (result.0.text ≡ cut taken 63) }
+        ensures whole { (all : List ℕ) → Gives I.into_iter_gives I.IntoIter.next_gives (λ c. c) characters all
+            → result.0.text ≡ cut all 63 }
+    {
+        CacheString(ArrayString::from_chars(characters))
+    }
+
+    /// The characters. All of them must fit, and the iterator must end.
+    pub fn from_chars_unchecked<I: IntoIterator<Item = char> + Drop>(characters: I) -> Self
+        requires ends { IsFiniteIterable I.into_iter_gives I.IntoIter.can_next I.IntoIter.remaining characters }
+        requires fits { Fits I.into_iter_gives I.IntoIter.next_gives (λ cs. cs) characters 63 }
+        ensures taken { (taken : List ℕ) × TakesAll I.into_iter_gives I.IntoIter.next_gives characters taken
+            × (result.0.text ≡ taken) }
+        ensures whole { (all : List ℕ) → Gives I.into_iter_gives I.IntoIter.next_gives (λ c. c) characters all
+            → result.0.text ≡ all }
+    {
+        CacheString(ArrayString::from_chars_unchecked(characters))
+    }
+
+    /// The text whose UTF-8 is `given`. Refused with `Error::Utf8` where the whole slice is not
+    /// well-formed UTF-8 (the Unicode Standard, section 3.9), and else with `Error::OutOfBounds`
+    /// where it is larger than the capacity.
+    pub fn try_from_utf8(given: &[u8]) -> Result<Self, Error>
+        ensures malformed { ¬ (IsWellFormed given.now) → inside result ≡ Err error.Utf8 }
+        ensures whole { (t : List ℕ) → IsText t → bytes t ≡ given.now → IsWholeOrRefused t 63 (inside result) }
+        ensures bytes { IfOk result (λ made. bytes made.0.text ≡ given.now) }
+    {
+        Ok(CacheString(ArrayString::try_from_utf8(given)?))
+    }
+
+    /// The longest leading run of whole characters that fits of the text whose UTF-8 is `given`.
+    /// Refused with `Utf8` where the whole slice is not well-formed UTF-8 (the Unicode Standard,
+    /// section 3.9), also by bytes past the capacity.
+    pub fn from_utf8(given: &[u8]) -> Result<Self, Utf8>
+        ensures well_formed { IsOk result ↔ IsWellFormed given.now }
+        ensures cut { (t : List ℕ) → IsText t → bytes t ≡ given.now → IfOk result (λ made. made.0.text ≡ cut t 63) }
+    {
+        Ok(CacheString(ArrayString::from_utf8(given)?))
+    }
+
+    /// The text whose UTF-8 is `given`. It must be well-formed UTF-8 (the Unicode Standard,
+    /// section 3.9), and all of it must fit.
+    pub fn from_utf8_unchecked(given: &[u8]) -> Self
+        requires well_formed { IsWellFormed given.now }
+        requires fits { length given.now ≤ 63 }
+        ensures { bytes result.0.text ≡ given.now }
+    {
+        CacheString(ArrayString::from_utf8_unchecked(given))
+    }
+
+    /// The text whose UTF-16 `units` is. It is read item by item up to the first that ends it: a
+    /// lone surrogate is refused with `Utf16`, a character that does not fit with `OutOfBounds`.
+    pub fn try_from_utf16(units: &[u16]) -> Result<Self, Error>
+        ensures { (items : List Unit16) → IsReading units.now items → GivesWhole (first_stop items 63) (inside result) }
+    {
+        Ok(CacheString(ArrayString::try_from_utf16(units)?))
+    }
+
+    /// The longest leading run of characters of `units` that fits. Refused with `Utf16` where a
+    /// lone surrogate stands right behind it, also where the string is full; what stands behind a
+    /// character that does not fit is not looked at.
+    pub fn from_utf16(units: &[u16]) -> Result<Self, Utf16>
+        ensures { (items : List Unit16) → IsReading units.now items → GivesRun (first_stop items 63) (inside result) }
+    {
+        Ok(CacheString(ArrayString::from_utf16(units)?))
+    }
+
+    /// The text of `units`, where each lone surrogate is read as U+FFFD, which takes three bytes.
+    /// The first character that does not fit ends it.
+    pub fn from_utf16_lossy(units: &[u16]) -> Self
+        ensures { (items : List Unit16) → IsReading units.now items → result.0.text ≡ cut (lossy_text items) 63 }
+    {
+        CacheString(ArrayString::from_utf16_lossy(units))
+    }
+
+    /// Answers the part from the byte `at` on and keeps the part before it; the length itself is
+    /// allowed. Refused with `OutOfBounds` where `at` is past the text, then with `Utf8` where it is
+    /// inside a character; the text is then as it was.
+    pub fn split_off(&mut self, at: u8) -> Result<Self, Error>
+        ensures { Makes (split self.old.0.text at) self.old.0.text (with_text (inside result)) self.new.0.text }
+    {
+        Ok(CacheString(self.0.split_off(at)?))
+    }
+}
+
+/// The same text.
+impl From<ArrayString<63>> for CacheString {
+    ghost from_gives = { λ string made. made.0.text ≡ string.text };
+
+    fn from(string: ArrayString<63>) -> Self {
+        CacheString(string)
+    }
+}
+
+/// As `try_from_str`.
+impl FromStr for CacheString {
+    type Err = OutOfBounds;
+
+    ghost from_str_gives = { λ string result. IsWholeOrRefused (chars string) 63 (from_out_of_bounds (inside result)) };
+
+    fn from_str(string: &str) -> Result<Self, OutOfBounds> {
+        Self::try_from_str(string)
+    }
+}
+
+/// The text. It does not pad to a width that is asked for.
+impl fmt::Display for CacheString {
+    ghost output = { λ s. Some (bytes s.0.text) };
+
+    ghost styled_output = { λ s _. Some (bytes s.0.text) };
+
+    fn fmt<W: fmt::Write>(&self, f: &mut fmt::Formatter<W>) -> fmt::Result {
+        f.write_str(self.0.as_str())
+    }
+}
+
+/// The string with the longest leading run of whole characters of the text that fits behind it.
+impl<'a> Add<&'a str> for CacheString {
+    type Output = Self;
+
+    ghost add_gives = { λ s given sum. Makes (addition_of_cut s.0.text (chars given.now) 63) s.0.text (Ok tt) sum.0.text };
+
+    fn add(self, given: &'a str) -> Self {
+        CacheString(self.0 + given)
+    }
+}
+
+impl fmt::Write for CacheString {
+    ghost write_str_gives = { λ s given t. bytes t.0.text ≡ bytes s.0.text ++ given };
+
+    /// Adds `string` at the end. Refused where not all of it fits; the text is then as it was. A
+    /// `write!` of several pieces leaves those before the one that is refused.
+    fn write_str(&mut self, string: &str) -> fmt::Result
+        ensures ok { IsOk result → bytes self.new.0.text ≡ bytes self.old.0.text ++ string.now }
+        ensures made { Makes (addition self.old.0.text (chars string.now) 63) self.old.0.text (from_out_of_bounds result) self.new.0.text }
+    {
+        self.0.write_str(string)
+    }
+}
+
+#[cfg(test)]
+mod tests;

@@ -1,0 +1,168 @@
+//! Each call once, on values worked out by hand.
+use super::*;
+use std::cmp::Ordering;
+use std::fmt::Write;
+use std::hash::{DefaultHasher, Hash, Hasher};
+use std::test::Fail;
+
+const ZEROS_63: &str = "000000000000000000000000000000000000000000000000000000000000000";
+
+const ZEROS_64: &str = "0000000000000000000000000000000000000000000000000000000000000000";
+
+/// What the unchecked calls make of a text that fits.
+fn of_text_that_fits(text: &str) -> Option<[CacheString; 3]> {
+    match CacheString::try_from_chars(text.chars()) {
+        Ok(_) => Some([
+            CacheString::from_str_unchecked(text),
+            CacheString::from_chars_unchecked(text.chars()),
+            CacheString::from_utf8_unchecked(text.as_bytes()),
+        ]),
+        Err(OutOfBounds) => None,
+    }
+}
+
+/// The same of pieces.
+fn of_pieces_that_fit(pieces: &[&str]) -> Option<CacheString> {
+    match CacheString::try_from_iterator(pieces.iter().copied()) {
+        Ok(_) => Some(CacheString::from_iterator_unchecked(pieces.iter().copied())),
+        Err(OutOfBounds) => None,
+    }
+}
+
+#[test]
+fn a_text_by_each_constructor(rt: HostRuntime) {
+    for text in ["My String", "", "🤔🤔🤔🤔🤔", ZEROS_63] {
+        let wanted = CacheString(ArrayString::from(text));
+        assert_eq!(rt; wanted.0.as_str(), text);
+        assert_eq!(rt; CacheString::from(wanted.0), wanted);
+        assert_eq!(rt; CacheString::try_from_str(text), Ok(wanted));
+        assert_eq!(rt; CacheString::from_str_truncate(text), wanted);
+        assert_eq!(rt; CacheString::try_from_chars(text.chars()), Ok(wanted));
+        assert_eq!(rt; CacheString::from_chars(text.chars()), wanted);
+        assert_eq!(rt; CacheString::try_from_utf8(text.as_bytes()), Ok(wanted));
+        assert_eq!(rt; CacheString::from_utf8(text.as_bytes()), Ok(wanted));
+        assert_eq!(rt; text.parse::<CacheString>(), Ok(wanted));
+        assert_eq!(rt; of_text_that_fits(text), Some([wanted; 3]));
+    }
+    assert_eq!(rt; CacheString::new().0.as_str(), "");
+    assert_eq!(rt; CacheString::default(), CacheString::new());
+    assert_eq!(rt; CacheString::capacity(), 63);
+}
+
+#[test]
+fn pieces_are_joined(rt: HostRuntime) {
+    let pieces = ["My String", " My other String"];
+    let joined = CacheString::from_str_truncate("My String My other String");
+    assert_eq!(rt; CacheString::try_from_iterator(pieces), Ok(joined));
+    assert_eq!(rt; CacheString::from_iterator(pieces), joined);
+    assert_eq!(rt; of_pieces_that_fit(&pieces), Some(joined));
+}
+
+#[test]
+fn a_text_that_is_too_large(rt: HostRuntime) {
+    let cut = CacheString::from_str_truncate(ZEROS_64);
+    assert_eq!(rt; cut.0.as_str(), ZEROS_63);
+    assert_eq!(rt; CacheString::from_chars(ZEROS_64.chars()), cut);
+    assert_eq!(rt; CacheString::from_iterator(["000"; 400]), cut);
+    assert_eq!(rt; CacheString::from_utf8(&[b'0'; 300]), Ok(cut));
+
+    assert_eq!(rt; CacheString::try_from_str(ZEROS_64), Err(OutOfBounds));
+    assert_eq!(rt; ZEROS_64.parse::<CacheString>(), Err(OutOfBounds));
+    assert_eq!(rt;
+        CacheString::try_from_chars(ZEROS_64.chars()),
+        Err(OutOfBounds)
+    );
+    assert_eq!(rt;
+        CacheString::try_from_iterator(["000"; 100]),
+        Err(OutOfBounds)
+    );
+    assert_eq!(rt;
+        CacheString::try_from_utf8(&[b'0'; 1600]),
+        Err(Error::OutOfBounds)
+    );
+    assert_eq!(rt; of_text_that_fits(ZEROS_64), None);
+    assert_eq!(rt; of_pieces_that_fit(&[ZEROS_63, "0"]), None);
+}
+
+#[test]
+fn bytes_that_are_not_utf8(rt: HostRuntime) {
+    let given = [0x00, 0x9F, 0x92, 0x96];
+    assert_eq!(rt; CacheString::try_from_utf8(&given), Err(Error::Utf8));
+    assert_eq!(rt; CacheString::from_utf8(&given), Err(Utf8));
+}
+
+#[test]
+fn texts_from_utf16(rt: HostRuntime) {
+    let units = [0xD834, 0xDD1E, 0x6D, 0x75, 0x73, 0x69, 0x63];
+    let music = CacheString::from_str_truncate("𝄞music");
+    assert_eq!(rt; CacheString::try_from_utf16(&units), Ok(music));
+    assert_eq!(rt; CacheString::from_utf16(&units), Ok(music));
+    assert_eq!(rt; CacheString::from_utf16_lossy(&units), music);
+
+    let units = [0xD834, 0xDD1E, 0x6D, 0x75, 0xD800, 0x69, 0x63];
+    assert_eq!(rt; CacheString::try_from_utf16(&units), Err(Error::Utf16));
+    assert_eq!(rt; CacheString::from_utf16(&units), Err(Utf16));
+    let shown = CacheString::from_utf16_lossy(&units);
+    assert_eq!(rt; shown.0.as_str(), "𝄞mu\u{FFFD}ic");
+
+    let units = [0; 300];
+    let cut = CacheString(ArrayString::from_chars(['\0'; 63]));
+    assert_eq!(rt;
+        CacheString::try_from_utf16(&units),
+        Err(Error::OutOfBounds)
+    );
+    assert_eq!(rt; CacheString::from_utf16(&units), Ok(cut));
+    assert_eq!(rt; CacheString::from_utf16_lossy(&units), cut);
+}
+
+#[test]
+fn a_string_is_split(rt: HostRuntime) {
+    let mut text = CacheString::from_str_truncate("AB🤔CD");
+    let Ok(rest) = text.split_off(6) else {
+        return assert!(rt; false, "6 is a boundary");
+    };
+    assert_eq!(rt; rest.0.as_str(), "CD");
+    assert_eq!(rt; text.0.as_str(), "AB🤔");
+    assert_eq!(rt; text.split_off(20), Err(Error::OutOfBounds));
+    assert_eq!(rt; text.split_off(4), Err(Error::Utf8));
+    assert_eq!(rt; text.split_off(6), Ok(CacheString::new()));
+    assert_eq!(rt; text.0.as_str(), "AB🤔");
+}
+
+fn hash_of<T: Hash>(value: &T) -> u64 {
+    let mut state = DefaultHasher::new();
+    value.hash(&mut state);
+    state.finish()
+}
+
+#[test]
+fn texts_are_compared_and_hashed(rt: HostRuntime) {
+    let low = CacheString::from_str_truncate("\u{FFFF}");
+    let high = CacheString::from_str_truncate("\u{10000}");
+    assert_eq!(rt; low.cmp(&high), Ordering::Less);
+    assert_eq!(rt; high.partial_cmp(&low), Some(Ordering::Greater));
+    assert!(rt; low != high);
+    assert_eq!(rt; hash_of(&low), hash_of(&"\u{FFFF}"));
+}
+
+#[test]
+fn texts_are_printed(rt: HostRuntime) -> Result<(), Fail> {
+    let abc = CacheString::from_str_truncate("abc");
+    let printed = format!(in rt.alloc(); "{abc}|{abc:5}|{abc:?}")?;
+    assert_eq!(rt;
+        printed.as_str(),
+        "abc|abc|CacheString(ArrayString { array: \"abc\", size: 3 })"
+    );
+    Ok(())
+}
+
+#[test]
+fn texts_are_added(rt: HostRuntime) {
+    let mut text = CacheString::from_str_truncate("ab") + "cd";
+    assert_eq!(rt; text.0.as_str(), "abcd");
+    assert!(rt; text.write_str(ZEROS_63).is_err());
+    assert_eq!(rt; text.0.as_str(), "abcd");
+    assert!(rt; write!(text, "{}{}", "e", "f").is_ok());
+    assert_eq!(rt; text.0.as_str(), "abcdef");
+    assert_eq!(rt; (CacheString::new() + ZEROS_64).0.as_str(), ZEROS_63);
+}

@@ -1,0 +1,33 @@
+//! Strings as JSON values of `serde_json`.
+ghost use Rattle.std.specs.Prelude.{◌≡◌, Some, None, IfOk, MatchResult};
+ghost use Rattle.serde_json.specs.View.{view};
+ghost use Rattle.arraystring_core.specs.Json.{json_text, text_within};
+
+use crate::CacheString;
+use arraystring_core::ArrayString;
+pub use arraystring_core::integration::NotText;
+use serde_json::Value;
+use std::alloc::{AllocError, Global};
+
+impl CacheString {
+    /// The JSON text with the characters of the string. It takes memory from `alloc`, and is
+    /// refused only where there is none. Read back it is the string.
+    pub fn to_value(&self, alloc: Global) -> Result<Value, AllocError>
+        ensures text { IfOk result (λ value. view value ≡ json_text self.now.0.text) }
+        ensures reads_back { IfOk result (λ value. text_within (view value) 63 ≡ Some self.now.0.text) }
+    {
+        self.0.to_value(alloc)
+    }
+
+    /// The longest leading run of whole characters of a JSON text that fits. Refused with `NotText`
+    /// where the value is null, a truth value, a number, an array or an object.
+    pub fn from_value(value: &Value) -> Result<Self, NotText>
+        ensures { MatchResult result (λ string. text_within (view value.now) 63 ≡ Some string.0.text)
+            (λ _. text_within (view value.now) 63 ≡ None) }
+    {
+        Ok(CacheString(ArrayString::from_value(value)?))
+    }
+}
+
+#[cfg(test)]
+mod tests;

@@ -1,0 +1,5 @@
+use Rattle.arraystring_core.specs.JsonLaws.{reads_back}
+use Rattle.arraystring_core.proofs.laws.json_reads_back.Goals as goal
+
+pub returns : goal.returns
+returns c = reads_back

@@ -1,0 +1,97 @@
+//! How strings are ordered, hashed and printed, and how texts are added by `+` and `write!`.
+ghost use Rattle.std.specs.Prelude.{◌≡◌, ◌++◌, IsOk, Ok, Some, refl, chars};
+ghost use Rattle.std.specs.Cmp.{on_total, on_po};
+ghost use Rattle.std.specs.Cmp.Lexicographic.{slice_cmp, nat_list_cmp_total, texts_po, texts_ties, bytes_decides};
+ghost use Rattle.std.specs.Hash as fed;
+ghost use Rattle.std.specs.Ordering.{nat_cmp, MatchOrdering};
+ghost use Rattle.arraystring_base.specs.Text.{bytes, cap, IsBefore};
+ghost use Rattle.arraystring_core.specs.Edits.{Makes, from_out_of_bounds, addition, addition_of_cut};
+
+use crate::ArrayString;
+use std::cmp::Ordering;
+use std::fmt;
+use std::hash::{Hash, Hasher};
+use std::ops::Add;
+
+impl<const N: usize> PartialOrd for ArrayString<N> {
+    ghost partial_cmp = { λ s t. Some (slice_cmp nat_cmp s.text t.text) };
+
+    ghost laws = { on_po (λ s. s.text) texts_po };
+
+    fn partial_cmp(&self, other: &Self) -> Option<Ordering> {
+        Some(self.cmp(other))
+    }
+}
+
+impl<const N: usize> Ord for ArrayString<N> {
+    ghost cmp = { λ s t. slice_cmp nat_cmp s.text t.text };
+
+    ghost total = { on_total (λ s. s.text) nat_list_cmp_total };
+
+    ghost matches_partial_cmp = { λ s t. refl };
+
+    ghost matches_eq = { λ s t. texts_ties s.text t.text };
+
+    /// The order of the texts, by the numbers of their characters; a text that begins another is
+    /// less than it. It is the order of the bytes of UTF-8 too.
+    fn cmp(&self, other: &Self) -> Ordering
+        ensures order { result ≡ slice_cmp nat_cmp self.now.text other.now.text }
+        ensures of_bytes { result ≡ slice_cmp nat_cmp (bytes self.now.text) (bytes other.now.text) }
+        ensures says { MatchOrdering result (IsBefore self.now.text other.now.text) (self.now.text ≡ other.now.text) (IsBefore other.now.text self.now.text) }
+    {
+        self.as_str().cmp(other.as_str())
+    }
+}
+
+/// A hasher is written what the text writes.
+impl<const N: usize> Hash for ArrayString<N> {
+    ghost hash_input = { λ s. fed.str (bytes s.text) };
+
+    ghost respects_eq = { (fed.on_Alike (λ s. s.text) (fed.same_Alike (λ t. fed.str (bytes t)) bytes_decides)).fed };
+
+    fn hash<H: Hasher>(&self, state: &mut H) {
+        self.as_str().hash(state);
+    }
+}
+
+/// The text. It does not pad to a width that is asked for.
+impl<const N: usize> fmt::Display for ArrayString<N> {
+    ghost output = { λ s. Some (bytes s.text) };
+
+    ghost styled_output = { λ s _. Some (bytes s.text) };
+
+    fn fmt<W: fmt::Write>(&self, f: &mut fmt::Formatter<W>) -> fmt::Result {
+        f.write_str(self.as_str())
+    }
+}
+
+/// The string with the longest leading run of whole characters of the text that fits behind it.
+impl<'a, const N: usize> Add<&'a str> for ArrayString<N> {
+    type Output = Self;
+
+    ghost add_gives = { λ s given sum. Makes (addition_of_cut s.text (chars given.now) (cap N)) s.text (Ok tt) sum.text };
+
+    fn add(mut self, given: &'a str) -> Self {
+        self.push_str(given);
+        self
+    }
+}
+
+impl<const N: usize> fmt::Write for ArrayString<N> {
+    ghost write_str_gives = { λ s given t. bytes t.text ≡ bytes s.text ++ given };
+
+    /// Adds `string` at the end. Refused where not all of it fits; the text is then as it was. A
+    /// `write!` of several pieces leaves those before the one that is refused.
+    fn write_str(&mut self, string: &str) -> fmt::Result
+        ensures ok { IsOk result → bytes self.new.text ≡ bytes self.old.text ++ string.now }
+        ensures made { Makes (addition self.old.text (chars string.now) (cap N)) self.old.text (from_out_of_bounds result) self.new.text }
+    {
+        match self.try_push_str(string) {
+            Ok(()) => Ok(()),
+            Err(_) => Err(fmt::Error),
+        }
+    }
+}
+
+#[cfg(test)]
+mod tests;

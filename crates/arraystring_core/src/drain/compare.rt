@@ -1,0 +1,76 @@
+//! How two drains are compared, hashed and printed: by what is left.
+ghost use Rattle.std.specs.Prelude.{◌≡◌, Some, nat_eq, refl};
+ghost use Rattle.std.specs.Cmp.{on_equiv, on_per, on_total, on_po, partial_equiv_from_equiv};
+ghost use Rattle.std.specs.Cmp.Lexicographic.{pointwise, slice_cmp, nat_list_eq_equiv, nat_list_cmp_total, texts_po, texts_ties, bytes_decides};
+ghost use Rattle.std.specs.Hash as fed;
+ghost use Rattle.std.specs.Ordering.{nat_cmp, MatchOrdering};
+ghost use Rattle.arraystring_base.specs.Text.{bytes, IsBefore};
+
+use crate::Drain;
+use std::cmp::Ordering;
+use std::fmt;
+use std::hash::{Hash, Hasher};
+
+impl<const N: usize> PartialEq for Drain<N> {
+    ghost eq = { λ s t. pointwise nat_eq s.left t.left };
+
+    ghost laws = { on_per (λ s. s.left) (partial_equiv_from_equiv nat_list_eq_equiv) };
+
+    fn eq(&self, other: &Self) -> bool {
+        self.as_str() == other.as_str()
+    }
+}
+
+impl<const N: usize> Eq for Drain<N> {
+    ghost laws = { on_equiv (λ s. s.left) nat_list_eq_equiv };
+}
+
+impl<const N: usize> PartialOrd for Drain<N> {
+    ghost partial_cmp = { λ s t. Some (slice_cmp nat_cmp s.left t.left) };
+
+    ghost laws = { on_po (λ s. s.left) texts_po };
+
+    fn partial_cmp(&self, other: &Self) -> Option<Ordering> {
+        Some(self.cmp(other))
+    }
+}
+
+impl<const N: usize> Ord for Drain<N> {
+    ghost cmp = { λ s t. slice_cmp nat_cmp s.left t.left };
+
+    ghost total = { on_total (λ s. s.left) nat_list_cmp_total };
+
+    ghost matches_partial_cmp = { λ s t. refl };
+
+    ghost matches_eq = { λ s t. texts_ties s.left t.left };
+
+    /// The order of what is left, by the numbers of the characters. It is the order of the bytes of
+    /// UTF-8 too.
+    fn cmp(&self, other: &Self) -> Ordering
+        ensures order { result ≡ slice_cmp nat_cmp self.now.left other.now.left }
+        ensures of_bytes { result ≡ slice_cmp nat_cmp (bytes self.now.left) (bytes other.now.left) }
+        ensures says { MatchOrdering result (IsBefore self.now.left other.now.left) (self.now.left ≡ other.now.left) (IsBefore other.now.left self.now.left) }
+    {
+        self.as_str().cmp(other.as_str())
+    }
+}
+
+/// A hasher is written what the text of the characters that are left writes.
+impl<const N: usize> Hash for Drain<N> {
+    ghost hash_input = { λ s. fed.str (bytes s.left) };
+
+    ghost respects_eq = { (fed.on_Alike (λ s. s.left) (fed.same_Alike (λ t. fed.str (bytes t)) bytes_decides)).fed };
+
+    fn hash<H: Hasher>(&self, state: &mut H) {
+        self.as_str().hash(state);
+    }
+}
+
+impl<const N: usize> fmt::Debug for Drain<N> {
+    fn fmt<W: fmt::Write>(&self, f: &mut fmt::Formatter<W>) -> fmt::Result {
+        f.debug_tuple("Drain").field(&self.as_str()).finish()
+    }
+}
+
+#[cfg(test)]
+mod tests;

@@ -1,0 +1,59 @@
+//! Strings to JSON values and back, worked out by hand.
+use super::*;
+use std::test::Fail;
+
+#[test]
+fn a_string_is_read_back(rt: HostRuntime) -> Result<(), Fail> {
+    let string = ArrayString::<8>::from("abcdefg");
+    let value = string.to_value(rt.alloc())?;
+    assert_eq!(rt; value.as_str(), Some("abcdefg"));
+    assert_eq!(rt; value.to_string(rt.alloc())?.as_str(), "\"abcdefg\"");
+    assert_eq!(rt; ArrayString::from_value(&value), Ok(string));
+    Ok(())
+}
+
+#[test]
+fn a_text_is_cut_to_the_capacity(rt: HostRuntime) -> Result<(), Fail> {
+    let letters = "abcdefghij".repeat(rt.alloc(), 7)?;
+    let value = Value::String(letters);
+    let string = ArrayString::<63>::from_value(&value)?;
+    let sixty = "abcdefghijabcdefghijabcdefghijabcdefghijabcdefghijabcdefghij";
+    assert_eq!(rt; string.as_str().get(..60), Some(sixty));
+    assert_eq!(rt; string.as_str().get(60..), Some("abc"));
+    Ok(())
+}
+
+#[test]
+fn escapes_are_characters(rt: HostRuntime) -> Result<(), Fail> {
+    let value = Value::from_str(rt.alloc(), "\"a\\u00e9\\n\"")?;
+    let string = ArrayString::<8>::from_value(&value)?;
+    assert_eq!(rt; string.as_str(), "aé\n");
+    Ok(())
+}
+
+#[test]
+fn other_values_are_not_texts(rt: HostRuntime) -> Result<(), Fail> {
+    for text in [
+        "null", "true", "false", "7", "-7", "0.5", "1e300", "[]", "[\"a\"]", "{}",
+    ] {
+        let value = Value::from_str(rt.alloc(), text)?;
+        assert_eq!(rt;
+            ArrayString::<63>::from_value(&value),
+            Err(NotText),
+            "{text}"
+        );
+    }
+    Ok(())
+}
+
+fn as_std_error<E: Error>(error: E) -> E {
+    error
+}
+
+#[test]
+fn the_refusal_prints_its_name(rt: HostRuntime) -> Result<(), Fail> {
+    let refusal = as_std_error(NotText);
+    let printed = format!(in rt.alloc(); "{refusal}|{refusal:12}|{refusal:?}|{refusal:>12?}")?;
+    assert_eq!(rt; printed.as_str(), "NotText|NotText|NotText|NotText");
+    Ok(())
+}
