@@ -8,6 +8,7 @@ pub use Rattle.arraystring_core.specs.Stored
 pub use Rattle.arraystring_core.specs.StoredLaws
 pub use Rattle.arraystring_core.specs.Edits
 pub use Rattle.arraystring_core.specs.EditLaws
+pub use Rattle.arraystring_core.specs.Asked
+pub use Rattle.arraystring_core.specs.Ranges
+pub use Rattle.arraystring_core.specs.Drained
 pub mod Refusals
-pub mod Runs
-pub mod Script

@@ -1,12 +1,9 @@
-//! `ArrayString`, a string of bounded size in an array inside the value, and a runner of commands
-//! that edit one.
+//! `ArrayString`, a string of bounded size in an array inside the value.
 #![tactic(auto)]
-
-pub mod runner;
 
 pub use arraystring_base::error;
 pub use arraystring_base::error::Error;
-pub use arraystring_core::ArrayString;
+pub use arraystring_core::{ArrayString, Drain, drain};
 
 /// Boundaries, cuts and moves of bytes. Sizes and places count bytes of UTF-8.
 pub mod utils {

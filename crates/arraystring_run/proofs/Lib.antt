@@ -1,0 +1,5 @@
+pub mod RunLemmas
+pub mod ScriptLemmas
+pub mod PrintLemmas
+pub mod ReadingLemmas
+pub mod LineLemmas
