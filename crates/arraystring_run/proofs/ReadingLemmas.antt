@@ -6,7 +6,7 @@ use Rattle.arraystring.specs.TextLaws.{chars-bytes}
 use Rattle.arraystring.specs.Edits.{addition, addition_of_cut, popping}
 use Rattle.arraystring_run.specs.declared.commands.Command.{Command}
 use Rattle.arraystring_run.specs.declared.commands.Command.TheVariants.{TryPush, TryPushStr, PushStr, Pop, Len, Capacity, AsStr}
-use Rattle.arraystring_run.specs.Runs.{Done, Number, Text, Edited, edit, made, leaves, char_or_none, Ran, after}
+use Rattle.arraystring_run.specs.Runs.{Number, Text, Edited, edit, made, done, leaves, char_or_none, Ran, after}
 use Rattle.arraystring_run.specs.Script.{IsLineOf, AreLinesOf, IsBadAt}
 use Rattle.arraystring_run.proofs.ScriptLemmas.{char-utf8}
 
@@ -15,10 +15,10 @@ heard : List ℕ → List ℕ → ℕ → Edited
 heard line t n =
     let first = get_or line 0 0 in
     if first == 116 then
-    (if get_or line 8 0 == 32 then made (λ _. Done) (addition t (chars (drop 9 line)) n) t
-    else made (λ _. Done) (addition t (chars (drop 13 line)) n) t)
+    (if get_or line 8 0 == 32 then done (addition t (chars (drop 9 line)) n) t
+    else done (addition t (chars (drop 13 line)) n) t)
     else if first == 112 then
-    (if get_or line 1 0 == 117 then made (λ _. Done) (addition_of_cut t (chars (drop 9 line)) n) t
+    (if get_or line 1 0 == 117 then done (addition_of_cut t (chars (drop 9 line)) n) t
     else made char_or_none (popping t) t)
     else if first == 108 then leaves (Number (size t)) t
     else if first == 99 then leaves (Number n) t
@@ -29,13 +29,14 @@ one-of c is = chars-bytes (utf8 c) (c ∷ []) (char-utf8 c is) (sym (append-nil 
 
 heard-is : (line : List ℕ) (c : Command) (t : List ℕ) (n : ℕ) → IsLineOf line c → edit c t n ≡ heard line t n
 unfolding heard
-heard-is line (TryPush c) t n is = rw is.1 (ap (λ given. made (λ _. Done) (addition t given n) t) (sym (one-of c is.0)))
+heard-is line (TryPush c) t n is = rw is.1 (ap (λ given. done (addition t given n) t) (sym (one-of c is.0)))
 heard-is line (TryPushStr given) t n is = rw is.1 refl
 heard-is line (PushStr given) t n is = rw is.1 refl
 heard-is line Pop t n is = rw is refl
 heard-is line Len t n is = rw is refl
 heard-is line Capacity t n is = rw is refl
 heard-is line AsStr t n is = rw is refl
+heard-is line _ t n is = absurd is
 
 pub one-reading : (all : List (List ℕ)) (cs ds : List Command) (t : List ℕ) (n : ℕ) → AreLinesOf all cs → AreLinesOf all ds
     → after cs t n ≡ after ds t n

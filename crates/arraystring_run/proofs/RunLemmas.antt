@@ -1,10 +1,13 @@
 -- Runs of commands, part way.
-use Rattle.std.proofs.Common.{◌≡◌, ℕ, suc, ◌+◌, ◌<◌, ◌≤◌, List, [], ◌∷◌, ◌++◌, length, drop, get_or, refl, sym, ap, ◌∙◌, arith, Option, Some, None, Bool, true, false, nat_lt, if◌then◌else◌, append_assoc, inl, inr}
-use Rattle.std.proofs.lemmas.List.{append-nil, drop_all}
+use Rattle.std.proofs.Common.{◌≡◌, ℕ, suc, ◌+◌, ◌<◌, ◌≤◌, List, [], ◌∷◌, ◌++◌, length, drop, get_or, refl, sym, ap, ◌∙◌, arith, Option, Some, None, Bool, true, false, nat_lt, if◌then◌else◌, append_assoc, inl, inr, reverse, nat_le, ◌&&◌}
+use Rattle.std.proofs.lemmas.List.{append-nil, drop_all, reverse-append}
 use Rattle.std.proofs.lemmas.Bool.{cases_lt, lt-ltb, le-ltb}
 use Rattle.std.proofs.Math.Seq.{drop-cons}
-use Rattle.arraystring.specs.Text.{size, cut}
+use Rattle.arraystring.specs.Text.{size, cut, front, back, boundary}
+use Rattle.arraystring.specs.TextLaws.{size-append}
 use Rattle.arraystring.specs.CutLaws.{cut-fits, cut-all}
+use Rattle.arraystring.specs.BoundaryLaws.{front-back}
+use Rattle.arraystring.specs.Edits.{part, part_in}
 use Rattle.arraystring_run.specs.Runs.{Said, edit, tight, after, first_tight_from, earlier_of}
 use Rattle.arraystring_run.specs.declared.commands.Command.{Command}
 
@@ -17,6 +20,25 @@ is_cut-larger t n =
       | inr fits ↦ let same : size (cut t n) ≡ size t = ap size (cut-all t n fits) in
           le-ltb n (size t) fits ∙ sym (le-ltb (size (cut t n)) (size t) (omega arith))
     ]
+
+-- a part of a text is no larger than the text
+part-fits : (t : List ℕ) (start end : ℕ) → size (part t start end) ≤ size t
+part-fits t start end =
+    let of_front = ap size (front-back (front t end) start) in
+    omega (arith, of_front, ap size (front-back t end), size-append (front (front t end) start) (back (front t end) start), size-append (front t end) (back t end))
+
+pub part_in-fits : (t : List ℕ) (start end : ℕ) (p : List ℕ) → part_in t start end ≡ Some p → size p ≤ size t
+part_in-fits t start end p e = found-by (nat_le start end && (boundary t start && boundary t end)) e where
+  found-by : (b : Bool) → (if b then Some (part t start end) else None) ≡ Some p → size p ≤ size t
+  found-by true found = let same : part t start end ≡ p = cc in rw (← same) (part-fits t start end)
+  found-by false found = absurd (cc)
+
+-- the last character is given, and the others are left
+pub one-back : (text left rest whole : List ℕ) (c : ℕ) → left ≡ rest ++ c ∷ [] → text ++ reverse left ≡ whole
+    → (text ++ c ∷ []) ++ reverse rest ≡ whole
+one-back text left rest whole c e walked =
+    append_assoc text (c ∷ []) (reverse rest) ∙ ap (λ l. text ++ l) (sym (reverse-append rest (c ∷ [])))
+    ∙ ap (λ l. text ++ reverse l) (sym e) ∙ walked
 
 earlier_of-none : (first : Option ℕ) → earlier_of first None ≡ first
 earlier_of-none None = refl

@@ -27,6 +27,7 @@ line-utf8 bs Pop is = rw is (codes "pop", (refl, refl))
 line-utf8 bs Len is = rw is (codes "len", (refl, refl))
 line-utf8 bs Capacity is = rw is (codes "capacity", (refl, refl))
 line-utf8 bs AsStr is = rw is (codes "as_str", (refl, refl))
+line-utf8 bs _ is = absurd is
 
 -- what follows the space after a word is well formed
 pub past-space : (word rest : List ℕ) → IsUtf8 (word ++ 0x20 ∷ rest) → IsWellFormed rest

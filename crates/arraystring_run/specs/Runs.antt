@@ -1,10 +1,11 @@
 -- What commands do to a text: each edits a list of characters and is answered.
-use Rattle.std.specs.Prelude.{ℕ, ◌+◌, ◌-◌, List, [], ◌∷◌, Bool, true, false, Option, Some, None, Result, Ok, Err, if◌then◌else◌, nat_lt, chars}
+use Rattle.std.specs.Prelude.{ℕ, ◌+◌, ◌-◌, ◌==◌, ◌&&◌, List, [], ◌∷◌, Bool, true, false, not, Option, Some, None, is_none, Result, Ok, Err, if◌then◌else◌, nat_lt, min, chars, reverse}
+use Rattle.std.specs.List.{filter}
 use Rattle.arraystring.specs.Text.{size, cut}
-use Rattle.arraystring.specs.Edits.{Edit, Cause, Room, answer_of, text_of, first_cause, addition, addition_of_cut, popping}
-use Rattle.arraystring.specs.Refusals.{Error}
+use Rattle.arraystring.specs.Edits.{Edit, Cause, Room, answer_of, text_of, first_cause, part_in, addition, addition_of_cut, popping, truncation, trimming, removal, insertion, insertion_of_cut, split, clearing, draining, replacement, uppercase, lowercase}
+use Rattle.arraystring.specs.Refusals.{Error, OutOfBounds}
 use Rattle.arraystring_run.specs.declared.commands.Command.{Command}
-use Rattle.arraystring_run.specs.declared.commands.Command.TheVariants.{TryPush, TryPushStr, PushStr, Pop, Len, Capacity, AsStr}
+use Rattle.arraystring_run.specs.declared.commands.Command.TheVariants.{TryPush, TryPushStr, PushStr, Pop, Truncate, Trim, Remove, RetainNot, TryInsert, TryInsertStr, InsertStr, SplitOff, Clear, Drain, DrainThrough, DrainBack, ReplaceRange, Upper, Lower, Get, Len, Capacity, AsStr}
 use Rattle.arraystring_run.specs.declared.commands.Reply.{Reply}
 use Rattle.arraystring_run.specs.declared.commands.Reply.TheVariants as reply
 
@@ -14,6 +15,7 @@ pub data Said : Type 0 where
   Char : ℕ → Said
   NoChar : Said
   Text : List ℕ → Said
+  NoText : Said
   Number : ℕ → Said
   Refused : Error → Said
 
@@ -22,6 +24,7 @@ said reply.Done = Done
 said (reply.Char c) = Char c
 said reply.NoChar = NoChar
 said (reply.Text s) = Text s.text
+said reply.NoText = NoText
 said (reply.Number n) = Number n
 said (reply.Refused e) = Refused e
 
@@ -42,19 +45,56 @@ said_of say (Err e) = Refused e
 abbrev pub made : {A : Type 0} → (A → Said) → Edit A → List ℕ → Edited
 made say row t = leaves (said_of say (answer_of row)) (text_of row t)
 
+-- a row that is answered Done
+abbrev pub done : Edit (Unit {0}) → List ℕ → Edited
+done row t = made (λ _. Done) row t
+
 abbrev pub char_or_none : Option ℕ → Said
 char_or_none None = NoChar
 char_or_none (Some c) = Char c
 
+abbrev pub text_or_none : Option (List ℕ) → Said
+text_or_none None = NoText
+text_or_none (Some t) = Text t
+
+-- the characters other than c
+abbrev pub without : ℕ → List ℕ → List ℕ
+without c t = filter (λ d. not (d == c)) t
+
+-- the end of a range through the byte `last`
+abbrev pub end_through : ℕ → ℕ
+end_through last = min (last + 1) 255
+
 -- what a command does to t at the capacity n
 abbrev pub edit : Command → List ℕ → ℕ → Edited
-edit (TryPush c) t n = made (λ _. Done) (addition t (c ∷ []) n) t
-edit (TryPushStr given) t n = made (λ _. Done) (addition t (chars given.now) n) t
-edit (PushStr given) t n = made (λ _. Done) (addition_of_cut t (chars given.now) n) t
+edit (TryPush c) t n = done (addition t (c ∷ []) n) t
+edit (TryPushStr given) t n = done (addition t (chars given.now) n) t
+edit (PushStr given) t n = done (addition_of_cut t (chars given.now) n) t
 edit Pop t n = made char_or_none (popping t) t
+edit (Truncate i) t n = done (truncation t i) t
+edit Trim t n = done (trimming t) t
+edit (Remove i) t n = made Char (removal t i) t
+edit (RetainNot c) t n = leaves Done (without c t)
+edit (TryInsert i c) t n = done (insertion t i (c ∷ []) n) t
+edit (TryInsertStr i given) t n = done (insertion t i (chars given.now) n) t
+edit (InsertStr i given) t n = done (insertion_of_cut t i (chars given.now) n) t
+edit (SplitOff i) t n = made Text (split t i) t
+edit Clear t n = done clearing t
+edit (Drain start end) t n = made Text (draining t start end) t
+edit (DrainThrough start last) t n = made Text (draining t start (end_through last)) t
+edit (DrainBack start end) t n = made (λ removed. Text (reverse removed)) (draining t start end) t
+edit (ReplaceRange start end given) t n = done (replacement t start end (chars given.now) n) t
+edit Upper t n = done (uppercase t) t
+edit Lower t n = done (lowercase t) t
+edit (Get start end) t n = leaves (text_or_none (part_in t start end)) t
 edit Len t n = leaves (Number (size t)) t
 edit Capacity t n = leaves (Number n) t
 edit AsStr t n = leaves (Text t) t
+
+-- whether an answer is the refusal of a place past the text, or of want of room
+abbrev pub is_out_of_bounds : {A : Type 0} → Result A Error → Bool
+is_out_of_bounds (Err OutOfBounds) = true
+is_out_of_bounds _ = false
 
 -- whether the first cause that holds is want of room
 abbrev pub is_room : Option Cause → Bool
@@ -64,7 +104,10 @@ is_room _ = false
 abbrev pub lacks_room : {A : Type 0} → Edit A → Bool
 lacks_room row = is_room (first_cause row.tests)
 
--- whether less than all of `given` is added to t at the capacity n
+abbrev pub is_made : {A : Type 0} → Edit A → Bool
+is_made row = is_none (first_cause row.tests)
+
+-- whether less than all of `given` fits behind t at the capacity n
 abbrev pub adds_less : List ℕ → List ℕ → ℕ → Bool
 adds_less t given n = nat_lt (size (cut given (n - size t))) (size given)
 
@@ -73,10 +116,11 @@ abbrev pub tight : Command → List ℕ → ℕ → Bool
 tight (TryPush c) t n = lacks_room (addition t (c ∷ []) n)
 tight (TryPushStr given) t n = lacks_room (addition t (chars given.now) n)
 tight (PushStr given) t n = adds_less t (chars given.now) n
-tight Pop t n = false
-tight Len t n = false
-tight Capacity t n = false
-tight AsStr t n = false
+tight (TryInsert i c) t n = lacks_room (insertion t i (c ∷ []) n)
+tight (TryInsertStr i given) t n = lacks_room (insertion t i (chars given.now) n)
+tight (InsertStr i given) t n = is_made (insertion_of_cut t i (chars given.now) n) && adds_less t (chars given.now) n
+tight (ReplaceRange start end given) t n = lacks_room (replacement t start end (chars given.now) n)
+tight _ t n = false
 
 -- the replies and the last text of a run of commands, each on the text that the one before left
 pub record Ran : Type 0 where

@@ -5,7 +5,7 @@ use Rattle.std.specs.Cmp.Lexicographic.{pointwise}
 use Rattle.std.specs.Io.KnownBytes.{Appends}
 use Rattle.arraystring.specs.Text.{utf8, bytes, IsScalarValue, IsWellFormed}
 use Rattle.arraystring.specs.Names.{error_name}
-use Rattle.arraystring_run.specs.Runs.{after, Said, Done, Char, NoChar, Text, Number, Refused}
+use Rattle.arraystring_run.specs.Runs.{after, Said, Done, Char, NoChar, Text, NoText, Number, Refused}
 use Rattle.arraystring_run.specs.declared.commands.Command.{Command}
 use Rattle.arraystring_run.specs.declared.commands.Command.TheVariants.{TryPush, TryPushStr, PushStr, Pop, Len, Capacity, AsStr}
 use Rattle.arraystring_run.specs.declared.player.PlayFault.{PlayFault}
@@ -51,6 +51,7 @@ IsLineOf bs Pop = bs ≡ codes "pop"
 IsLineOf bs Len = bs ≡ codes "len"
 IsLineOf bs Capacity = bs ≡ codes "capacity"
 IsLineOf bs AsStr = bs ≡ codes "as_str"
+IsLineOf bs _ = ⊥
 
 -- each line is that of the command beside it
 abbrev pub AreLinesOf : List (List ℕ) → List Command → Type 0
@@ -81,6 +82,7 @@ printed Done = codes "done"
 printed (Char c) = codes "char " ++ utf8 c
 printed NoChar = codes "no char"
 printed (Text t) = codes "text " ++ bytes t
+printed NoText = codes "no text"
 printed (Number n) = codes "number " ++ decimal n
 printed (Refused e) = codes "refused " ++ error_name e
 

@@ -38,6 +38,7 @@ fn write_reply<const N: usize, O: Write>(output: &mut O, reply: &Reply<N>) -> io
             let text = text.as_str();
             writeln!(output, "text {text}")
         }
+        Reply::NoText => output.write_all(b"no text\n"),
         Reply::Number(number) => writeln!(output, "number {number}"),
         Reply::Refused(error) => writeln!(output, "refused {error}"),
     }
