@@ -91,3 +91,6 @@ impl<const N: usize> DoubleEndedIterator for Drain<N> {
 }
 
 impl<const N: usize> FusedIterator for Drain<N> {}
+
+#[cfg(test)]
+mod tests;
