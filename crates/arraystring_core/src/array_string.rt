@@ -8,7 +8,7 @@ ghost use Rattle.arraystring_core.specs.Edits.{Makes, from_out_of_bounds, additi
 
 use crate::place::{copy_in, open_gap};
 use arraystring_base::error::OutOfBounds;
-use arraystring_base::utils::{Steps, encode, is_boundary, last_char, truncate_str};
+use arraystring_base::utils::{Steps, encode, is_boundary, last_char, shift, truncate_str};
 use std::marker::Model;
 use std::{fmt, str};
 
@@ -122,8 +122,13 @@ impl<const N: usize> ArrayString<N> {
         requires { size self.old.text + width ch ≤ cap N }
         ensures { self.new.text ≡ self.old.text ++ ch ∷ [] }
     {
-        let len = self.len() as usize;
-        self.put_char(len, ch);
+        let end = self.start as usize + self.size as usize;
+        let len = ch.len_utf8();
+        if end + len > Self::capacity() as usize {
+            return self.push_at_start(ch);
+        }
+        self.size = (self.size as usize + len) as u8;
+        encode(ch, &mut self.array, end);
     }
 
     /// Adds `string` at the end. Refused with `OutOfBounds` where not all of it fits; the text is
@@ -151,8 +156,12 @@ impl<const N: usize> ArrayString<N> {
         requires { size self.old.text + size (chars string.now) ≤ cap N }
         ensures { self.new.text ≡ self.old.text ++ chars string.now }
     {
-        let len = self.len() as usize;
-        self.splice(len, len, string, &mut Steps::new());
+        let end = self.start as usize + self.size as usize;
+        if end + string.len() > Self::capacity() as usize {
+            return self.push_str_at_start(string);
+        }
+        self.size = (self.size as usize + string.len()) as u8;
+        copy_in(&mut self.array, end, string.as_bytes());
     }
 
     /// Takes the last character; `None` where the text is empty.
@@ -182,6 +191,28 @@ impl<const N: usize> ArrayString<N> {
         ensures { result ≡ boundary self.now.text at }
     {
         is_boundary(self.as_str(), at)
+    }
+
+    /// Adds `ch` at the end of a text that has to move to the start of the array for it.
+    #[cold]
+    #[inline(never)]
+    fn push_at_start(&mut self, ch: char)
+        requires { size self.old.text + width ch ≤ cap N }
+        ensures { self.new.text ≡ self.old.text ++ ch ∷ [] }
+    {
+        let len = self.len() as usize;
+        self.put_char(len, ch);
+    }
+
+    /// Adds `string` at the end of a text that has to move to the start of the array for it.
+    #[cold]
+    #[inline(never)]
+    fn push_str_at_start(&mut self, string: &str)
+        requires { size self.old.text + size (chars string.now) ≤ cap N }
+        ensures { self.new.text ≡ self.old.text ++ chars string.now }
+    {
+        let len = self.len() as usize;
+        self.splice(len, len, string, &mut Steps::new());
     }
 
     /// Puts `given` in place of the text between two boundaries. There must be room for it.
@@ -233,13 +264,13 @@ impl<const N: usize> ArrayString<N> {
         ensures counted { steps.old.moved ≤ steps.new.moved }
         ensures looked { steps.new.looked ≡ steps.old.looked }
     {
-        // A look at a field, after which the proof knows that the text fits.
-        let _ = &self.array;
         if start == 0 {
-            self.drop_front(end);
-        } else {
-            self.splice(start, end, "", steps);
+            return self.drop_front(end);
         }
+        let (place, size) = (self.start as usize, self.size as usize);
+        let tail = size - end;
+        self.size = (start + tail) as u8;
+        shift(&mut self.array, place + end, place + start, tail, steps);
     }
 
     /// Drops the part before a boundary, without a move.
