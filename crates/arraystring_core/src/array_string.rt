@@ -53,6 +53,7 @@ impl<const N: usize> Model for ArrayString<N> {
 
 impl<const N: usize> ArrayString<N> {
     /// The empty string.
+    #[inline]
     pub const fn new() -> Self
         ensures { result.text ≡ [] }
     {
@@ -64,6 +65,7 @@ impl<const N: usize> ArrayString<N> {
     }
 
     /// How many bytes fit: the lesser of `N` and 255.
+    #[inline]
     pub const fn capacity() -> u8
         ensures { result ≡ cap N }
     {
@@ -71,6 +73,7 @@ impl<const N: usize> ArrayString<N> {
     }
 
     /// How many bytes the text takes, which is never more than the capacity.
+    #[inline]
     pub const fn len(&self) -> u8
         ensures value { result ≡ size self.now.text }
         ensures fits { result ≤ cap N }
@@ -79,6 +82,7 @@ impl<const N: usize> ArrayString<N> {
     }
 
     /// Whether the text has no character.
+    #[inline]
     pub const fn is_empty(&self) -> bool
         ensures { IsTrue result ↔ (self.now.text ≡ []) }
     {
@@ -86,6 +90,7 @@ impl<const N: usize> ArrayString<N> {
     }
 
     /// The text, lent without a copy. Each of its characters is a Unicode scalar value.
+    #[inline]
     pub fn as_str(&self) -> &str
         ensures bytes { result.now ≡ bytes self.now.text }
         ensures text { IsText self.now.text }
@@ -97,6 +102,7 @@ impl<const N: usize> ArrayString<N> {
     }
 
     /// The UTF-8 of the text, lent without a copy.
+    #[inline]
     pub fn as_bytes(&self) -> &[u8]
         ensures { result.now ≡ bytes self.now.text }
     {
@@ -107,6 +113,7 @@ impl<const N: usize> ArrayString<N> {
 
     /// Adds `ch` at the end. Refused with `OutOfBounds` where it does not fit; the text is then as
     /// it was.
+    #[inline]
     pub fn try_push(&mut self, ch: char) -> Result<(), OutOfBounds>
         ensures { Makes (addition self.old.text (ch ∷ []) (cap N)) self.old.text (from_out_of_bounds result) self.new.text }
     {
@@ -118,6 +125,7 @@ impl<const N: usize> ArrayString<N> {
     }
 
     /// Adds `ch` at the end. It must fit.
+    #[inline]
     pub fn push_unchecked(&mut self, ch: char)
         requires { size self.old.text + width ch ≤ cap N }
         ensures { self.new.text ≡ self.old.text ++ ch ∷ [] }
@@ -133,6 +141,7 @@ impl<const N: usize> ArrayString<N> {
 
     /// Adds `string` at the end. Refused with `OutOfBounds` where not all of it fits; the text is
     /// then as it was.
+    #[inline]
     pub fn try_push_str(&mut self, string: &str) -> Result<(), OutOfBounds>
         ensures { Makes (addition self.old.text (chars string.now) (cap N)) self.old.text (from_out_of_bounds result) self.new.text }
     {
@@ -152,6 +161,7 @@ impl<const N: usize> ArrayString<N> {
     }
 
     /// Adds `string` at the end. All of it must fit.
+    #[inline]
     pub fn push_str_unchecked(&mut self, string: &str)
         requires { size self.old.text + size (chars string.now) ≤ cap N }
         ensures { self.new.text ≡ self.old.text ++ chars string.now }
