@@ -1,5 +1,0 @@
-pub mod RunLemmas
-pub mod ScriptLemmas
-pub mod PrintLemmas
-pub mod ReadingLemmas
-pub mod LineLemmas

@@ -23,5 +23,3 @@ pub use Rattle.arraystring_core.specs.Json
 pub use Rattle.arraystring_core.specs.JsonLaws
 pub mod Cached
 pub mod Refusals
-pub mod Runs
-pub mod Script

@@ -9,7 +9,7 @@ use Rattle.arraystring_core.specs.Edits.{last_of, all_but_last}
 use Rattle.arraystring_core.specs.EditLaws.{last_of-push, all_but_last-push}
 
 -- a text that is not empty ends with a character
-last-split : (c : ℕ) (cs : List ℕ) → (xs : List ℕ) × (x : ℕ) × (c ∷ cs ≡ xs ++ x ∷ [])
+pub last-split : (c : ℕ) (cs : List ℕ) → (xs : List ℕ) × (x : ℕ) × (c ∷ cs ≡ xs ++ x ∷ [])
 last-split c [] = ([], c, refl)
 last-split c (d ∷ ds) = let rest = last-split d ds in (c ∷ rest.0, rest.1, ap (λ l. c ∷ l) rest.2)
 

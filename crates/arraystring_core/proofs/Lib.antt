@@ -6,3 +6,5 @@ pub mod TrimLemmas
 pub mod RetainLemmas
 pub mod RangeLemmas
 pub mod DrainLemmas
+pub mod BackLemmas
+pub mod WalkedLemmas

@@ -1,10 +1,11 @@
 -- What a contract sees of a `Drain`.
-use Rattle.std.specs.Prelude.{◌≡◌, ℕ, ◌≤◌, ◌++◌, List, Result, Ok, Err, IsTrue}
+use Rattle.std.specs.Prelude.{◌≡◌, ℕ, ◌≤◌, ◌++◌, List, [], ◌∷◌, Option, Some, None, Result, Ok, Err, IsTrue, drop}
 use Rattle.std.proofs.Common.{ap}
 use Rattle.arraystring_base.specs.Text.{size, cap, front, back, boundary}
 use Rattle.arraystring_base.specs.BoundaryLaws.{front-back, front-size}
 use Rattle.arraystring_base.specs.declared.error.Error.{Error}
 use Rattle.arraystring_core.specs.Stored.{Stored}
+use Rattle.arraystring_core.specs.Edits.{first_of, last_of, all_but_last}
 
 -- the characters that are left, those that were given from the front, and numbers that no public clause names
 pub record Drained : Type 0 where
@@ -39,3 +40,29 @@ module _ (places : ℕ) (removed : Stored) (i : ℕ) (is : IsDrained places remo
 
   pub drained-front : size (drained removed i).given ≡ i
   drained-front = front-size removed.text i is.at
+
+-- the end from which a character is asked for
+pub data End : Type 0 where
+  Front : End
+  Back : End
+
+-- what a walk gave from the front and from the back, each in the order in which it was given, and what it left
+pub record Walked : Type 0 where
+  pub fronts : List ℕ
+  pub left : List ℕ
+  pub backs : List ℕ
+
+-- a walk that gave these first
+abbrev pub from_front : Option ℕ → Walked → Walked
+from_front None w = w
+from_front (Some c) w = record { fronts = c ∷ w.fronts; left = w.left; backs = w.backs }
+
+abbrev pub from_back : Option ℕ → Walked → Walked
+from_back None w = w
+from_back (Some c) w = record { fronts = w.fronts; left = w.left; backs = c ∷ w.backs }
+
+-- t walked by one end after the other: each gives its character, if there is one, and leaves the others
+abbrev pub walked : List End → List ℕ → Walked
+walked [] t = record { fronts = []; left = t; backs = [] }
+walked (Front ∷ ends) t = from_front (first_of t) (walked ends (drop 1 t))
+walked (Back ∷ ends) t = from_back (last_of t) (walked ends (all_but_last t))

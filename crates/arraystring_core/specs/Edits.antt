@@ -85,6 +85,11 @@ abbrev pub with_text : Result Stored Error → Result (List ℕ) Error
 with_text (Ok s) = Ok s.text
 with_text (Err e) = Err e
 
+-- the first character of a text
+abbrev pub first_of : List ℕ → Option ℕ
+first_of [] = None
+first_of (c ∷ cs) = Some c
+
 -- the last character of a text, and those before it
 abbrev pub last_of : List ℕ → Option ℕ
 last_of [] = None

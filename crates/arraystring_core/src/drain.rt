@@ -52,6 +52,7 @@ impl<const N: usize> Drain<N> {
     pub fn as_str(&self) -> &str
         ensures bytes { result.now ≡ bytes self.now.left }
         ensures text { IsText self.now.left }
+        ensures fits { size self.now.left ≤ cap N }
     {
         &self.removed.as_str()[self.front as usize..]
     }
@@ -91,3 +92,6 @@ impl<const N: usize> DoubleEndedIterator for Drain<N> {
 }
 
 impl<const N: usize> FusedIterator for Drain<N> {}
+
+#[cfg(test)]
+mod tests;

@@ -12,3 +12,6 @@ pub mod utils;
 
 pub use array_string::ArrayString;
 pub use drain::Drain;
+
+#[cfg(test)]
+mod tests;

@@ -105,3 +105,6 @@ impl<const N: usize> ArrayString<N> {
         self.splice(start, start, string, &mut Steps::new());
     }
 }
+
+#[cfg(test)]
+mod tests;

@@ -229,3 +229,6 @@ impl<const N: usize> ArrayString<N> {
         Ok(())
     }
 }
+
+#[cfg(test)]
+mod tests;

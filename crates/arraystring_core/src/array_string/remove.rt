@@ -144,3 +144,6 @@ fn leading_spaces(text: &str) -> usize
 {
     text.chars().take_while(|ch| *ch == ' ').count()
 }
+
+#[cfg(test)]
+mod tests;

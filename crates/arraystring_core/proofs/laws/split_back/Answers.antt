@@ -1,0 +1,5 @@
+use Rattle.arraystring_base.specs.BoundaryLaws.{front-back}
+use Rattle.arraystring_core.proofs.laws.split_back.Goals as goal
+
+pub returns : goal.returns
+returns c = λ t i e. front-back t i

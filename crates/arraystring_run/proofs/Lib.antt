@@ -1,0 +1,6 @@
+pub mod RunLemmas
+pub mod ScriptLemmas
+pub mod PrintLemmas
+pub mod ReadingLemmas
+pub mod LineLemmas
+pub mod AgreementLemmas

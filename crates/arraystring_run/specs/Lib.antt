@@ -1,0 +1,17 @@
+pub use Rattle.arraystring.specs.Text
+pub use Rattle.arraystring.specs.TextLaws
+pub use Rattle.arraystring.specs.CutLaws
+pub use Rattle.arraystring.specs.BoundaryLaws
+pub use Rattle.arraystring.specs.Counts
+pub use Rattle.arraystring.specs.Names
+pub use Rattle.arraystring.specs.Stored
+pub use Rattle.arraystring.specs.StoredLaws
+pub use Rattle.arraystring.specs.Edits
+pub use Rattle.arraystring.specs.EditLaws
+pub use Rattle.arraystring.specs.Asked
+pub use Rattle.arraystring.specs.Ranges
+pub use Rattle.arraystring.specs.Drained
+pub use Rattle.arraystring.specs.Refusals
+pub mod Runs
+pub mod Agreement
+pub mod Script
