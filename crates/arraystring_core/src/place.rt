@@ -41,9 +41,38 @@ pub(crate) fn open_gap<const N: usize>(
         shift(array, place + end, place + (start + len), tail, steps);
         return place;
     }
+    open_gap_at_start(array, place, size, start, end, len, steps);
+    0
+}
+
+/// The same where the bytes move to the start of the array.
+#[cold]
+#[inline(never)]
+fn open_gap_at_start<const N: usize>(
+    array: &mut [u8; N],
+    place: usize,
+    size: usize,
+    start: usize,
+    end: usize,
+    len: usize,
+    steps: &mut Steps,
+)
+    requires order { start ≤ end }
+    requires within { end ≤ size }
+    requires held { place + size ≤ N }
+    requires room { start + (len + (size - end)) ≤ N }
+    requires away { 0 < place }
+    requires countable { steps.old.moved ≤ 2 ^ 63 }
+    ensures len { length array.new ≡ N }
+    ensures front { take start array.new ≡ take start (drop place array.old) }
+    ensures tail { take (size - end) (drop (start + len) array.new) ≡ take (size - end) (drop (place + end) array.old) }
+    ensures most { steps.new.moved ≤ steps.old.moved + (start + (size - end)) }
+    ensures least { steps.old.moved + start ≤ steps.new.moved }
+    ensures looked { steps.new.looked ≡ steps.old.looked }
+{
+    let tail = size - end;
     shift(array, place, 0, start, steps);
     shift(array, place + end, start + len, tail, steps);
-    0
 }
 
 /// Asks `f` once for each character of the text in the `size` bytes that stand from `place` on, in
