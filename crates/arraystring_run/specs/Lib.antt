@@ -13,4 +13,5 @@ pub use Rattle.arraystring.specs.Ranges
 pub use Rattle.arraystring.specs.Drained
 pub use Rattle.arraystring.specs.Refusals
 pub mod Runs
+pub mod Grammar
 pub mod Script
