@@ -1,8 +1,9 @@
--- What a contract sees of a call that makes a wrapper of a string.
+-- What a contract sees of a `CacheString`.
 use Rattle.std.specs.Prelude.{Result, Ok, Err}
 use Rattle.arraystring_core.specs.Stored.{Stored}
+use Rattle.arraystring.specs.declared.cache_string.CacheString.{CacheString}
 
--- the result, with the string inside in place of the wrapper
-abbrev pub inside : {C E : Type 0} → (C → Stored) → Result C E → Result Stored E
-inside string (Ok made) = Ok (string made)
-inside string (Err e) = Err e
+-- the result of a call that makes a `CacheString`, seen as the string inside
+abbrev pub inside : {E : Type 0} → Result CacheString E → Result Stored E
+inside (Ok made) = Ok made.0
+inside (Err e) = Err e

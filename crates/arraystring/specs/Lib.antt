@@ -14,7 +14,6 @@ pub use Rattle.arraystring_core.specs.EditLaws
 pub use Rattle.arraystring_core.specs.Made
 pub use Rattle.arraystring_core.specs.MadeLaws
 pub use Rattle.arraystring_core.specs.Taken
-pub use Rattle.arraystring_core.specs.TakenLaws
 pub use Rattle.arraystring_core.specs.Asked
 pub use Rattle.arraystring_core.specs.Ranges
 pub use Rattle.arraystring_core.specs.Drained

@@ -40,7 +40,7 @@ impl CacheString {
 
     /// The text `string`. Refused with `OutOfBounds` where it is larger than the capacity.
     pub fn try_from_str(string: &str) -> Result<Self, OutOfBounds>
-        ensures { IsWholeOrRefused (chars string.now) 63 (from_out_of_bounds (inside (λ s. s.0) result)) }
+        ensures { IsWholeOrRefused (chars string.now) 63 (from_out_of_bounds (inside result)) }
     {
         Ok(CacheString(ArrayString::try_from_str(string)?))
     }
@@ -67,9 +67,9 @@ impl CacheString {
     ) -> Result<Self, OutOfBounds>
         requires { IsFiniteIterable I.into_iter_gives I.IntoIter.can_next I.IntoIter.remaining pieces }
         ensures taken { (taken : List (Bor (List ℕ))) × Takes I.into_iter_gives I.IntoIter.next_gives joined_pieces pieces 63 taken
-            × IsWholeOrRefused (joined_pieces taken) 63 (from_out_of_bounds (inside (λ s. s.0) result)) }
+            × IsWholeOrRefused (joined_pieces taken) 63 (from_out_of_bounds (inside result)) }
         ensures whole { (all : List (List ℕ)) → Gives I.into_iter_gives I.IntoIter.next_gives piece_text pieces all
-            → IsWholeOrRefused (joined all) 63 (from_out_of_bounds (inside (λ s. s.0) result)) }
+            → IsWholeOrRefused (joined all) 63 (from_out_of_bounds (inside result)) }
     {
         Ok(CacheString(ArrayString::try_from_iterator(pieces)?))
     }
@@ -105,9 +105,9 @@ impl CacheString {
     ) -> Result<Self, OutOfBounds>
         requires { IsFiniteIterable I.into_iter_gives I.IntoIter.can_next I.IntoIter.remaining characters }
         ensures taken { (taken : List ℕ) × Takes I.into_iter_gives I.IntoIter.next_gives (λ cs. cs) characters 63 taken
-            × IsWholeOrRefused taken 63 (from_out_of_bounds (inside (λ s. s.0) result)) }
+            × IsWholeOrRefused taken 63 (from_out_of_bounds (inside result)) }
         ensures whole { (all : List ℕ) → Gives I.into_iter_gives I.IntoIter.next_gives (λ c. c) characters all
-            → IsWholeOrRefused all 63 (from_out_of_bounds (inside (λ s. s.0) result)) }
+            → IsWholeOrRefused all 63 (from_out_of_bounds (inside result)) }
     {
         Ok(CacheString(ArrayString::try_from_chars(characters)?))
     }
@@ -140,8 +140,8 @@ impl CacheString {
     /// well-formed UTF-8 (the Unicode Standard, section 3.9), and else with `Error::OutOfBounds`
     /// where it is larger than the capacity.
     pub fn try_from_utf8(given: &[u8]) -> Result<Self, Error>
-        ensures malformed { ¬ (IsWellFormed given.now) → inside (λ s. s.0) result ≡ Err error.Utf8 }
-        ensures whole { (t : List ℕ) → IsText t → bytes t ≡ given.now → IsWholeOrRefused t 63 (inside (λ s. s.0) result) }
+        ensures malformed { ¬ (IsWellFormed given.now) → inside result ≡ Err error.Utf8 }
+        ensures whole { (t : List ℕ) → IsText t → bytes t ≡ given.now → IsWholeOrRefused t 63 (inside result) }
         ensures bytes { IfOk result (λ made. bytes made.0.text ≡ given.now) }
     {
         Ok(CacheString(ArrayString::try_from_utf8(given)?))
@@ -170,7 +170,7 @@ impl CacheString {
     /// The text whose UTF-16 `units` is. It is read item by item up to the first that ends it: a
     /// lone surrogate is refused with `Utf16`, a character that does not fit with `OutOfBounds`.
     pub fn try_from_utf16(units: &[u16]) -> Result<Self, Error>
-        ensures { (items : List Unit16) → IsReading units.now items → GivesWhole (first_stop items 63) (inside (λ s. s.0) result) }
+        ensures { (items : List Unit16) → IsReading units.now items → GivesWhole (first_stop items 63) (inside result) }
     {
         Ok(CacheString(ArrayString::try_from_utf16(units)?))
     }
@@ -179,7 +179,7 @@ impl CacheString {
     /// lone surrogate stands right behind it, also where the string is full; what stands behind a
     /// character that does not fit is not looked at.
     pub fn from_utf16(units: &[u16]) -> Result<Self, Utf16>
-        ensures { (items : List Unit16) → IsReading units.now items → GivesRun (first_stop items 63) (inside (λ s. s.0) result) }
+        ensures { (items : List Unit16) → IsReading units.now items → GivesRun (first_stop items 63) (inside result) }
     {
         Ok(CacheString(ArrayString::from_utf16(units)?))
     }
@@ -196,7 +196,7 @@ impl CacheString {
     /// allowed. Refused with `OutOfBounds` where `at` is past the text, then with `Utf8` where it is
     /// inside a character; the text is then as it was.
     pub fn split_off(&mut self, at: u8) -> Result<Self, Error>
-        ensures { Makes (split self.old.0.text at) self.old.0.text (with_text (inside (λ s. s.0) result)) self.new.0.text }
+        ensures { Makes (split self.old.0.text at) self.old.0.text (with_text (inside result)) self.new.0.text }
     {
         Ok(CacheString(self.0.split_off(at)?))
     }
@@ -215,7 +215,7 @@ impl From<ArrayString<63>> for CacheString {
 impl FromStr for CacheString {
     type Err = OutOfBounds;
 
-    ghost from_str_gives = { λ string result. IsWholeOrRefused (chars string) 63 (from_out_of_bounds (inside (λ s. s.0) result)) };
+    ghost from_str_gives = { λ string result. IsWholeOrRefused (chars string) 63 (from_out_of_bounds (inside result)) };
 
     fn from_str(string: &str) -> Result<Self, OutOfBounds> {
         Self::try_from_str(string)

@@ -4,9 +4,8 @@
 mod cache_string;
 pub mod integration;
 
-pub use arraystring_base::error;
 pub use arraystring_base::error::Error;
-pub use arraystring_base::utf16;
+pub use arraystring_base::{error, utf16};
 pub use arraystring_core::{ArrayString, Drain, drain};
 pub use cache_string::CacheString;
 
@@ -44,3 +43,6 @@ pub mod prelude {
     pub use crate::error::{OutOfBounds, Utf8, Utf16};
     pub use crate::{ArrayString, CacheString, MaxString, SmallString};
 }
+
+#[cfg(test)]
+mod tests;

@@ -172,3 +172,89 @@ fn no_commands_leave_the_text(rt: HostRuntime) -> Result<(), Fail> {
     assert_eq!(rt; text.as_str(), "🤔");
     Ok(())
 }
+
+/// Runs the commands on a text at two capacities, and says whether the replies are the wanted ones.
+/// Answers the two first tight positions and the two last texts.
+fn at_two_capacities<const N: usize, const M: usize>(
+    rt: &impl Abort,
+    alloc: Global,
+    text: &str,
+    commands: &[Command<'_>],
+    wanted: (&[Reply<N>], &[Reply<M>]),
+) -> Result<
+    (
+        (Option<usize>, ArrayString<N>),
+        (Option<usize>, ArrayString<M>),
+    ),
+    Fail,
+> {
+    let mut first: ArrayString<N> = text_of(text);
+    let mut second: ArrayString<M> = text_of(text);
+    let (small, large) = run_both(alloc, &mut first, &mut second, commands)?;
+    assert_eq!(rt; small.replies.as_slice(), wanted.0);
+    assert_eq!(rt; large.replies.as_slice(), wanted.1);
+    Ok(((small.first_tight, first), (large.first_tight, second)))
+}
+
+#[test]
+fn an_insertion_that_fits_at_one_capacity(rt: HostRuntime) -> Result<(), Fail> {
+    let commands = [Command::PushStr("ABCD🤔"), Command::TryInsert(1, 'A')];
+    let small = [Reply::Done, Reply::Refused(Error::OutOfBounds)];
+    let large = [Reply::Done, Reply::Done];
+    let wanted = (small.as_slice(), large.as_slice());
+    let (first, second) = at_two_capacities(&rt, rt.alloc(), "", &commands, wanted)?;
+    assert_eq!(rt; first, (Some(1), text_of::<8>("ABCD🤔")));
+    assert_eq!(rt; second, (None, text_of::<23>("AABCD🤔")));
+    let wanted = ([Reply::Done], [Reply::Done]);
+    let wanted = (wanted.0.as_slice(), wanted.1.as_slice());
+    let (first, second) = at_two_capacities(&rt, rt.alloc(), "", &commands[..1], wanted)?;
+    assert_eq!(rt; first, (None, text_of::<8>("ABCD🤔")));
+    assert_eq!(rt; second, (None, text_of::<23>("ABCD🤔")));
+    Ok(())
+}
+
+#[test]
+fn a_refusal_for_room_hides_one_for_a_place(rt: HostRuntime) -> Result<(), Fail> {
+    let (start, end) = (1, 1);
+    let commands = [Command::ReplaceRange {
+        start,
+        end,
+        given: "x",
+    }];
+    let small = [Reply::Refused(Error::OutOfBounds)];
+    let large = [Reply::Refused(Error::Utf8)];
+    let wanted = (small.as_slice(), large.as_slice());
+    let (first, second) = at_two_capacities(&rt, rt.alloc(), "🤔", &commands, wanted)?;
+    assert_eq!(rt; first, (Some(0), text_of::<4>("🤔")));
+    assert_eq!(rt; second, (None, text_of::<8>("🤔")));
+    Ok(())
+}
+
+#[test]
+fn a_refusal_for_a_place_is_not_tight(rt: HostRuntime) -> Result<(), Fail> {
+    let commands = [Command::Remove(9), Command::Capacity, Command::TryPush('c')];
+    let past = Error::OutOfBounds;
+    let small = [Reply::Refused(past), Reply::Number(4), Reply::Done];
+    let large = [Reply::Refused(past), Reply::Number(23), Reply::Done];
+    let wanted = (small.as_slice(), large.as_slice());
+    let (first, second) = at_two_capacities(&rt, rt.alloc(), "ab", &commands, wanted)?;
+    assert_eq!(rt; first, (None, text_of::<4>("abc")));
+    assert_eq!(rt; second, (None, text_of::<23>("abc")));
+    Ok(())
+}
+
+#[test]
+fn replies_may_differ_behind_a_tight_command(rt: HostRuntime) -> Result<(), Fail> {
+    let commands = [
+        Command::PushStr("ab"),
+        Command::PushStr("cdef"),
+        Command::Pop,
+    ];
+    let small = [Reply::Done, Reply::Done, Reply::Char('e')];
+    let large = [Reply::Done, Reply::Done, Reply::Char('f')];
+    let wanted = (small.as_slice(), large.as_slice());
+    let (first, second) = at_two_capacities(&rt, rt.alloc(), "", &commands, wanted)?;
+    assert_eq!(rt; first, (Some(1), text_of::<5>("abcd")));
+    assert_eq!(rt; second, (None, text_of::<23>("abcde")));
+    Ok(())
+}
