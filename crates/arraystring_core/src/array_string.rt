@@ -117,7 +117,7 @@ impl<const N: usize> ArrayString<N> {
     pub fn try_push(&mut self, ch: char) -> Result<(), OutOfBounds>
         ensures { Makes (addition self.old.text (ch ∷ []) (cap N)) self.old.text (from_out_of_bounds result) self.new.text }
     {
-        if self.len() as usize + ch.len_utf8() > Self::capacity() as usize {
+        if !Self::has_room(self.len() as usize, ch) {
             return Err(OutOfBounds);
         }
         self.push_unchecked(ch);
@@ -131,12 +131,11 @@ impl<const N: usize> ArrayString<N> {
         ensures { self.new.text ≡ self.old.text ++ ch ∷ [] }
     {
         let end = self.start as usize + self.size as usize;
-        let len = ch.len_utf8();
-        if end + len > Self::capacity() as usize {
+        if !Self::has_room(end, ch) {
             return self.push_at_start(ch);
         }
+        let len = encode(ch, &mut self.array, end);
         self.size = (self.size as usize + len) as u8;
-        encode(ch, &mut self.array, end);
     }
 
     /// Adds `string` at the end. Refused with `OutOfBounds` where not all of it fits; the text is
@@ -201,6 +200,17 @@ impl<const N: usize> ArrayString<N> {
         ensures { result ≡ boundary self.now.text at }
     {
         is_boundary(self.as_str(), at)
+    }
+
+    /// Whether there is room for `ch` behind `len` bytes. Where there is room for four more, its
+    /// width is not asked.
+    #[inline]
+    fn has_room(len: usize, ch: char) -> bool
+        requires { len ≤ 255 }
+        ensures { IsTrue result ↔ (len + width ch ≤ cap N) }
+    {
+        let capacity = Self::capacity() as usize;
+        len + 4 <= capacity || len + ch.len_utf8() <= capacity
     }
 
     /// Adds `ch` at the end of a text that has to move to the start of the array for it.

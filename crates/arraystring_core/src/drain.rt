@@ -74,8 +74,9 @@ impl<const N: usize> Iterator for Drain<N> {
     ghost remaining = { item_count (λ d. d.left) };
 
     fn next(&mut self) -> Option<char> {
-        let ch = self.as_str().chars().next()?;
-        self.front += ch.len_utf8() as u8;
+        let mut left = self.as_str().chars();
+        let ch = left.next()?;
+        self.front = self.removed.len() - left.as_str().len() as u8;
         Some(ch)
     }
 }

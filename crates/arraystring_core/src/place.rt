@@ -1,7 +1,7 @@
 //! Bytes that stand at a place of an array.
 ghost use Rattle.std.specs.Prelude.{◌≡◌, ◌≢◌, ◌+◌, ◌-◌, ◌^◌, ◌<◌, ◌≤◌, ◌++◌, ℕ, List, min, length, take, drop, chars, IsUtf8};
 ghost use Rattle.std.specs.List.Retain.{IsFiltered};
-ghost use Rattle.arraystring_base.specs.Text.{cap, utf8};
+ghost use Rattle.arraystring_base.specs.Text.{cap, utf8, width};
 ghost use Rattle.arraystring_core.specs.Asked.{MayBeAsked};
 
 use arraystring_base::utils::{Steps, shift};
@@ -97,8 +97,7 @@ pub(crate) fn retain_at<const N: usize, F: FnMut(char) -> bool + Drop>(
     let mut run = 0;
     let mut read = 0;
     while read < size {
-        let ch = char_at(array, place + read, place + size);
-        let width = ch.len_utf8();
+        let (ch, width) = char_at(array, place + read, place + size);
         if !f(ch) {
             shift(
                 array,
@@ -122,19 +121,23 @@ pub(crate) fn retain_at<const N: usize, F: FnMut(char) -> bool + Drop>(
     kept + (size - run)
 }
 
-/// The first character of the text in the bytes from `start` to `end`.
-fn char_at<const N: usize>(array: &[u8; N], start: usize, end: usize) -> char
+/// The first character of the text in the bytes from `start` to `end`, and how many it takes.
+fn char_at<const N: usize>(array: &[u8; N], start: usize, end: usize) -> (char, usize)
     requires some { start < end }
     requires within { end ≤ N }
     requires text { IsUtf8 (take (end - start) (drop start array.now)) }
-    ensures { (rest : List ℕ) × (take (end - start) (drop start array.now) ≡ utf8 result ++ rest) }
+    ensures first { (rest : List ℕ) × (take (end - start) (drop start array.now) ≡ utf8 result.0 ++ rest) }
+    ensures width { result.1 ≡ width result.0 }
+    ensures some { 0 < result.1 }
+    ensures within { start + result.1 ≤ end }
 {
     let all = &array[..];
     let text = unsafe { str::from_utf8_unchecked(&all[start..end]) };
-    let Some(ch) = text.chars().next() else {
+    let mut rest = text.chars();
+    let Some(ch) = rest.next() else {
         unreachable!();
     };
-    ch
+    (ch, text.len() - rest.as_str().len())
 }
 
 /// Writes `given` over the bytes from `at` on.
