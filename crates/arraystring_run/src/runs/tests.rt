@@ -583,7 +583,7 @@ fn at_two_capacities<const N: usize, const M: usize>(
 #[test]
 fn an_insertion_that_fits_at_one_capacity(rt: HostRuntime) -> Result<(), Fail> {
     let commands = [Command::PushStr("ABCD🤔"), Command::TryInsert(1, 'A')];
-    let small = [Reply::Done, Reply::Refused(Error::OutOfBounds)];
+    let small = [Reply::Done, Reply::Refused(OutOfBounds)];
     let large = [Reply::Done, Reply::Done];
     let wanted = (small.as_slice(), large.as_slice());
     let (first, second) = at_two_capacities(&rt, rt.alloc(), "", &commands, wanted)?;
@@ -605,8 +605,8 @@ fn a_refusal_for_room_hides_one_for_a_place(rt: HostRuntime) -> Result<(), Fail>
         end,
         given: "x",
     }];
-    let small = [Reply::Refused(Error::OutOfBounds)];
-    let large = [Reply::Refused(Error::Utf8)];
+    let small = [Reply::Refused(OutOfBounds)];
+    let large = [Reply::Refused(Utf8)];
     let wanted = (small.as_slice(), large.as_slice());
     let (first, second) = at_two_capacities(&rt, rt.alloc(), "🤔", &commands, wanted)?;
     assert_eq!(rt; first, (Some(0), text_of::<4>("🤔")));
@@ -617,9 +617,8 @@ fn a_refusal_for_room_hides_one_for_a_place(rt: HostRuntime) -> Result<(), Fail>
 #[test]
 fn a_refusal_for_a_place_is_not_tight(rt: HostRuntime) -> Result<(), Fail> {
     let commands = [Command::Remove(9), Command::Capacity, Command::TryPush('c')];
-    let past = Error::OutOfBounds;
-    let small = [Reply::Refused(past), Reply::Number(4), Reply::Done];
-    let large = [Reply::Refused(past), Reply::Number(23), Reply::Done];
+    let small = [Reply::Refused(OutOfBounds), Reply::Number(4), Reply::Done];
+    let large = [Reply::Refused(OutOfBounds), Reply::Number(23), Reply::Done];
     let wanted = (small.as_slice(), large.as_slice());
     let (first, second) = at_two_capacities(&rt, rt.alloc(), "ab", &commands, wanted)?;
     assert_eq!(rt; first, (None, text_of::<4>("abc")));
