@@ -32,3 +32,6 @@ pub mod prelude {
     pub use crate::error::{OutOfBounds, Utf8, Utf16};
     pub use crate::{ArrayString, CacheString, MaxString, SmallString};
 }
+
+#[cfg(test)]
+mod tests;
