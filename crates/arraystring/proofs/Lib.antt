@@ -1,5 +1,2 @@
-pub mod RunLemmas
-pub mod ScriptLemmas
-pub mod PrintLemmas
-pub mod ReadingLemmas
-pub mod LineLemmas
+-- for the proofs of callers that hand in an iterator
+pub use Rattle.arraystring_core.specs.TakenLaws

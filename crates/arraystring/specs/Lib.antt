@@ -14,7 +14,6 @@ pub use Rattle.arraystring_core.specs.EditLaws
 pub use Rattle.arraystring_core.specs.Made
 pub use Rattle.arraystring_core.specs.MadeLaws
 pub use Rattle.arraystring_core.specs.Taken
-pub use Rattle.arraystring_core.specs.TakenLaws
 pub use Rattle.arraystring_core.specs.Asked
 pub use Rattle.arraystring_core.specs.Ranges
 pub use Rattle.arraystring_core.specs.Drained
@@ -23,5 +22,3 @@ pub use Rattle.arraystring_core.specs.Json
 pub use Rattle.arraystring_core.specs.JsonLaws
 pub mod Cached
 pub mod Refusals
-pub mod Runs
-pub mod Script

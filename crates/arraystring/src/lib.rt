@@ -1,14 +1,12 @@
-//! `ArrayString`, a string of bounded size in an array inside the value, under all its paths, and a
-//! runner of commands that edit one.
+//! `ArrayString`, a string of bounded size in an array inside the value, under all its paths.
 #![tactic(auto)]
 
 mod cache_string;
 pub mod integration;
-pub mod runner;
 
-pub use arraystring_base::error;
 pub use arraystring_base::error::Error;
-pub use arraystring_core::{ArrayString, drain, laws};
+pub use arraystring_base::{error, utf16};
+pub use arraystring_core::{ArrayString, Drain, drain};
 pub use cache_string::CacheString;
 
 /// A string of at most 23 bytes.
@@ -26,6 +24,19 @@ pub mod utils {
     pub use arraystring_core::utils::is_char_boundary;
 }
 
+/// Laws, which callers may rely on. Each does nothing when it is called and carries its fact in its
+/// contract.
+pub mod laws {
+    pub use arraystring_base::laws::{
+        boundaries, cut_of_cut, lent_text, longest_cut, one_stop, one_text, only_reading,
+        order_of_bytes, order_of_texts, parts, text_reading,
+    };
+    pub use arraystring_core::laws::{
+        equal_texts, json_reads_back, pieces_make_one_text, replaced_back, split_back,
+        units_read_back, walks, what_comes_past_the_room,
+    };
+}
+
 /// What most callers take.
 pub mod prelude {
     pub use crate::drain::Drain;
@@ -33,5 +44,7 @@ pub mod prelude {
     pub use crate::{ArrayString, CacheString, MaxString, SmallString};
 }
 
+#[cfg(test)]
+mod parity;
 #[cfg(test)]
 mod tests;

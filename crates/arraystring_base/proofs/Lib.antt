@@ -1,2 +1,3 @@
-pub mod WalkLemmas
+pub mod CutLemmas
+pub mod LastLemmas
 pub mod ReadingLemmas

@@ -73,7 +73,7 @@ pointwise-bytes a b =
     same_from_decides {P = a ≡ b} _ _ (λ e. bytes_same a b (by_bytes.0 e), λ e. by_bytes.1 (ap bytes e)) by_text
 
 -- std's tests of characters
-scalar-is : (c : ℕ) → IsScalarValue c → scalar c ≡ true
+pub scalar-is : (c : ℕ) → IsScalarValue c → scalar c ≡ true
 scalar-is c (inl lt) = rw (lt-ltb c 55296 lt) refl
 scalar-is c (inr (le, lt)) =
     let past : 55296 ≤ c = omega arith in rw (le-ltb c 55296 past, le-leb 57344 c le, lt-ltb c 1114112 lt) refl

@@ -4,7 +4,7 @@ ghost use Rattle.arraystring_base.specs.Text.{bytes, cut, utf8, width, size, bou
 
 use crate::error::OutOfBounds;
 pub use crate::steps::{Steps, look};
-use std::str;
+use std::char;
 
 /// Whether `size` is at most `limit`; refused with `OutOfBounds` where it is greater.
 pub fn is_inside_boundary(size: usize, limit: usize) -> Result<(), OutOfBounds>
@@ -150,33 +150,36 @@ fn last_boundary(text: &str, limit: usize, steps: &mut Steps) -> usize
     end
 }
 
-/// The last character of a text that has one, and where it begins.
+/// The last character of a text that has one, and where it begins. The bytes are read from the end
+/// back to the one that does not continue a character.
 fn char_before_end(text: &str, steps: &mut Steps) -> (usize, char)
     requires some { 0 < length text.now }
     requires countable { steps.old.looked + 4 < 2 ^ 64 }
-    ensures before { result.0 < length text.now }
-    ensures boundary { IsCharBoundary text.now result.0 }
-    ensures last { drop result.0 text.now ≡ utf8 result.1 }
+    ensures last { (front : List ℕ) × (chars text.now ≡ front ++ result.1 ∷ []) × (size front ≡ result.0) }
     ensures looked { steps.new.looked ≤ steps.old.looked + 4 }
     ensures counted { steps.old.looked ≤ steps.new.looked }
     ensures moved { steps.new.moved ≡ steps.old.moved }
 {
     let all = text.as_bytes();
-    let mut start = all.len() - 1;
-    let mut seen = [0; 4];
-    let mut place = 3;
-    seen[3] = look(all, start, steps);
-    while start > 0 && continues(seen[place]) {
-        start -= 1;
-        place -= 1;
-        seen[place] = look(all, start, steps);
+    let end = all.len();
+    let last = look(all, end - 1, steps) as u32;
+    if last < 0x80 {
+        return (end - 1, unsafe { char::from_u32_unchecked(last) });
     }
-    let copy = &seen[..];
-    let last = unsafe { str::from_utf8_unchecked(&copy[place..]) };
-    let Some(ch) = last.chars().next() else {
-        unreachable!();
-    };
-    (start, ch)
+    let second = look(all, end - 2, steps) as u32;
+    if second >= 0xC0 {
+        let code = (second - 0xC0) * 64 + (last - 0x80);
+        return (end - 2, unsafe { char::from_u32_unchecked(code) });
+    }
+    let third = look(all, end - 3, steps) as u32;
+    if third >= 0xC0 {
+        let code = (third - 0xE0) * 4096 + (second - 0x80) * 64 + (last - 0x80);
+        return (end - 3, unsafe { char::from_u32_unchecked(code) });
+    }
+    let fourth = look(all, end - 4, steps) as u32;
+    let front = (fourth - 0xF0) * 262_144 + (third - 0x80) * 4096;
+    let code = front + (second - 0x80) * 64 + (last - 0x80);
+    (end - 4, unsafe { char::from_u32_unchecked(code) })
 }
 
 #[cfg(test)]

@@ -1,7 +1,7 @@
 //! Plays a script of commands from standard input to standard output.
 #![tactic(auto)]
 
-use arraystring::runner::serve;
+use arraystring_run::serve;
 use std::io::{BufWriter, ErrorKind, Write};
 use std::process::ExitCode;
 use std::{env, io};

@@ -1,8 +1,8 @@
 -- A character comes off the front, or off the back, of what is left.
-use Rattle.std.proofs.Common.{◌≡◌, ◌≢◌, ℕ, ◌+◌, ◌≤◌, List, [], ◌∷◌, ◌++◌, refl, sym, ap, ◌∙◌, arith, Some, append_assoc}
-use Rattle.arraystring_base.specs.Text.{width, size, cap, front, back, boundary}
-use Rattle.arraystring_base.specs.TextLaws.{size-append}
-use Rattle.arraystring_base.specs.BoundaryLaws.{boundary-is, boundary-within, back-is, front-back, front-size, next-char}
+use Rattle.std.proofs.Common.{◌≡◌, ◌≢◌, ℕ, ◌+◌, List, [], ◌∷◌, ◌++◌, refl, sym, ap, ◌∙◌, arith, Some, append_assoc, length, chars, IsUtf8}
+use Rattle.arraystring_base.specs.Text.{width, size, front, back, boundary}
+use Rattle.arraystring_base.specs.TextLaws.{size-append, size-lent}
+use Rattle.arraystring_base.specs.BoundaryLaws.{boundary-is, back-is, front-back, front-size, next-char}
 use Rattle.arraystring_core.specs.Stored.{Stored}
 use Rattle.arraystring_core.specs.Drained.{IsDrained}
 use Rattle.arraystring_core.specs.Edits.{last_of, all_but_last}
@@ -26,14 +26,15 @@ module _ (places : ℕ) (removed : Stored) (i : ℕ) (is : IsDrained places remo
     pub front-rest : back removed.text (i + width c) ≡ rest
     front-rest = (next-char removed.text i is.at c rest (shown ∙ starts)).1
 
-    pub front-within : i + width c ≤ cap places
-    front-within = omega (arith, boundary-within removed.text (i + width c) front-given.at, is.fits)
-
   whole : front removed.text i ++ left ≡ removed.text
   whole = ap (λ l. front removed.text i ++ l) (sym shown) ∙ front-back removed.text i
 
   whole-size : i + size left ≡ size removed.text
   whole-size = omega (arith, ap size whole, size-append (front removed.text i) left, front-size removed.text i is.at)
+
+  -- the bytes that are left behind the first character
+  pub front-stepped : (c : ℕ) (rest : List ℕ) → left ≡ c ∷ chars rest → IsUtf8 rest → i + width c + length rest ≡ size removed.text
+  front-stepped c rest starts u = omega (arith, whole-size, ap size starts, size-lent rest u)
 
   -- where the places meet, nothing is left
   pub none-left : i ≡ size removed.text → size left ≡ 0

@@ -1,12 +1,14 @@
 -- A text that stands at a place of its array, and what it is once a part of it is replaced, dropped or kept.
-use Rattle.std.proofs.Common.{◌≡◌, ℕ, ◌+◌, ◌-◌, ◌≤◌, List, ◌++◌, length, take, drop, refl, sym, ap, ◌∙◌, arith, IsUtf8, chars, true, take-take}
-use Rattle.std.proofs.lemmas.Str.{IsUtf8-append, IsUtf8-take, IsUtf8-drop}
-use Rattle.std.proofs.lemmas.List.{drop-take, drop-drop}
+use Rattle.std.proofs.Common.{◌≡◌, ℕ, ◌+◌, ◌-◌, ◌≤◌, List, [], ◌++◌, length, take, drop, refl, sym, ap, ◌∙◌, arith, IsUtf8, chars, true, take-take}
+use Rattle.std.proofs.lemmas.Str.{IsUtf8-append, IsUtf8-take, IsUtf8-drop, IsUtf8-nil, chars-nil}
+use Rattle.std.proofs.lemmas.List.{drop-take, drop-drop, append-nil}
+use Rattle.std.proofs.Math.Seq.{take-add}
 use Rattle.arraystring_base.specs.Text.{size, bytes, cap, front, back, boundary}
 use Rattle.arraystring_base.specs.TextLaws.{chars-bytes, bytes-chars, bytes-append}
-use Rattle.arraystring_base.specs.BoundaryLaws.{boundary-within, bytes-front, bytes-back, boundary-to_bytes}
+use Rattle.arraystring_base.specs.BoundaryLaws.{boundary-within, boundary-end, front-end, back-end, bytes-front, bytes-back, boundary-to_bytes}
 use Rattle.arraystring_core.specs.Stored.{Stored, stored, IsStored}
 use Rattle.arraystring_core.specs.StoredLaws.{stored-utf8, opened-bytes, opened-size}
+use Rattle.arraystring_core.proofs.GapLemmas.{gap-filled, written-length, shift-before, shift-moved, shift-length}
 
 -- xs shows the text t in its first n bytes; `new` shows it with `given` in place of the part from start to end
 module _ (t xs : List ℕ) (n : ℕ) (is : bytes t ≡ take n xs) (u : IsUtf8 (take n xs)) (given : List ℕ) (g : IsUtf8 given)
@@ -68,6 +70,89 @@ module _ (places : ℕ) (array : List ℕ) (p n : ℕ) (is : IsStored places arr
     replaced-chars =
         let low : start ≤ n = omega (arith, replaced-within) in
         replaced-text v.text (drop p array) n (opened-bytes places array p n is v e) (stored-utf8 places array p n is) given u start end low replaced-within b d _ written
+
+-- `given` was written behind the text
+module _ (places : ℕ) (array : List ℕ) (p n : ℕ) (is : IsStored places array p n) (v : Stored) (e : stored array p n ≡ v)
+    (given : List ℕ) (u : IsUtf8 given) (room : p + n + length given ≤ cap places) (after : List ℕ)
+    (written : after ≡ take (p + n) array ++ (given ++ drop (p + n + length given) array)) where
+  appended-end : boundary v.text n ≡ true
+  appended-end = ap (boundary v.text) (sym (opened-size places array p n is v e)) ∙ boundary-end v.text
+
+  appended-fits : size v.text - (n - n) + length given ≤ cap places
+  appended-fits = omega (arith, opened-size places array p n is v e, room)
+
+  appended-size : n + (length given + (n - n)) ≡ n + length given
+  appended-size = omega arith
+
+  appended-within : p + n + length given ≤ length array
+  appended-within = omega (arith, room, is.1)
+
+  appended-parts : take (n + (length given + (n - n))) (drop p after) ≡ take n (drop p array) ++ (given ++ take (n - n) (drop n (drop p array)))
+  appended-parts =
+      let none : n - n ≡ 0 = omega arith in
+      gap-filled array array after given p p n n (n - n) appended-within refl (rw none refl) written
+
+  pub appended-stored : IsStored places after p (n + length given)
+  appended-stored =
+      let held : p + (n + (length given + (n - n))) ≤ cap places = omega (arith, room) in
+      let long = written-length array after given (p + n) appended-within written ∙ is.1 in
+      rw (← appended-size)
+      (replaced-stored places array p n is v e n n given (omega arith) appended-end appended-end appended-fits u after p long held appended-parts)
+
+  pub appended-chars : chars (take (n + length given) (drop p after)) ≡ v.text ++ chars given
+  appended-chars =
+      let held : p + (n + (length given + (n - n))) ≤ cap places = omega (arith, room) in
+      let long = written-length array after given (p + n) appended-within written ∙ is.1 in
+      ap (λ m. chars (take m (drop p after))) (sym appended-size)
+      ∙ replaced-chars places array p n is v e n n given (omega arith) appended-end appended-end appended-fits u after p long held appended-parts
+      ∙ ap (λ m. front v.text m ++ (chars given ++ back v.text m)) (sym (opened-size places array p n is v e))
+      ∙ ap (λ l. l ++ (chars given ++ back v.text (size v.text))) (front-end v.text)
+      ∙ ap (λ l. v.text ++ (chars given ++ l)) (back-end v.text) ∙ ap (λ l. v.text ++ l) (append-nil (chars given))
+
+-- the bytes from the boundary `end` on were moved to the boundary `start`
+module _ (places : ℕ) (array : List ℕ) (p n : ℕ) (is : IsStored places array p n) (v : Stored) (e : stored array p n ≡ v)
+    (start end : ℕ) (order : start ≤ end) (b : boundary v.text start ≡ true) (d : boundary v.text end ≡ true) (after : List ℕ)
+    (moved : after ≡ take (p + start) array ++ (take (n - end) (drop (p + end) array) ++ drop (p + start + (n - end)) array)) where
+  closed-within : end ≤ n
+  closed-within = omega (arith, opened-size places array p n is v e, boundary-within v.text end d)
+
+  closed-source : p + end + (n - end) ≤ length array
+  closed-source = omega (arith, closed-within, is.0, is.1)
+
+  closed-target : p + start + (n - end) ≤ length array
+  closed-target = omega (arith, closed-within, is.0, is.1)
+
+  closed-fits : size v.text - (end - start) + length {A = ℕ} [] ≤ cap places
+  closed-fits = omega (arith, opened-size places array p n is v e, is.0)
+
+  closed-size : start + (length {A = ℕ} [] + (n - end)) ≡ start + (n - end)
+  closed-size = omega arith
+
+  closed-parts : take (start + (length {A = ℕ} [] + (n - end))) (drop p after) ≡ take start (drop p array) ++ ([] ++ take (n - end) (drop end (drop p array)))
+  closed-parts =
+      ap (λ m. take m (drop p after)) closed-size ∙ take-add start (n - end) (drop p after)
+      ∙ ap (λ l. l ++ take (n - end) (drop start (drop p after)))
+      (shift-before array after (p + end) (p + start) (n - end) closed-source closed-target moved p start (omega arith))
+      ∙ ap (λ l. take start (drop p array) ++ take (n - end) l) (drop-drop start p after)
+      ∙ ap (λ l. take start (drop p array) ++ l) (shift-moved array after (p + end) (p + start) (n - end) closed-source closed-target moved)
+      ∙ ap (λ l. take start (drop p array) ++ take (n - end) l) (sym (drop-drop end p array))
+
+  closed-long : length after ≡ places
+  closed-long = shift-length array after (p + end) (p + start) (n - end) closed-source closed-target moved ∙ is.1
+
+  closed-held : p + (start + (length {A = ℕ} [] + (n - end))) ≤ cap places
+  closed-held = omega (arith, closed-within, is.0)
+
+  pub closed-stored : IsStored places after p (start + (n - end))
+  closed-stored =
+      rw (← closed-size)
+      (replaced-stored places array p n is v e start end [] order b d closed-fits IsUtf8-nil after p closed-long closed-held closed-parts)
+
+  pub closed-chars : chars (take (start + (n - end)) (drop p after)) ≡ front v.text start ++ back v.text end
+  closed-chars =
+      ap (λ m. chars (take m (drop p after))) (sym closed-size)
+      ∙ replaced-chars places array p n is v e start end [] order b d closed-fits IsUtf8-nil after p closed-long closed-held closed-parts
+      ∙ ap (λ l. front v.text start ++ (l ++ back v.text end)) chars-nil
 
 -- the part before the boundary m is dropped
 module _ (places : ℕ) (array : List ℕ) (p n : ℕ) (is : IsStored places array p n) (v : Stored) (e : stored array p n ≡ v)

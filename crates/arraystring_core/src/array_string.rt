@@ -8,7 +8,7 @@ ghost use Rattle.arraystring_core.specs.Edits.{Makes, from_out_of_bounds, additi
 
 use crate::place::{copy_in, open_gap};
 use arraystring_base::error::OutOfBounds;
-use arraystring_base::utils::{Steps, encode, is_boundary, last_char, truncate_str};
+use arraystring_base::utils::{Steps, encode, is_boundary, last_char, shift, truncate_str};
 use std::marker::Model;
 use std::{fmt, str};
 
@@ -53,6 +53,7 @@ impl<const N: usize> Model for ArrayString<N> {
 
 impl<const N: usize> ArrayString<N> {
     /// The empty string.
+    #[inline]
     pub const fn new() -> Self
         ensures { result.text ≡ [] }
     {
@@ -64,6 +65,7 @@ impl<const N: usize> ArrayString<N> {
     }
 
     /// How many bytes fit: the lesser of `N` and 255.
+    #[inline]
     pub const fn capacity() -> u8
         ensures { result ≡ cap N }
     {
@@ -71,6 +73,7 @@ impl<const N: usize> ArrayString<N> {
     }
 
     /// How many bytes the text takes, which is never more than the capacity.
+    #[inline]
     pub const fn len(&self) -> u8
         ensures value { result ≡ size self.now.text }
         ensures fits { result ≤ cap N }
@@ -79,6 +82,7 @@ impl<const N: usize> ArrayString<N> {
     }
 
     /// Whether the text has no character.
+    #[inline]
     pub const fn is_empty(&self) -> bool
         ensures { IsTrue result ↔ (self.now.text ≡ []) }
     {
@@ -86,6 +90,7 @@ impl<const N: usize> ArrayString<N> {
     }
 
     /// The text, lent without a copy. Each of its characters is a Unicode scalar value.
+    #[inline]
     pub fn as_str(&self) -> &str
         ensures bytes { result.now ≡ bytes self.now.text }
         ensures text { IsText self.now.text }
@@ -97,6 +102,7 @@ impl<const N: usize> ArrayString<N> {
     }
 
     /// The UTF-8 of the text, lent without a copy.
+    #[inline]
     pub fn as_bytes(&self) -> &[u8]
         ensures { result.now ≡ bytes self.now.text }
     {
@@ -107,10 +113,11 @@ impl<const N: usize> ArrayString<N> {
 
     /// Adds `ch` at the end. Refused with `OutOfBounds` where it does not fit; the text is then as
     /// it was.
+    #[inline]
     pub fn try_push(&mut self, ch: char) -> Result<(), OutOfBounds>
         ensures { Makes (addition self.old.text (ch ∷ []) (cap N)) self.old.text (from_out_of_bounds result) self.new.text }
     {
-        if self.len() as usize + ch.len_utf8() > Self::capacity() as usize {
+        if !Self::has_room(self.len() as usize, ch) {
             return Err(OutOfBounds);
         }
         self.push_unchecked(ch);
@@ -118,16 +125,22 @@ impl<const N: usize> ArrayString<N> {
     }
 
     /// Adds `ch` at the end. It must fit.
+    #[inline]
     pub fn push_unchecked(&mut self, ch: char)
         requires { size self.old.text + width ch ≤ cap N }
         ensures { self.new.text ≡ self.old.text ++ ch ∷ [] }
     {
-        let len = self.len() as usize;
-        self.put_char(len, ch);
+        let end = self.start as usize + self.size as usize;
+        if !Self::has_room(end, ch) {
+            return self.push_at_start(ch);
+        }
+        let len = encode(ch, &mut self.array, end);
+        self.size = (self.size as usize + len) as u8;
     }
 
     /// Adds `string` at the end. Refused with `OutOfBounds` where not all of it fits; the text is
     /// then as it was.
+    #[inline]
     pub fn try_push_str(&mut self, string: &str) -> Result<(), OutOfBounds>
         ensures { Makes (addition self.old.text (chars string.now) (cap N)) self.old.text (from_out_of_bounds result) self.new.text }
     {
@@ -147,12 +160,17 @@ impl<const N: usize> ArrayString<N> {
     }
 
     /// Adds `string` at the end. All of it must fit.
+    #[inline]
     pub fn push_str_unchecked(&mut self, string: &str)
         requires { size self.old.text + size (chars string.now) ≤ cap N }
         ensures { self.new.text ≡ self.old.text ++ chars string.now }
     {
-        let len = self.len() as usize;
-        self.splice(len, len, string, &mut Steps::new());
+        let end = self.start as usize + self.size as usize;
+        if end + string.len() > Self::capacity() as usize {
+            return self.push_str_at_start(string);
+        }
+        self.size = (self.size as usize + string.len()) as u8;
+        copy_in(&mut self.array, end, string.as_bytes());
     }
 
     /// Takes the last character; `None` where the text is empty.
@@ -182,6 +200,39 @@ impl<const N: usize> ArrayString<N> {
         ensures { result ≡ boundary self.now.text at }
     {
         is_boundary(self.as_str(), at)
+    }
+
+    /// Whether there is room for `ch` behind `len` bytes. Where there is room for four more, its
+    /// width is not asked.
+    #[inline]
+    fn has_room(len: usize, ch: char) -> bool
+        requires { len ≤ 255 }
+        ensures { IsTrue result ↔ (len + width ch ≤ cap N) }
+    {
+        let capacity = Self::capacity() as usize;
+        len + 4 <= capacity || len + ch.len_utf8() <= capacity
+    }
+
+    /// Adds `ch` at the end of a text that has to move to the start of the array for it.
+    #[cold]
+    #[inline(never)]
+    fn push_at_start(&mut self, ch: char)
+        requires { size self.old.text + width ch ≤ cap N }
+        ensures { self.new.text ≡ self.old.text ++ ch ∷ [] }
+    {
+        let len = self.len() as usize;
+        self.put_char(len, ch);
+    }
+
+    /// Adds `string` at the end of a text that has to move to the start of the array for it.
+    #[cold]
+    #[inline(never)]
+    fn push_str_at_start(&mut self, string: &str)
+        requires { size self.old.text + size (chars string.now) ≤ cap N }
+        ensures { self.new.text ≡ self.old.text ++ chars string.now }
+    {
+        let len = self.len() as usize;
+        self.splice(len, len, string, &mut Steps::new());
     }
 
     /// Puts `given` in place of the text between two boundaries. There must be room for it.
@@ -233,13 +284,13 @@ impl<const N: usize> ArrayString<N> {
         ensures counted { steps.old.moved ≤ steps.new.moved }
         ensures looked { steps.new.looked ≡ steps.old.looked }
     {
-        // A look at a field, after which the proof knows that the text fits.
-        let _ = &self.array;
         if start == 0 {
-            self.drop_front(end);
-        } else {
-            self.splice(start, end, "", steps);
+            return self.drop_front(end);
         }
+        let (place, size) = (self.start as usize, self.size as usize);
+        let tail = size - end;
+        self.size = (start + tail) as u8;
+        shift(&mut self.array, place + end, place + start, tail, steps);
     }
 
     /// Drops the part before a boundary, without a move.

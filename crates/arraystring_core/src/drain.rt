@@ -52,6 +52,7 @@ impl<const N: usize> Drain<N> {
     pub fn as_str(&self) -> &str
         ensures bytes { result.now ≡ bytes self.now.left }
         ensures text { IsText self.now.left }
+        ensures fits { size self.now.left ≤ cap N }
     {
         &self.removed.as_str()[self.front as usize..]
     }
@@ -73,8 +74,9 @@ impl<const N: usize> Iterator for Drain<N> {
     ghost remaining = { item_count (λ d. d.left) };
 
     fn next(&mut self) -> Option<char> {
-        let ch = self.as_str().chars().next()?;
-        self.front += ch.len_utf8() as u8;
+        let mut left = self.as_str().chars();
+        let ch = left.next()?;
+        self.front = self.removed.len() - left.as_str().len() as u8;
         Some(ch)
     }
 }

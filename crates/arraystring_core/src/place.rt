@@ -1,7 +1,7 @@
 //! Bytes that stand at a place of an array.
 ghost use Rattle.std.specs.Prelude.{◌≡◌, ◌≢◌, ◌+◌, ◌-◌, ◌^◌, ◌<◌, ◌≤◌, ◌++◌, ℕ, List, min, length, take, drop, chars, IsUtf8};
 ghost use Rattle.std.specs.List.Retain.{IsFiltered};
-ghost use Rattle.arraystring_base.specs.Text.{cap, utf8};
+ghost use Rattle.arraystring_base.specs.Text.{cap, utf8, width};
 ghost use Rattle.arraystring_core.specs.Asked.{MayBeAsked};
 
 use arraystring_base::utils::{Steps, shift};
@@ -41,9 +41,38 @@ pub(crate) fn open_gap<const N: usize>(
         shift(array, place + end, place + (start + len), tail, steps);
         return place;
     }
+    open_gap_at_start(array, place, size, start, end, len, steps);
+    0
+}
+
+/// The same where the bytes move to the start of the array.
+#[cold]
+#[inline(never)]
+fn open_gap_at_start<const N: usize>(
+    array: &mut [u8; N],
+    place: usize,
+    size: usize,
+    start: usize,
+    end: usize,
+    len: usize,
+    steps: &mut Steps,
+)
+    requires order { start ≤ end }
+    requires within { end ≤ size }
+    requires held { place + size ≤ N }
+    requires room { start + (len + (size - end)) ≤ N }
+    requires away { 0 < place }
+    requires countable { steps.old.moved ≤ 2 ^ 63 }
+    ensures len { length array.new ≡ N }
+    ensures front { take start array.new ≡ take start (drop place array.old) }
+    ensures tail { take (size - end) (drop (start + len) array.new) ≡ take (size - end) (drop (place + end) array.old) }
+    ensures most { steps.new.moved ≤ steps.old.moved + (start + (size - end)) }
+    ensures least { steps.old.moved + start ≤ steps.new.moved }
+    ensures looked { steps.new.looked ≡ steps.old.looked }
+{
+    let tail = size - end;
     shift(array, place, 0, start, steps);
     shift(array, place + end, start + len, tail, steps);
-    0
 }
 
 /// Asks `f` once for each character of the text in the `size` bytes that stand from `place` on, in
@@ -68,8 +97,7 @@ pub(crate) fn retain_at<const N: usize, F: FnMut(char) -> bool + Drop>(
     let mut run = 0;
     let mut read = 0;
     while read < size {
-        let ch = char_at(array, place + read, place + size);
-        let width = ch.len_utf8();
+        let (ch, width) = char_at(array, place + read, place + size);
         if !f(ch) {
             shift(
                 array,
@@ -93,19 +121,23 @@ pub(crate) fn retain_at<const N: usize, F: FnMut(char) -> bool + Drop>(
     kept + (size - run)
 }
 
-/// The first character of the text in the bytes from `start` to `end`.
-fn char_at<const N: usize>(array: &[u8; N], start: usize, end: usize) -> char
+/// The first character of the text in the bytes from `start` to `end`, and how many it takes.
+fn char_at<const N: usize>(array: &[u8; N], start: usize, end: usize) -> (char, usize)
     requires some { start < end }
     requires within { end ≤ N }
     requires text { IsUtf8 (take (end - start) (drop start array.now)) }
-    ensures { (rest : List ℕ) × (take (end - start) (drop start array.now) ≡ utf8 result ++ rest) }
+    ensures first { (rest : List ℕ) × (take (end - start) (drop start array.now) ≡ utf8 result.0 ++ rest) }
+    ensures width { result.1 ≡ width result.0 }
+    ensures some { 0 < result.1 }
+    ensures within { start + result.1 ≤ end }
 {
     let all = &array[..];
     let text = unsafe { str::from_utf8_unchecked(&all[start..end]) };
-    let Some(ch) = text.chars().next() else {
+    let mut rest = text.chars();
+    let Some(ch) = rest.next() else {
         unreachable!();
     };
-    ch
+    (ch, text.len() - rest.as_str().len())
 }
 
 /// Writes `given` over the bytes from `at` on.
@@ -116,3 +148,6 @@ pub(crate) fn copy_in<const N: usize>(array: &mut [u8; N], at: usize, given: &[u
     let all = &mut array[..];
     all[at..at + given.len()].copy_from_slice(given);
 }
+
+#[cfg(test)]
+mod tests;

@@ -35,6 +35,21 @@ fn a_text_is_popped_from_its_end(rt: HostRuntime) {
 }
 
 #[test]
+fn a_pop_looks_at_four_bytes(rt: HostRuntime) {
+    let mut text: ArrayString<5> = ArrayString::new();
+    text.push_str("A🤔");
+    let mut steps = Steps::new();
+    assert_eq!(rt; text.pop_counted(&mut steps), Some('🤔'));
+    assert_eq!(rt; text.as_str(), "A");
+    assert_eq!(rt; steps.looked(), 4);
+    assert_eq!(rt; text.pop_counted(&mut steps), Some('A'));
+    assert_eq!(rt; steps.looked(), 5);
+    assert_eq!(rt; text.pop_counted(&mut steps), None);
+    assert_eq!(rt; steps.looked(), 5);
+    assert_eq!(rt; steps.moved(), 0);
+}
+
+#[test]
 fn what_does_not_fit(rt: HostRuntime) {
     let mut text: ArrayString<5> = ArrayString::new();
     assert_eq!(rt; text.try_push_str("abc"), Ok(()));
@@ -85,7 +100,7 @@ fn capacities(rt: HostRuntime) {
 }
 
 #[test]
-fn strings_are_equal_by_their_texts(rt: HostRuntime) {
+fn strings_are_equal_by_their_texts(rt: HostRuntime) -> Result<(), Fail> {
     let mut first: ArrayString<5> = ArrayString::new();
     first.push_str("abcde");
     for _ in 0..3 {
@@ -94,8 +109,10 @@ fn strings_are_equal_by_their_texts(rt: HostRuntime) {
     let mut second: ArrayString<5> = ArrayString::new();
     second.push_str("ab");
     assert_eq!(rt; first, second);
+    assert_eq!(rt; first.clone()?, second);
     second.push_str("c");
     assert!(rt; first != second);
+    Ok(())
 }
 
 #[test]

@@ -2,7 +2,7 @@ use Rattle.std.proofs.Common.{ℕ, ◌-◌, ◌<◌, ◌≤◌, arith, rules, Is
 use Rattle.std.proofs.lemmas.Grind.{common_steps}
 use Rattle.std.proofs.lemmas.Str.{IsCharBoundary-start}
 use Rattle.std.proofs.lemmas.Bool.{cases_lt}
-use Rattle.arraystring_base.proofs.WalkLemmas.{near-boundary}
+use Rattle.arraystring_base.proofs.CutLemmas.{near-boundary}
 use Rattle.std.proofs.Common.{inl, inr}
 use Rattle.arraystring_base.proofs.utils.last_boundary.Goals as goal
 

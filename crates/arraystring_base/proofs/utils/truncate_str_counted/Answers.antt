@@ -1,6 +1,6 @@
 use Rattle.std.proofs.Common.{◌≡◌, ◌∙◌, arith, take, slice_range}
 use Rattle.arraystring_base.specs.CutLaws.{cut-lent}
-use Rattle.arraystring_base.proofs.WalkLemmas.{cut-at}
+use Rattle.arraystring_base.proofs.CutLemmas.{cut-at}
 use Rattle.arraystring_base.proofs.utils.truncate_str_counted.Goals as goal
 
 pub returns-then-text-limit-clause-value : goal.returns-then-text-limit-clause-value

@@ -91,6 +91,34 @@ fn what_does_not_fit_is_cut(rt: HostRuntime) {
 }
 
 #[test]
+fn moves_of_insertions(rt: HostRuntime) {
+    for (index, given, result, after, moved) in [
+        (1, "xy", Ok(()), "AxyBCD", 3),
+        (0, "xy", Ok(()), "xyABCD", 4),
+        (4, "xy", Ok(()), "ABCDxy", 0),
+        (2, "", Ok(()), "ABCD", 0),
+        (5, "xy", Err(Error::OutOfBounds), "ABCD", 0),
+        (1, ZEROS_23, Err(Error::OutOfBounds), "ABCD", 0),
+    ] {
+        let mut text: SmallString = string("ABCD");
+        let mut steps = Steps::new();
+        assert_eq!(rt;
+            text.try_insert_str_counted(index, given, &mut steps),
+            result
+        );
+        assert_eq!(rt; text.as_str(), after);
+        assert_eq!(rt; steps.moved(), moved);
+    }
+    let mut text: SmallString = string("🤔");
+    let mut steps = Steps::new();
+    assert_eq!(rt;
+        text.try_insert_str_counted(2, "xy", &mut steps),
+        Err(Error::Utf8)
+    );
+    assert_eq!(rt; steps.moved(), 0);
+}
+
+#[test]
 fn a_full_string(rt: HostRuntime) {
     let mut text: SmallString = string(ZEROS_23);
     assert_eq!(rt; text.try_insert(0, 'C'), Err(Error::OutOfBounds));

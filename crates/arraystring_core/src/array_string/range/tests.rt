@@ -158,6 +158,54 @@ fn parts_are_replaced(rt: HostRuntime) {
 }
 
 #[test]
+fn moves_of_drains(rt: HostRuntime) {
+    for (start, end, result, after, moved) in [
+        (0, 2, Ok(string("AB")), "CD🤔", 0),
+        (1, 3, Ok(string("BC")), "AD🤔", 5),
+        (3, 8, Ok(string("D🤔")), "ABC", 0),
+        (2, 2, Ok(string("")), "ABCD🤔", 0),
+        (2, 6, Err(Error::Utf8), "ABCD🤔", 0),
+        (2, 9, Err(Error::OutOfBounds), "ABCD🤔", 0),
+        (3, 2, Err(Error::OutOfBounds), "ABCD🤔", 0),
+    ] {
+        let mut text: SmallString = string("ABCD🤔");
+        let mut steps = Steps::new();
+        assert_eq!(rt; left_of(text.drain_counted(start..end, &mut steps)), result);
+        assert_eq!(rt; text.as_str(), after);
+        assert_eq!(rt; steps.moved(), moved);
+    }
+}
+
+#[test]
+fn moves_of_replacements(rt: HostRuntime) {
+    for (start, end, with, result, after, moved) in [
+        (2, 4, "", Ok(()), "AB🤔", 4),
+        (2, 4, "xyz", Ok(()), "ABxyz🤔", 4),
+        (2, 4, "xy", Ok(()), "ABxy🤔", 0),
+        (0, 1, "é", Ok(()), "éBCD🤔", 7),
+        (2, 5, "", Err(Error::Utf8), "ABCD🤔", 0),
+        (2, 9, "", Err(Error::OutOfBounds), "ABCD🤔", 0),
+        (
+            2,
+            4,
+            "0000000000000000000000",
+            Err(Error::OutOfBounds),
+            "ABCD🤔",
+            0,
+        ),
+    ] {
+        let mut text: SmallString = string("ABCD🤔");
+        let mut steps = Steps::new();
+        assert_eq!(rt;
+            text.replace_range_counted(start..end, with, &mut steps),
+            result
+        );
+        assert_eq!(rt; text.as_str(), after);
+        assert_eq!(rt; steps.moved(), moved);
+    }
+}
+
+#[test]
 fn the_size_of_the_result_decides(rt: HostRuntime) {
     let full: ArrayString<4> = string("abcd");
     let mut text = full;

@@ -69,6 +69,31 @@ fn spaces_are_trimmed(rt: HostRuntime) {
 }
 
 #[test]
+fn moves_of_removals(rt: HostRuntime) {
+    for (index, result, after, moved) in [
+        (0, Ok('A'), "BCD🤔", 0),
+        (3, Ok('D'), "ABC🤔", 4),
+        (1, Ok('B'), "ACD🤔", 6),
+        (4, Ok('🤔'), "ABCD", 0),
+        (5, Err(Error::Utf8), "ABCD🤔", 0),
+        (20, Err(Error::OutOfBounds), "ABCD🤔", 0),
+    ] {
+        let mut text: SmallString = string("ABCD🤔");
+        let mut steps = Steps::new();
+        assert_eq!(rt; text.remove_counted(index, &mut steps), result);
+        assert_eq!(rt; text.as_str(), after);
+        assert_eq!(rt; steps.moved(), moved);
+    }
+    for (text, trimmed) in [("  abcdef", "abcdef"), (" 🤔  ", "🤔"), ("    ", "")] {
+        let mut string: ArrayString<8> = string(text);
+        let mut steps = Steps::new();
+        string.trim_counted(&mut steps);
+        assert_eq!(rt; string.as_str(), trimmed);
+        assert_eq!(rt; steps.moved(), 0);
+    }
+}
+
+#[test]
 fn characters_are_retained(rt: HostRuntime) {
     let mut text: SmallString = string("a🤔bc");
     let mut asked = SmallString::new();

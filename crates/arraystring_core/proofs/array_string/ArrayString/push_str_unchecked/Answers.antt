@@ -1,20 +1,18 @@
-use Rattle.std.proofs.Common.{◌≡◌, ◌+◌, ◌-◌, ◌≤◌, ◌++◌, chars, ap, ◌∙◌, arith, rules, true}
-use Rattle.std.proofs.lemmas.List.{append-nil}
-use Rattle.arraystring_base.specs.Text.{size, cap, boundary, front, back}
-use Rattle.arraystring_base.specs.BoundaryLaws.{boundary-end, front-end, back-end}
+use Rattle.std.proofs.Common.{◌+◌, ◌≤◌, length, arith}
+use Rattle.arraystring_base.specs.Text.{cap}
+use Rattle.arraystring_core.proofs.PlaceLemmas.{appended-stored, appended-chars}
 use Rattle.arraystring_core.proofs.array_string.ArrayString.push_str_unchecked.Goals as goal
 
-pub splice-requires : goal.splice-requires
-splice-requires g c =
-    let t = c.args.self.now.text in
-    let n = c.len-len.result in
-    let end : boundary t n ≡ true = ap (boundary t) c.len-len.ensures.value ∙ boundary-end t in
-    let fits : size t - (n - n) + size (chars c.args.string.now) ≤ cap g.row.N = omega (arith, c.requires) in
-    (search rules, (omega arith, (end, (end, (fits, omega arith)))))
+pub invariant_of-self : goal.invariant_of-self
+invariant_of-self g c =
+    let s = c.self.inside in
+    let room : s.start + s.size + length c.args.string.now ≤ cap g.row.N = omega (arith, c.if-end-string.false, c.capacity.ensures) in
+    let copied = rw c.as_bytes.ensures.value at c.copy_in.ensures in
+    appended-stored g.row.N _ _ _ c.self.invariant _ c.self.view_is c.args.string.now c.utf8.string room _ copied
 
 pub returns : goal.returns
 returns g c =
-    let t = c.args.self.now.text in
-    let s = chars c.args.string.now in
-    c.splice.ensures.text ∙ ap (λ n. front t n ++ (s ++ back t n)) c.len-len.ensures.value
-    ∙ ap (λ l. l ++ (s ++ back t (size t))) (front-end t) ∙ ap (λ l. t ++ (s ++ l)) (back-end t) ∙ ap (λ l. t ++ l) (append-nil s)
+    let s = c.self.inside in
+    let room : s.start + s.size + length c.args.string.now ≤ cap g.row.N = omega (arith, c.if-end-string.false, c.capacity.ensures) in
+    let copied = rw c.as_bytes.ensures.value at c.copy_in.ensures in
+    appended-chars g.row.N _ _ _ c.self.invariant _ c.self.view_is c.args.string.now c.utf8.string room _ copied

@@ -1,17 +1,34 @@
-use Rattle.std.proofs.Common.{◌≡◌, ◌++◌, ◌∷◌, ap, ◌∙◌, rules, true}
-use Rattle.arraystring_base.specs.Text.{size, boundary, front, back}
-use Rattle.arraystring_base.specs.BoundaryLaws.{boundary-end, front-end, back-end}
+use Rattle.std.proofs.Common.{◌≡◌, ◌+◌, ◌≤◌, ◌++◌, ◌∷◌, [], refl, sym, ap, ◌∙◌, arith, chars, length, rules, IsUtf8}
+use Rattle.std.proofs.lemmas.Str.{IsUtf8-encode}
+use Rattle.std.proofs.lemmas.List.{append-nil}
+use Rattle.arraystring_base.specs.Text.{utf8, width, cap}
+use Rattle.arraystring_base.specs.TextLaws.{chars-bytes, utf8-is, length-utf8}
+use Rattle.arraystring_core.proofs.PlaceLemmas.{appended-stored, appended-chars}
 use Rattle.arraystring_core.proofs.array_string.ArrayString.push_unchecked.Goals as goal
 
-pub put_char-requires : goal.put_char-requires
-put_char-requires g c =
-    let t = c.args.self.now.text in
-    let end : boundary t c.len-len.result ≡ true = ap (boundary t) c.len-len.ensures.value ∙ boundary-end t in
-    (search rules, (end, c.requires))
+pub encode-len-requires : goal.encode-len-requires
+encode-len-requires g c =
+    let room = c.if-not-has_room.ensures.0 refl in
+    let within : c.self.inside.start + c.self.inside.size + width c.args.ch ≤ g.row.N = omega (arith, room) in
+    (search rules, within)
+
+pub invariant_of-self : goal.invariant_of-self
+invariant_of-self g c =
+    let s = c.self.inside in
+    let ch = c.args.ch in
+    let wide : c.encode-len.result ≡ length (utf8 ch) = c.encode-len.ensures.width ∙ sym (length-utf8 ch) in
+    let u : IsUtf8 (utf8 ch) = rw (utf8-is ch) (IsUtf8-encode ch (search rules)) in
+    let room : s.start + s.size + length (utf8 ch) ≤ cap g.row.N = rw (length-utf8 ch) (c.if-not-has_room.ensures.0 refl) in
+    let written = rw (← length-utf8 ch) at c.encode-len.ensures.bytes in
+    rw wide (appended-stored g.row.N _ _ _ c.self.invariant _ c.self.view_is (utf8 ch) u room _ written)
 
 pub returns : goal.returns
 returns g c =
-    let t = c.args.self.now.text in
+    let s = c.self.inside in
     let ch = c.args.ch in
-    c.put_char.ensures ∙ ap (λ n. front t n ++ (ch ∷ back t n)) c.len-len.ensures.value
-    ∙ ap (λ l. l ++ (ch ∷ back t (size t))) (front-end t) ∙ ap (λ l. t ++ (ch ∷ l)) (back-end t)
+    let wide : c.encode-len.result ≡ length (utf8 ch) = c.encode-len.ensures.width ∙ sym (length-utf8 ch) in
+    let u : IsUtf8 (utf8 ch) = rw (utf8-is ch) (IsUtf8-encode ch (search rules)) in
+    let room : s.start + s.size + length (utf8 ch) ≤ cap g.row.N = rw (length-utf8 ch) (c.if-not-has_room.ensures.0 refl) in
+    let written = rw (← length-utf8 ch) at c.encode-len.ensures.bytes in
+    let one : chars (utf8 ch) ≡ ch ∷ [] = chars-bytes _ (ch ∷ []) u (sym (append-nil (utf8 ch))) in
+    rw wide (appended-chars g.row.N _ _ _ c.self.invariant _ c.self.view_is (utf8 ch) u room _ written) ∙ ap (λ l. c.args.self.now.text ++ l) one

@@ -1,8 +1,8 @@
-use Rattle.std.proofs.Common.{◌+◌, ◌-◌, ◌≤◌, ◌++◌, [], chars, arith, rules, ap, sym, ◌∙◌}
-use Rattle.std.proofs.lemmas.Str.{chars-nil}
-use Rattle.arraystring_base.specs.Text.{cap, size, front, back}
+use Rattle.std.proofs.Common.{◌++◌, arith, rules, ap, sym, ◌∙◌}
+use Rattle.arraystring_base.specs.Text.{front, back}
 use Rattle.arraystring_base.specs.BoundaryLaws.{front-start}
 use Rattle.arraystring_core.specs.StoredLaws.{opened-size}
+use Rattle.arraystring_core.proofs.PlaceLemmas.{dropped-within, closed-stored, closed-chars}
 use Rattle.arraystring_core.proofs.array_string.ArrayString.take_out.Goals as goal
 
 pub returns-then-start-eq0-clause-text : goal.returns-then-start-eq0-clause-text
@@ -10,22 +10,39 @@ returns-then-start-eq0-clause-text g c =
     let t = c.args.self.now.text in
     c.drop_front.ensures ∙ sym (ap (λ l. l ++ back t c.args.end) (ap (front t) c.if-start-eq0.true ∙ front-start t))
 
-pub returns-else-start-eq0-clause-text : goal.returns-else-start-eq0-clause-text
-returns-else-start-eq0-clause-text g c =
-    let t = c.args.self.now.text in
-    c.splice.ensures.text ∙ ap (λ l. front t c.args.start ++ (l ++ back t c.args.end)) chars-nil
+pub overflow_sub-tail : goal.overflow_sub-tail
+overflow_sub-tail g c = dropped-within g.row.N _ _ _ c.self.invariant _ c.self.view_is c.args.end c.requires.end
 
-pub returns-else-start-eq0-clause-tail_alone : goal.returns-else-start-eq0-clause-tail_alone
-returns-else-start-eq0-clause-tail_alone g c =
-    let none = ap size chars-nil in c.splice.ensures.tail_alone (omega (arith, none))
+pub overflow_cast-self : goal.overflow_cast-self
+overflow_cast-self g c =
+    let within = dropped-within g.row.N _ _ _ c.self.invariant _ c.self.view_is c.args.end c.requires.end in
+    omega (arith, within, c.requires.order, c.self.invariant.0)
 
-pub splice-requires : goal.splice-requires
-splice-requires g c =
-    let none = ap size chars-nil in
-    let long = opened-size g.row.N _ _ _ c.self.invariant _ c.self.view_is in
-    let fits : size c.args.self.now.text - (c.args.end - c.args.start) + size (chars []) ≤ cap g.row.N = omega (arith, none, long, c.self.invariant.0) in
-    (search rules, (c.requires.order, (c.requires.start, (c.requires.end, (fits, c.requires.countable)))))
+pub overflow_add-place : goal.overflow_add-place
+overflow_add-place g c =
+    let within = dropped-within g.row.N _ _ _ c.self.invariant _ c.self.view_is c.args.end c.requires.end in
+    omega (arith, within, c.self.invariant.0)
 
-pub returns-else-start-eq0-clause-least : goal.returns-else-start-eq0-clause-least
-returns-else-start-eq0-clause-least g c ne =
-    let none = ap size chars-nil in c.splice.ensures.least (λ e. ne (omega (arith, none, e)))
+pub overflow_add-place-2 : goal.overflow_add-place-2
+overflow_add-place-2 g c =
+    let within = dropped-within g.row.N _ _ _ c.self.invariant _ c.self.view_is c.args.end c.requires.end in
+    omega (arith, within, c.requires.order, c.self.invariant.0)
+
+pub shift-requires : goal.shift-requires
+shift-requires g c =
+    let within = dropped-within g.row.N _ _ _ c.self.invariant _ c.self.view_is c.args.end c.requires.end in
+    (search rules, (omega (arith, within, c.self.invariant.0), (omega (arith, within, c.requires.order, c.self.invariant.0), omega (arith, within, c.self.invariant.0, c.requires.countable))))
+
+pub invariant_of-self : goal.invariant_of-self
+invariant_of-self g c =
+    closed-stored g.row.N _ _ _ c.self.invariant _ c.self.view_is c.args.start c.args.end c.requires.order c.requires.start c.requires.end _ c.shift.ensures.bytes
+
+pub returns-clause-text : goal.returns-clause-text
+returns-clause-text g c =
+    closed-chars g.row.N _ _ _ c.self.invariant _ c.self.view_is c.args.start c.args.end c.requires.order c.requires.start c.requires.end _ c.shift.ensures.bytes
+
+pub returns-clause-tail_alone : goal.returns-clause-tail_alone
+returns-clause-tail_alone g c = rw (opened-size g.row.N _ _ _ c.self.invariant _ c.self.view_is) (search rules)
+
+pub returns-clause-least : goal.returns-clause-least
+returns-clause-least g c = rw (opened-size g.row.N _ _ _ c.self.invariant _ c.self.view_is) (search rules)

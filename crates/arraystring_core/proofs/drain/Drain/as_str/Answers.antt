@@ -1,6 +1,6 @@
-use Rattle.std.proofs.Common.{sym, ap, ◌∙◌, drop, subst}
-use Rattle.arraystring_base.specs.Text.{bytes, IsText}
-use Rattle.arraystring_base.specs.BoundaryLaws.{boundary-to_bytes, bytes-back, back-text}
+use Rattle.std.proofs.Common.{◌≤◌, sym, ap, ◌∙◌, drop, subst, arith}
+use Rattle.arraystring_base.specs.Text.{bytes, cap, size, back, IsText}
+use Rattle.arraystring_base.specs.BoundaryLaws.{boundary-to_bytes, bytes-back, back-size, back-text}
 use Rattle.arraystring_core.proofs.drain.Drain.as_str.Goals as goal
 
 pub range_from-requires : goal.range_from-requires
@@ -15,3 +15,10 @@ returns-clause-bytes g c =
 pub returns-clause-text : goal.returns-clause-text
 returns-clause-text g c =
     subst IsText (ap (λ d. d.left) c.self.view_is) (back-text c.self.inside.removed.text c.self.inside.front c.as_str.ensures.text)
+
+pub returns-clause-fits : goal.returns-clause-fits
+returns-clause-fits g c =
+    let removed = c.self.inside.removed.text in
+    let fits : size (back removed c.self.inside.front) ≤ cap g.row.N =
+    omega (arith, back-size removed c.self.inside.front c.self.invariant.at, c.self.invariant.fits) in
+    subst (λ d. size d.left ≤ cap g.row.N) c.self.view_is fits

@@ -1,0 +1,17 @@
+use Rattle.std.proofs.Common.{◌≡◌, ◌∙◌, sym, arith}
+use Rattle.std.proofs.lemmas.Bool.{le-leb, leb-true}
+use Rattle.arraystring_base.specs.Text.{width, cap}
+use Rattle.arraystring_base.specs.TextLaws.{width-is, width-bounds}
+use Rattle.arraystring_core.proofs.array_string.ArrayString.has_room.Goals as goal
+
+pub returns-then-len-capacity : goal.returns-then-len-capacity
+returns-then-len-capacity g c =
+    let wide = width-bounds c.args.ch in
+    let whole : c.capacity-capacity.result ≡ cap g.row.N = c.capacity-capacity.ensures in
+    (λ is. omega (arith, c.if-len-capacity.true, wide, whole), λ fits. le-leb _ _ c.if-len-capacity.true)
+
+pub returns-else-len-capacity : goal.returns-else-len-capacity
+returns-else-len-capacity g c =
+    let wide : c.len_utf8.result ≡ width c.args.ch = c.len_utf8.ensures.value ∙ sym (width-is c.args.ch) in
+    let whole : c.capacity-capacity.result ≡ cap g.row.N = c.capacity-capacity.ensures in
+    (λ is. let within = leb-true _ _ is in omega (arith, within, wide, whole), λ fits. le-leb _ _ (omega (arith, fits, wide, whole)))

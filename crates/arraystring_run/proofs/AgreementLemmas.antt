@@ -1,0 +1,235 @@
+-- Runs of the same commands at two capacities.
+use Rattle.std.proofs.Common.{◌≡◌, ℕ, suc, ◌+◌, ◌-◌, ◌<◌, ◌≤◌, List, [], ◌∷◌, ◌++◌, take, refl, sym, ap, subst, ◌∙◌, arith, Option, Some, None, Bool, true, false, ◌&&◌, is_none, nat_lt, if◌then◌else◌, chars}
+use Rattle.std.proofs.lemmas.Bool.{le-ltb, ltb-false}
+use Rattle.arraystring.specs.Text.{size, cut}
+use Rattle.arraystring.specs.CutLaws.{cut-all}
+use Rattle.arraystring.specs.Edits.{Test, Cause, Room, Edit, no_room, past, crossed, inside, first_cause, ok_unless, addition, insertion, insertion_of_cut, replacement}
+use Rattle.arraystring_run.specs.Runs.{Said, Done, Edited, leaves, said_of, done, edit, tight, adds_less, is_room, after, first_tight_from}
+use Rattle.arraystring_run.specs.Agreement.{untight, Agrees, AllAgree, IsNoSooner}
+use Rattle.arraystring_run.specs.declared.commands.Command.{Command}
+use Rattle.arraystring_run.specs.declared.commands.Command.TheVariants.{TryPush, TryPushStr, PushStr, Pop, Truncate, Trim, Remove, RetainNot, TryInsert, TryInsertStr, InsertStr, SplitOff, Clear, Drain, DrainThrough, DrainBack, ReplaceRange, Upper, Lower, Get, Len, Capacity, AsStr}
+use Rattle.arraystring_run.proofs.RunLemmas.{is_cut-larger}
+
+-- what one command does where it isn't tight at the lesser capacity
+pub record IsSameStep (c : Command) (t : List ℕ) (n m : ℕ) : Type 0 where
+  pub untight : tight c t m ≡ false
+  pub text : (edit c t n).text ≡ (edit c t m).text
+  pub agrees : Agrees c (edit c t n).reply (edit c t m).reply
+
+-- what a row that is answered Done makes of t, by its first cause
+abbrev by_cause : List ℕ → List ℕ → Option Cause → Edited
+by_cause t result cause = leaves (said_of (λ _. Done) (ok_unless cause (tt {0}))) (if is_none cause then result else t)
+
+-- where room is not the first cause at n, the first cause at m is the same
+roomy : (r n m : ℕ) → n ≤ m → (before behind : List Test)
+    → is_room (first_cause (before ++ (no_room r n ∷ behind))) ≡ false
+    → first_cause (before ++ (no_room r n ∷ behind)) ≡ first_cause (before ++ (no_room r m ∷ behind))
+roomy r n m le [] behind loose = go (nat_lt n r) refl loose
+  where
+    go : (b : Bool) → nat_lt n r ≡ b → is_room (if b then Some Room else first_cause behind) ≡ false
+        → (if b then Some Room else first_cause behind) ≡ (if nat_lt m r then Some Room else first_cause behind)
+    go true e is = cc
+    go false e is =
+        let fits : r ≤ n = ltb-false n r e in
+        ap (λ b. if b then Some Room else first_cause behind) (sym (le-ltb m r (omega arith)))
+roomy r n m le (test ∷ before) behind loose = go test.holds (roomy r n m le before behind) loose
+  where
+    at : ℕ → Option Cause
+    at k = first_cause (before ++ (no_room r k ∷ behind))
+
+    go : (b : Bool) → (is_room (at n) ≡ false → at n ≡ at m) → is_room (if b then Some test.cause else at n) ≡ false
+        → (if b then Some test.cause else at n) ≡ (if b then Some test.cause else at m)
+    go true rest is = refl
+    go false rest is = rest is
+
+-- a row whose tests are `before`, room for r bytes, and `behind`
+module _ (r n m : ℕ) (le : n ≤ m) (before behind : List Test) (loose : is_room (first_cause (before ++ (no_room r n ∷ behind))) ≡ false) where
+  same_cause : first_cause (before ++ (no_room r n ∷ behind)) ≡ first_cause (before ++ (no_room r m ∷ behind))
+  same_cause = roomy r n m le before behind loose
+
+  still_loose : is_room (first_cause (before ++ (no_room r m ∷ behind))) ≡ false
+  still_loose = sym (ap is_room same_cause) ∙ loose
+
+-- a text that fits whole at n does so at m
+module _ (t given : List ℕ) (n m : ℕ) (le : n ≤ m) (loose : adds_less t given n ≡ false) where
+  fits : size given ≤ n - size t
+  fits = ltb-false (n - size t) (size given) (is_cut-larger given (n - size t) ∙ loose)
+
+  fits_more : size given ≤ m - size t
+  fits_more = let f = fits in omega arith
+
+  adds_all : adds_less t given m ≡ false
+  adds_all = sym (is_cut-larger given (m - size t)) ∙ le-ltb (m - size t) (size given) fits_more
+
+  same_cut : cut given (n - size t) ≡ cut given (m - size t)
+  same_cut = cut-all given (n - size t) fits ∙ sym (cut-all given (m - size t) fits_more)
+
+-- an insertion of a cut is the same at both capacities
+insert-same : (i : ℕ) (given : _) (t : List ℕ) (n m : ℕ) → n ≤ m → tight (InsertStr i given) t n ≡ false → IsSameStep (InsertStr i given) t n m
+insert-same i given t n m le loose = go (first_cause (past t i ∷ inside t i ∷ [])) refl loose
+  where
+    g : List ℕ
+    g = chars given.now
+
+    whole : ℕ → List ℕ
+    whole k = (insertion_of_cut t i g k).after
+
+    go : (cause : Option Cause) → first_cause (past t i ∷ inside t i ∷ []) ≡ cause → (is_none cause && adds_less t g n) ≡ false
+        → IsSameStep (InsertStr i given) t n m
+    go None e is = let same = same_cut t g n m le is in record {
+      untight = ap (λ c. is_none c && adds_less t g m) e ∙ adds_all t g n m le is;
+      text = ap (λ l. (by_cause t (insertion t i l n).after (first_cause (past t i ∷ inside t i ∷ []))).text) same;
+      agrees = refl;
+    }
+    go (Some cause) e is = record {
+      untight = ap (λ c. is_none c && adds_less t g m) e;
+      text = ap (λ c. (by_cause t (whole n) c).text) e ∙ sym (ap (λ c. (by_cause t (whole m) c).text) e);
+      agrees = refl;
+    }
+
+pub same-step : (c : Command) (t : List ℕ) (n m : ℕ) → n ≤ m → tight c t n ≡ false → IsSameStep c t n m
+same-step (TryPush ch) t n m le loose =
+    let r = size t + size (ch ∷ []) in let same = same_cause r n m le [] [] loose in record {
+      untight = still_loose r n m le [] [] loose;
+      text = ap (λ c. (by_cause t (t ++ ch ∷ []) c).text) same;
+      agrees = ap (λ c. (by_cause t (t ++ ch ∷ []) c).reply) same;
+    }
+same-step (TryPushStr given) t n m le loose =
+    let g = chars given.now in let r = size t + size g in let same = same_cause r n m le [] [] loose in record {
+      untight = still_loose r n m le [] [] loose;
+      text = ap (λ c. (by_cause t (t ++ g) c).text) same;
+      agrees = ap (λ c. (by_cause t (t ++ g) c).reply) same;
+    }
+same-step (PushStr given) t n m le loose =
+    let g = chars given.now in record {
+      untight = adds_all t g n m le loose;
+      text = ap (λ l. t ++ l) (same_cut t g n m le loose);
+      agrees = refl;
+    }
+same-step (TryInsert i ch) t n m le loose =
+    let r = size t + size (ch ∷ []) in
+    let before = past t i ∷ [] in let behind = inside t i ∷ [] in
+    let same = same_cause r n m le before behind loose in
+    let result = (insertion t i (ch ∷ []) n).after in record {
+      untight = still_loose r n m le before behind loose;
+      text = ap (λ c. (by_cause t result c).text) same;
+      agrees = ap (λ c. (by_cause t result c).reply) same;
+    }
+same-step (TryInsertStr i given) t n m le loose =
+    let g = chars given.now in let r = size t + size g in
+    let before = past t i ∷ [] in let behind = inside t i ∷ [] in
+    let same = same_cause r n m le before behind loose in
+    let result = (insertion t i g n).after in record {
+      untight = still_loose r n m le before behind loose;
+      text = ap (λ c. (by_cause t result c).text) same;
+      agrees = ap (λ c. (by_cause t result c).reply) same;
+    }
+same-step (InsertStr i given) t n m le loose = insert-same i given t n m le loose
+same-step (ReplaceRange start end given) t n m le loose =
+    let g = chars given.now in let r = size t - (end - start) + size g in
+    let before = crossed start end ∷ past t end ∷ [] in let behind = inside t start ∷ inside t end ∷ [] in
+    let same = same_cause r n m le before behind loose in
+    let result = (replacement t start end g n).after in record {
+      untight = still_loose r n m le before behind loose;
+      text = ap (λ c. (by_cause t result c).text) same;
+      agrees = ap (λ c. (by_cause t result c).reply) same;
+    }
+same-step Pop t n m le loose = record { untight = refl; text = refl; agrees = refl }
+same-step (Truncate i) t n m le loose = record { untight = refl; text = refl; agrees = refl }
+same-step Trim t n m le loose = record { untight = refl; text = refl; agrees = refl }
+same-step (Remove i) t n m le loose = record { untight = refl; text = refl; agrees = refl }
+same-step (RetainNot c) t n m le loose = record { untight = refl; text = refl; agrees = refl }
+same-step (SplitOff i) t n m le loose = record { untight = refl; text = refl; agrees = refl }
+same-step Clear t n m le loose = record { untight = refl; text = refl; agrees = refl }
+same-step (Drain start end) t n m le loose = record { untight = refl; text = refl; agrees = refl }
+same-step (DrainThrough start last) t n m le loose = record { untight = refl; text = refl; agrees = refl }
+same-step (DrainBack start end) t n m le loose = record { untight = refl; text = refl; agrees = refl }
+same-step Upper t n m le loose = record { untight = refl; text = refl; agrees = refl }
+same-step Lower t n m le loose = record { untight = refl; text = refl; agrees = refl }
+same-step (Get start end) t n m le loose = record { untight = refl; text = refl; agrees = refl }
+same-step Len t n m le loose = record { untight = refl; text = refl; agrees = refl }
+same-step Capacity t n m le loose = record { untight = refl; text = refl; agrees = tt }
+same-step AsStr t n m le loose = record { untight = refl; text = refl; agrees = refl }
+
+-- a position, counted from one command further on
+abbrev pub next : Option ℕ → Option ℕ
+next None = None
+next (Some k) = Some (k + 1)
+
+next-if : (b : Bool) (k : ℕ) (o : Option ℕ) → (if b then Some (k + 1) else next o) ≡ next (if b then Some k else o)
+next-if true k o = refl
+next-if false k o = refl
+
+pub tight-from_next : (k : ℕ) (cs : List Command) (t : List ℕ) (n : ℕ) → first_tight_from (k + 1) cs t n ≡ next (first_tight_from k cs t n)
+tight-from_next k [] t n = refl
+tight-from_next k (c ∷ cs) t n =
+    ap (λ o. if tight c t n then Some (k + 1) else o) (tight-from_next (k + 1) cs (edit c t n).text n)
+    ∙ next-if (tight c t n) k (first_tight_from (k + 1) cs (edit c t n).text n)
+
+untight-next : (c : Command) (cs : List Command) (o : Option ℕ) → untight (c ∷ cs) (next o) ≡ c ∷ untight cs o
+untight-next c cs None = refl
+untight-next c cs (Some k) = let up : k + 1 ≡ suc k = omega arith in ap (λ j. take j (c ∷ cs)) up
+
+no_sooner-next : (a b : Option ℕ) → IsNoSooner a b → IsNoSooner (next a) (next b)
+no_sooner-next None None is = tt
+no_sooner-next (Some k) None is = tt
+no_sooner-next None (Some j) is = is
+no_sooner-next (Some k) (Some j) is = let le : k ≤ j = is in omega arith
+
+some-none : (k : ℕ) → Some k ≡ None → ⊥
+some-none k e = cc
+
+none-next : (o : Option ℕ) → next o ≡ None → o ≡ None
+none-next None e = refl
+none-next (Some k) e = absurd (some-none (k + 1) e)
+
+-- the commands before the first tight one get replies that agree
+pub alike : (cs : List Command) (t : List ℕ) (n m : ℕ) → n ≤ m
+    → AllAgree (untight cs (first_tight_from 0 cs t n)) (after cs t n).replies (after cs t m).replies
+alike [] t n m le = tt
+alike (c ∷ cs) t n m le = go (tight c t n) refl (alike cs (edit c t n).text n m le)
+  where
+    go : (b : Bool) → tight c t n ≡ b
+        → AllAgree (untight cs (first_tight_from 0 cs (edit c t n).text n)) (after cs (edit c t n).text n).replies (after cs (edit c t n).text m).replies
+        → AllAgree (untight (c ∷ cs) (if b then Some 0 else first_tight_from 1 cs (edit c t n).text n)) (after (c ∷ cs) t n).replies (after (c ∷ cs) t m).replies
+    go true e rest = tt
+    go false e rest =
+        let same = same-step c t n m le e in
+        subst (λ l. AllAgree l (after (c ∷ cs) t n).replies (after (c ∷ cs) t m).replies)
+        (sym (ap (untight (c ∷ cs)) (tight-from_next 0 cs (edit c t n).text n) ∙ untight-next c cs (first_tight_from 0 cs (edit c t n).text n)))
+        (same.agrees, subst (λ u. AllAgree (untight cs (first_tight_from 0 cs (edit c t n).text n)) (after cs (edit c t n).text n).replies (after cs u m).replies) same.text rest)
+
+-- no command before that one is tight at the greater capacity
+pub no-sooner : (cs : List Command) (t : List ℕ) (n m : ℕ) → n ≤ m → IsNoSooner (first_tight_from 0 cs t n) (first_tight_from 0 cs t m)
+no-sooner [] t n m le = tt
+no-sooner (c ∷ cs) t n m le = go (tight c t n) refl (no-sooner cs (edit c t n).text n m le)
+  where
+    zero-first : (o : Option ℕ) → IsNoSooner (Some 0) o
+    zero-first None = tt
+    zero-first (Some j) = omega arith
+
+    go : (b : Bool) → tight c t n ≡ b
+        → IsNoSooner (first_tight_from 0 cs (edit c t n).text n) (first_tight_from 0 cs (edit c t n).text m)
+        → IsNoSooner (if b then Some 0 else first_tight_from 1 cs (edit c t n).text n) (first_tight_from 0 (c ∷ cs) t m)
+    go true e rest = zero-first (first_tight_from 0 (c ∷ cs) t m)
+    go false e rest =
+        let same = same-step c t n m le e in
+        let moved = subst (λ u. IsNoSooner (first_tight_from 0 cs (edit c t n).text n) (first_tight_from 0 cs u m)) same.text rest in
+        let later = no_sooner-next (first_tight_from 0 cs (edit c t n).text n) (first_tight_from 0 cs (edit c t m).text m) moved in
+        subst (λ o. IsNoSooner o (first_tight_from 0 (c ∷ cs) t m)) (sym (tight-from_next 0 cs (edit c t n).text n))
+        (subst (IsNoSooner (next (first_tight_from 0 cs (edit c t n).text n)))
+        (sym (ap (λ b. if b then Some 0 else first_tight_from 1 cs (edit c t m).text m) same.untight ∙ tight-from_next 0 cs (edit c t m).text m)) later)
+
+-- where no command is tight, the last texts are the same
+pub same-text : (cs : List Command) (t : List ℕ) (n m : ℕ) → n ≤ m → first_tight_from 0 cs t n ≡ None → (after cs t n).text ≡ (after cs t m).text
+same-text [] t n m le none = refl
+same-text (c ∷ cs) t n m le none = go (tight c t n) refl none (same-text cs (edit c t n).text n m le)
+  where
+    go : (b : Bool) → tight c t n ≡ b → (if b then Some 0 else first_tight_from 1 cs (edit c t n).text n) ≡ None
+        → (first_tight_from 0 cs (edit c t n).text n ≡ None → (after cs (edit c t n).text n).text ≡ (after cs (edit c t n).text m).text)
+        → (after (c ∷ cs) t n).text ≡ (after (c ∷ cs) t m).text
+    go true e is rest = absurd (some-none 0 is)
+    go false e is rest =
+        let same = same-step c t n m le e in
+        rest (none-next (first_tight_from 0 cs (edit c t n).text n) (sym (tight-from_next 0 cs (edit c t n).text n) ∙ is))
+        ∙ ap (λ u. (after cs u m).text) same.text

@@ -1,0 +1,7 @@
+pub mod RunLemmas
+pub mod GrammarLemmas
+pub mod ScriptLemmas
+pub mod PrintLemmas
+pub mod ReadingLemmas
+pub mod LineLemmas
+pub mod AgreementLemmas

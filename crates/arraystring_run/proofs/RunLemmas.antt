@@ -1,0 +1,86 @@
+-- Runs of commands, part way.
+use Rattle.std.proofs.Common.{◌≡◌, ℕ, suc, ◌+◌, ◌<◌, ◌≤◌, List, [], ◌∷◌, ◌++◌, length, drop, get_or, refl, sym, ap, ◌∙◌, arith, Option, Some, None, Bool, true, false, nat_lt, if◌then◌else◌, append_assoc, inl, inr, reverse, nat_le, ◌&&◌}
+use Rattle.std.proofs.lemmas.List.{append-nil, drop_all, reverse-append}
+use Rattle.std.proofs.lemmas.Bool.{cases_lt, lt-ltb, le-ltb}
+use Rattle.std.proofs.Math.Seq.{drop-cons}
+use Rattle.arraystring.specs.Text.{size, cut, front, back, boundary}
+use Rattle.arraystring.specs.TextLaws.{size-append}
+use Rattle.arraystring.specs.CutLaws.{cut-fits, cut-all}
+use Rattle.arraystring.specs.BoundaryLaws.{front-back}
+use Rattle.arraystring.specs.Edits.{part, part_in}
+use Rattle.arraystring_run.specs.Runs.{Said, edit, tight, after, first_tight_from, earlier_of}
+use Rattle.arraystring_run.specs.declared.commands.Command.{Command}
+
+-- a cut is not the whole text exactly where the text is larger
+pub is_cut-larger : (t : List ℕ) (n : ℕ) → nat_lt n (size t) ≡ nat_lt (size (cut t n)) (size t)
+is_cut-larger t n =
+    elim (cases_lt n (size t)) [
+      | inl over ↦ let le = cut-fits t n in let lt : size (cut t n) < size t = omega arith in
+          lt-ltb n (size t) over ∙ sym (lt-ltb (size (cut t n)) (size t) lt)
+      | inr fits ↦ let same : size (cut t n) ≡ size t = ap size (cut-all t n fits) in
+          le-ltb n (size t) fits ∙ sym (le-ltb (size (cut t n)) (size t) (omega arith))
+    ]
+
+-- a part of a text is no larger than the text
+part-fits : (t : List ℕ) (start end : ℕ) → size (part t start end) ≤ size t
+part-fits t start end =
+    let of_front = ap size (front-back (front t end) start) in
+    omega (arith, of_front, ap size (front-back t end), size-append (front (front t end) start) (back (front t end) start), size-append (front t end) (back t end))
+
+pub part_in-fits : (t : List ℕ) (start end : ℕ) (p : List ℕ) → part_in t start end ≡ Some p → size p ≤ size t
+part_in-fits t start end p e = found-by (nat_le start end && (boundary t start && boundary t end)) e where
+  found-by : (b : Bool) → (if b then Some (part t start end) else None) ≡ Some p → size p ≤ size t
+  found-by true found = let same : part t start end ≡ p = cc in rw (← same) (part-fits t start end)
+  found-by false found = absurd (cc)
+
+-- the last character is given, and the others are left
+pub one-back : (text left rest whole : List ℕ) (c : ℕ) → left ≡ rest ++ c ∷ [] → text ++ reverse left ≡ whole
+    → (text ++ c ∷ []) ++ reverse rest ≡ whole
+one-back text left rest whole c e walked =
+    append_assoc text (c ∷ []) (reverse rest) ∙ ap (λ l. text ++ l) (sym (reverse-append rest (c ∷ [])))
+    ∙ ap (λ l. text ++ reverse l) (sym e) ∙ walked
+
+earlier_of-none : (first : Option ℕ) → earlier_of first None ≡ first
+earlier_of-none None = refl
+earlier_of-none (Some k) = refl
+
+earlier_of-step : (first : Option ℕ) (b : Bool) (i : ℕ) (rest : Option ℕ)
+    → earlier_of first (if b then Some i else rest) ≡ earlier_of (earlier_of first (if b then Some i else None)) rest
+earlier_of-step None true i rest = refl
+earlier_of-step None false i rest = refl
+earlier_of-step (Some k) b i rest = refl
+
+-- the first i commands are done: `done` is what they answered, t what they left, and first their first tight one
+pub record IsPartWay (cs : List Command) (t₀ : List ℕ) (n i : ℕ) (done : List Said) (t : List ℕ) (first : Option ℕ) : Type 0 where
+  pub replies : (after cs t₀ n).replies ≡ done ++ (after (drop i cs) t n).replies
+  pub text : (after cs t₀ n).text ≡ (after (drop i cs) t n).text
+  pub tight : first_tight_from 0 cs t₀ n ≡ earlier_of first (first_tight_from i (drop i cs) t n)
+
+module _ (cs : List Command) (t₀ : List ℕ) (n : ℕ) where
+  pub at-start : IsPartWay cs t₀ n 0 [] t₀ None
+  at-start = record { replies = refl; text = refl; tight = refl }
+
+  pub at-end : (i : ℕ) (done : List Said) (t : List ℕ) (first : Option ℕ) → length cs ≤ i → IsPartWay cs t₀ n i done t first
+      → ((after cs t₀ n).replies ≡ done) × ((after cs t₀ n).text ≡ t) × (first_tight_from 0 cs t₀ n ≡ first)
+  at-end i done t first le way =
+      let none = drop_all i cs le in (
+        way.replies ∙ ap (λ d. done ++ (after d t n).replies) none ∙ append-nil done,
+        way.text ∙ ap (λ d. (after d t n).text) none,
+        way.tight ∙ ap (λ d. earlier_of first (first_tight_from i d t n)) none ∙ earlier_of-none first,
+      )
+
+  pub one-more : (i : ℕ) (done : List Said) (t : List ℕ) (first : Option ℕ) (command : Command) → i < length cs
+      → command ≡ get_or cs i command → IsPartWay cs t₀ n i done t first
+      → IsPartWay cs t₀ n (i + 1) (done ++ (edit command t n).reply ∷ []) (edit command t n).text
+      (earlier_of first (if tight command t n then Some i else None))
+  one-more i done t first command lt is way =
+      let up : suc i ≡ i + 1 = omega arith in
+      let next : drop i cs ≡ command ∷ drop (i + 1) cs =
+      drop-cons cs i command lt ∙ ap (λ x. x ∷ drop (suc i) cs) (sym is) ∙ ap (λ k. command ∷ drop k cs) up in
+      let rest = after (drop (i + 1) cs) (edit command t n).text n in record {
+        replies = way.replies ∙ ap (λ d. done ++ (after d t n).replies) next
+            ∙ sym (append_assoc done ((edit command t n).reply ∷ []) rest.replies);
+        text = way.text ∙ ap (λ d. (after d t n).text) next;
+        tight = way.tight ∙ ap (λ d. earlier_of first (first_tight_from i d t n)) next
+            ∙ earlier_of-step first (tight command t n) i (first_tight_from (i + 1) (drop (i + 1) cs) (edit command t n).text n);
+      }

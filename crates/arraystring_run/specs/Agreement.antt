@@ -1,0 +1,28 @@
+-- When two runs of the same commands agree.
+use Rattle.std.specs.Prelude.{◌≡◌, ◌≤◌, ⊤, ℕ, List, [], ◌∷◌, take, Option, Some, None}
+use Rattle.arraystring_run.specs.Runs.{Said}
+use Rattle.arraystring_run.specs.declared.commands.Command.{Command}
+use Rattle.arraystring_run.specs.declared.commands.Command.TheVariants.{Capacity}
+
+-- the commands before the first tight one
+abbrev pub untight : List Command → Option ℕ → List Command
+untight cs None = cs
+untight cs (Some k) = take k cs
+
+-- two replies to a command are the same; those to `Capacity` are set aside
+abbrev pub Agrees : Command → Said → Said → Type 0
+Agrees Capacity r s = ⊤
+Agrees _ r s = r ≡ s
+
+-- so do the replies to each of the commands, which stand first in both lists
+abbrev pub AllAgree : List Command → List Said → List Said → Type 0
+AllAgree [] rs ss = ⊤
+AllAgree (c ∷ cs) [] ss = ⊥
+AllAgree (c ∷ cs) (r ∷ rs) [] = ⊥
+AllAgree (c ∷ cs) (r ∷ rs) (s ∷ ss) = Agrees c r s × AllAgree cs rs ss
+
+-- the second position, if there is one, is no sooner than the first
+abbrev pub IsNoSooner : Option ℕ → Option ℕ → Type 0
+IsNoSooner first None = ⊤
+IsNoSooner None (Some j) = ⊥
+IsNoSooner (Some k) (Some j) = k ≤ j

@@ -1,0 +1,143 @@
+-- What commands do to a text: each edits a list of characters and is answered.
+use Rattle.std.specs.Prelude.{ℕ, ◌+◌, ◌-◌, ◌==◌, ◌&&◌, List, [], ◌∷◌, Bool, true, false, not, Option, Some, None, is_none, Result, Ok, Err, if◌then◌else◌, nat_lt, min, chars, reverse}
+use Rattle.std.specs.List.{filter}
+use Rattle.arraystring.specs.Text.{size, cut}
+use Rattle.arraystring.specs.Edits.{Edit, Cause, Room, answer_of, text_of, first_cause, part_in, addition, addition_of_cut, popping, truncation, trimming, removal, insertion, insertion_of_cut, split, clearing, draining, replacement, uppercase, lowercase}
+use Rattle.arraystring.specs.Refusals.{Error, OutOfBounds}
+use Rattle.arraystring_run.specs.declared.commands.Command.{Command}
+use Rattle.arraystring_run.specs.declared.commands.Command.TheVariants.{TryPush, TryPushStr, PushStr, Pop, Truncate, Trim, Remove, RetainNot, TryInsert, TryInsertStr, InsertStr, SplitOff, Clear, Drain, DrainThrough, DrainBack, ReplaceRange, Upper, Lower, Get, Len, Capacity, AsStr}
+use Rattle.arraystring_run.specs.declared.commands.Reply.{Reply}
+use Rattle.arraystring_run.specs.declared.commands.Reply.TheVariants as reply
+
+-- a reply, with a string seen as its text
+pub data Said : Type 0 where
+  Done : Said
+  Char : ℕ → Said
+  NoChar : Said
+  Text : List ℕ → Said
+  NoText : Said
+  Number : ℕ → Said
+  Refused : Error → Said
+
+abbrev pub said : {N : ℕ} → Reply N → Said
+said reply.Done = Done
+said (reply.Char c) = Char c
+said reply.NoChar = NoChar
+said (reply.Text s) = Text s.text
+said reply.NoText = NoText
+said (reply.Number n) = Number n
+said (reply.Refused e) = Refused e
+
+-- a reply and the text that it leaves
+pub record Edited : Type 0 where
+  pub reply : Said
+  pub text : List ℕ
+
+abbrev pub leaves : Said → List ℕ → Edited
+leaves r t = record { reply = r; text = t }
+
+-- an answer as a reply
+abbrev pub said_of : {A : Type 0} → (A → Said) → Result A Error → Said
+said_of say (Ok answer) = say answer
+said_of say (Err e) = Refused e
+
+-- a row of the table of edits, as it is made of t
+abbrev pub made : {A : Type 0} → (A → Said) → Edit A → List ℕ → Edited
+made say row t = leaves (said_of say (answer_of row)) (text_of row t)
+
+-- a row that is answered Done
+abbrev pub done : Edit (Unit {0}) → List ℕ → Edited
+done row t = made (λ _. Done) row t
+
+abbrev pub char_or_none : Option ℕ → Said
+char_or_none None = NoChar
+char_or_none (Some c) = Char c
+
+abbrev pub text_or_none : Option (List ℕ) → Said
+text_or_none None = NoText
+text_or_none (Some t) = Text t
+
+-- the characters other than c
+abbrev pub without : ℕ → List ℕ → List ℕ
+without c t = filter (λ d. not (d == c)) t
+
+-- the end of a range through the byte `last`
+abbrev pub end_through : ℕ → ℕ
+end_through last = min (last + 1) 255
+
+-- what a command does to t at the capacity n
+abbrev pub edit : Command → List ℕ → ℕ → Edited
+edit (TryPush c) t n = done (addition t (c ∷ []) n) t
+edit (TryPushStr given) t n = done (addition t (chars given.now) n) t
+edit (PushStr given) t n = done (addition_of_cut t (chars given.now) n) t
+edit Pop t n = made char_or_none (popping t) t
+edit (Truncate i) t n = done (truncation t i) t
+edit Trim t n = done (trimming t) t
+edit (Remove i) t n = made Char (removal t i) t
+edit (RetainNot c) t n = leaves Done (without c t)
+edit (TryInsert i c) t n = done (insertion t i (c ∷ []) n) t
+edit (TryInsertStr i given) t n = done (insertion t i (chars given.now) n) t
+edit (InsertStr i given) t n = done (insertion_of_cut t i (chars given.now) n) t
+edit (SplitOff i) t n = made Text (split t i) t
+edit Clear t n = done clearing t
+edit (Drain start end) t n = made Text (draining t start end) t
+edit (DrainThrough start last) t n = made Text (draining t start (end_through last)) t
+edit (DrainBack start end) t n = made (λ removed. Text (reverse removed)) (draining t start end) t
+edit (ReplaceRange start end given) t n = done (replacement t start end (chars given.now) n) t
+edit Upper t n = done (uppercase t) t
+edit Lower t n = done (lowercase t) t
+edit (Get start end) t n = leaves (text_or_none (part_in t start end)) t
+edit Len t n = leaves (Number (size t)) t
+edit Capacity t n = leaves (Number n) t
+edit AsStr t n = leaves (Text t) t
+
+-- whether an answer is the refusal of a place past the text, or of want of room
+abbrev pub is_out_of_bounds : {A : Type 0} → Result A Error → Bool
+is_out_of_bounds (Err OutOfBounds) = true
+is_out_of_bounds _ = false
+
+-- whether the first cause that holds is want of room
+abbrev pub is_room : Option Cause → Bool
+is_room (Some Room) = true
+is_room _ = false
+
+abbrev pub lacks_room : {A : Type 0} → Edit A → Bool
+lacks_room row = is_room (first_cause row.tests)
+
+abbrev pub is_made : {A : Type 0} → Edit A → Bool
+is_made row = is_none (first_cause row.tests)
+
+-- whether less than all of `given` fits behind t at the capacity n
+abbrev pub adds_less : List ℕ → List ℕ → ℕ → Bool
+adds_less t given n = nat_lt (size (cut given (n - size t))) (size given)
+
+-- whether a command is refused for want of room, or adds less than all of what it is given
+abbrev pub tight : Command → List ℕ → ℕ → Bool
+tight (TryPush c) t n = lacks_room (addition t (c ∷ []) n)
+tight (TryPushStr given) t n = lacks_room (addition t (chars given.now) n)
+tight (PushStr given) t n = adds_less t (chars given.now) n
+tight (TryInsert i c) t n = lacks_room (insertion t i (c ∷ []) n)
+tight (TryInsertStr i given) t n = lacks_room (insertion t i (chars given.now) n)
+tight (InsertStr i given) t n = is_made (insertion_of_cut t i (chars given.now) n) && adds_less t (chars given.now) n
+tight (ReplaceRange start end given) t n = lacks_room (replacement t start end (chars given.now) n)
+tight _ t n = false
+
+-- the replies and the last text of a run of commands, each on the text that the one before left
+pub record Ran : Type 0 where
+  pub replies : List Said
+  pub text : List ℕ
+
+abbrev pub after : List Command → List ℕ → ℕ → Ran
+after [] t n = record { replies = []; text = t }
+after (c ∷ cs) t n =
+    let rest = after cs (edit c t n).text n in record { replies = (edit c t n).reply ∷ rest.replies; text = rest.text }
+
+-- the position of the first tight command, where the first command stands at k
+abbrev pub first_tight_from : ℕ → List Command → List ℕ → ℕ → Option ℕ
+first_tight_from k [] t n = None
+first_tight_from k (c ∷ cs) t n = if tight c t n then Some k else first_tight_from (k + 1) cs (edit c t n).text n
+
+-- the first position, or else the next
+abbrev pub earlier_of : Option ℕ → Option ℕ → Option ℕ
+earlier_of None next = next
+earlier_of (Some k) next = Some k

@@ -1,0 +1,109 @@
+-- Scripts, which are lines of bytes, and what is printed of a run.
+use Rattle.std.specs.Prelude.{◌≡◌, ◌≢◌, ℕ, ◌+◌, ◌==◌, ⊤, length, List, [], ◌∷◌, ◌++◌, if◌then◌else◌, Option, Some, None, Result, Ok, Err, codes, decimal, nat_eq}
+use Rattle.std.specs.Borrow.{Bor}
+use Rattle.std.specs.Cmp.Lexicographic.{pointwise}
+use Rattle.std.specs.Io.KnownBytes.{Appends}
+use Rattle.arraystring.specs.Text.{utf8, bytes}
+use Rattle.arraystring.specs.Names.{error_name}
+use Rattle.arraystring_run.specs.Runs.{after, Said, Done, Char, NoChar, Text, NoText, Number, Refused}
+use Rattle.arraystring_run.specs.declared.commands.Command.{Command}
+use Rattle.arraystring_run.specs.Grammar.{IsLineOf}
+use Rattle.arraystring_run.specs.declared.player.PlayFault.{PlayFault}
+use Rattle.arraystring_run.specs.declared.player.PlayFault.TheVariants.{BadLine, Memory, Read, Write}
+
+-- the byte that ends a line
+abbrev pub line_feed : ℕ
+line_feed = 0x0A
+
+-- a line with its end
+abbrev pub ended : List ℕ → List ℕ
+ended bs = bs ++ line_feed ∷ []
+
+abbrev pub all_ended : List (List ℕ) → List ℕ
+all_ended [] = []
+all_ended (line ∷ rest) = ended line ++ all_ended rest
+
+-- no byte ends a line
+abbrev pub IsOneLine : List ℕ → Type 0
+IsOneLine [] = ⊤
+IsOneLine (b ∷ bs) = (b ≢ line_feed) × IsOneLine bs
+
+abbrev pub AreOneLine : List (List ℕ) → Type 0
+AreOneLine [] = ⊤
+AreOneLine (line ∷ rest) = IsOneLine line × AreOneLine rest
+
+-- b is the first byte of the first line
+abbrev pub first_byte : ℕ → List (List ℕ) → List (List ℕ)
+first_byte b [] = (b ∷ []) ∷ []
+first_byte b (line ∷ rest) = (b ∷ line) ∷ rest
+
+-- the lines of an input, without their ends; the last may lack its end, and no bytes have no lines
+abbrev pub lines : List ℕ → List (List ℕ)
+lines [] = []
+lines (b ∷ bs) = if b == line_feed then [] ∷ lines bs else first_byte b (lines bs)
+
+-- each line is that of the command beside it
+abbrev pub AreLinesOf : List (List ℕ) → List Command → Type 0
+AreLinesOf [] [] = ⊤
+AreLinesOf [] (c ∷ cs) = ⊥
+AreLinesOf (line ∷ rest) [] = ⊥
+AreLinesOf (line ∷ rest) (c ∷ cs) = IsLineOf line c × AreLinesOf rest cs
+
+-- the lines before line k, from 1, are those of commands, and line k is that of no command
+pub record IsBadAt (all : List (List ℕ)) (k : ℕ) : Type 0 where
+  pub front : List (List ℕ)
+  pub commands : List Command
+  pub line : List ℕ
+  pub rest : List (List ℕ)
+  pub whole : all ≡ front ++ line ∷ rest
+  pub number : k ≡ length front + 1
+  pub before : AreLinesOf front commands
+  pub bad : (c : Command) → IsLineOf line c → ⊥
+
+-- what a fault says where it is a bad line
+abbrev pub IfBadLine : PlayFault → (ℕ → Type 0) → Type 0
+IfBadLine (BadLine k) P = P k
+IfBadLine _ P = ⊤
+
+-- the line of a reply
+abbrev pub printed : Said → List ℕ
+printed Done = codes "done"
+printed (Char c) = codes "char " ++ utf8 c
+printed NoChar = codes "no char"
+printed (Text t) = codes "text " ++ bytes t
+printed NoText = codes "no text"
+printed (Number n) = codes "number " ++ decimal n
+printed (Refused e) = codes "refused " ++ error_name e
+
+-- a line for each reply
+abbrev pub replies_printed : List Said → List ℕ
+replies_printed [] = []
+replies_printed (r ∷ rs) = ended (printed r) ++ replies_printed rs
+
+-- and one for the last text
+abbrev pub all_printed : List Said → List ℕ → List ℕ
+all_printed rs t = replies_printed rs ++ ended (codes "final " ++ bytes t)
+
+-- the printed lines of a run from the empty text at the capacity n
+abbrev pub run_printed : List Command → ℕ → List ℕ
+run_printed cs n = let ran = after cs [] n in all_printed ran.replies ran.text
+
+-- the input is the lines of some commands, and the writer's bytes grew by the printed lines of their run
+abbrev pub IsPlayed : List ℕ → ℕ → Option (List ℕ) → Option (List ℕ) → Type 0
+IsPlayed input n old new = (cs : List Command) × AreLinesOf (lines input) cs × Appends old new (run_printed cs n)
+
+-- the capacity that a word names
+abbrev pub capacity_named : Option (Bor (List ℕ)) → Option ℕ
+capacity_named None = None
+capacity_named (Some word) =
+    if pointwise nat_eq word.now (codes "small") then Some 23 else
+    if pointwise nat_eq word.now (codes "cache") then Some 63 else
+    if pointwise nat_eq word.now (codes "max") then Some 255 else None
+
+-- the exit status of a script that was played, or not
+abbrev pub status_of : {A : Type 0} → Result A PlayFault → ℕ
+status_of (Ok _) = 0
+status_of (Err (BadLine k)) = 2
+status_of (Err Memory) = 3
+status_of (Err Read) = 4
+status_of (Err Write) = 4

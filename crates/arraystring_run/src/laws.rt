@@ -1,0 +1,29 @@
+//! Laws of scripts, which callers may rely on. Each does nothing when it is called and carries its
+//! fact in its contract.
+ghost use Rattle.std.specs.Prelude.{◌≡◌, ◌<◌, ◌⊎◌, ◌++◌, ◌∷◌, [], ℕ, List, length};
+ghost use Rattle.arraystring_run.specs.Runs.{after};
+ghost use Rattle.arraystring_run.specs.Script.{lines, ended, all_ended, IsOneLine, AreOneLine, AreLinesOf, IsBadAt};
+ghost use Rattle.arraystring_run.specs.declared.commands.Command.{Command as Edit};
+
+/// The lines of lines that are each ended are those lines, and so they are where a last line that
+/// is not empty lacks its end. Each input is of one of these two forms.
+pub fn lines_of_input()
+    ensures all_ended { (all : List (List ℕ)) → AreOneLine all → lines (all_ended all) ≡ all }
+    ensures last_open { (all : List (List ℕ)) (last : List ℕ) → AreOneLine all → IsOneLine last → 0 < length last
+        → lines (all_ended all ++ last) ≡ all ++ last ∷ [] }
+    ensures no_ends { (input : List ℕ) → AreOneLine (lines input) }
+    ensures input { (input : List ℕ) → (all_ended (lines input) ≡ input) ⊎ (all_ended (lines input) ≡ ended input) }
+{}
+
+/// A script has one reading: whatever commands its lines are taken for, they are answered alike
+/// and leave the same text.
+pub fn one_reading()
+    ensures { (all : List (List ℕ)) (cs ds : List Edit) (t : List ℕ) (n : ℕ)
+        → AreLinesOf all cs → AreLinesOf all ds → after cs t n ≡ after ds t n }
+{}
+
+/// A script with a bad line is not the lines of any commands, and its first bad line is one alone.
+pub fn one_bad_line()
+    ensures refused { (all : List (List ℕ)) (cs : List Edit) (k : ℕ) → IsBadAt all k → AreLinesOf all cs → ⊥ }
+    ensures first { (all : List (List ℕ)) (j k : ℕ) → IsBadAt all j → IsBadAt all k → j ≡ k }
+{}

@@ -1,0 +1,15 @@
+//! Commands that edit a string of bounded size: runs of them, and scripts that are played.
+#![tactic(auto)]
+
+mod commands;
+pub mod laws;
+mod line;
+mod player;
+mod printing;
+mod runs;
+mod script;
+mod steps;
+
+pub use commands::{Command, Reply};
+pub use player::{PlayFault, play, serve};
+pub use runs::{Outcome, run, run_both};

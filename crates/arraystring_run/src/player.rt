@@ -1,0 +1,150 @@
+//! A script played from a reader to a writer.
+ghost use Rattle.std.specs.Prelude.{◌≡◌, ◌≢◌, ◌≤◌, ℕ, None, IfOk, IfErr, IfSome, OnOk};
+ghost use Rattle.std.specs.Io.KnownBytes.{Keeps};
+ghost use Rattle.arraystring.specs.Text.{cap};
+ghost use Rattle.arraystring_run.specs.Script.{lines, IsBadAt, IfBadLine, IsPlayed, capacity_named, status_of};
+
+use crate::printing::write_all_replies;
+use crate::run;
+use crate::script::commands;
+use arraystring::ArrayString;
+use std::alloc::Global;
+use std::io::{ErrorKind, Read, Write};
+
+/// Why a script was not played to its end.
+#[derive(Clone, Copy, Debug, PartialEq, Eq)]
+pub enum PlayFault {
+    /// The first line, counted from 1, that is not a command.
+    BadLine(usize),
+    /// Want of memory.
+    Memory,
+    /// A read failed.
+    Read,
+    /// A write failed; some beginning of the output may have been written.
+    Write,
+}
+
+/// How many bytes are asked for at a time.
+const CHUNK: usize = 8192;
+
+/// An array of more bytes fits into no memory. For each `N` that a program can name the test
+/// against it is decided when the program is built.
+const LARGEST: usize = usize::MAX / 4;
+
+/// Plays a script from the empty text: reads it to its end, judges each line, makes the commands,
+/// and writes a line for each reply and one for the last text.
+///
+/// Nothing is written before the whole script was read and accepted and the run was made, and no
+/// memory is taken after that. A read that was interrupted is tried again. An `N` for which no
+/// memory has an array is want of memory.
+pub fn play<const N: usize, I: Read, O: Write>(
+    alloc: Global,
+    input: &mut I,
+    output: &mut O,
+) -> Result<(), PlayFault>
+    ensures played { OnOk result (IfSome (I.remaining input.old) (λ given. IsPlayed given (cap N) (O.contents output.old) (O.contents output.new))) }
+    ensures bad_line { IfErr result (λ e. IfBadLine e (λ k. IfSome (I.remaining input.old) (λ given. IsBadAt (lines given) k))) }
+    ensures unwritten { IfErr result (λ e. e ≢ PlayFault.Write → Keeps (O.contents output.old) (O.contents output.new)) }
+{
+    let script = read_all(alloc, input)?;
+    let commands = commands(alloc, &script)?;
+    if N > LARGEST {
+        return Err(PlayFault::Memory);
+    }
+    let mut text = ArrayString::<N>::new();
+    let outcome = match run(alloc, &mut text, &commands) {
+        Ok(outcome) => outcome,
+        Err(_) => return Err(PlayFault::Memory),
+    };
+    match write_all_replies(output, &outcome.replies, &text) {
+        Ok(()) => Ok(()),
+        Err(_) => Err(PlayFault::Write),
+    }
+}
+
+/// The program: plays a script at the capacity of a word, `small` (23), `cache` (63) or `max`
+/// (255), and answers its exit status. The word is judged before anything is read.
+///
+/// Where the status is not 0, one line on `errors` says why: 2 for another word, or none, and for
+/// a bad line; 3 for want of memory; 4 for a read or a write that failed. A fault of `errors`
+/// changes nothing.
+pub fn serve<I: Read, O: Write, E: Write>(
+    alloc: Global,
+    word: Option<&str>,
+    input: &mut I,
+    output: &mut O,
+    errors: &mut E,
+) -> u8
+    ensures other_word { capacity_named word.entry ≡ None → (result ≡ 2) × (input.new ≡ input.old) }
+    ensures played { IfSome (capacity_named word.entry) (λ n. result ≡ 0
+        → IfSome (I.remaining input.old) (λ given. IsPlayed given n (O.contents output.old) (O.contents output.new))) }
+    ensures bad_line { IfSome (capacity_named word.entry) (λ _. result ≡ 2
+        → IfSome (I.remaining input.old) (λ given. (k : ℕ) × IsBadAt (lines given) k)) }
+    ensures unwritten { result ≢ 0 → result ≢ 4 → Keeps (O.contents output.old) (O.contents output.new) }
+    // 0, 2, 3 or 4
+    ensures status { (result ≤ 4) × (result ≢ 1) }
+{
+    match word {
+        Some("small") => told(play::<23, I, O>(alloc, input, output), errors),
+        Some("cache") => told(play::<63, I, O>(alloc, input, output), errors),
+        Some("max") => told(play::<255, I, O>(alloc, input, output), errors),
+        _ => {
+            let _ = errors.write_all(b"usage: arraystring_run small or cache or max\n");
+            2
+        }
+    }
+}
+
+/// Writes the line of a fault, and answers the status.
+fn told<E: Write>(played: Result<(), PlayFault>, errors: &mut E) -> u8
+    ensures { result ≡ status_of played }
+{
+    match played {
+        Ok(()) => 0,
+        Err(PlayFault::BadLine(number)) => {
+            let _ = writeln!(errors, "bad line {number}");
+            2
+        }
+        Err(PlayFault::Memory) => {
+            let _ = errors.write_all(b"out of memory\n");
+            3
+        }
+        Err(PlayFault::Read) => {
+            let _ = errors.write_all(b"read failed\n");
+            4
+        }
+        Err(PlayFault::Write) => {
+            let _ = errors.write_all(b"write failed\n");
+            4
+        }
+    }
+}
+
+/// Reads to the end; a refused growth and a failed read are told apart.
+fn read_all<I: Read>(alloc: Global, input: &mut I) -> Result<Vec<u8>, PlayFault>
+    ensures whole { IfOk result (λ v. IfSome (I.remaining input.old) (λ given. v.items ≡ given)) }
+    ensures faults { IfErr result (λ e. e ≢ PlayFault.Write) }
+    ensures no_line { IfErr result (λ e. IfBadLine e (λ _. ⊥)) }
+{
+    let mut bytes = Vec::new(alloc);
+    let mut chunk = [0u8; CHUNK];
+    for _ in 0..u64::MAX {
+        match input.read(&mut chunk) {
+            Ok(0) => return Ok(bytes),
+            Ok(count) => {
+                if bytes.extend_from_slice(&chunk[..count]).is_err() {
+                    return Err(PlayFault::Memory);
+                }
+            }
+            Err(error) => {
+                if error.kind() != ErrorKind::Interrupted {
+                    return Err(PlayFault::Read);
+                }
+            }
+        }
+    }
+    Err(PlayFault::Read)
+}
+
+#[cfg(test)]
+mod tests;

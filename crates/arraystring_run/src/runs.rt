@@ -1,0 +1,114 @@
+//! Runs of commands over one string.
+ghost use Rattle.std.specs.Prelude.{◌≡◌, ◌≤◌, [], length, map, vec_len, if◌then◌else◌, IfOk, IsOk, OnOk, OnErr, Some, None};
+ghost use Rattle.arraystring.specs.Text.{cap, size};
+ghost use Rattle.arraystring_run.specs.Runs.{said, after, first_tight_from, earlier_of};
+ghost use Rattle.arraystring_run.specs.Agreement.{untight, AllAgree, IsNoSooner};
+
+use crate::steps::step;
+use crate::{Command, Reply};
+use arraystring::ArrayString;
+use std::alloc::{AllocError, Global};
+
+/// What a run of commands is answered: one reply a command, in order, and the position from 0 of
+/// the first command that was refused for want of room or added less than all it was given.
+#[derive(Drop)]
+pub struct Outcome<const N: usize> {
+    pub replies: Vec<Reply<N>>,
+    pub first_tight: Option<usize>,
+}
+
+/// Makes each command in turn, each on the text that the one before left.
+///
+/// Memory is taken for the list of replies alone, before the first command; where it is refused,
+/// the text is as it was. No commands take no memory.
+pub fn run<const N: usize>(
+    alloc: Global,
+    text: &mut ArrayString<N>,
+    commands: &[Command<'_>],
+) -> Result<Outcome<N>, AllocError>
+    ensures replies { IfOk result (λ o. map said o.replies.items ≡ (after commands.now text.old.text (cap N)).replies) }
+    ensures one_each { IfOk result (λ o. vec_len o.replies ≡ length commands.now) }
+    ensures text { OnOk result (text.new.text ≡ (after commands.now text.old.text (cap N)).text) }
+    ensures first_tight { IfOk result (λ o. o.first_tight ≡ first_tight_from 0 commands.now text.old.text (cap N)) }
+    ensures fits { size text.new.text ≤ cap N }
+    ensures unchanged { OnErr result (text.new.text ≡ text.old.text) }
+    ensures empty { commands.now ≡ [] → IsOk result }
+{
+    // `len` says that the text fits, also where the run is refused
+    let _fits = text.len();
+    let mut replies = Vec::with_capacity(alloc, commands.len())?;
+    let mut first_tight = None;
+    for (position, command) in commands.iter().enumerate() {
+        let (reply, is_tight) = step(text, *command);
+        first_tight = earlier(first_tight, is_tight, position);
+        replies.push_reserved(reply);
+    }
+    let _fits = text.len();
+    Ok(Outcome {
+        replies,
+        first_tight,
+    })
+}
+
+/// Makes the same commands on two strings, as `run` does on each.
+///
+/// Memory is taken for the two lists of replies alone, before the first command; where it is refused, both texts are
+/// as they were. No commands take no memory.
+///
+/// From equal texts, where the capacity of `first` is not greater than that of `second`: the replies to the commands
+/// before the one that `first` finds tight first agree, those to `Capacity` set aside, and `second` finds none of these
+/// commands tight. Where `first` finds none tight, neither does `second`, and the last texts are equal.
+pub fn run_both<const N: usize, const M: usize>(
+    alloc: Global,
+    first: &mut ArrayString<N>,
+    second: &mut ArrayString<M>,
+    commands: &[Command<'_>],
+) -> Result<(Outcome<N>, Outcome<M>), AllocError>
+    ensures first_replies { IfOk result (λ o. map said o.0.replies.items ≡ (after commands.now first.old.text (cap N)).replies) }
+    ensures first_text { OnOk result (first.new.text ≡ (after commands.now first.old.text (cap N)).text) }
+    ensures first_tight { IfOk result (λ o. o.0.first_tight ≡ first_tight_from 0 commands.now first.old.text (cap N)) }
+    ensures second_replies { IfOk result (λ o. map said o.1.replies.items ≡ (after commands.now second.old.text (cap M)).replies) }
+    ensures second_text { OnOk result (second.new.text ≡ (after commands.now second.old.text (cap M)).text) }
+    ensures second_tight { IfOk result (λ o. o.1.first_tight ≡ first_tight_from 0 commands.now second.old.text (cap M)) }
+    ensures one_each { IfOk result (λ o. (vec_len o.0.replies ≡ length commands.now) × (vec_len o.1.replies ≡ length commands.now)) }
+    ensures fits { (size first.new.text ≤ cap N) × (size second.new.text ≤ cap M) }
+    ensures agree { first.old.text ≡ second.old.text → cap N ≤ cap M
+        → IfOk result (λ o. AllAgree (untight commands.now o.0.first_tight) (map said o.0.replies.items) (map said o.1.replies.items)) }
+    ensures no_sooner { first.old.text ≡ second.old.text → cap N ≤ cap M
+        → IfOk result (λ o. IsNoSooner o.0.first_tight o.1.first_tight) }
+    ensures same_text { first.old.text ≡ second.old.text → cap N ≤ cap M
+        → IfOk result (λ o. o.0.first_tight ≡ None → first.new.text ≡ second.new.text) }
+    ensures unchanged { OnErr result ((first.new.text ≡ first.old.text) × (second.new.text ≡ second.old.text)) }
+    ensures empty { commands.now ≡ [] → IsOk result }
+{
+    let _fits = (first.len(), second.len());
+    let mut second_replies = Vec::with_capacity(alloc, commands.len())?;
+    let first_outcome = run(alloc, first, commands)?;
+    let mut first_tight = None;
+    for (position, command) in commands.iter().enumerate() {
+        let (reply, is_tight) = step(second, *command);
+        first_tight = earlier(first_tight, is_tight, position);
+        second_replies.push_reserved(reply);
+    }
+    let _fits = second.len();
+    Ok((
+        first_outcome,
+        Outcome {
+            replies: second_replies,
+            first_tight,
+        },
+    ))
+}
+
+/// The first tight position, where the one at `position` is tight or not.
+fn earlier(first: Option<usize>, is_tight: bool, position: usize) -> Option<usize>
+    ensures { result ≡ earlier_of first (if is_tight then Some position else None) }
+{
+    match first {
+        Some(_) => first,
+        None => { if is_tight { Some(position) } else { None } }
+    }
+}
+
+#[cfg(test)]
+mod tests;

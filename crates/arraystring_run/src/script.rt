@@ -1,0 +1,56 @@
+//! The commands of a script.
+ghost use Rattle.std.specs.Prelude.{◌≡◌, ◌≢◌, ◌≤◌, ◌<◌, ◌+◌, ℕ, length, drop, slice_index, IfOk, IfErr};
+ghost use Rattle.arraystring_run.specs.Script.{lines, line_feed, AreLinesOf, IsBadAt, IfBadLine};
+
+use crate::Command;
+use crate::line::command;
+use crate::player::PlayFault;
+use std::alloc::Global;
+
+/// The commands of a whole script, one a line, which borrow their texts from it.
+pub fn commands(alloc: Global, script: &[u8]) -> Result<Vec<Command<'_>>, PlayFault>
+    ensures accepted { IfOk result (λ v. AreLinesOf (lines script.now) v.items) }
+    ensures bad_line { IfErr result (λ e. IfBadLine e (IsBadAt (lines script.now))) }
+    ensures faults { IfErr result (λ e. e ≢ PlayFault.Write) }
+{
+    let mut commands = Vec::new(alloc);
+    let mut rest = script;
+    let mut number = 0usize;
+    while !rest.is_empty() {
+        number += 1;
+        let end = line_end(rest);
+        let Some(command) = command(&rest[..end]) else {
+            return Err(PlayFault::BadLine(number));
+        };
+        if commands.push(command).is_err() {
+            return Err(PlayFault::Memory);
+        }
+        rest = past_line(rest, end);
+    }
+    Ok(commands)
+}
+
+/// Where the first line ends.
+fn line_end(text: &[u8]) -> usize
+    ensures at_most { result ≤ length text.now }
+    ensures ended { result < length text.now → slice_index text.now result ≡ line_feed }
+    ensures one_line { (i : ℕ) → i < result → slice_index text.now i ≢ line_feed }
+{
+    let mut end = 0;
+    while end < text.len() && text[end] != b'\n' {
+        end += 1;
+    }
+    end
+}
+
+/// What follows a line that ends at `end`.
+fn past_line(text: &[u8], end: usize) -> &[u8]
+    requires { end ≤ length text.now }
+    ensures { result.now ≡ drop (end + 1) text.now }
+{
+    if end < text.len() {
+        &text[end + 1..]
+    } else {
+        &text[end..]
+    }
+}
