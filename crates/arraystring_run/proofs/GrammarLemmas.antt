@@ -1,5 +1,5 @@
 -- Lines as words and arguments: what a line is the line of.
-use Rattle.std.proofs.Common.{◌≡◌, ◌≢◌, ℕ, ◌<◌, ◌≤◌, List, [], ◌∷◌, ◌++◌, length, map, drop, get_or, refl, sym, ap, subst, ◌∙◌, arith, codes, nat_eq, nat_le, IsUtf8, Bool, true, if◌then◌else◌, ◌&&◌, suc, ◌+◌, length-append, rules, Result, Ok, Err, Option, Some, None, IfSome, IfNone, MatchOption, Bor}
+use Rattle.std.proofs.Common.{◌≡◌, ◌≢◌, ℕ, ◌<◌, ◌≤◌, List, [], ◌∷◌, ◌++◌, length, map, drop, get_or, ◌^◌, refl, sym, ap, subst, ◌∙◌, arith, codes, nat_eq, nat_le, IsUtf8, Bool, true, if◌then◌else◌, ◌&&◌, suc, ◌+◌, length-append, rules, Result, Ok, Err, Option, Some, None, IfSome, IfNone, MatchOption, Bor}
 use Rattle.std.specs.Bool.{⊤}
 use Rattle.std.proofs.lemmas.List.{append-nil}
 use Rattle.std.proofs.lemmas.Bool.{and_parts, leb-true}
@@ -8,6 +8,8 @@ use Rattle.std.proofs.Math.Seq.{get_or-append_seam, drop-append-add}
 use Rattle.std.proofs.lemmas.Str.Ascii.{IsAscii-nil, IsAscii-cons}
 use Rattle.std.proofs.lemmas.Str.Pattern.{IsSplitOnceResult, split_parts}
 use Rattle.std.proofs.lemmas.Str.Parse.{IsNumeralModel, numerals_by_fold, parse_plain}
+use Rattle.std.proofs.lemmas.Fmt.{digits_decimal, digits_value-decimal, decimal_nonempty, length-decimal-le}
+use Rattle.std.specs.Fmt.{decimal}
 use Rattle.std.specs.Str.Parse.{ParsesUnsigned}
 use Rattle.std.specs.Result.{OkIff, result_ok}
 use Rattle.std.specs.Cmp.Lexicographic.{pointwise}
@@ -15,7 +17,7 @@ use Rattle.arraystring.specs.Text.{utf8, IsScalarValue, IsWellFormed}
 use Rattle.arraystring.specs.TextLaws.{bytes-utf8, well_formed-utf8, utf8-well_formed}
 use Rattle.arraystring_run.specs.declared.commands.Command.{Command}
 use Rattle.arraystring_run.specs.declared.commands.Command.TheVariants.{TryPush, TryPushStr, PushStr, Pop, Truncate, Trim, Remove, RetainNot, TryInsert, TryInsertStr, InsertStr, SplitOff, Clear, Drain, DrainThrough, DrainBack, ReplaceRange, Upper, Lower, Get, Len, Capacity, AsStr}
-use Rattle.arraystring_run.specs.Grammar.{Argument, Number, Character, Text, word, arguments, AreDigits, value_after, IsNumber, IsNumberBefore, IsSpelled, AreSpelled, IsLineOf, IsOneWord, space}
+use Rattle.arraystring_run.specs.Grammar.{Argument, Number, Character, Text, word, arguments, AreDigits, value_after, IsNumber, IsNumberBefore, IsSpelled, AreSpelled, IsLineOf, IsOneWord, space, spellings, line_of, AreArguments}
 
 head-of : (x y : ℕ) (xs ys : List ℕ) → x ∷ xs ≡ y ∷ ys → x ≡ y
 head-of x y xs ys e = ap (λ l. get_or l 0 0) e
@@ -331,3 +333,25 @@ module _ {E : Type 0} (bs : List ℕ) (r : Result ℕ E) (parsed : ParsesUnsigne
         → IfNone (result_ok o) ((n : ℕ) → IsNumber bs n → ⊥)
     none (Ok n) h = tt
     none (Err e) bad = λ n is. bad (is.digits, omega (arith, is.some), omega (arith, is.small, is.value))
+
+-- a number as it is printed
+decimal-number : (n : ℕ) → n ≤ 255 → IsNumber (decimal n) n
+decimal-number n small =
+    let fits : n < 2 ^ 64 = omega (arith, small) in
+    let below : n < 10 ^ 3 = omega (arith, small) in
+    record {
+      some = decimal_nonempty n fits;
+      short = length-decimal-le 3 n (omega arith) below fits;
+      digits = digits_decimal own n fits;
+      value = sym (digits_value-decimal own n fits);
+      small = small;
+    }
+
+spellings-are : (given : List Argument) → AreArguments given → AreSpelled (spellings given) given
+spellings-are [] are = refl
+spellings-are (Number n ∷ rest) are = (decimal n, spellings rest, refl, decimal-number n are.0, spellings-are rest are.1)
+spellings-are (Character c ∷ rest) are = (utf8 c, spellings rest, refl, (are.0, refl), spellings-are rest are.1)
+spellings-are (Text given ∷ rest) are = (given, spellings rest, refl, (are.0, refl), spellings-are rest are.1)
+
+pub line-of : (c : Command) → AreArguments (arguments c) → IsLineOf (line_of c) c
+line-of c are = (spellings (arguments c), refl, spellings-are (arguments c) are)

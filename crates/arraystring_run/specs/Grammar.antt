@@ -1,5 +1,5 @@
 -- The line of a command: its word, and then its arguments, each after one space.
-use Rattle.std.specs.Prelude.{◌≡◌, ◌≢◌, ℕ, ◌+◌, ◌-◌, ◌*◌, ◌≤◌, ⊤, length, List, [], ◌∷◌, ◌++◌, codes}
+use Rattle.std.specs.Prelude.{◌≡◌, ◌≢◌, ℕ, ◌+◌, ◌-◌, ◌*◌, ◌≤◌, ⊤, length, List, [], ◌∷◌, ◌++◌, codes, decimal}
 use Rattle.arraystring.specs.Text.{utf8, IsScalarValue, IsWellFormed}
 use Rattle.arraystring_run.specs.declared.commands.Command.{Command}
 use Rattle.arraystring_run.specs.declared.commands.Command.TheVariants.{TryPush, TryPushStr, PushStr, Pop, Truncate, Trim, Remove, RetainNot, TryInsert, TryInsertStr, InsertStr, SplitOff, Clear, Drain, DrainThrough, DrainBack, ReplaceRange, Upper, Lower, Get, Len, Capacity, AsStr}
@@ -89,6 +89,27 @@ AreSpelled bs (a ∷ rest) = (first : List ℕ) × (others : List ℕ) × (bs �
 -- the bytes of a line are those of a command
 abbrev pub IsLineOf : List ℕ → Command → Type 0
 IsLineOf bs c = (rest : List ℕ) × (bs ≡ word c ++ rest) × AreSpelled rest (arguments c)
+
+-- the bytes of an argument, a number as it is printed
+abbrev pub spelling : Argument → List ℕ
+spelling (Number n) = decimal n
+spelling (Character c) = utf8 c
+spelling (Text given) = given
+
+abbrev pub spellings : List Argument → List ℕ
+spellings [] = []
+spellings (a ∷ rest) = space ∷ (spelling a ++ spellings rest)
+
+-- a line of a command
+abbrev pub line_of : Command → List ℕ
+line_of c = word c ++ spellings (arguments c)
+
+-- numbers up to 255, characters and texts
+abbrev pub AreArguments : List Argument → Type 0
+AreArguments [] = ⊤
+AreArguments (Number n ∷ rest) = (n ≤ 255) × AreArguments rest
+AreArguments (Character c ∷ rest) = IsScalarValue c × AreArguments rest
+AreArguments (Text given ∷ rest) = IsWellFormed given × AreArguments rest
 
 -- no byte is a space
 abbrev pub IsOneWord : List ℕ → Type 0
