@@ -45,4 +45,6 @@ pub mod prelude {
 }
 
 #[cfg(test)]
+mod parity;
+#[cfg(test)]
 mod tests;

@@ -1,4 +1,5 @@
 pub mod RunLemmas
+pub mod GrammarLemmas
 pub mod ScriptLemmas
 pub mod PrintLemmas
 pub mod ReadingLemmas

@@ -1,42 +1,14 @@
 -- A script, part read.
-use Rattle.std.proofs.Common.{◌≡◌, ◌≢◌, ℕ, suc, zero, ◌+◌, ◌<◌, ◌≤◌, List, [], ◌∷◌, ◌++◌, length, take, drop, slice_index, refl, sym, ap, subst, ◌∙◌, arith, append_assoc, length-append, IsUtf8, chars, codes, get_or, Bool, true, false, eqb}
+use Rattle.std.proofs.Common.{◌≡◌, ◌≢◌, ℕ, suc, zero, ◌+◌, ◌<◌, ◌≤◌, List, [], ◌∷◌, ◌++◌, length, take, drop, slice_index, refl, sym, ap, subst, ◌∙◌, arith, append_assoc, length-append, IsUtf8, chars, Bool, true, false, eqb}
 use Rattle.std.proofs.lemmas.List.{append-nil, nil_from_length}
-use Rattle.std.proofs.lemmas.Str.{IsUtf8-append, IsUtf8-drop, IsCharBoundary-after_ascii, cons_from_encodes, encodes-chars, encode_same}
+use Rattle.std.proofs.lemmas.Str.{cons_from_encodes, encodes-chars, encode_same}
 use Rattle.std.proofs.lemmas.Bool.{eqb-true}
 use Rattle.std.specs.Char.{encode_utf8}
-use Rattle.std.proofs.Math.Seq.{get_or-append_seam, drop-append-add}
-use Rattle.arraystring.specs.Text.{utf8, IsScalarValue, IsText, IsWellFormed}
-use Rattle.arraystring.specs.TextLaws.{bytes-utf8, well_formed-utf8, utf8-well_formed, utf8-is, text-chars, length-utf8, width-bounds}
+use Rattle.arraystring.specs.Text.{utf8, IsScalarValue, IsText}
+use Rattle.arraystring.specs.TextLaws.{utf8-is, text-chars, length-utf8, width-bounds}
 use Rattle.arraystring_run.specs.declared.commands.Command.{Command}
-use Rattle.arraystring_run.specs.declared.commands.Command.TheVariants.{TryPush, TryPushStr, PushStr, Pop, Len, Capacity, AsStr}
-use Rattle.arraystring_run.specs.Script.{lines, line_feed, first_byte, IsLineOf, AreLinesOf, IsBadAt}
-
--- the line of a command is UTF-8
-pub char-utf8 : (c : ℕ) → IsScalarValue c → IsUtf8 (utf8 c)
-char-utf8 c is = subst IsUtf8 (append-nil (utf8 c)) (bytes-utf8 (c ∷ []) (is, tt))
-
-pub line-utf8 : (bs : List ℕ) (c : Command) → IsLineOf bs c → IsUtf8 bs
-unfolding encode_utf8
-line-utf8 bs (TryPush c) is =
-    rw is.1 (IsUtf8-append (codes "try_push ") (utf8 c) (codes "try_push ", (refl, refl)) (char-utf8 c is.0))
-line-utf8 bs (TryPushStr given) is =
-    rw is.1 (IsUtf8-append (codes "try_push_str ") given.now (codes "try_push_str ", (refl, refl)) (well_formed-utf8 given.now is.0))
-line-utf8 bs (PushStr given) is =
-    rw is.1 (IsUtf8-append (codes "push_str ") given.now (codes "push_str ", (refl, refl)) (well_formed-utf8 given.now is.0))
-line-utf8 bs Pop is = rw is (codes "pop", (refl, refl))
-line-utf8 bs Len is = rw is (codes "len", (refl, refl))
-line-utf8 bs Capacity is = rw is (codes "capacity", (refl, refl))
-line-utf8 bs AsStr is = rw is (codes "as_str", (refl, refl))
-line-utf8 bs _ is = absurd is
-
--- what follows the space after a word is well formed
-pub past-space : (word rest : List ℕ) → IsUtf8 (word ++ 0x20 ∷ rest) → IsWellFormed rest
-past-space word rest u =
-    let line = word ++ 0x20 ∷ rest in
-    let space : get_or line (length word) 0 ≡ 0x20 = get_or-append_seam word 0x20 rest 0 in
-    let within : length word < length line = omega (arith, length-append word (0x20 ∷ rest)) in
-    let behind : drop (length word + 1) line ≡ rest = drop-append-add word (0x20 ∷ rest) 1 in
-    utf8-well_formed rest (subst IsUtf8 behind (IsUtf8-drop line (length word + 1) u (IsCharBoundary-after_ascii line (length word) u within (omega (arith, space)))))
+use Rattle.arraystring_run.specs.Grammar.{IsLineOf}
+use Rattle.arraystring_run.specs.Script.{lines, line_feed, first_byte, AreLinesOf, IsBadAt}
 
 -- a text that begins with the character c, whether it is c alone or not
 module _ (bs rest : List ℕ) (c : ℕ) (is : bs ≡ encode_utf8 c ++ rest) where

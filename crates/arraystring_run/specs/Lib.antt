@@ -14,4 +14,5 @@ pub use Rattle.arraystring.specs.Drained
 pub use Rattle.arraystring.specs.Refusals
 pub mod Runs
 pub mod Agreement
+pub mod Grammar
 pub mod Script

@@ -3,11 +3,11 @@ use Rattle.std.specs.Prelude.{◌≡◌, ◌≢◌, ℕ, ◌+◌, ◌==◌, ⊤,
 use Rattle.std.specs.Borrow.{Bor}
 use Rattle.std.specs.Cmp.Lexicographic.{pointwise}
 use Rattle.std.specs.Io.KnownBytes.{Appends}
-use Rattle.arraystring.specs.Text.{utf8, bytes, IsScalarValue, IsWellFormed}
+use Rattle.arraystring.specs.Text.{utf8, bytes}
 use Rattle.arraystring.specs.Names.{error_name}
 use Rattle.arraystring_run.specs.Runs.{after, Said, Done, Char, NoChar, Text, NoText, Number, Refused}
 use Rattle.arraystring_run.specs.declared.commands.Command.{Command}
-use Rattle.arraystring_run.specs.declared.commands.Command.TheVariants.{TryPush, TryPushStr, PushStr, Pop, Len, Capacity, AsStr}
+use Rattle.arraystring_run.specs.Grammar.{IsLineOf}
 use Rattle.arraystring_run.specs.declared.player.PlayFault.{PlayFault}
 use Rattle.arraystring_run.specs.declared.player.PlayFault.TheVariants.{BadLine, Memory, Read, Write}
 
@@ -41,17 +41,6 @@ first_byte b (line ∷ rest) = (b ∷ line) ∷ rest
 abbrev pub lines : List ℕ → List (List ℕ)
 lines [] = []
 lines (b ∷ bs) = if b == line_feed then [] ∷ lines bs else first_byte b (lines bs)
-
--- the bytes of a line are those of a command: its word, and after one space what it is given
-abbrev pub IsLineOf : List ℕ → Command → Type 0
-IsLineOf bs (TryPush c) = IsScalarValue c × (bs ≡ codes "try_push " ++ utf8 c)
-IsLineOf bs (TryPushStr given) = IsWellFormed given.now × (bs ≡ codes "try_push_str " ++ given.now)
-IsLineOf bs (PushStr given) = IsWellFormed given.now × (bs ≡ codes "push_str " ++ given.now)
-IsLineOf bs Pop = bs ≡ codes "pop"
-IsLineOf bs Len = bs ≡ codes "len"
-IsLineOf bs Capacity = bs ≡ codes "capacity"
-IsLineOf bs AsStr = bs ≡ codes "as_str"
-IsLineOf bs _ = ⊥
 
 -- each line is that of the command beside it
 abbrev pub AreLinesOf : List (List ℕ) → List Command → Type 0

@@ -2,6 +2,7 @@
 //! fact in its contract.
 ghost use Rattle.std.specs.Prelude.{◌≡◌, ◌<◌, ◌⊎◌, ◌++◌, ◌∷◌, [], ℕ, List, length};
 ghost use Rattle.arraystring_run.specs.Runs.{after};
+ghost use Rattle.arraystring_run.specs.Grammar.{arguments, line_of, AreArguments, IsLineOf};
 ghost use Rattle.arraystring_run.specs.Script.{lines, ended, all_ended, IsOneLine, AreOneLine, AreLinesOf, IsBadAt};
 ghost use Rattle.arraystring_run.specs.declared.commands.Command.{Command as Edit};
 
@@ -13,6 +14,11 @@ pub fn lines_of_input()
         → lines (all_ended all ++ last) ≡ all ++ last ∷ [] }
     ensures no_ends { (input : List ℕ) → AreOneLine (lines input) }
     ensures input { (input : List ℕ) → (all_ended (lines input) ≡ input) ⊎ (all_ended (lines input) ≡ ended input) }
+{}
+
+/// Each command has a line: its word and its arguments, with numbers as they are printed.
+pub fn each_command_has_a_line()
+    ensures { (c : Edit) → AreArguments (arguments c) → IsLineOf (line_of c) c }
 {}
 
 /// A script has one reading: whatever commands its lines are taken for, they are answered alike

@@ -3,6 +3,7 @@
 
 mod commands;
 pub mod laws;
+mod line;
 mod player;
 mod printing;
 mod runs;

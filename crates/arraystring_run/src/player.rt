@@ -1,5 +1,5 @@
 //! A script played from a reader to a writer.
-ghost use Rattle.std.specs.Prelude.{◌≡◌, ◌≢◌, ◌≤◌, [], ℕ, None, IfOk, IfErr, IfSome, OnOk};
+ghost use Rattle.std.specs.Prelude.{◌≡◌, ◌≢◌, ◌≤◌, ℕ, None, IfOk, IfErr, IfSome, OnOk};
 ghost use Rattle.std.specs.Io.KnownBytes.{Keeps};
 ghost use Rattle.arraystring.specs.Text.{cap};
 ghost use Rattle.arraystring_run.specs.Script.{lines, IsBadAt, IfBadLine, IsPlayed, capacity_named, status_of};

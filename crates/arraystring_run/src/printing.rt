@@ -1,6 +1,6 @@
 //! The lines that are printed of a run. Nothing here is given an allocator, so nothing takes
 //! memory.
-ghost use Rattle.std.specs.Prelude.{◌≡◌, map, OnOk};
+ghost use Rattle.std.specs.Prelude.{map, OnOk};
 ghost use Rattle.std.specs.Io.KnownBytes.{Appends};
 ghost use Rattle.arraystring_run.specs.Runs.{said};
 ghost use Rattle.arraystring_run.specs.Script.{ended, printed, all_printed};

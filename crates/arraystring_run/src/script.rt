@@ -1,13 +1,11 @@
 //! The commands of a script.
-ghost use Rattle.std.specs.Prelude.{◌≡◌, ◌≢◌, ◌≤◌, ◌<◌, ◌+◌, ℕ, length, drop, slice_index, IfOk, IfErr, IfSome, IfNone};
-ghost use Rattle.arraystring.specs.Text.{utf8, bytes, IsScalarValue};
-ghost use Rattle.arraystring_run.specs.Script.{lines, line_feed, IsLineOf, AreLinesOf, IsBadAt, IfBadLine};
-ghost use Rattle.arraystring_run.specs.declared.commands.Command.{Command as Edit};
+ghost use Rattle.std.specs.Prelude.{◌≡◌, ◌≢◌, ◌≤◌, ◌<◌, ◌+◌, ℕ, length, drop, slice_index, IfOk, IfErr};
+ghost use Rattle.arraystring_run.specs.Script.{lines, line_feed, AreLinesOf, IsBadAt, IfBadLine};
 
 use crate::Command;
+use crate::line::command;
 use crate::player::PlayFault;
 use std::alloc::Global;
-use std::str;
 
 /// The commands of a whole script, one a line, which borrow their texts from it.
 pub fn commands(alloc: Global, script: &[u8]) -> Result<Vec<Command<'_>>, PlayFault>
@@ -54,41 +52,5 @@ fn past_line(text: &[u8], end: usize) -> &[u8]
         &text[end + 1..]
     } else {
         &text[end..]
-    }
-}
-
-/// The command of a line without its end.
-fn command(line: &[u8]) -> Option<Command<'_>>
-    ensures some { IfSome result (λ c. IsLineOf line.now c) }
-    ensures none { IfNone result ((c : Edit) → IsLineOf line.now c → ⊥) }
-{
-    let text = str::from_utf8(line).ok()?;
-    match text {
-        "pop" => return Some(Command::Pop),
-        "len" => return Some(Command::Len),
-        "capacity" => return Some(Command::Capacity),
-        "as_str" => return Some(Command::AsStr),
-        _ => {}
-    }
-    if let Some(rest) = text.strip_prefix("try_push ") {
-        return Some(Command::TryPush(only_char(rest)?));
-    }
-    if let Some(rest) = text.strip_prefix("try_push_str ") {
-        return Some(Command::TryPushStr(rest));
-    }
-    let rest = text.strip_prefix("push_str ")?;
-    Some(Command::PushStr(rest))
-}
-
-/// The character of a text that has exactly one.
-fn only_char(text: &str) -> Option<char>
-    ensures some { IfSome result (λ c. IsScalarValue c × (text.now ≡ utf8 c)) }
-    ensures none { IfNone result ((c : ℕ) → IsScalarValue c → text.now ≡ utf8 c → ⊥) }
-{
-    let mut chars = text.chars();
-    let ch = chars.next()?;
-    match chars.next() {
-        Some(_) => None,
-        None => Some(ch),
     }
 }

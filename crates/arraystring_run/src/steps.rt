@@ -1,7 +1,7 @@
 //! One command, made on a string.
-ghost use Rattle.std.specs.Prelude.{◌≡◌, ◌≤◌, ◌+◌, ◌∷◌, [], ◌&&◌, ◌==◌, not, chars, is_err, is_ok, reverse, Bool, nat_le};
-ghost use Rattle.arraystring.specs.Text.{cap, size};
-ghost use Rattle.arraystring.specs.Edits.{Makes, from_out_of_bounds, from_utf8_error, with_text, insertion, insertion_of_cut, replacement, addition_of_cut, part_in};
+ghost use Rattle.std.specs.Prelude.{◌≡◌, ◌∷◌, [], ◌&&◌, chars, is_err, reverse};
+ghost use Rattle.arraystring.specs.Text.{cap};
+ghost use Rattle.arraystring.specs.Edits.{from_out_of_bounds, from_utf8_error, with_text, insertion, insertion_of_cut, replacement, addition_of_cut, part_in};
 ghost use Rattle.arraystring.specs.Drained.{with_left};
 ghost use Rattle.arraystring_run.specs.Runs.{said, said_of, char_or_none, text_or_none, Done, Char, Text, done, edit, tight, adds_less, lacks_room, is_made, is_out_of_bounds, without};
 

@@ -105,9 +105,18 @@ fn scripts_are_played(rt: HostRuntime) {
     );
 }
 
+/// Each line stands behind a line `len`, and before another.
+fn second_line(alloc: Global, line: &[u8]) -> Result<Vec<u8>, Fail> {
+    let mut script = Vec::new(alloc);
+    script.extend_from_slice(b"len\n")?;
+    script.extend_from_slice(line)?;
+    script.extend_from_slice(b"\nlen\n")?;
+    Ok(script)
+}
+
 #[test]
 fn bad_lines_are_told(rt: HostRuntime) -> Result<(), Fail> {
-    let bad: [&[u8]; 20] = [
+    let bad: [&[u8]; 62] = [
         b"",
         b" ",
         b" len",
@@ -117,54 +126,189 @@ fn bad_lines_are_told(rt: HostRuntime) -> Result<(), Fail> {
         b"len\r",
         b"capacity 1",
         b"as_str ",
+        b"clear ",
+        b"trim x",
+        b"Pop",
+        b"Push_str x",
+        b"push",
+        b"push_str",
+        b"push_str\tx",
+        b"push_str \xFF",
+        b"push_str \xED\xA0\x80",
+        b"try_push_str",
         b"try_push",
         b"try_push ",
         b"try_push ab",
-        b"try_push_str",
-        b"push_str",
-        b"Push_str x",
-        b"Pop",
-        b"push_str \xFF",
-        b"push_str \xED\xA0\x80",
+        b"try_push  a",
         b"try_push \xF0\x9F\xA4",
-        b"clear",
+        b"retain_not",
+        b"retain_not ",
+        b"retain_not ab",
+        b"truncate",
+        b"truncate ",
+        b"truncate 256",
+        b"truncate 999",
+        b"truncate 1000",
+        b"truncate 0001",
+        b"truncate +1",
+        b"truncate -1",
+        b"truncate x",
+        b"truncate 1 ",
+        b"truncate  1",
+        b"truncate 1 2",
+        b"remove 1a",
+        b"split_off 0x1",
+        b"try_insert 1",
+        b"try_insert 1 ",
+        b"try_insert 1  a",
+        b"try_insert  1 a",
+        b"try_insert a 1",
+        b"try_insert_str 1",
+        b"try_insert_str  x",
+        b"insert_str x",
+        b"insert_str 256 x",
+        b"drain 1",
+        b"drain 1 ",
+        b"drain 1 2 ",
+        b"drain 1 2 3",
+        b"drain_through 1 256",
+        b"drain_back 1,2",
+        b"replace_range 1",
+        b"replace_range 1 2",
+        b"replace_range 1  x",
+        b"get 1  2",
+        b"get 300 1",
+        b"get 1 \xC2\xB2",
     ];
     for line in bad {
-        let mut script = Vec::new(rt.alloc());
-        script.extend_from_slice(b"len\n")?;
-        script.extend_from_slice(line)?;
-        script.extend_from_slice(b"\nlen\n")?;
+        let script = second_line(rt.alloc(), line)?;
         plays(&rt, rt.alloc(), &script, Err(PlayFault::BadLine(2)), b"");
     }
     Ok(())
 }
 
 #[test]
-fn good_lines_are_read(rt: HostRuntime) {
-    plays(&rt, rt.alloc(), b"push_str \n", Ok(()), b"done\nfinal \n");
-    plays(&rt, rt.alloc(), b"try_push_str ", Ok(()), b"done\nfinal \n");
+fn good_lines_are_read(rt: HostRuntime) -> Result<(), Fail> {
+    let good: [(&[u8], &[u8]); 16] = [
+        (b"push_str ", b"number 0\ndone\nnumber 0\nfinal \n"),
+        (b"try_push_str ", b"number 0\ndone\nnumber 0\nfinal \n"),
+        (b"push_str  x ", b"number 0\ndone\nnumber 3\nfinal  x \n"),
+        (b"try_push  ", b"number 0\ndone\nnumber 1\nfinal  \n"),
+        (b"push_str a\r", b"number 0\ndone\nnumber 2\nfinal a\r\n"),
+        (
+            b"push_str pop 1",
+            b"number 0\ndone\nnumber 5\nfinal pop 1\n",
+        ),
+        (b"insert_str 0  x", b"number 0\ndone\nnumber 2\nfinal  x\n"),
+        (b"insert_str 0 ", b"number 0\ndone\nnumber 0\nfinal \n"),
+        (b"try_insert 0  ", b"number 0\ndone\nnumber 1\nfinal  \n"),
+        (
+            b"try_insert_str 00 1",
+            b"number 0\ndone\nnumber 1\nfinal 1\n",
+        ),
+        (b"truncate 007", b"number 0\ndone\nnumber 0\nfinal \n"),
+        (b"truncate 255", b"number 0\ndone\nnumber 0\nfinal \n"),
+        (
+            b"remove 000",
+            b"number 0\nrefused OutOfBounds\nnumber 0\nfinal \n",
+        ),
+        (b"drain 00 000", b"number 0\ntext \nnumber 0\nfinal \n"),
+        (b"replace_range 0 0 ", b"number 0\ndone\nnumber 0\nfinal \n"),
+        (b"get 01 1", b"number 0\nno text\nnumber 0\nfinal \n"),
+    ];
+    for (line, wanted) in good {
+        let script = second_line(rt.alloc(), line)?;
+        plays(&rt, rt.alloc(), &script, Ok(()), wanted);
+    }
+    Ok(())
+}
+
+#[test]
+fn each_word_is_played(rt: HostRuntime) {
+    let script = "try_push a\ntry_push_str bc\npush_str  🤔d\nlen\ncapacity\nas_str\npop\n\
+        truncate 4\ntrim\nremove 001\ntry_insert 1 é\ntry_insert_str 0 xy\ninsert_str 2  z\n\
+        retain_not y\nget 1 3\nsplit_off 4\ndrain 1 2\npush_str bcd\ndrain_through 0 1\n\
+        drain_back 1 3\nreplace_range 0 1 héllo\nupper\nlower\nget 2 1\nclear\npop\n";
+    let wanted = "done\ndone\ndone\nnumber 9\nnumber 23\ntext abc 🤔d\nchar d\n\
+        done\ndone\nchar b\ndone\ndone\ndone\n\
+        done\ntext  z\ntext éc\ntext  \ndone\ntext xz\n\
+        text cb\ndone\ndone\ndone\nno text\ndone\nno char\nfinal \n";
     plays(
         &rt,
         rt.alloc(),
-        b"push_str  x ",
+        script.as_bytes(),
         Ok(()),
-        b"done\nfinal  x \n",
+        wanted.as_bytes(),
     );
-    plays(&rt, rt.alloc(), b"try_push  \n", Ok(()), b"done\nfinal  \n");
-    plays(
-        &rt,
-        rt.alloc(),
-        b"push_str a\r\n",
-        Ok(()),
-        b"done\nfinal a\r\n",
-    );
-    plays(
-        &rt,
-        rt.alloc(),
-        b"push_str try_push 1\n",
-        Ok(()),
-        b"done\nfinal try_push 1\n",
-    );
+}
+
+const EXAMPLE: &str = "push_str ABCD🤔\ntry_insert 1 A\ntry_insert_str 2 B\ndrain_back 4 10\n\
+    get 0 9\nremove 9\nas_str\n";
+
+/// What is written of the example where it is cut at a byte; cut elsewhere, its last line is bad.
+const CUTS: [(usize, &str); 22] = [
+    (0, "final \n"),
+    (9, "done\nfinal \n"),
+    (10, "done\nfinal A\n"),
+    (11, "done\nfinal AB\n"),
+    (12, "done\nfinal ABC\n"),
+    (13, "done\nfinal ABCD\n"),
+    (17, "done\nfinal ABCD🤔\n"),
+    (18, "done\nfinal ABCD🤔\n"),
+    (32, "done\ndone\nfinal AABCD🤔\n"),
+    (33, "done\ndone\nfinal AABCD🤔\n"),
+    (50, "done\ndone\ndone\nfinal AABCD🤔\n"),
+    (51, "done\ndone\ndone\nfinal AABBCD🤔\n"),
+    (52, "done\ndone\ndone\nfinal AABBCD🤔\n"),
+    (66, "done\ndone\ndone\nrefused OutOfBounds\nfinal AABBCD🤔\n"),
+    (67, "done\ndone\ndone\ntext 🤔DC\nfinal AABB\n"),
+    (68, "done\ndone\ndone\ntext 🤔DC\nfinal AABB\n"),
+    (75, "done\ndone\ndone\ntext 🤔DC\nno text\nfinal AABB\n"),
+    (76, "done\ndone\ndone\ntext 🤔DC\nno text\nfinal AABB\n"),
+    (
+        84,
+        "done\ndone\ndone\ntext 🤔DC\nno text\nrefused OutOfBounds\nfinal AABB\n",
+    ),
+    (
+        85,
+        "done\ndone\ndone\ntext 🤔DC\nno text\nrefused OutOfBounds\nfinal AABB\n",
+    ),
+    (
+        91,
+        "done\ndone\ndone\ntext 🤔DC\nno text\nrefused OutOfBounds\ntext AABB\nfinal AABB\n",
+    ),
+    (
+        92,
+        "done\ndone\ndone\ntext 🤔DC\nno text\nrefused OutOfBounds\ntext AABB\nfinal AABB\n",
+    ),
+];
+
+#[test]
+fn the_example_cut_at_each_byte(rt: HostRuntime) {
+    let whole = EXAMPLE.as_bytes();
+    assert_eq!(rt; whole.len(), 92);
+    let mut number = 1usize;
+    let mut next = 0usize;
+    for end in 0..=whole.len() {
+        let script = &whole[..end];
+        if script.last() == Some(&b'\n') {
+            number = number.saturating_add(1);
+        }
+        match CUTS.get(next) {
+            Some((cut, wanted)) if *cut == end => {
+                plays(&rt, rt.alloc(), script, Ok(()), wanted.as_bytes());
+                next += 1;
+            }
+            _ => plays(
+                &rt,
+                rt.alloc(),
+                script,
+                Err(PlayFault::BadLine(number)),
+                b"",
+            ),
+        }
+    }
+    assert_eq!(rt; next, CUTS.len());
 }
 
 #[test]

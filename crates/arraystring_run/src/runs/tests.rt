@@ -1,6 +1,6 @@
 //! Runs of commands, on values worked out by hand.
 use super::*;
-use arraystring::error::Error;
+use arraystring::error::Error::{OutOfBounds, Utf8};
 use std::process::Abort;
 use std::test::Fail;
 
@@ -28,7 +28,7 @@ fn each_command_is_answered(rt: HostRuntime) -> Result<(), Fail> {
     ];
     let wanted = [
         Reply::Done,
-        Reply::Refused(Error::OutOfBounds),
+        Reply::Refused(OutOfBounds),
         Reply::Char('🤔'),
         Reply::Done,
         Reply::Number(3),
@@ -71,7 +71,7 @@ fn nothing_fits_into_no_bytes(rt: HostRuntime) -> Result<(), Fail> {
         Reply::Done,
         Reply::Done,
         Reply::Done,
-        Reply::Refused(Error::OutOfBounds),
+        Reply::Refused(OutOfBounds),
         Reply::NoChar,
         Reply::Number(0),
         Reply::Number(0),
@@ -97,9 +97,9 @@ fn no_more_than_255_bytes_fit(rt: HostRuntime) -> Result<(), Fail> {
         Command::Capacity,
     ];
     let wanted = [
-        Reply::Refused(Error::OutOfBounds),
+        Reply::Refused(OutOfBounds),
         Reply::Done,
-        Reply::Refused(Error::OutOfBounds),
+        Reply::Refused(OutOfBounds),
         Reply::Number(255),
         Reply::Number(255),
     ];
@@ -121,11 +121,7 @@ fn holds<const N: usize>(
     let commands = [Command::TryPush(ch), Command::Len, Command::Pop];
     let outcome = run(alloc, &mut text, &commands)?;
     let held = [Reply::Done, Reply::Number(width), Reply::Char(ch)];
-    let refused = [
-        Reply::Refused(Error::OutOfBounds),
-        Reply::Number(0),
-        Reply::NoChar,
-    ];
+    let refused = [Reply::Refused(OutOfBounds), Reply::Number(0), Reply::NoChar];
     let replies = outcome.replies.as_slice();
     assert!(rt; replies == held.as_slice() || replies == refused.as_slice());
     Ok(replies == held.as_slice())
@@ -173,6 +169,394 @@ fn no_commands_leave_the_text(rt: HostRuntime) -> Result<(), Fail> {
     Ok(())
 }
 
+/// Makes each command on the text `before`, and compares the reply, the text and whether it is
+/// tight.
+fn answers<const N: usize>(
+    rt: &impl Abort,
+    before: ArrayString<N>,
+    alloc: Global,
+    rows: &[(Command<'_>, Reply<N>, &str, bool)],
+) -> Result<(), Fail> {
+    for (row, (command, reply, after, is_tight)) in rows.iter().enumerate() {
+        let mut text = before;
+        let outcome = run(alloc, &mut text, &[*command])?;
+        let tight = if *is_tight { Some(0usize) } else { None };
+        assert_eq!(rt; outcome.replies.as_slice(), [*reply].as_slice(), "at {row}");
+        assert_eq!(rt; text.as_str(), *after, "at {row}");
+        assert_eq!(rt; outcome.first_tight, tight, "at {row}");
+    }
+    Ok(())
+}
+
+#[test]
+fn places_are_judged(rt: HostRuntime) -> Result<(), Fail> {
+    let before = "ABCD🤔";
+    let rows: [(Command, Reply<23>, &str, bool); 21] = [
+        (Command::Truncate(4), Reply::Done, "ABCD", false),
+        (Command::Truncate(5), Reply::Refused(Utf8), before, false),
+        (Command::Truncate(8), Reply::Done, before, false),
+        (Command::Truncate(9), Reply::Done, before, false),
+        (Command::Remove(0), Reply::Char('A'), "BCD🤔", false),
+        (Command::Remove(4), Reply::Char('🤔'), "ABCD", false),
+        (Command::Remove(6), Reply::Refused(Utf8), before, false),
+        (
+            Command::Remove(8),
+            Reply::Refused(OutOfBounds),
+            before,
+            false,
+        ),
+        (Command::TryInsert(1, 'é'), Reply::Done, "AéBCD🤔", false),
+        (Command::TryInsert(8, '!'), Reply::Done, "ABCD🤔!", false),
+        (
+            Command::TryInsert(9, 'x'),
+            Reply::Refused(OutOfBounds),
+            before,
+            false,
+        ),
+        (
+            Command::TryInsert(7, 'x'),
+            Reply::Refused(Utf8),
+            before,
+            false,
+        ),
+        (
+            Command::TryInsertStr(4, "xy"),
+            Reply::Done,
+            "ABCDxy🤔",
+            false,
+        ),
+        (
+            Command::TryInsertStr(20, ""),
+            Reply::Refused(OutOfBounds),
+            before,
+            false,
+        ),
+        (
+            Command::TryInsertStr(5, ""),
+            Reply::Refused(Utf8),
+            before,
+            false,
+        ),
+        (Command::InsertStr(0, "xy"), Reply::Done, "xyABCD🤔", false),
+        (
+            Command::InsertStr(20, "x"),
+            Reply::Refused(OutOfBounds),
+            before,
+            false,
+        ),
+        (
+            Command::InsertStr(5, "x"),
+            Reply::Refused(Utf8),
+            before,
+            false,
+        ),
+        (
+            Command::SplitOff(4),
+            Reply::Text(text_of("🤔")),
+            "ABCD",
+            false,
+        ),
+        (
+            Command::SplitOff(9),
+            Reply::Refused(OutOfBounds),
+            before,
+            false,
+        ),
+        (Command::SplitOff(6), Reply::Refused(Utf8), before, false),
+    ];
+    answers(&rt, text_of(before), rt.alloc(), &rows)
+}
+
+#[test]
+fn ranges_are_judged(rt: HostRuntime) -> Result<(), Fail> {
+    let before = "ABCD🤔";
+    let rows: [(Command, Reply<23>, &str, bool); 21] = [
+        (
+            Command::Drain { start: 0, end: 3 },
+            Reply::Text(text_of("ABC")),
+            "D🤔",
+            false,
+        ),
+        (
+            Command::Drain { start: 8, end: 8 },
+            Reply::Text(text_of("")),
+            before,
+            false,
+        ),
+        (
+            Command::Drain { start: 3, end: 2 },
+            Reply::Refused(OutOfBounds),
+            before,
+            false,
+        ),
+        (
+            Command::Drain { start: 5, end: 9 },
+            Reply::Refused(OutOfBounds),
+            before,
+            false,
+        ),
+        (
+            Command::Drain { start: 5, end: 8 },
+            Reply::Refused(Utf8),
+            before,
+            false,
+        ),
+        (
+            Command::Drain { start: 3, end: 5 },
+            Reply::Refused(Utf8),
+            before,
+            false,
+        ),
+        (
+            Command::DrainThrough { start: 1, last: 2 },
+            Reply::Text(text_of("BC")),
+            "AD🤔",
+            false,
+        ),
+        (
+            Command::DrainThrough { start: 3, last: 2 },
+            Reply::Text(text_of("")),
+            before,
+            false,
+        ),
+        (
+            Command::DrainThrough { start: 0, last: 8 },
+            Reply::Refused(OutOfBounds),
+            before,
+            false,
+        ),
+        (
+            Command::DrainThrough { start: 4, last: 4 },
+            Reply::Refused(Utf8),
+            before,
+            false,
+        ),
+        (
+            Command::DrainBack { start: 2, end: 8 },
+            Reply::Text(text_of("🤔DC")),
+            "AB",
+            false,
+        ),
+        (
+            Command::DrainBack { start: 2, end: 9 },
+            Reply::Refused(OutOfBounds),
+            before,
+            false,
+        ),
+        (
+            Command::DrainBack { start: 2, end: 7 },
+            Reply::Refused(Utf8),
+            before,
+            false,
+        ),
+        (replace(2, 4, "EFGHI"), Reply::Done, "ABEFGHI🤔", false),
+        (replace(2, 4, ""), Reply::Done, "AB🤔", false),
+        (
+            replace(9, 9, "J"),
+            Reply::Refused(OutOfBounds),
+            before,
+            false,
+        ),
+        (
+            replace(4, 3, "K"),
+            Reply::Refused(OutOfBounds),
+            before,
+            false,
+        ),
+        (replace(5, 8, "L"), Reply::Refused(Utf8), before, false),
+        (
+            Command::Get { start: 3, end: 8 },
+            Reply::Text(text_of("D🤔")),
+            before,
+            false,
+        ),
+        (
+            Command::Get { start: 3, end: 2 },
+            Reply::NoText,
+            before,
+            false,
+        ),
+        (
+            Command::Get { start: 0, end: 9 },
+            Reply::NoText,
+            before,
+            false,
+        ),
+    ];
+    answers(&rt, text_of(before), rt.alloc(), &rows)
+}
+
+/// The command that replaces a part.
+fn replace(start: u8, end: u8, given: &str) -> Command<'_> {
+    Command::ReplaceRange { start, end, given }
+}
+
+#[test]
+fn whole_texts_are_changed(rt: HostRuntime) -> Result<(), Fail> {
+    let rows: [(Command, Reply<9>, &str, bool); 5] = [
+        (Command::Trim, Reply::Done, "aB cé", false),
+        (Command::RetainNot(' '), Reply::Done, "aBcé", false),
+        (Command::Upper, Reply::Done, "  AB Cé ", false),
+        (Command::Lower, Reply::Done, "  ab cé ", false),
+        (Command::Clear, Reply::Done, "", false),
+    ];
+    answers(&rt, text_of("  aB cé "), rt.alloc(), &rows)
+}
+
+/// Want of room is tight, and so is a text that was cut; a refusal for a place is not.
+#[test]
+fn room_is_judged(rt: HostRuntime) -> Result<(), Fail> {
+    let before = "abcd🤔";
+    let rows: [(Command, Reply<9>, &str, bool); 16] = [
+        (
+            Command::TryPush('é'),
+            Reply::Refused(OutOfBounds),
+            before,
+            true,
+        ),
+        (
+            Command::TryPushStr("xy"),
+            Reply::Refused(OutOfBounds),
+            before,
+            true,
+        ),
+        (Command::PushStr("xy"), Reply::Done, "abcd🤔x", true),
+        (Command::PushStr("x"), Reply::Done, "abcd🤔x", false),
+        (
+            Command::TryInsert(4, 'é'),
+            Reply::Refused(OutOfBounds),
+            before,
+            true,
+        ),
+        (
+            Command::TryInsert(5, 'é'),
+            Reply::Refused(OutOfBounds),
+            before,
+            true,
+        ),
+        (
+            Command::TryInsert(9, 'é'),
+            Reply::Refused(OutOfBounds),
+            before,
+            false,
+        ),
+        (
+            Command::TryInsertStr(6, "xy"),
+            Reply::Refused(OutOfBounds),
+            before,
+            true,
+        ),
+        (
+            Command::TryInsertStr(6, "x"),
+            Reply::Refused(Utf8),
+            before,
+            false,
+        ),
+        (Command::InsertStr(4, "éx"), Reply::Done, before, true),
+        (Command::InsertStr(4, "xé"), Reply::Done, "abcdx🤔", true),
+        (
+            Command::InsertStr(5, "xy"),
+            Reply::Refused(Utf8),
+            before,
+            false,
+        ),
+        (
+            Command::InsertStr(9, "xy"),
+            Reply::Refused(OutOfBounds),
+            before,
+            false,
+        ),
+        (
+            replace(5, 6, "xyz"),
+            Reply::Refused(OutOfBounds),
+            before,
+            true,
+        ),
+        (replace(5, 6, "xy"), Reply::Refused(Utf8), before, false),
+        (
+            replace(3, 9, "xyz"),
+            Reply::Refused(OutOfBounds),
+            before,
+            false,
+        ),
+    ];
+    answers(&rt, text_of(before), rt.alloc(), &rows)
+}
+
+/// One run at the capacity `N`, from the empty text.
+fn inserted<const N: usize>(
+    alloc: Global,
+    mut text: ArrayString<N>,
+) -> Result<(Outcome<N>, ArrayString<N>), Fail> {
+    let commands = [Command::PushStr("ABCD🤔"), Command::TryInsert(1, 'A')];
+    let outcome = run(alloc, &mut text, &commands)?;
+    Ok((outcome, text))
+}
+
+#[test]
+fn two_capacities(rt: HostRuntime) -> Result<(), Fail> {
+    let (small, text) = inserted(rt.alloc(), ArrayString::<8>::new())?;
+    let wanted = [Reply::Done, Reply::Refused(OutOfBounds)];
+    assert_eq!(rt; small.replies.as_slice(), wanted.as_slice());
+    assert_eq!(rt; small.first_tight, Some(1));
+    assert_eq!(rt; text.as_str(), "ABCD🤔");
+    let (large, text) = inserted(rt.alloc(), ArrayString::<23>::new())?;
+    let wanted = [Reply::Done, Reply::Done];
+    assert_eq!(rt; large.replies.as_slice(), wanted.as_slice());
+    assert_eq!(rt; large.first_tight, None);
+    assert_eq!(rt; text.as_str(), "AABCD🤔");
+    Ok(())
+}
+
+#[test]
+fn all_of_255_bytes_are_drained(rt: HostRuntime) -> Result<(), Fail> {
+    let mut full: ArrayString<255> = ArrayString::new();
+    for _ in 0..255u8 {
+        full.push_str("a");
+    }
+    assert_eq!(rt; full.len(), 255);
+    let rows = [
+        (
+            Command::DrainThrough {
+                start: 0,
+                last: 255,
+            },
+            Reply::Text(full),
+            "",
+            false,
+        ),
+        (
+            Command::Drain { start: 0, end: 255 },
+            Reply::Text(full),
+            "",
+            false,
+        ),
+    ];
+    answers(&rt, full, rt.alloc(), &rows)
+}
+
+#[test]
+fn each_on_what_the_one_before_left(rt: HostRuntime) -> Result<(), Fail> {
+    let mut text: ArrayString<23> = text_of("ABCD🤔");
+    let commands = [
+        Command::RetainNot('B'),
+        Command::Get { start: 3, end: 7 },
+        Command::Get { start: 4, end: 7 },
+        Command::DrainBack { start: 0, end: 3 },
+    ];
+    let wanted = [
+        Reply::Done,
+        Reply::Text(text_of("🤔")),
+        Reply::NoText,
+        Reply::Text(text_of("DCA")),
+    ];
+    let outcome = run(rt.alloc(), &mut text, &commands)?;
+    assert_eq!(rt; outcome.replies.as_slice(), wanted.as_slice());
+    assert_eq!(rt; outcome.first_tight, None);
+    assert_eq!(rt; text.as_str(), "🤔");
+    Ok(())
+}
+
 /// Runs the commands on a text at two capacities, and says whether the replies are the wanted ones.
 /// Answers the two first tight positions and the two last texts.
 fn at_two_capacities<const N: usize, const M: usize>(
@@ -199,7 +583,7 @@ fn at_two_capacities<const N: usize, const M: usize>(
 #[test]
 fn an_insertion_that_fits_at_one_capacity(rt: HostRuntime) -> Result<(), Fail> {
     let commands = [Command::PushStr("ABCD🤔"), Command::TryInsert(1, 'A')];
-    let small = [Reply::Done, Reply::Refused(Error::OutOfBounds)];
+    let small = [Reply::Done, Reply::Refused(OutOfBounds)];
     let large = [Reply::Done, Reply::Done];
     let wanted = (small.as_slice(), large.as_slice());
     let (first, second) = at_two_capacities(&rt, rt.alloc(), "", &commands, wanted)?;
@@ -221,8 +605,8 @@ fn a_refusal_for_room_hides_one_for_a_place(rt: HostRuntime) -> Result<(), Fail>
         end,
         given: "x",
     }];
-    let small = [Reply::Refused(Error::OutOfBounds)];
-    let large = [Reply::Refused(Error::Utf8)];
+    let small = [Reply::Refused(OutOfBounds)];
+    let large = [Reply::Refused(Utf8)];
     let wanted = (small.as_slice(), large.as_slice());
     let (first, second) = at_two_capacities(&rt, rt.alloc(), "🤔", &commands, wanted)?;
     assert_eq!(rt; first, (Some(0), text_of::<4>("🤔")));
@@ -233,9 +617,8 @@ fn a_refusal_for_room_hides_one_for_a_place(rt: HostRuntime) -> Result<(), Fail>
 #[test]
 fn a_refusal_for_a_place_is_not_tight(rt: HostRuntime) -> Result<(), Fail> {
     let commands = [Command::Remove(9), Command::Capacity, Command::TryPush('c')];
-    let past = Error::OutOfBounds;
-    let small = [Reply::Refused(past), Reply::Number(4), Reply::Done];
-    let large = [Reply::Refused(past), Reply::Number(23), Reply::Done];
+    let small = [Reply::Refused(OutOfBounds), Reply::Number(4), Reply::Done];
+    let large = [Reply::Refused(OutOfBounds), Reply::Number(23), Reply::Done];
     let wanted = (small.as_slice(), large.as_slice());
     let (first, second) = at_two_capacities(&rt, rt.alloc(), "ab", &commands, wanted)?;
     assert_eq!(rt; first, (None, text_of::<4>("abc")));

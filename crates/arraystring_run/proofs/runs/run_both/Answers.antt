@@ -1,4 +1,4 @@
-use Rattle.std.proofs.Common.{◌≡◌, ◌≤◌, length, map, ap, sym, ◌∙◌, arith}
+use Rattle.std.proofs.Common.{◌≤◌, length, map, ap, sym, ◌∙◌, arith}
 use Rattle.arraystring.specs.Text.{cap}
 use Rattle.arraystring_run.specs.Runs.{said, after}
 use Rattle.arraystring_run.proofs.RunLemmas.{at-end}

@@ -1,6 +1,7 @@
 use Rattle.std.proofs.Common.{◌≡◌, ◌+◌, ◌<◌, ◌++◌, ◌∷◌, [], drop, take, length, ap, subst, arith, rules, length-drop}
 use Rattle.std.proofs.lemmas.Grind.{common_steps}
-use Rattle.arraystring_run.specs.Script.{lines, IsLineOf}
+use Rattle.arraystring_run.specs.Grammar.{IsLineOf}
+use Rattle.arraystring_run.specs.Script.{lines}
 use Rattle.arraystring_run.proofs.ScriptLemmas.{IsPartRead, first-line, read-more, read-bad}
 use Rattle.arraystring_run.proofs.script.commands.Goals as goal
 

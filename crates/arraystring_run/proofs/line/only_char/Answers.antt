@@ -1,6 +1,6 @@
 use Rattle.std.proofs.Common.{◌≡◌, sym, ◌∙◌, length, rules}
 use Rattle.arraystring_run.proofs.ScriptLemmas.{one-char, more-chars, no-char}
-use Rattle.arraystring_run.proofs.script.only_char.Goals as goal
+use Rattle.arraystring_run.proofs.line.only_char.Goals as goal
 
 pub returns-in_err-ch-clause-none : goal.returns-in_err-ch-clause-none
 returns-in_err-ch-clause-none c =

@@ -1,0 +1,357 @@
+-- Lines as words and arguments: what a line is the line of.
+use Rattle.std.proofs.Common.{◌≡◌, ◌≢◌, ℕ, ◌<◌, ◌≤◌, List, [], ◌∷◌, ◌++◌, length, map, drop, get_or, ◌^◌, refl, sym, ap, subst, ◌∙◌, arith, codes, nat_eq, nat_le, IsUtf8, Bool, true, if◌then◌else◌, ◌&&◌, suc, ◌+◌, length-append, rules, Result, Ok, Err, Option, Some, None, IfSome, IfNone, MatchOption, Bor}
+use Rattle.std.specs.Bool.{⊤}
+use Rattle.std.proofs.lemmas.List.{append-nil}
+use Rattle.std.proofs.lemmas.Bool.{and_parts, leb-true}
+use Rattle.std.proofs.lemmas.Str.{IsUtf8-nil, IsUtf8-append, IsUtf8-drop, IsUtf8-from_ascii, IsCharBoundary-after_ascii}
+use Rattle.std.proofs.Math.Seq.{get_or-append_seam, drop-append-add}
+use Rattle.std.proofs.lemmas.Str.Ascii.{IsAscii-nil, IsAscii-cons}
+use Rattle.std.proofs.lemmas.Str.Pattern.{IsSplitOnceResult, split_parts}
+use Rattle.std.proofs.lemmas.Str.Parse.{IsNumeralModel, numerals_by_fold, parse_plain}
+use Rattle.std.proofs.lemmas.Fmt.{digits_decimal, digits_value-decimal, decimal_nonempty, length-decimal-le}
+use Rattle.std.specs.Fmt.{decimal}
+use Rattle.std.specs.Str.Parse.{ParsesUnsigned}
+use Rattle.std.specs.Result.{OkIff, result_ok}
+use Rattle.std.specs.Cmp.Lexicographic.{pointwise}
+use Rattle.arraystring.specs.Text.{utf8, IsScalarValue, IsWellFormed}
+use Rattle.arraystring.specs.TextLaws.{bytes-utf8, well_formed-utf8, utf8-well_formed}
+use Rattle.arraystring_run.specs.declared.commands.Command.{Command}
+use Rattle.arraystring_run.specs.declared.commands.Command.TheVariants.{TryPush, TryPushStr, PushStr, Pop, Truncate, Trim, Remove, RetainNot, TryInsert, TryInsertStr, InsertStr, SplitOff, Clear, Drain, DrainThrough, DrainBack, ReplaceRange, Upper, Lower, Get, Len, Capacity, AsStr}
+use Rattle.arraystring_run.specs.Grammar.{Argument, Number, Character, Text, word, arguments, AreDigits, value_after, IsNumber, IsNumberBefore, IsSpelled, AreSpelled, IsLineOf, IsOneWord, space, spellings, line_of, AreArguments}
+
+head-of : (x y : ℕ) (xs ys : List ℕ) → x ∷ xs ≡ y ∷ ys → x ≡ y
+head-of x y xs ys e = ap (λ l. get_or l 0 0) e
+
+tail-of : (x y : ℕ) (xs ys : List ℕ) → x ∷ xs ≡ y ∷ ys → xs ≡ ys
+tail-of x y xs ys e = ap (drop 1) e
+
+-- the first space ends a word
+pub first-space : (v w x y : List ℕ) → IsOneWord v → IsOneWord w → v ++ space ∷ x ≡ w ++ space ∷ y → (v ≡ w) × (x ≡ y)
+first-space [] [] x y one also e = (refl, tail-of space space x y e)
+first-space [] (b ∷ w) x y one also e = absurd (also.0 (sym (head-of space b x (w ++ space ∷ y) e)))
+first-space (a ∷ v) [] x y one also e = absurd (one.0 (head-of a space (v ++ space ∷ x) y e))
+first-space (a ∷ v) (b ∷ w) x y one also e =
+    let rest = first-space v w x y one.1 also.1 (tail-of a b (v ++ space ∷ x) (w ++ space ∷ y) e) in
+    let first : a ≡ b = head-of a b (v ++ space ∷ x) (w ++ space ∷ y) e in
+    (ap (λ l. a ∷ l) rest.0 ∙ ap (λ k. k ∷ w) first, rest.1)
+
+pub no-space : (v w y : List ℕ) → IsOneWord v → v ≡ w ++ space ∷ y → ⊥
+no-space [] [] y one e = omega (arith, ap length e)
+no-space [] (b ∷ w) y one e = omega (arith, ap length e)
+no-space (a ∷ v) [] y one e = one.0 (head-of a space v y e)
+no-space (a ∷ v) (b ∷ w) y one e = no-space v w y one.1 (tail-of a b v (w ++ space ∷ y) e)
+
+-- the words of commands are made of small letters and underscores
+abbrev AreLetters : List ℕ → Type 0
+AreLetters [] = ⊤
+AreLetters (b ∷ bs) = (0x5F ≤ b) × (b ≤ 0x7A) × AreLetters bs
+
+are_letters : List ℕ → Bool
+are_letters [] = true
+are_letters (b ∷ bs) = (nat_le 0x5F b && nat_le b 0x7A) && are_letters bs
+
+letters-from_test : (bs : List ℕ) → are_letters bs ≡ true → AreLetters bs
+unfolding are_letters
+letters-from_test [] e = tt
+letters-from_test (b ∷ bs) e =
+    let both = and_parts (nat_le 0x5F b && nat_le b 0x7A) (are_letters bs) e in
+    let ends = and_parts (nat_le 0x5F b) (nat_le b 0x7A) both.0 in
+    (leb-true 0x5F b ends.0, leb-true b 0x7A ends.1, letters-from_test bs both.1)
+
+letters-word : (c : Command) → are_letters (word c) ≡ true
+unfolding are_letters
+letters-word (TryPush c) = refl
+letters-word (TryPushStr given) = refl
+letters-word (PushStr given) = refl
+letters-word Pop = refl
+letters-word (Truncate i) = refl
+letters-word Trim = refl
+letters-word (Remove i) = refl
+letters-word (RetainNot c) = refl
+letters-word (TryInsert i c) = refl
+letters-word (TryInsertStr i given) = refl
+letters-word (InsertStr i given) = refl
+letters-word (SplitOff i) = refl
+letters-word Clear = refl
+letters-word (Drain start end) = refl
+letters-word (DrainThrough start last) = refl
+letters-word (DrainBack start end) = refl
+letters-word (ReplaceRange start end given) = refl
+letters-word Upper = refl
+letters-word Lower = refl
+letters-word (Get start end) = refl
+letters-word Len = refl
+letters-word Capacity = refl
+letters-word AsStr = refl
+
+one-from_letters : (bs : List ℕ) → AreLetters bs → IsOneWord bs
+one-from_letters [] are = tt
+one-from_letters (b ∷ bs) are = (λ e. omega (arith, are.0), one-from_letters bs are.2)
+
+pub one-word : (c : Command) → IsOneWord (word c)
+one-word c = one-from_letters (word c) (letters-from_test (word c) (letters-word c))
+
+-- the kind of an argument
+abbrev pub kind : Argument → ℕ
+kind (Number n) = 0
+kind (Character c) = 1
+kind (Text given) = 2
+
+abbrev pub equals : List ℕ → List ℕ → Bool
+equals w v = pointwise nat_eq w v
+
+-- the kinds of the arguments of a word
+unfoldable pub shape : List ℕ → List ℕ
+shape w =
+    if equals w (codes "try_push") then 1 ∷ [] else
+    if equals w (codes "try_push_str") then 2 ∷ [] else
+    if equals w (codes "push_str") then 2 ∷ [] else
+    if equals w (codes "truncate") then 0 ∷ [] else
+    if equals w (codes "remove") then 0 ∷ [] else
+    if equals w (codes "retain_not") then 1 ∷ [] else
+    if equals w (codes "try_insert") then 0 ∷ 1 ∷ [] else
+    if equals w (codes "try_insert_str") then 0 ∷ 2 ∷ [] else
+    if equals w (codes "insert_str") then 0 ∷ 2 ∷ [] else
+    if equals w (codes "split_off") then 0 ∷ [] else
+    if equals w (codes "drain") then 0 ∷ 0 ∷ [] else
+    if equals w (codes "drain_through") then 0 ∷ 0 ∷ [] else
+    if equals w (codes "drain_back") then 0 ∷ 0 ∷ [] else
+    if equals w (codes "replace_range") then 0 ∷ 0 ∷ 2 ∷ [] else
+    if equals w (codes "get") then 0 ∷ 0 ∷ [] else []
+
+pub shape-is : (c : Command) → map kind (arguments c) ≡ shape (word c)
+unfolding shape
+shape-is (TryPush c) = refl
+shape-is (TryPushStr given) = refl
+shape-is (PushStr given) = refl
+shape-is Pop = refl
+shape-is (Truncate i) = refl
+shape-is Trim = refl
+shape-is (Remove i) = refl
+shape-is (RetainNot c) = refl
+shape-is (TryInsert i c) = refl
+shape-is (TryInsertStr i given) = refl
+shape-is (InsertStr i given) = refl
+shape-is (SplitOff i) = refl
+shape-is Clear = refl
+shape-is (Drain start end) = refl
+shape-is (DrainThrough start last) = refl
+shape-is (DrainBack start end) = refl
+shape-is (ReplaceRange start end given) = refl
+shape-is Upper = refl
+shape-is Lower = refl
+shape-is (Get start end) = refl
+shape-is Len = refl
+shape-is Capacity = refl
+shape-is AsStr = refl
+
+-- what stands behind a word and a space, read as arguments of these kinds
+abbrev pub Reads : List ℕ → List ℕ → Type 0
+Reads rest kinds = (given : List Argument) × (map kind given ≡ kinds) × AreSpelled (space ∷ rest) given
+
+split-line : (v w rest more : List ℕ) (given : List Argument) → IsOneWord v → IsOneWord w → v ++ space ∷ rest ≡ w ++ more
+    → AreSpelled more given → (v ≡ w) × AreSpelled (space ∷ rest) given
+split-line v w rest more [] one also e none =
+    absurd (no-space w v rest also (sym (e ∙ ap (λ l. w ++ l) none ∙ append-nil w)))
+split-line v w rest more (a ∷ given) one also e (first, others, whole, spelled, next) =
+    let parts = first-space v w rest (first ++ others) one also (e ∙ ap (λ l. w ++ l) whole) in
+    (parts.0, (first, others, ap (λ l. space ∷ l) parts.1, spelled, next))
+
+-- the word and the arguments of a line that has a space
+pub line-parts : (w rest : List ℕ) (c : Command) → IsOneWord w → IsLineOf (w ++ space ∷ rest) c
+    → (w ≡ word c) × AreSpelled (space ∷ rest) (arguments c)
+line-parts w rest c one (more, e, spelled) = split-line w (word c) rest more (arguments c) one (one-word c) e spelled
+
+pub reads : (w rest kinds : List ℕ) (c : Command) → IsOneWord w → shape w ≡ kinds → IsLineOf (w ++ space ∷ rest) c → Reads rest kinds
+reads w rest kinds c one known line =
+    let found = line-parts w rest c one line in
+    (arguments c, shape-is c ∙ ap shape (sym found.0) ∙ known, found.1)
+
+-- the arguments of each shape
+last-of : (rest first others : List ℕ) → space ∷ rest ≡ space ∷ (first ++ others) → others ≡ [] → rest ≡ first
+last-of rest first others whole none =
+    tail-of space space rest (first ++ others) whole ∙ ap (λ l. first ++ l) none ∙ append-nil first
+
+pub reads-number : (rest : List ℕ) → Reads rest (0 ∷ []) → (n : ℕ) × IsNumber rest n
+reads-number rest ([], e, spelled) = absurd (omega (arith, ap length e))
+reads-number rest (Number n ∷ [], e, (first, others, whole, number, none)) =
+    (n, subst (λ l. IsNumber l n) (sym (last-of rest first others whole none)) number)
+reads-number rest (Character c ∷ given, e, spelled) = absurd (omega (arith, head-of 1 0 (map kind given) [] e))
+reads-number rest (Text t ∷ given, e, spelled) = absurd (omega (arith, head-of 2 0 (map kind given) [] e))
+reads-number rest (Number n ∷ a ∷ given, e, spelled) = absurd (omega (arith, ap length e))
+
+pub reads-character : (rest : List ℕ) → Reads rest (1 ∷ []) → (c : ℕ) × IsScalarValue c × (rest ≡ utf8 c)
+reads-character rest ([], e, spelled) = absurd (omega (arith, ap length e))
+reads-character rest (Character c ∷ [], e, (first, others, whole, character, none)) =
+    (c, character.0, last-of rest first others whole none ∙ character.1)
+reads-character rest (Number n ∷ given, e, spelled) = absurd (omega (arith, head-of 0 1 (map kind given) [] e))
+reads-character rest (Text t ∷ given, e, spelled) = absurd (omega (arith, head-of 2 1 (map kind given) [] e))
+reads-character rest (Character c ∷ a ∷ given, e, spelled) = absurd (omega (arith, ap length e))
+
+pub reads-before : (rest : List ℕ) (k : ℕ) (kinds : List ℕ) → Reads rest (0 ∷ k ∷ kinds)
+    → (n : ℕ) × (behind : List ℕ) × IsNumberBefore rest n behind × Reads behind (k ∷ kinds)
+reads-before rest k kinds ([], e, spelled) = absurd (omega (arith, ap length e))
+reads-before rest k kinds (Number n ∷ [], e, spelled) = absurd (omega (arith, ap length e))
+reads-before rest k kinds (Number n ∷ a ∷ given, e, (first, others, whole, number, (second, more, others_whole, spelled, next))) = (
+  n,
+  second ++ more,
+  (first, number, tail-of space space rest (first ++ others) whole ∙ ap (λ l. first ++ l) others_whole),
+  (a ∷ given, tail-of 0 0 (kind a ∷ map kind given) (k ∷ kinds) e, (second, more, refl, spelled, next)),
+)
+reads-before rest k kinds (Character c ∷ given, e, spelled) = absurd (omega (arith, head-of 1 0 (map kind given) (k ∷ kinds) e))
+reads-before rest k kinds (Text t ∷ given, e, spelled) = absurd (omega (arith, head-of 2 0 (map kind given) (k ∷ kinds) e))
+
+pub reads-two : (rest : List ℕ) → Reads rest (0 ∷ 0 ∷ []) → (m n : ℕ) × (behind : List ℕ) × IsNumberBefore rest m behind × IsNumber behind n
+reads-two rest read =
+    let found = reads-before rest 0 [] read in
+    let last = reads-number found.1 found.3 in (found.0, last.0, found.1, found.2, last.1)
+
+-- digits have no space, so the number before the first space is one alone
+digits-one : (bs : List ℕ) → AreDigits bs → IsOneWord bs
+digits-one [] are = tt
+digits-one (b ∷ bs) are = (λ e. omega (arith, are.0, e), digits-one bs are.2)
+
+pub number-one : (bs : List ℕ) (n : ℕ) → IsNumber bs n → IsOneWord bs
+number-one bs n number = digits-one bs number.digits
+
+pub before-same : (bs : List ℕ) (m n : ℕ) (rest others : List ℕ) → IsNumberBefore bs m rest → IsNumberBefore bs n others → rest ≡ others
+before-same bs m n rest others (ds, number, e) (es, also, f) =
+    (first-space ds es rest others (number-one ds m number) (number-one es n also) (sym e ∙ f)).1
+
+-- what is behind a number that was read
+pub reads-behind : (rest : List ℕ) (n : ℕ) (behind : List ℕ) (k : ℕ) (kinds : List ℕ) → IsNumberBefore rest n behind
+    → Reads rest (0 ∷ k ∷ kinds) → Reads behind (k ∷ kinds)
+reads-behind rest n behind k kinds before read =
+    let found = reads-before rest k kinds read in
+    subst (λ l. Reads l (k ∷ kinds)) (sym (before-same rest n found.0 behind found.1 before found.2)) found.3
+
+-- a line of a word and arguments
+pub line-given : (c : Command) (w rest : List ℕ) → w ≡ word c → AreSpelled (space ∷ rest) (arguments c) → IsLineOf (w ++ space ∷ rest) c
+line-given c w rest e spelled = (space ∷ rest, ap (λ l. l ++ space ∷ rest) e, spelled)
+
+pub spelled-one : (a : Argument) (rest : List ℕ) → IsSpelled rest a → AreSpelled (space ∷ rest) (a ∷ [])
+spelled-one a rest spelled = (rest, [], ap (λ l. space ∷ l) (sym (append-nil rest)), spelled, refl)
+
+pub spelled-before : (rest : List ℕ) (n : ℕ) (behind : List ℕ) (given : List Argument) → IsNumberBefore rest n behind
+    → AreSpelled (space ∷ behind) given → AreSpelled (space ∷ rest) (Number n ∷ given)
+spelled-before rest n behind given (digits, number, e) spelled =
+    (digits, space ∷ behind, ap (λ l. space ∷ l) e, number, spelled)
+
+-- the line of a command is UTF-8
+low-utf8 : (b : ℕ) (bs : List ℕ) → b < 128 → IsUtf8 bs → IsUtf8 (b ∷ bs)
+low-utf8 b bs low u = IsUtf8-append (b ∷ []) bs (IsUtf8-from_ascii (b ∷ []) (IsAscii-cons b [] low IsAscii-nil)) u
+
+digits-utf8 : (bs : List ℕ) → AreDigits bs → IsUtf8 bs
+digits-utf8 [] are = IsUtf8-nil
+digits-utf8 (b ∷ bs) are = low-utf8 b bs (omega (arith, are.1)) (digits-utf8 bs are.2)
+
+letters-utf8 : (bs : List ℕ) → AreLetters bs → IsUtf8 bs
+letters-utf8 [] are = IsUtf8-nil
+letters-utf8 (b ∷ bs) are = low-utf8 b bs (omega (arith, are.1)) (letters-utf8 bs are.2)
+
+pub char-utf8 : (c : ℕ) → IsScalarValue c → IsUtf8 (utf8 c)
+char-utf8 c is = subst IsUtf8 (append-nil (utf8 c)) (bytes-utf8 (c ∷ []) (is, tt))
+
+argument-utf8 : (a : Argument) (bs : List ℕ) → IsSpelled bs a → IsUtf8 bs
+argument-utf8 (Number n) bs number = digits-utf8 bs number.digits
+argument-utf8 (Character c) bs (is, e) = rw e (char-utf8 c is)
+argument-utf8 (Text t) bs (well, e) = rw e (well_formed-utf8 t well)
+
+arguments-utf8 : (given : List Argument) (bs : List ℕ) → AreSpelled bs given → IsUtf8 bs
+arguments-utf8 [] bs none = rw none IsUtf8-nil
+arguments-utf8 (a ∷ given) bs (first, others, whole, spelled, next) =
+    rw whole (low-utf8 space (first ++ others) (omega arith) (IsUtf8-append first others (argument-utf8 a first spelled) (arguments-utf8 given others next)))
+
+pub line-utf8 : (bs : List ℕ) (c : Command) → IsLineOf bs c → IsUtf8 bs
+line-utf8 bs c (rest, whole, spelled) =
+    rw whole (IsUtf8-append (word c) rest (letters-utf8 (word c) (letters-from_test (word c) (letters-word c))) (arguments-utf8 (arguments c) rest spelled))
+
+-- what `split_once` gives at a space
+one-from_get : (bs : List ℕ) → ((i : ℕ) → i < length bs → get_or bs i 0 ≢ space) → IsOneWord bs
+one-from_get [] other = tt
+one-from_get (b ∷ bs) other = (other 0 (omega arith), one-from_get bs (λ i lt. other (suc i) (omega arith)))
+
+module _ (bs : List ℕ) (r : Option (Bor (List ℕ) × Bor (List ℕ))) (split : IsSplitOnceResult space bs r) where
+  parts : MatchOption r ((i : ℕ) → i < length bs → get_or bs i 0 ≢ space)
+      (λ x. (bs ≡ x.0.now ++ space ∷ x.1.now) × ((i : ℕ) → i < length x.0.now → get_or x.0.now i 0 ≢ space))
+  parts = split_parts space bs r split (omega arith)
+
+  pub parts-found : IfSome r (λ x. (bs ≡ x.0.now ++ space ∷ x.1.now) × IsOneWord x.0.now)
+  parts-found = found r parts where
+    found : (o : Option (Bor (List ℕ) × Bor (List ℕ)))
+        → MatchOption o ((i : ℕ) → i < length bs → get_or bs i 0 ≢ space)
+        (λ x. (bs ≡ x.0.now ++ space ∷ x.1.now) × ((i : ℕ) → i < length x.0.now → get_or x.0.now i 0 ≢ space))
+        → IfSome o (λ x. (bs ≡ x.0.now ++ space ∷ x.1.now) × IsOneWord x.0.now)
+    found None h = tt
+    found (Some x) h = (h.0, one-from_get x.0.now h.1)
+
+  pub parts-none : IfNone r (IsOneWord bs)
+  parts-none = none r parts where
+    none : (o : Option (Bor (List ℕ) × Bor (List ℕ)))
+        → MatchOption o ((i : ℕ) → i < length bs → get_or bs i 0 ≢ space)
+        (λ x. (bs ≡ x.0.now ++ space ∷ x.1.now) × ((i : ℕ) → i < length x.0.now → get_or x.0.now i 0 ≢ space))
+        → IfNone o (IsOneWord bs)
+    none None h = one-from_get bs h
+    none (Some x) h = tt
+
+-- what follows a space is well formed
+pub behind-space : (front rest : List ℕ) → IsUtf8 (front ++ space ∷ rest) → IsWellFormed rest
+behind-space front rest u =
+    let line = front ++ space ∷ rest in
+    let here : get_or line (length front) 0 ≡ space = get_or-append_seam front space rest 0 in
+    let within : length front < length line = omega (arith, length-append front (space ∷ rest)) in
+    let behind : drop (length front + 1) line ≡ rest = drop-append-add front (space ∷ rest) 1 in
+    utf8-well_formed rest (subst IsUtf8 behind (IsUtf8-drop line (length front + 1) u (IsCharBoundary-after_ascii line (length front) u within (omega (arith, here)))))
+
+pub number-behind : (bs : List ℕ) (n : ℕ) (rest : List ℕ) → IsUtf8 bs → IsNumberBefore bs n rest → IsWellFormed rest
+number-behind bs n rest u (digits, number, e) = behind-space digits rest (subst IsUtf8 e u)
+
+-- what `parse` gives of at most three bytes that begin with no sign
+own : IsNumeralModel AreDigits (value_after 0)
+own = numerals_by_fold AreDigits (search rules) value_after (search rules)
+
+module _ {E : Type 0} (bs : List ℕ) (r : Result ℕ E) (parsed : ParsesUnsigned 8 10 bs r) (plain : get_or bs 0 0 ≢ 43) where
+  read : OkIff r (AreDigits bs × (0 < length bs) × (value_after 0 bs < 256)) (value_after 0 bs)
+  read = parse_plain own 8 bs r parsed plain
+
+  pub parsed-some : length bs ≤ 3 → IfSome (result_ok r) (λ n. IsNumber bs n)
+  parsed-some short = found r read where
+    found : (o : Result ℕ E) → OkIff o (AreDigits bs × (0 < length bs) × (value_after 0 bs < 256)) (value_after 0 bs)
+        → IfSome (result_ok o) (λ n. IsNumber bs n)
+    found (Ok n) ((digits, some, small), is) = record {
+      some = omega (arith, some);
+      short = short;
+      digits = digits;
+      value = is;
+      small = omega (arith, small, is);
+    }
+    found (Err e) h = tt
+
+  pub parsed-none : IfNone (result_ok r) ((n : ℕ) → IsNumber bs n → ⊥)
+  parsed-none = none r read where
+    none : (o : Result ℕ E) → OkIff o (AreDigits bs × (0 < length bs) × (value_after 0 bs < 256)) (value_after 0 bs)
+        → IfNone (result_ok o) ((n : ℕ) → IsNumber bs n → ⊥)
+    none (Ok n) h = tt
+    none (Err e) bad = λ n is. bad (is.digits, omega (arith, is.some), omega (arith, is.small, is.value))
+
+-- a number as it is printed
+decimal-number : (n : ℕ) → n ≤ 255 → IsNumber (decimal n) n
+decimal-number n small =
+    let fits : n < 2 ^ 64 = omega (arith, small) in
+    let below : n < 10 ^ 3 = omega (arith, small) in
+    record {
+      some = decimal_nonempty n fits;
+      short = length-decimal-le 3 n (omega arith) below fits;
+      digits = digits_decimal own n fits;
+      value = sym (digits_value-decimal own n fits);
+      small = small;
+    }
+
+spellings-are : (given : List Argument) → AreArguments given → AreSpelled (spellings given) given
+spellings-are [] are = refl
+spellings-are (Number n ∷ rest) are = (decimal n, spellings rest, refl, decimal-number n are.0, spellings-are rest are.1)
+spellings-are (Character c ∷ rest) are = (utf8 c, spellings rest, refl, (are.0, refl), spellings-are rest are.1)
+spellings-are (Text given ∷ rest) are = (given, spellings rest, refl, (are.0, refl), spellings-are rest are.1)
+
+pub line-of : (c : Command) → AreArguments (arguments c) → IsLineOf (line_of c) c
+line-of c are = (spellings (arguments c), refl, spellings-are (arguments c) are)

@@ -1,0 +1,121 @@
+-- The line of a command: its word, and then its arguments, each after one space.
+use Rattle.std.specs.Prelude.{◌≡◌, ◌≢◌, ℕ, ◌+◌, ◌-◌, ◌*◌, ◌≤◌, ⊤, length, List, [], ◌∷◌, ◌++◌, codes, decimal}
+use Rattle.arraystring.specs.Text.{utf8, IsScalarValue, IsWellFormed}
+use Rattle.arraystring_run.specs.declared.commands.Command.{Command}
+use Rattle.arraystring_run.specs.declared.commands.Command.TheVariants.{TryPush, TryPushStr, PushStr, Pop, Truncate, Trim, Remove, RetainNot, TryInsert, TryInsertStr, InsertStr, SplitOff, Clear, Drain, DrainThrough, DrainBack, ReplaceRange, Upper, Lower, Get, Len, Capacity, AsStr}
+
+-- an argument: a number, a character, or a text, told by its bytes
+pub data Argument : Type 0 where
+  Number : ℕ → Argument
+  Character : ℕ → Argument
+  Text : List ℕ → Argument
+
+abbrev pub word : Command → List ℕ
+word (TryPush c) = codes "try_push"
+word (TryPushStr given) = codes "try_push_str"
+word (PushStr given) = codes "push_str"
+word Pop = codes "pop"
+word (Truncate i) = codes "truncate"
+word Trim = codes "trim"
+word (Remove i) = codes "remove"
+word (RetainNot c) = codes "retain_not"
+word (TryInsert i c) = codes "try_insert"
+word (TryInsertStr i given) = codes "try_insert_str"
+word (InsertStr i given) = codes "insert_str"
+word (SplitOff i) = codes "split_off"
+word Clear = codes "clear"
+word (Drain start end) = codes "drain"
+word (DrainThrough start last) = codes "drain_through"
+word (DrainBack start end) = codes "drain_back"
+word (ReplaceRange start end given) = codes "replace_range"
+word Upper = codes "upper"
+word Lower = codes "lower"
+word (Get start end) = codes "get"
+word Len = codes "len"
+word Capacity = codes "capacity"
+word AsStr = codes "as_str"
+
+-- a character or a text stands last, and is the whole rest of the line
+abbrev pub arguments : Command → List Argument
+arguments (TryPush c) = Character c ∷ []
+arguments (TryPushStr given) = Text given.now ∷ []
+arguments (PushStr given) = Text given.now ∷ []
+arguments (Truncate i) = Number i ∷ []
+arguments (Remove i) = Number i ∷ []
+arguments (RetainNot c) = Character c ∷ []
+arguments (TryInsert i c) = Number i ∷ Character c ∷ []
+arguments (TryInsertStr i given) = Number i ∷ Text given.now ∷ []
+arguments (InsertStr i given) = Number i ∷ Text given.now ∷ []
+arguments (SplitOff i) = Number i ∷ []
+arguments (Drain start end) = Number start ∷ Number end ∷ []
+arguments (DrainThrough start last) = Number start ∷ Number last ∷ []
+arguments (DrainBack start end) = Number start ∷ Number end ∷ []
+arguments (ReplaceRange start end given) = Number start ∷ Number end ∷ Text given.now ∷ []
+arguments (Get start end) = Number start ∷ Number end ∷ []
+arguments _ = []
+
+-- ASCII digits, 0 to 9
+abbrev pub AreDigits : List ℕ → Type 0
+AreDigits [] = ⊤
+AreDigits (b ∷ bs) = (0x30 ≤ b) × (b ≤ 0x39) × AreDigits bs
+
+-- the number that the digits write behind those of n
+abbrev pub value_after : ℕ → List ℕ → ℕ
+value_after n [] = n
+value_after n (b ∷ bs) = value_after (n * 10 + (b - 0x30)) bs
+
+-- one to three digits, of value n, which is at most 255; leading zeros are allowed
+pub record IsNumber (bs : List ℕ) (n : ℕ) : Type 0 where
+  pub some : 1 ≤ length bs
+  pub short : length bs ≤ 3
+  pub digits : AreDigits bs
+  pub value : n ≡ value_after 0 bs
+  pub small : n ≤ 255
+
+abbrev pub IsSpelled : List ℕ → Argument → Type 0
+IsSpelled bs (Number n) = IsNumber bs n
+IsSpelled bs (Character c) = IsScalarValue c × (bs ≡ utf8 c)
+IsSpelled bs (Text given) = IsWellFormed given × (bs ≡ given)
+
+-- the byte between a word and its arguments
+abbrev pub space : ℕ
+space = 0x20
+
+-- each argument after one space, and nothing else
+abbrev pub AreSpelled : List ℕ → List Argument → Type 0
+AreSpelled bs [] = bs ≡ []
+AreSpelled bs (a ∷ rest) = (first : List ℕ) × (others : List ℕ) × (bs ≡ space ∷ (first ++ others)) × IsSpelled first a × AreSpelled others rest
+
+-- the bytes of a line are those of a command
+abbrev pub IsLineOf : List ℕ → Command → Type 0
+IsLineOf bs c = (rest : List ℕ) × (bs ≡ word c ++ rest) × AreSpelled rest (arguments c)
+
+-- the bytes of an argument, a number as it is printed
+abbrev pub spelling : Argument → List ℕ
+spelling (Number n) = decimal n
+spelling (Character c) = utf8 c
+spelling (Text given) = given
+
+abbrev pub spellings : List Argument → List ℕ
+spellings [] = []
+spellings (a ∷ rest) = space ∷ (spelling a ++ spellings rest)
+
+-- a line of a command
+abbrev pub line_of : Command → List ℕ
+line_of c = word c ++ spellings (arguments c)
+
+-- numbers up to 255, characters and texts
+abbrev pub AreArguments : List Argument → Type 0
+AreArguments [] = ⊤
+AreArguments (Number n ∷ rest) = (n ≤ 255) × AreArguments rest
+AreArguments (Character c ∷ rest) = IsScalarValue c × AreArguments rest
+AreArguments (Text given ∷ rest) = IsWellFormed given × AreArguments rest
+
+-- no byte is a space
+abbrev pub IsOneWord : List ℕ → Type 0
+IsOneWord [] = ⊤
+IsOneWord (b ∷ bs) = (b ≢ space) × IsOneWord bs
+
+-- a number, one space, and then the rest
+abbrev pub IsNumberBefore : List ℕ → ℕ → List ℕ → Type 0
+IsNumberBefore bs n rest = (digits : List ℕ) × IsNumber digits n × (bs ≡ digits ++ space ∷ rest)

@@ -1,0 +1,141 @@
+//! The command of a line.
+ghost use Rattle.std.specs.Prelude.{◌≡◌, ◌∷◌, ◌++◌, ℕ, List, IfSome, IfNone};
+ghost use Rattle.arraystring.specs.Text.{utf8, IsScalarValue};
+ghost use Rattle.arraystring_run.specs.Grammar.{IsLineOf, IsNumber, IsNumberBefore, IsOneWord, space};
+ghost use Rattle.arraystring_run.specs.declared.commands.Command.{Command as Edit};
+
+use crate::Command;
+use std::str;
+
+/// The command of a line without its end.
+pub(crate) fn command(line: &[u8]) -> Option<Command<'_>>
+    ensures some { IfSome result (λ c. IsLineOf line.now c) }
+    ensures none { IfNone result ((c : Edit) → IsLineOf line.now c → ⊥) }
+{
+    let text = str::from_utf8(line).ok()?;
+    match split_at_space(text) {
+        Some((word, rest)) => command_given(word, rest),
+        None => command_alone(text),
+    }
+}
+
+/// What stands before the first space, and what stands behind it.
+fn split_at_space(text: &str) -> Option<(&str, &str)>
+    ensures some { IfSome result (λ parts. (text.now ≡ parts.0.now ++ space ∷ parts.1.now) × IsOneWord parts.0.now) }
+    ensures none { IfNone result (IsOneWord text.now) }
+{
+    text.split_once(' ')
+}
+
+/// The command of a word that stands alone.
+fn command_alone(word: &str) -> Option<Command<'static>>
+    requires { IsOneWord word.now }
+    ensures some { IfSome result (λ c. IsLineOf word.now c) }
+    ensures none { IfNone result ((c : Edit) → IsLineOf word.now c → ⊥) }
+{
+    match word {
+        "pop" => Some(Command::Pop),
+        "trim" => Some(Command::Trim),
+        "clear" => Some(Command::Clear),
+        "upper" => Some(Command::Upper),
+        "lower" => Some(Command::Lower),
+        "len" => Some(Command::Len),
+        "capacity" => Some(Command::Capacity),
+        "as_str" => Some(Command::AsStr),
+        _ => None,
+    }
+}
+
+/// The command of a word that is given `rest`, behind one space.
+fn command_given<'a>(word: &str, rest: &'a str) -> Option<Command<'a>>
+    requires { IsOneWord word.now }
+    ensures some { IfSome result (λ c. IsLineOf (word.now ++ space ∷ rest.now) c) }
+    ensures none { IfNone result ((c : Edit) → IsLineOf (word.now ++ space ∷ rest.now) c → ⊥) }
+{
+    match word {
+        "try_push" => Some(Command::TryPush(only_char(rest)?)),
+        "try_push_str" => Some(Command::TryPushStr(rest)),
+        "push_str" => Some(Command::PushStr(rest)),
+        "truncate" => Some(Command::Truncate(number(rest)?)),
+        "remove" => Some(Command::Remove(number(rest)?)),
+        "retain_not" => Some(Command::RetainNot(only_char(rest)?)),
+        "try_insert" => {
+            let (index, given) = number_before(rest)?;
+            Some(Command::TryInsert(index, only_char(given)?))
+        }
+        "try_insert_str" => {
+            let (index, given) = number_before(rest)?;
+            Some(Command::TryInsertStr(index, given))
+        }
+        "insert_str" => {
+            let (index, given) = number_before(rest)?;
+            Some(Command::InsertStr(index, given))
+        }
+        "split_off" => Some(Command::SplitOff(number(rest)?)),
+        "drain" => {
+            let (start, end) = two_numbers(rest)?;
+            Some(Command::Drain { start, end })
+        }
+        "drain_through" => {
+            let (start, last) = two_numbers(rest)?;
+            Some(Command::DrainThrough { start, last })
+        }
+        "drain_back" => {
+            let (start, end) = two_numbers(rest)?;
+            Some(Command::DrainBack { start, end })
+        }
+        "replace_range" => {
+            let (start, rest) = number_before(rest)?;
+            let (end, given) = number_before(rest)?;
+            Some(Command::ReplaceRange { start, end, given })
+        }
+        "get" => {
+            let (start, end) = two_numbers(rest)?;
+            Some(Command::Get { start, end })
+        }
+        _ => None,
+    }
+}
+
+/// The number of a text that is one to three ASCII digits, of value at most 255.
+fn number(text: &str) -> Option<u8>
+    ensures some { IfSome result (λ n. IsNumber text.now n) }
+    ensures none { IfNone result ((n : ℕ) → IsNumber text.now n → ⊥) }
+{
+    // `parse` would take a sign and any count of zeros.
+    if text.len() > 3 || text.starts_with('+') {
+        return None;
+    }
+    text.parse().ok()
+}
+
+/// The number before the first space, and what stands behind that.
+fn number_before(text: &str) -> Option<(u8, &str)>
+    ensures some { IfSome result (λ parts. IsNumberBefore text.now parts.0 parts.1.now) }
+    ensures none { IfNone result ((n : ℕ) (rest : List ℕ) → IsNumberBefore text.now n rest → ⊥) }
+{
+    let (digits, rest) = split_at_space(text)?;
+    Some((number(digits)?, rest))
+}
+
+/// Two numbers with one space between them.
+fn two_numbers(text: &str) -> Option<(u8, u8)>
+    ensures some { IfSome result (λ both. (rest : List ℕ) × IsNumberBefore text.now both.0 rest × IsNumber rest both.1) }
+    ensures none { IfNone result ((m n : ℕ) (rest : List ℕ) → IsNumberBefore text.now m rest → IsNumber rest n → ⊥) }
+{
+    let (first, rest) = number_before(text)?;
+    Some((first, number(rest)?))
+}
+
+/// The character of a text that has exactly one.
+fn only_char(text: &str) -> Option<char>
+    ensures some { IfSome result (λ c. IsScalarValue c × (text.now ≡ utf8 c)) }
+    ensures none { IfNone result ((c : ℕ) → IsScalarValue c → text.now ≡ utf8 c → ⊥) }
+{
+    let mut chars = text.chars();
+    let ch = chars.next()?;
+    match chars.next() {
+        Some(_) => None,
+        None => Some(ch),
+    }
+}
