@@ -1,6 +1,6 @@
 //! What a call refuses, and the conversions to `Error`. No printed form pads to a width that is
 //! asked for.
-ghost use Rattle.std.specs.Prelude.{◌≡◌, Some, codes};
+ghost use Rattle.std.specs.Prelude.{◌≡◌, ◌++◌, Some, codes};
 ghost use Rattle.std.proofs.Common.{ap};
 ghost use Rattle.std.specs.Hash as fed;
 ghost use Rattle.arraystring_base.specs.Names.{error_name, same_names};
@@ -36,6 +36,7 @@ impl Error {
     }
 }
 
+/// A hasher is written the text of the name.
 impl Hash for Error {
     ghost hash_input = { λ e. fed.str (error_name e) };
 
@@ -46,6 +47,7 @@ impl Hash for Error {
     }
 }
 
+/// The name alone.
 impl fmt::Display for Error {
     ghost output = { λ e. Some (error_name e) };
 
@@ -56,7 +58,10 @@ impl fmt::Display for Error {
     }
 }
 
+/// `Error::` and the name.
 impl fmt::Debug for Error {
+    ghost debug_output = { λ e. Some (codes "Error::" ++ error_name e) };
+
     fn fmt<W: fmt::Write>(&self, f: &mut fmt::Formatter<W>) -> fmt::Result {
         f.write_str("Error::")?;
         f.write_str(self.name())
@@ -70,6 +75,7 @@ impl StdError for Error {}
 #[derive(Clone, Copy, Default, PartialEq, Eq)]
 pub struct Utf8;
 
+/// The name alone.
 impl fmt::Display for Utf8 {
     ghost output = { λ _. Some (codes "Utf8") };
 
@@ -80,7 +86,10 @@ impl fmt::Display for Utf8 {
     }
 }
 
+/// The name alone.
 impl fmt::Debug for Utf8 {
+    ghost debug_output = { λ _. Some (codes "Utf8") };
+
     fn fmt<W: fmt::Write>(&self, f: &mut fmt::Formatter<W>) -> fmt::Result {
         f.write_str("Utf8")
     }
@@ -92,6 +101,7 @@ impl StdError for Utf8 {}
 #[derive(Clone, Copy, Default, PartialEq, Eq)]
 pub struct Utf16;
 
+/// The name alone.
 impl fmt::Display for Utf16 {
     ghost output = { λ _. Some (codes "Utf16") };
 
@@ -102,7 +112,10 @@ impl fmt::Display for Utf16 {
     }
 }
 
+/// The name alone.
 impl fmt::Debug for Utf16 {
+    ghost debug_output = { λ _. Some (codes "Utf16") };
+
     fn fmt<W: fmt::Write>(&self, f: &mut fmt::Formatter<W>) -> fmt::Result {
         f.write_str("Utf16")
     }
@@ -114,6 +127,7 @@ impl StdError for Utf16 {}
 #[derive(Clone, Copy, Default, PartialEq, Eq)]
 pub struct OutOfBounds;
 
+/// The name alone.
 impl fmt::Display for OutOfBounds {
     ghost output = { λ _. Some (codes "OutOfBounds") };
 
@@ -124,7 +138,10 @@ impl fmt::Display for OutOfBounds {
     }
 }
 
+/// The name alone.
 impl fmt::Debug for OutOfBounds {
+    ghost debug_output = { λ _. Some (codes "OutOfBounds") };
+
     fn fmt<W: fmt::Write>(&self, f: &mut fmt::Formatter<W>) -> fmt::Result {
         f.write_str("OutOfBounds")
     }
@@ -148,6 +165,7 @@ impl From<Utf8Error> for Error {
     }
 }
 
+/// The case of its name.
 impl From<Utf8> for Error {
     ghost from_gives = { λ _ error. error ≡ cases.Utf8 };
 
@@ -156,6 +174,7 @@ impl From<Utf8> for Error {
     }
 }
 
+/// The case of its name.
 impl From<Utf16> for Error {
     ghost from_gives = { λ _ error. error ≡ cases.Utf16 };
 
@@ -164,6 +183,7 @@ impl From<Utf16> for Error {
     }
 }
 
+/// The case of its name.
 impl From<OutOfBounds> for Error {
     ghost from_gives = { λ _ error. error ≡ cases.OutOfBounds };
 

@@ -21,7 +21,8 @@ mod range;
 mod remove;
 mod utf16;
 
-/// A string of at most `N` bytes of UTF-8, and at most 255, that lies in the value itself.
+/// A string of at most `N` bytes of UTF-8, and at most 255, that lies in the value itself. In all
+/// its calls sizes, places, room and capacity count bytes of UTF-8.
 ///
 /// Contracts name its text, the list of its characters, and no byte of the array.
 #[derive(Clone, Copy)]
@@ -311,6 +312,7 @@ impl<const N: usize> ArrayString<N> {
     }
 }
 
+/// The empty string.
 impl<const N: usize> Default for ArrayString<N> {
     ghost is_default = { λ s. s.text ≡ [] };
 
@@ -319,6 +321,7 @@ impl<const N: usize> Default for ArrayString<N> {
     }
 }
 
+/// Strings are equal where their texts are.
 impl<const N: usize> PartialEq for ArrayString<N> {
     ghost eq = { λ s t. pointwise nat_eq s.text t.text };
 

@@ -58,6 +58,7 @@ impl<const N: usize> Drain<N> {
     }
 }
 
+/// Nothing is left.
 impl<const N: usize> Default for Drain<N> {
     ghost is_default = { λ d. d.left ≡ [] };
 
@@ -66,6 +67,7 @@ impl<const N: usize> Default for Drain<N> {
     }
 }
 
+/// A walk from the front.
 impl<const N: usize> Iterator for Drain<N> {
     type Item = char;
 
@@ -73,6 +75,7 @@ impl<const N: usize> Iterator for Drain<N> {
 
     ghost remaining = { item_count (λ d. d.left) };
 
+    /// The first character that is left; `None` where none is, and from then on.
     fn next(&mut self) -> Option<char> {
         let mut left = self.as_str().chars();
         let ch = left.next()?;
@@ -81,9 +84,11 @@ impl<const N: usize> Iterator for Drain<N> {
     }
 }
 
+/// A walk from the back, over the same characters.
 impl<const N: usize> DoubleEndedIterator for Drain<N> {
     ghost next_back_gives = { YieldsLast (λ d. d.left) };
 
+    /// The last character that is left; `None` where none is, and from then on.
     fn next_back(&mut self) -> Option<char> {
         if self.front == self.removed.len() {
             return None;

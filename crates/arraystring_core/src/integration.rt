@@ -14,6 +14,7 @@ use std::fmt;
 #[derive(Clone, Copy, PartialEq, Eq)]
 pub struct NotText;
 
+/// The name alone.
 impl fmt::Display for NotText {
     ghost output = { λ _. Some (codes "NotText") };
 
@@ -24,7 +25,10 @@ impl fmt::Display for NotText {
     }
 }
 
+/// The name alone.
 impl fmt::Debug for NotText {
+    ghost debug_output = { λ _. Some (codes "NotText") };
+
     fn fmt<W: fmt::Write>(&self, f: &mut fmt::Formatter<W>) -> fmt::Result {
         f.write_str("NotText")
     }

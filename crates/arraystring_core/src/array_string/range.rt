@@ -1,4 +1,5 @@
-//! Parts of a string by a range of bytes. Any `RangeBounds<u8>` serves.
+//! Parts of a string by a range of bytes. Any `RangeBounds<u8>` serves that knows its bounds: an
+//! inclusive range of Rust that was walked to its end knows none.
 ghost use Rattle.std.specs.Prelude.{◌≡◌, ◌≢◌, ◌+◌, ◌-◌, ◌^◌, ◌≤◌, ◌++◌, min, IsTrue, MatchOption, OnOk, OnErr, Some, None, chars, map};
 ghost use Rattle.std.specs.Char.{to_ascii_uppercase, to_ascii_lowercase};
 ghost use Rattle.std.specs.Range.Bound.{start_index, end_index};
@@ -15,7 +16,8 @@ use std::ops::RangeBounds;
 
 impl<const N: usize> ArrayString<N> {
     /// The part in the range, lent without a copy. The range must end no earlier than it starts,
-    /// and both ends must be boundaries; they are plain numbers, so `..=255` ends at 256.
+    /// and both ends must be boundaries; they are plain numbers, so `..=255` ends at 256. It must
+    /// know its bounds.
     pub fn slice<R: RangeBounds<u8> + Drop>(&self, range: R) -> &str
         requires known { R.has_bounds range }
         requires order { start_index (R.start_bound range) ≤ end_index (R.end_bound range) (size self.now.text) }
@@ -29,7 +31,8 @@ impl<const N: usize> ArrayString<N> {
     }
 
     /// The part in the range, lent without a copy; `None` where the range ends before it starts,
-    /// or an end is not a boundary. The ends are plain numbers, so `..=255` ends at 256.
+    /// or an end is not a boundary. The ends are plain numbers, so `..=255` ends at 256. The range
+    /// must know its bounds.
     pub fn get<R: RangeBounds<u8> + Drop>(&self, range: R) -> Option<&str>
         requires { R.has_bounds range }
         ensures { let found = part_in self.now.text (start_index (R.start_bound range)) (end_index (R.end_bound range) (size self.now.text)) in
@@ -45,7 +48,8 @@ impl<const N: usize> ArrayString<N> {
     /// Takes the part in the range out of the string, at once, and gives its characters. An
     /// excluded start and an included end add 1, and stop at 255. Refused with `OutOfBounds` where
     /// the range ends before it starts, then where it ends past the text, then with `Utf8` where its
-    /// start is inside a character, then where its end is; the text is then as it was.
+    /// start is inside a character, then where its end is; the text is then as it was. The range must
+    /// know its bounds.
     pub fn drain<R: RangeBounds<u8> + Drop>(&mut self, range: R) -> Result<Drain<N>, Error>
         requires { R.has_bounds range }
         ensures { let t = self.old.text in
@@ -84,7 +88,8 @@ impl<const N: usize> ArrayString<N> {
     /// Puts `with` in place of the part in the range. An excluded start and an included end add 1,
     /// and stop at 255. Refused with `OutOfBounds` where the range ends before it starts, then where
     /// it ends past the text, then where the result does not fit, then with `Utf8` where its start
-    /// is inside a character, then where its end is; the text is then as it was.
+    /// is inside a character, then where its end is; the text is then as it was. The range must know
+    /// its bounds.
     pub fn replace_range<R: RangeBounds<u8> + Drop>(
         &mut self,
         range: R,
