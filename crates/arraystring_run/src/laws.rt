@@ -16,7 +16,8 @@ pub fn lines_of_input()
     ensures input { (input : List ℕ) → (all_ended (lines input) ≡ input) ⊎ (all_ended (lines input) ≡ ended input) }
 {}
 
-/// Each command has a line: its word and its arguments, with numbers as they are printed.
+/// Each command has a line: its word and its arguments, with numbers as they are printed. A script
+/// can hold the line where no character or text of the command has the byte 0A, which ends lines.
 pub fn each_command_has_a_line()
     ensures { (c : Edit) → AreArguments (arguments c) → IsLineOf (line_of c) c }
 {}

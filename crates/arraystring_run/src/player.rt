@@ -35,8 +35,10 @@ const LARGEST: usize = usize::MAX / 4;
 /// and writes a line for each reply and one for the last text.
 ///
 /// Nothing is written before the whole script was read and accepted and the run was made, and no
-/// memory is taken after that. A read that was interrupted is tried again. An `N` for which no
-/// memory has an array is want of memory.
+/// memory is taken after that. The faults come in this order: `Read` or `Memory` while the input is
+/// read, `BadLine` or `Memory` by whichever line or growth is met first, `Memory` of the run, and
+/// then `Write`, after which some beginning of the output may have gone out. A read that was
+/// interrupted is tried again. An `N` for which no memory has an array is want of memory.
 pub fn play<const N: usize, I: Read, O: Write>(
     alloc: Global,
     input: &mut I,

@@ -11,7 +11,7 @@ use std::io;
 use std::io::Write;
 
 /// Writes a line for each reply, and one for the last text.
-pub fn write_all_replies<const N: usize, O: Write>(
+pub(crate) fn write_all_replies<const N: usize, O: Write>(
     output: &mut O,
     replies: &[Reply<N>],
     last: &ArrayString<N>,

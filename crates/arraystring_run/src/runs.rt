@@ -1,4 +1,4 @@
-//! Runs of commands over one string.
+//! Runs of commands, over one string and over two.
 ghost use Rattle.std.specs.Prelude.{◌≡◌, ◌≤◌, [], length, map, vec_len, if◌then◌else◌, IfOk, IsOk, OnOk, OnErr, Some, None};
 ghost use Rattle.arraystring.specs.Text.{cap, size};
 ghost use Rattle.arraystring_run.specs.Runs.{said, after, first_tight_from, earlier_of};
@@ -9,18 +9,20 @@ use crate::{Command, Reply};
 use arraystring::ArrayString;
 use std::alloc::{AllocError, Global};
 
-/// What a run of commands is answered: one reply a command, in order, and the position from 0 of
-/// the first command that was refused for want of room or added less than all it was given.
+/// What a run of commands is answered.
 #[derive(Drop)]
 pub struct Outcome<const N: usize> {
+    /// One reply a command, in order.
     pub replies: Vec<Reply<N>>,
+    /// The position from 0 of the first command that was refused for want of room, or added less
+    /// than all it was given.
     pub first_tight: Option<usize>,
 }
 
 /// Makes each command in turn, each on the text that the one before left.
 ///
 /// Memory is taken for the list of replies alone, before the first command; where it is refused,
-/// the text is as it was. No commands take no memory.
+/// the text is as it was. An empty list of commands takes no memory.
 pub fn run<const N: usize>(
     alloc: Global,
     text: &mut ArrayString<N>,
@@ -52,12 +54,13 @@ pub fn run<const N: usize>(
 
 /// Makes the same commands on two strings, as `run` does on each.
 ///
-/// Memory is taken for the two lists of replies alone, before the first command; where it is refused, both texts are
-/// as they were. No commands take no memory.
+/// Memory is taken for the two lists of replies alone, before the first command; where it is
+/// refused, both texts are as they were. An empty list of commands takes no memory.
 ///
-/// From equal texts, where the capacity of `first` is not greater than that of `second`: the replies to the commands
-/// before the one that `first` finds tight first agree, those to `Capacity` set aside, and `second` finds none of these
-/// commands tight. Where `first` finds none tight, neither does `second`, and the last texts are equal.
+/// From equal texts, where the capacity of `first` is not greater than that of `second`: the
+/// replies to the commands before the one that `first` finds tight first agree, those to `Capacity`
+/// set aside, and `second` finds none of these commands tight. Where `first` finds none tight,
+/// neither does `second`, and the last texts are equal.
 pub fn run_both<const N: usize, const M: usize>(
     alloc: Global,
     first: &mut ArrayString<N>,

@@ -358,7 +358,7 @@ fn a_failed_write_is_told(rt: HostRuntime) {
             let mut output = FakeWriter {
                 room,
                 fails,
-                flushes: false,
+                flushes: room < OUTPUT.len(),
                 taken: 0,
             };
             let played = play::<23, &[u8], FakeWriter>(rt.alloc(), &mut input, &mut output);
