@@ -1,6 +1,7 @@
 //! The example of the README, and the other doors to the string.
-use super::prelude::{MaxString, SmallString};
+use super::prelude::{MaxString, OutOfBounds, SmallString};
 use super::{ArrayString, Error};
+use std::hash::{DefaultHasher, Hash, Hasher};
 use std::test::Fail;
 
 type Username = ArrayString<20>;
@@ -40,4 +41,79 @@ fn names_and_roles_fit(rt: HostRuntime) -> Result<(), Fail> {
 #[test]
 fn the_aliases_have_their_capacities(rt: HostRuntime) {
     assert_eq!(rt; (SmallString::capacity(), MaxString::capacity()), (23, 255));
+}
+
+const ZEROS_23: &str = "00000000000000000000000";
+
+const ZEROS_24: &str = "000000000000000000000000";
+
+#[test]
+fn a_small_string_is_filled(rt: HostRuntime) -> Result<(), Fail> {
+    let mut text = SmallString::try_from_str("My String")?;
+    text.try_push('!')?;
+    assert_eq!(rt; text.as_str(), "My String!");
+    let mut full = SmallString::try_from_str(ZEROS_23)?;
+    assert_eq!(rt; full.try_push('!'), Err(OutOfBounds));
+    assert_eq!(rt; full.as_str(), ZEROS_23);
+    let mut cut = SmallString::new();
+    cut.push_str(ZEROS_24);
+    assert_eq!(rt; cut, full);
+    let mut replaced = SmallString::try_from_str("ABCD🤔")?;
+    assert_eq!(rt;
+        replaced.replace_range(0..1, ZEROS_23),
+        Err(Error::OutOfBounds)
+    );
+    assert_eq!(rt; replaced.as_str(), "ABCD🤔");
+    let mut empty = SmallString::new();
+    assert_eq!(rt; empty.remove(0), Err(Error::OutOfBounds));
+    Ok(())
+}
+
+#[test]
+fn a_greatest_string_is_filled(rt: HostRuntime) -> Result<(), Fail> {
+    let pieces = ["My String", " My other String"];
+    let whole = "My String My other String";
+    let joined = MaxString::try_from_iterator(pieces.iter().copied())?;
+    assert_eq!(rt; joined.as_str(), whole);
+    assert_eq!(rt; MaxString::from_iterator(pieces.iter().copied()), joined);
+    let mut added = MaxString::try_from_str("My String")?;
+    added.try_push_str(" My other String")?;
+    assert_eq!(rt; added, joined);
+    let mut pushed = MaxString::try_from_str("My String")?;
+    pushed.push_str(" My other String");
+    assert_eq!(rt; pushed, joined);
+    let mut letters = String::new(rt.alloc());
+    for _ in 0..255u8 {
+        letters.push('0')?;
+    }
+    assert_eq!(rt; added.try_push_str(&letters), Err(OutOfBounds));
+    assert_eq!(rt; added, joined);
+    letters.push('0')?;
+    assert_eq!(rt;
+        ArrayString::<300>::try_from_str(&letters),
+        Err(OutOfBounds)
+    );
+    Ok(())
+}
+
+#[test]
+fn a_string_that_was_trimmed_is_hashed_as_one_made_at_once(rt: HostRuntime) -> Result<(), Fail> {
+    let mut trimmed = ArrayString::<8>::try_from_str("  abcdef")?;
+    trimmed.trim();
+    trimmed.try_push_str("xy")?;
+    let at_once = ArrayString::<8>::try_from_str("abcdefxy")?;
+    let mut first = DefaultHasher::new();
+    trimmed.hash(&mut first);
+    let mut second = DefaultHasher::new();
+    at_once.hash(&mut second);
+    assert_eq!(rt; trimmed, at_once);
+    assert_eq!(rt; first.finish(), second.finish());
+    let mut drained = ArrayString::<8>::try_from_str("xyab")?;
+    let _ = drained.drain(..2);
+    let mut third = DefaultHasher::new();
+    drained.hash(&mut third);
+    let mut fourth = DefaultHasher::new();
+    ArrayString::<8>::try_from_str("ab")?.hash(&mut fourth);
+    assert_eq!(rt; third.finish(), fourth.finish());
+    Ok(())
 }
