@@ -50,12 +50,14 @@ pub fn truncate_str_counted<'a>(text: &'a str, size: u8, steps: &mut Steps) -> &
 }
 
 /// The last character of `text` and the place where it begins, or `None` where the text is empty.
-/// It looks at no more than four bytes and moves none. The count of looks must have room for four.
+/// It looks at no more than four bytes, at least at one where there is a character, and moves none.
+/// The count of looks must have room for four.
 pub fn last_char(text: &str, steps: &mut Steps) -> Option<(usize, char)>
     requires { steps.old.looked + 4 < 2 ^ 64 }
     ensures some { IfSome result (λ last. (front : List ℕ) × (chars text.now ≡ front ++ last.1 ∷ []) × (size front ≡ last.0)) }
     ensures none { IfNone result (chars text.now ≡ []) }
     ensures looked { steps.new.looked ≤ steps.old.looked + 4 }
+    ensures least { IfSome result (λ _. steps.old.looked < steps.new.looked) }
     ensures counted { steps.old.looked ≤ steps.new.looked }
     ensures moved { steps.new.moved ≡ steps.old.moved }
 {
@@ -157,6 +159,7 @@ fn char_before_end(text: &str, steps: &mut Steps) -> (usize, char)
     requires countable { steps.old.looked + 4 < 2 ^ 64 }
     ensures last { (front : List ℕ) × (chars text.now ≡ front ++ result.1 ∷ []) × (size front ≡ result.0) }
     ensures looked { steps.new.looked ≤ steps.old.looked + 4 }
+    ensures least { steps.old.looked < steps.new.looked }
     ensures counted { steps.old.looked ≤ steps.new.looked }
     ensures moved { steps.new.moved ≡ steps.old.moved }
 {

@@ -1,6 +1,6 @@
 //! `ArrayString`: the type, what it shows, and what is added and taken at its end. The modules
 //! below hold its other calls.
-ghost use Rattle.std.specs.Prelude.{◌≡◌, ◌≢◌, ◌+◌, ◌-◌, ◌^◌, ◌≤◌, ◌↔◌, min, Ok, [], ◌∷◌, ◌++◌, IsTrue, chars, nat_eq};
+ghost use Rattle.std.specs.Prelude.{◌≡◌, ◌≢◌, ◌+◌, ◌-◌, ◌^◌, ◌<◌, ◌≤◌, ◌↔◌, min, IfSome, Ok, [], ◌∷◌, ◌++◌, IsTrue, chars, nat_eq};
 ghost use Rattle.std.specs.Cmp.{on_equiv, on_per, partial_equiv_from_equiv};
 ghost use Rattle.std.specs.Cmp.Lexicographic.{pointwise, nat_list_eq_equiv};
 ghost use Rattle.arraystring_base.specs.Text.{size, width, bytes, cap, front, back, boundary, IsText};
@@ -181,13 +181,14 @@ impl<const N: usize> ArrayString<N> {
         self.pop_counted(&mut Steps::new())
     }
 
-    /// The same as `pop`. It looks at no more than four bytes and moves none. Both counts must be
-    /// at most 2^63.
+    /// The same as `pop`. It looks at no more than four bytes, at least at one where there is a
+    /// character, and moves none. Both counts must be at most 2^63.
     pub fn pop_counted(&mut self, steps: &mut Steps) -> Option<char>
         requires looks { steps.old.looked ≤ 2 ^ 63 }
         requires moves { steps.old.moved ≤ 2 ^ 63 }
         ensures edit { Makes (popping self.old.text) self.old.text (Ok result) self.new.text }
         ensures looked { steps.new.looked ≤ steps.old.looked + 4 }
+        ensures least { IfSome result (λ _. steps.old.looked < steps.new.looked) }
         ensures counted { steps.old.looked ≤ steps.new.looked }
         ensures moved { steps.new.moved ≡ steps.old.moved }
     {
