@@ -1,6 +1,7 @@
 //! The example of the README, and the other doors to the string.
 use super::prelude::{MaxString, OutOfBounds, SmallString};
 use super::{ArrayString, Error};
+use std::cmp::Ordering;
 use std::hash::{DefaultHasher, Hash, Hasher};
 use std::test::Fail;
 
@@ -97,7 +98,7 @@ fn a_greatest_string_is_filled(rt: HostRuntime) -> Result<(), Fail> {
 }
 
 #[test]
-fn a_string_that_was_trimmed_is_hashed_as_one_made_at_once(rt: HostRuntime) -> Result<(), Fail> {
+fn a_string_that_was_trimmed_is_as_one_made_at_once(rt: HostRuntime) -> Result<(), Fail> {
     let mut trimmed = ArrayString::<8>::try_from_str("  abcdef")?;
     trimmed.trim();
     trimmed.try_push_str("xy")?;
@@ -108,6 +109,11 @@ fn a_string_that_was_trimmed_is_hashed_as_one_made_at_once(rt: HostRuntime) -> R
     at_once.hash(&mut second);
     assert_eq!(rt; trimmed, at_once);
     assert_eq!(rt; first.finish(), second.finish());
+    assert_eq!(rt; trimmed.cmp(&at_once), Ordering::Equal);
+    assert_eq!(rt;
+        trimmed.to_value(rt.alloc())?,
+        at_once.to_value(rt.alloc())?
+    );
     let mut drained = ArrayString::<8>::try_from_str("xyab")?;
     let _ = drained.drain(..2);
     let mut third = DefaultHasher::new();
