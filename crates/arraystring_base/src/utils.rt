@@ -32,12 +32,13 @@ pub fn truncate_str(text: &str, size: u8) -> &str
     truncate_str_counted(text, size, &mut Steps::new())
 }
 
-/// The same as `truncate_str`. It looks at no more than four bytes and moves none. The count of
-/// looks must be at most 2^63.
+/// The same as `truncate_str`. It looks at no more than four bytes, at least at one where `size` is
+/// inside the text, and moves none. The count of looks must be at most 2^63.
 pub fn truncate_str_counted<'a>(text: &'a str, size: u8, steps: &mut Steps) -> &'a str
     requires { steps.old.looked ≤ 2 ^ 63 }
     ensures value { result.now ≡ bytes (cut (chars text.now) size) }
     ensures looked { steps.new.looked ≤ steps.old.looked + 4 }
+    ensures least { 0 < size → size < length text.now → steps.old.looked < steps.new.looked }
     ensures counted { steps.old.looked ≤ steps.new.looked }
     ensures moved { steps.new.moved ≡ steps.old.moved }
 {
@@ -141,6 +142,7 @@ fn last_boundary(text: &str, limit: usize, steps: &mut Steps) -> usize
     ensures boundary { IsCharBoundary text.now result }
     ensures nearest { (i : ℕ) → result < i → i ≤ limit → ¬ (IsCharBoundary text.now i) }
     ensures looked { steps.new.looked ≤ steps.old.looked + 4 }
+    ensures least { 0 < limit → steps.old.looked < steps.new.looked }
     ensures counted { steps.old.looked ≤ steps.new.looked }
     ensures moved { steps.new.moved ≡ steps.old.moved }
 {

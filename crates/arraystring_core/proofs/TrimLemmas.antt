@@ -50,7 +50,8 @@ pub without_trailing-passes : (p : ℕ → Bool) (t : List ℕ) (c : ℕ) → p 
     → without_trailing p (t ++ c ∷ []) ≡ without_trailing p t
 without_trailing-passes p t c passes = rw (reverse-append t (c ∷ []), passes) refl
 
-pub without_trailing-stops : (p : ℕ → Bool) (t : List ℕ) (c : ℕ) → p c ≡ false
-    → without_trailing p (t ++ c ∷ []) ≡ t ++ c ∷ []
-without_trailing-stops p t c stops =
-    rw (reverse-append t (c ∷ []), stops) (reverse-append (c ∷ []) (reverse t) ∙ ap (λ l. l ++ c ∷ []) (reverse-reverse t))
+pub without_trailing-stops : (p : ℕ → Bool) (text t : List ℕ) (c : ℕ) → text ≡ t ++ c ∷ [] → p c ≡ false
+    → without_trailing p text ≡ text
+without_trailing-stops p text t c parts stops =
+    ap (without_trailing p) parts
+    ∙ rw (reverse-append t (c ∷ []), stops) (reverse-append (c ∷ []) (reverse t) ∙ ap (λ l. l ++ c ∷ []) (reverse-reverse t)) ∙ sym parts

@@ -2,7 +2,7 @@
 ghost use Rattle.std.specs.Prelude.{◌≡◌, ◌+◌, ◌-◌, ◌^◌, ◌<◌, ◌≤◌, min, Ok, IsTrue, IfOk, OnErr, chars, length, slice_index, drop, take_while};
 ghost use Rattle.std.specs.List.Retain.{IsFiltered};
 ghost use Rattle.arraystring_base.specs.Text.{size, width, back, boundary};
-ghost use Rattle.arraystring_core.specs.Edits.{Makes, from_utf8_error, with_text, truncation, trimming, removal, clearing, split, is_space};
+ghost use Rattle.arraystring_core.specs.Edits.{Makes, from_utf8_error, with_text, truncation, trimming, removal, clearing, split, is_space, without_trailing};
 ghost use Rattle.arraystring_core.specs.Asked.{MayBeAsked};
 
 use crate::ArrayString;
@@ -33,12 +33,14 @@ impl<const N: usize> ArrayString<N> {
         self.trim_counted(&mut Steps::new());
     }
 
-    /// The same as `trim`. It moves no byte. Both counts must be at most 2^63.
+    /// The same as `trim`. It moves no byte, and looks at least at each space that it drops at the
+    /// end and at the character before them. Both counts must be at most 2^63.
     pub fn trim_counted(&mut self, steps: &mut Steps)
         requires looks { steps.old.looked ≤ 2 ^ 63 }
         requires moves { steps.old.moved ≤ 2 ^ 63 }
         ensures edit { Makes (trimming self.old.text) self.old.text (Ok result) self.new.text }
         ensures moved { steps.new.moved ≡ steps.old.moved }
+        ensures least { steps.old.looked + min (length self.old.text) (length self.old.text - length (without_trailing is_space self.old.text) + 1) ≤ steps.new.looked }
         ensures counted { steps.old.looked ≤ steps.new.looked }
     {
         // A look at a field, after which the proof knows that the text fits.

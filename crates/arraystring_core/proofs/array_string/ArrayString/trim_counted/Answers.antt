@@ -1,4 +1,4 @@
-use Rattle.std.proofs.Common.{◌≡◌, ◌++◌, ◌∷◌, [], length, sym, ap, ◌∙◌, refl, arith, rules, true, eq-eqb}
+use Rattle.std.proofs.Common.{◌≡◌, ◌++◌, ◌∷◌, [], length, length-append, sym, ap, ◌∙◌, refl, arith, rules, true, eq-eqb}
 use Rattle.std.proofs.lemmas.Bool.{ne_eqb}
 use Rattle.std.specs.Prelude.{take_while}
 use Rattle.arraystring_base.specs.Text.{size, front, boundary}
@@ -14,7 +14,7 @@ use Rattle.arraystring_core.proofs.array_string.ArrayString.trim_counted.Goals.{
 pub loop-start-init : goal.loop-start-init
 loop-start-init g c =
     let long = opened-size g.row.N _ _ _ c.self.invariant _ c.self.view_is in
-    record { trimmed = refl; looked = omega arith; fits = omega (arith, long, c.self.invariant.0); counted = omega arith; moved = refl }
+    record { trimmed = refl; looked = omega arith; fits = omega (arith, long, c.self.invariant.0); least = omega arith; counted = omega arith; moved = refl }
 
 pub last_char-requires : goal.last_char-requires
 last_char-requires g c =
@@ -68,6 +68,7 @@ loop-start-preserved g c =
           ∙ sym (ap (without_trailing is_space) parts ∙ without_trailing-passes is_space found.0 space passes) ∙ inv.trimmed;
       looked = omega (arith, inv.looked, told.looked, ap size parts, ap size kept, size-append found.0 (space ∷ []), width-bounds space);
       fits = inv.fits;
+      least = omega (arith, inv.least, rw c.in-Some.is at told.least, ap length parts, ap length kept, length-append found.0 (space ∷ []));
       counted = omega (arith, inv.counted, told.counted);
       moved = told.moved ∙ inv.moved;
     }
@@ -89,9 +90,7 @@ returns-clause-edit g c =
     let ended : without_trailing is_space text ≡ text = elim c.match-last_char.branch [
       | in-Some+then-ch-ne32 w ↦
           let found = w.in-Some.ensures.some in
-          let parts : text ≡ found.0 ++ w.in-Some.ch ∷ [] = sym lent ∙ found.1 in
-          ap (without_trailing is_space) parts
-          ∙ without_trailing-stops is_space found.0 w.in-Some.ch (ne_eqb w.in-Some.ch 32 w.if-ch-ne32.true) ∙ sym parts
+          without_trailing-stops is_space text found.0 w.in-Some.ch (sym lent ∙ found.1) (ne_eqb w.in-Some.ch 32 w.if-ch-ne32.true)
       | in_default w ↦
           let none : text ≡ [] = sym lent ∙ (rw w.in_default.is at c.last_char.ensures.none) in
           ap (without_trailing is_space) none ∙ sym none
@@ -99,3 +98,19 @@ returns-clause-edit g c =
     let trimmed : text ≡ without_trailing is_space c.args.self.now.text = sym ended ∙ c.loop-start.invariant.trimmed in
     makes (trimming c.args.self.now.text) c.args.self.now.text tt _ refl refl
     (c.drop_front.ensures ∙ back-leading text k spaces ∙ ap (without_leading is_space) trimmed)
+
+pub returns-clause-least : goal.returns-clause-least
+returns-clause-least g c =
+    let text = c.loop-start.self.text in
+    let inv = c.loop-start.invariant in
+    let lent = chars-bytes _ text c.as_str.utf8 c.as_str.ensures.bytes in
+    elim c.match-last_char.branch [
+      | in-Some+then-ch-ne32 w ↦
+          let found = w.in-Some.ensures.some in
+          let ended =
+          without_trailing-stops is_space text found.0 w.in-Some.ch (sym lent ∙ found.1) (ne_eqb w.in-Some.ch 32 w.if-ch-ne32.true) in
+          omega (arith, inv.least, w.in-Some.ensures.least, ap length (sym ended ∙ inv.trimmed))
+      | in_default w ↦
+          let none : text ≡ [] = sym lent ∙ (rw w.in_default.is at c.last_char.ensures.none) in
+          omega (arith, inv.least, c.last_char.ensures.counted, ap length none)
+    ]

@@ -1,4 +1,4 @@
-use Rattle.std.proofs.Common.{◌≡◌, ◌+◌, ◌*◌, ◌≤◌}
+use Rattle.std.proofs.Common.{◌≡◌, ◌+◌, ◌*◌, ◌≤◌, length}
 use Rattle.arraystring_base.specs.Text.{size}
 use Rattle.arraystring_core.specs.Edits.{without_trailing, is_space}
 use Rattle.arraystring_core.proofs.array_string.ArrayString.trim_counted.Given as goal
@@ -8,6 +8,7 @@ invariant-loop-start g l = record {
   trimmed : without_trailing is_space l.self.text ≡ without_trailing is_space l.initial.self.text;
   looked : l.steps.looked + 4 * size l.self.text ≤ l.initial.steps.looked + 4 * size l.initial.self.text;
   fits : size l.initial.self.text ≤ 255;
+  least : l.initial.steps.looked + length l.initial.self.text ≤ l.steps.looked + length l.self.text;
   counted : l.initial.steps.looked ≤ l.steps.looked;
   moved : l.steps.moved ≡ l.initial.steps.moved;
 }
