@@ -71,9 +71,12 @@ fn pair<'a>(high: u16, rest: &'a [u16]) -> Option<(char, &'a [u16])>
     ensures some { IfSome result (λ p. (low : ℕ) × IsHigh high × IsLow low × (p.0 ≡ pair_character high low) × (rest.now ≡ low ∷ p.1.now)) }
     ensures none { IfNone result ((low : ℕ) (more : List ℕ) → rest.now ≡ low ∷ more → IsHigh high → IsLow low → ⊥) }
 {
+    if !is_high(high) {
+        return None;
+    }
     let (second, rest) = rest.split_first()?;
     let low = *second;
-    if !is_high(high) || !is_low(low) {
+    if !is_low(low) {
         return None;
     }
     let ch = char::from_u32(0x1_0000 + (high as u32 - 0xD800) * 0x400 + (low as u32 - 0xDC00))?;
