@@ -1,4 +1,4 @@
-use Rattle.std.proofs.Common.{ap, sym, ◌∙◌, Some}
+use Rattle.std.proofs.Common.{◌≡◌, ap, sym, ◌∙◌, Some}
 use Rattle.arraystring_base.specs.Text.{size}
 use Rattle.arraystring_base.specs.TextLaws.{chars-bytes}
 use Rattle.arraystring_core.specs.Edits.{part, part_in}
@@ -13,7 +13,7 @@ returns g c =
     let at = sym c.is_boundary.ensures ∙ c.if-not-is_boundary.false in
     let to = sym c.is_boundary-else-not-is_boundary.ensures ∙ c.if-not-is_boundary-2.false in
     let lent = chars-bytes _ (part t ends.result.0 ends.result.1) c.between.utf8 c.between.ensures in
-    ap (λ i. part_in t i (end_index (g.R.RangeBounds.end_bound c.args.range) (size t))) (sym ends.ensures.start)
-    ∙ ap (λ n. part_in t ends.result.0 (end_index (g.R.RangeBounds.end_bound c.args.range) n)) (sym c.len.ensures.value)
-    ∙ ap (part_in t ends.result.0) (sym ends.ensures.end)
+    let named = end_index (g.R.RangeBounds.end_bound c.args.range) in
+    let end : named (size t) ≡ ends.result.1 = ap named (sym c.len.ensures.value) ∙ sym {b = named c.len.result} ends.ensures.end in
+    ap (λ i. part_in t i (named (size t))) (sym ends.ensures.start) ∙ ap (part_in t ends.result.0) end
     ∙ part_in-some t ends.result.0 ends.result.1 c.if-start-end.false at to ∙ ap Some (sym lent)
