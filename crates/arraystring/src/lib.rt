@@ -9,10 +9,10 @@ pub use arraystring_base::{error, utf16};
 pub use arraystring_core::{ArrayString, Drain, drain};
 pub use cache_string::CacheString;
 
-/// A string of at most 23 bytes.
+/// A string of at most 23 bytes of UTF-8.
 pub type SmallString = ArrayString<23>;
 
-/// A string of at most 255 bytes, the greatest capacity that there is.
+/// A string of at most 255 bytes of UTF-8, the greatest capacity that there is.
 pub type MaxString = ArrayString<255>;
 
 /// Boundaries, cuts and moves of bytes. Sizes and places count bytes of UTF-8.
@@ -32,8 +32,8 @@ pub mod laws {
         order_of_bytes, order_of_texts, parts, text_reading,
     };
     pub use arraystring_core::laws::{
-        equal_texts, json_reads_back, pieces_make_one_text, replaced_back, split_back,
-        units_read_back, walks, what_comes_past_the_room,
+        equal_texts, json_reads_back, pieces_make_one_text, popped, replaced_back, split_back,
+        trimmed, units_read_back, walks, what_comes_past_the_room,
     };
 }
 

@@ -1,12 +1,14 @@
 -- The spaces at the ends of a text.
-use Rattle.std.proofs.Common.{◌≡◌, ℕ, List, [], ◌∷◌, ◌++◌, length, refl, sym, ap, ◌∙◌, arith, Bool, true, false, inl, inr}
+use Rattle.std.proofs.Common.{◌≡◌, ℕ, List, [], ◌∷◌, ◌++◌, length, refl, sym, ap, subst, ◌∙◌, arith, Bool, true, false, inl, inr}
 use Rattle.std.proofs.lemmas.Bool.{cases_Bool, eqb-true}
-use Rattle.std.proofs.lemmas.List.{reverse-append, reverse-reverse}
+use Rattle.std.proofs.lemmas.List.{append_assoc, reverse-append, reverse-reverse}
+use Rattle.std.proofs.lemmas.List.Elements.{All-nil, All-cons, All-head, All-tail, All-append}
 use Rattle.std.proofs.lemmas.List.Sums.{take_while-cons}
-use Rattle.std.specs.Prelude.{take_while, reverse}
+use Rattle.std.specs.Prelude.{All, IfSome, take_while, reverse}
 use Rattle.arraystring_base.specs.Text.{width, size, back, boundary}
 use Rattle.arraystring_base.specs.BoundaryLaws.{boundary-is, back-is}
-use Rattle.arraystring_core.specs.Edits.{without_leading, without_trailing, is_space}
+use Rattle.arraystring_core.specs.Edits.{first_of, last_of, without_leading, without_trailing, is_space}
+use Rattle.arraystring_core.specs.EditLaws.{last_of-push}
 
 space-width : width 32 ≡ 1
 unfolding width
@@ -55,3 +57,65 @@ pub without_trailing-stops : (p : ℕ → Bool) (text t : List ℕ) (c : ℕ) �
 without_trailing-stops p text t c parts stops =
     ap (without_trailing p) parts
     ∙ rw (reverse-append t (c ∷ []), stops) (reverse-append (c ∷ []) (reverse t) ∙ ap (λ l. l ++ c ∷ []) (reverse-reverse t)) ∙ sym parts
+
+-- what is dropped at the start passes, and what is left begins with no character that passes
+module _ (P : ℕ → Type 0) (p : ℕ → Bool) where
+  pub leading-pass : (of_true : (c : ℕ) → p c ≡ true → P c) (t : List ℕ) → All P (take_while p t)
+  leading-pass of_true [] = All-nil P
+  leading-pass of_true (c ∷ cs) =
+      elim (cases_Bool (p c)) [
+        | inl passes ↦ rw (take_while-cons p c cs, passes) (All-cons P c (take_while p cs) (of_true c passes) (leading-pass of_true cs))
+        | inr stops ↦ rw (take_while-cons p c cs, stops) (All-nil P)
+      ]
+
+  pub leading-bare : (of_false : (c : ℕ) → p c ≡ false → P c) (t : List ℕ) → IfSome (first_of (without_leading p t)) P
+  leading-bare of_false [] = tt
+  leading-bare of_false (c ∷ cs) =
+      elim (cases_Bool (p c)) [
+        | inl passes ↦ rw passes (leading-bare of_false cs)
+        | inr stops ↦ rw stops (of_false c stops)
+      ]
+
+-- the last of a text is the first of its reverse, and the last of what follows another
+last_of-reverse : (t : List ℕ) → last_of (reverse t) ≡ first_of t
+last_of-reverse [] = refl
+last_of-reverse (c ∷ cs) = ap last_of (reverse-append (c ∷ []) cs) ∙ last_of-push (reverse cs) c
+
+last_of-behind : (xs : List ℕ) (c : ℕ) (cs : List ℕ) → last_of (xs ++ c ∷ cs) ≡ last_of (c ∷ cs)
+last_of-behind [] c cs = refl
+last_of-behind (x ∷ []) c cs = refl
+last_of-behind (x ∷ y ∷ ys) c cs = last_of-behind (y ∷ ys) c cs
+
+last-bare : (P : ℕ → Type 0) (xs ys : List ℕ) → IfSome (last_of (xs ++ ys)) P → IfSome (last_of ys) P
+last-bare P xs [] h = tt
+last-bare P xs (c ∷ cs) h = subst (λ o. IfSome o P) (last_of-behind xs c cs) h
+
+All-reverse : (P : ℕ → Type 0) (t : List ℕ) → All P t → All P (reverse t)
+All-reverse P [] h = All-nil P
+All-reverse P (c ∷ cs) h =
+    subst (All P) (sym (reverse-append (c ∷ []) cs))
+    (All-append P (reverse cs) (c ∷ []) (All-reverse P cs (All-tail P c cs h)) (All-cons P c [] (All-head P c cs h) (All-nil P)))
+
+-- a text between what is dropped at its ends
+module _ (t : List ℕ) where
+  abbrev kept : List ℕ
+  kept = without_trailing is_space t
+
+  trailing-parts : t ≡ kept ++ reverse (take_while is_space (reverse t))
+  trailing-parts =
+      sym (reverse-reverse t) ∙ ap reverse (sym (leading-parts is_space (reverse t)))
+      ∙ reverse-append (take_while is_space (reverse t)) (without_leading is_space (reverse t))
+
+  pub trimmed-parts : t ≡ take_while is_space kept ++ (without_leading is_space kept ++ reverse (take_while is_space (reverse t)))
+  trimmed-parts =
+      trailing-parts ∙ ap (λ l. l ++ reverse (take_while is_space (reverse t))) (sym (leading-parts is_space kept))
+      ∙ append_assoc (take_while is_space kept) (without_leading is_space kept) (reverse (take_while is_space (reverse t)))
+
+  pub trailing-pass : (P : ℕ → Type 0) → ((c : ℕ) → is_space c ≡ true → P c) → All P (reverse (take_while is_space (reverse t)))
+  trailing-pass P of_true = All-reverse P (take_while is_space (reverse t)) (leading-pass P is_space of_true (reverse t))
+
+  pub trailing-bare : (P : ℕ → Type 0) → ((c : ℕ) → is_space c ≡ false → P c) → IfSome (last_of (without_leading is_space kept)) P
+  trailing-bare P of_false =
+      last-bare P (take_while is_space kept) (without_leading is_space kept)
+      (subst (λ l. IfSome (last_of l) P) (sym (leading-parts is_space kept))
+      (subst (λ o. IfSome o P) (sym (last_of-reverse (without_leading is_space (reverse t)))) (leading-bare P is_space of_false (reverse t))))

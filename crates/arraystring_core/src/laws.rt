@@ -1,6 +1,6 @@
 //! Laws of strings, which callers may rely on. Each does nothing when it is called and carries its
 //! fact in its contract.
-ghost use Rattle.std.specs.Prelude.{◌≡◌, ◌+◌, ◌-◌, ◌<◌, ◌≤◌, ◌++◌, ◌↔◌, ℕ, List, [], IsTrue, None, Some, Result, IsOkAnd, length, map, nat_eq, reverse, chars};
+ghost use Rattle.std.specs.Prelude.{◌≡◌, ◌≢◌, ◌+◌, ◌-◌, ◌<◌, ◌≤◌, ◌++◌, ◌∷◌, ◌↔◌, ℕ, List, [], All, IfSome, IsTrue, None, Some, Result, IsOkAnd, length, map, nat_eq, reverse, chars};
 ghost use Rattle.std.specs.Cmp.Lexicographic.{pointwise};
 ghost use Rattle.std.specs.Hash as fed;
 ghost use Rattle.arraystring_base.specs.Text.{IsText, bytes, cut, size};
@@ -9,7 +9,7 @@ ghost use Rattle.arraystring_base.specs.declared.error.Utf16.{Utf16};
 ghost use Rattle.arraystring_base.specs.declared.utf16.Unit16.{Unit16};
 ghost use Rattle.arraystring_base.specs.Utf16.{IsReading, first_stop, lossy_text, text_units};
 ghost use Rattle.arraystring_core.specs.Drained.{End, walked};
-ghost use Rattle.arraystring_core.specs.Edits.{first_cause, part, replacement, split};
+ghost use Rattle.arraystring_core.specs.Edits.{first_cause, first_of, last_of, part, popping, replacement, split, trimming};
 ghost use Rattle.arraystring_core.specs.FromUtf16.{GivesWhole, GivesRun};
 ghost use Rattle.arraystring_core.specs.Json.{json_text, text_within};
 ghost use Rattle.arraystring_core.specs.Stored.{Stored};
@@ -40,6 +40,20 @@ pub fn units_read_back()
 {
     text_reading();
 }
+
+/// What a pop leaves, followed by the character that it answers, is the text before. Of the empty
+/// text it answers none, and leaves it.
+pub fn popped()
+    ensures last { (front : List ℕ) (ch : ℕ) → ((popping (front ++ ch ∷ [])).answer ≡ Some ch) × ((popping (front ++ ch ∷ [])).after ≡ front) }
+    ensures empty { ((popping []).answer ≡ None) × ((popping []).after ≡ []) }
+{}
+
+/// A text is spaces, then what a trim leaves of it, then spaces; and what it leaves neither begins
+/// nor ends with a space.
+pub fn trimmed()
+    ensures spaces { (t : List ℕ) → (before behind : List ℕ) × All (λ c. c ≡ 0x20) before × All (λ c. c ≡ 0x20) behind × (t ≡ before ++ ((trimming t).after ++ behind)) }
+    ensures bare { (t : List ℕ) → IfSome (first_of (trimming t).after) (λ c. c ≢ 0x20) × IfSome (last_of (trimming t).after) (λ c. c ≢ 0x20) }
+{}
 
 /// Where a split is not refused, the text that it keeps followed by its answer is the text before.
 pub fn split_back()
