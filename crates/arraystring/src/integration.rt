@@ -10,8 +10,8 @@ use serde_json::Value;
 use std::alloc::{AllocError, Global};
 
 impl CacheString {
-    /// The JSON text with the characters of the string. It takes memory from `alloc`, and is
-    /// refused only where there is none. Read back it is the string.
+    /// The JSON text with the characters of the string. Read back it is the string. It takes memory
+    /// from `alloc`, and is refused with `AllocError` where there is none.
     pub fn to_value(&self, alloc: Global) -> Result<Value, AllocError>
         ensures text { IfOk result (λ value. view value ≡ json_text self.now.0.text) }
         ensures reads_back { IfOk result (λ value. text_within (view value) 63 ≡ Some self.now.0.text) }

@@ -71,7 +71,7 @@ impl fmt::Debug for Error {
 impl StdError for Error {}
 
 /// Bytes that are not well-formed UTF-8 (the Unicode Standard, section 3.9), or an index inside a
-/// character.
+/// character. `is_char_boundary` answers it for an index past the text too.
 #[derive(Clone, Copy, Default, PartialEq, Eq)]
 pub struct Utf8;
 

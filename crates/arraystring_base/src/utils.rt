@@ -33,7 +33,7 @@ pub fn truncate_str(text: &str, size: u8) -> &str
 }
 
 /// The same as `truncate_str`. It looks at no more than four bytes, at least at one where `size` is
-/// inside the text, and moves none. The count of looks must be at most 2^63.
+/// not 0 and is below the length, and moves none. The count of looks must be at most 2^63.
 pub fn truncate_str_counted<'a>(text: &'a str, size: u8, steps: &mut Steps) -> &'a str
     requires { steps.old.looked ≤ 2 ^ 63 }
     ensures value { result.now ≡ bytes (cut (chars text.now) size) }
@@ -50,9 +50,9 @@ pub fn truncate_str_counted<'a>(text: &'a str, size: u8, steps: &mut Steps) -> &
     &text[..end]
 }
 
-/// The last character of `text` and the place where it begins, or `None` where the text is empty.
-/// It looks at no more than four bytes, at least at one where there is a character, and moves none.
-/// The count of looks must have room for four.
+/// The place where the last character of `text` begins, and that character; `None` where the text
+/// is empty. It looks at no more than four bytes, at least at one where there is a character, and
+/// moves none. The count of looks plus four must be below 2^64.
 pub fn last_char(text: &str, steps: &mut Steps) -> Option<(usize, char)>
     requires { steps.old.looked + 4 < 2 ^ 64 }
     ensures some { IfSome result (λ last. (front : List ℕ) × (chars text.now ≡ front ++ last.1 ∷ []) × (size front ≡ last.0)) }
@@ -104,8 +104,8 @@ pub fn encode<const N: usize>(ch: char, array: &mut [u8; N], at: usize) -> usize
 }
 
 /// Takes the `len` bytes that stand from `from` on to `to`, overlapping or not, and counts them as
-/// moves, none where they stay. Both runs must lie in the array and the count of moves must have
-/// room for them; no byte outside the target changes.
+/// moves, none where they stay. Both runs must lie in the array, and the count of moves plus `len`
+/// must be below 2^64; no byte outside the target changes.
 pub fn shift<const N: usize>(
     array: &mut [u8; N],
     from: usize,

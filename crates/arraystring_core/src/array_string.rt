@@ -337,6 +337,7 @@ impl<const N: usize> Eq for ArrayString<N> {
     ghost laws = { on_equiv (λ s. s.text) nat_list_eq_equiv };
 }
 
+/// `ArrayString { array: "abc", size: 3 }` for the text `abc`; the size counts bytes of UTF-8.
 impl<const N: usize> fmt::Debug for ArrayString<N> {
     fn fmt<W: fmt::Write>(&self, f: &mut fmt::Formatter<W>) -> fmt::Result {
         f.debug_struct("ArrayString")

@@ -12,8 +12,8 @@ mod compare;
 /// The characters that `drain` took out of a string. They are given from the front and from the
 /// back, each once; what is not given stays in its order.
 ///
-/// Contracts name the list of the characters that are left. It keeps the removed text and two
-/// places in it, and takes no memory.
+/// Contracts name the list of the characters that are left. It keeps the removed text, shortened
+/// by what was given from the back, and one place in it, and takes no memory.
 #[derive(Clone, Copy)]
 pub struct Drain<const N: usize> {
     removed: ArrayString<N>,

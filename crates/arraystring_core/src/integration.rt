@@ -37,8 +37,8 @@ impl fmt::Debug for NotText {
 impl Error for NotText {}
 
 impl<const N: usize> ArrayString<N> {
-    /// The JSON text with the characters of the string. It takes memory from `alloc`, and is
-    /// refused only where there is none. Read back at the same capacity it is the string.
+    /// The JSON text with the characters of the string. Read back at the same capacity it is the
+    /// string. It takes memory from `alloc`, and is refused with `AllocError` where there is none.
     pub fn to_value(&self, alloc: Global) -> Result<Value, AllocError>
         ensures text { IfOk result (λ value. view value ≡ json_text self.now.text) }
         ensures reads_back { IfOk result (λ value. text_within (view value) (cap N) ≡ Some self.now.text) }

@@ -7,6 +7,9 @@ use arraystring::error::Error;
 /// A place is refused with `OutOfBounds` where it is past the text, and with `Utf8` where it is
 /// inside a character; what does not fit is refused with `OutOfBounds`. The first of a command's
 /// refusals decides, and the text is then as it was.
+///
+/// `Pop` is answered `Char` or `NoChar`, `Remove` `Char`, `SplitOff`, `AsStr` and the three drains
+/// `Text`, `Get` `Text` or `NoText`, `Len` and `Capacity` `Number`, and each other one `Done`.
 #[derive(Clone, Copy)]
 pub enum Command<'a> {
     /// Adds a character at the end; refused where it does not fit.

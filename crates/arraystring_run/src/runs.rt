@@ -22,7 +22,7 @@ pub struct Outcome<const N: usize> {
 /// Makes each command in turn, each on the text that the one before left.
 ///
 /// Memory is taken for the list of replies alone, before the first command; where it is refused,
-/// the text is as it was. An empty list of commands takes no memory.
+/// the run is, with `AllocError`, and the text is as it was. An empty list of commands takes none.
 pub fn run<const N: usize>(
     alloc: Global,
     text: &mut ArrayString<N>,
@@ -55,7 +55,8 @@ pub fn run<const N: usize>(
 /// Makes the same commands on two strings, as `run` does on each.
 ///
 /// Memory is taken for the two lists of replies alone, before the first command; where it is
-/// refused, both texts are as they were. An empty list of commands takes no memory.
+/// refused, the run is, with `AllocError`, and both texts are as they were. An empty list of
+/// commands takes none.
 ///
 /// From equal texts, where the capacity of `first` is not greater than that of `second`: the
 /// replies to the commands before the one that `first` finds tight first agree, those to `Capacity`

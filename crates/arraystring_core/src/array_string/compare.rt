@@ -13,6 +13,7 @@ use std::fmt;
 use std::hash::{Hash, Hasher};
 use std::ops::Add;
 
+/// Always `Some` of what `cmp` answers.
 impl<const N: usize> PartialOrd for ArrayString<N> {
     ghost partial_cmp = { λ s t. Some (slice_cmp nat_cmp s.text t.text) };
 

@@ -91,7 +91,7 @@ impl<const N: usize> ArrayString<N> {
     }
 
     /// Asks `f` once for each character, in order, and keeps those for which it answers true. It
-    /// may be asked about each of them, in each state that its answers leave.
+    /// must accept to be asked about each of them, in each state that its answers leave.
     pub fn retain<F: FnMut(char) -> bool + Drop>(&mut self, f: F)
         requires { MayBeAsked F.pre F.step f self.old.text }
         ensures { IsFiltered F.step f self.old.text self.new.text }

@@ -11,6 +11,7 @@ use std::cmp::Ordering;
 use std::fmt;
 use std::hash::{Hash, Hasher};
 
+/// Two drains are equal where the same characters are left.
 impl<const N: usize> PartialEq for Drain<N> {
     ghost eq = { λ s t. pointwise nat_eq s.left t.left };
 
@@ -25,6 +26,7 @@ impl<const N: usize> Eq for Drain<N> {
     ghost laws = { on_equiv (λ s. s.left) nat_list_eq_equiv };
 }
 
+/// Always `Some` of what `cmp` answers.
 impl<const N: usize> PartialOrd for Drain<N> {
     ghost partial_cmp = { λ s t. Some (slice_cmp nat_cmp s.left t.left) };
 
@@ -66,6 +68,7 @@ impl<const N: usize> Hash for Drain<N> {
     }
 }
 
+/// `Drain("bc")` where `bc` is left.
 impl<const N: usize> fmt::Debug for Drain<N> {
     fn fmt<W: fmt::Write>(&self, f: &mut fmt::Formatter<W>) -> fmt::Result {
         f.debug_tuple("Drain").field(&self.as_str()).finish()
