@@ -1,5 +1,5 @@
 //! Bytes that stand at a place of an array.
-ghost use Rattle.std.specs.Prelude.{◌≡◌, ◌≢◌, ◌+◌, ◌-◌, ◌^◌, ◌<◌, ◌≤◌, ◌++◌, ℕ, List, min, length, take, drop, chars, IsUtf8};
+ghost use Rattle.std.specs.Prelude.{◌≡◌, ◌≢◌, ◌+◌, ◌-◌, ◌^◌, ◌<◌, ◌≤◌, ◌++◌, ℕ, List, if◌then◌else◌, ◌==◌, min, length, take, drop, chars, IsUtf8};
 ghost use Rattle.std.specs.List.Retain.{IsFiltered};
 ghost use Rattle.arraystring_base.specs.Text.{cap, utf8, width};
 ghost use Rattle.arraystring_core.specs.Asked.{MayBeAsked};
@@ -66,8 +66,7 @@ fn open_gap_at_start<const N: usize>(
     ensures len { length array.new ≡ N }
     ensures front { take start array.new ≡ take start (drop place array.old) }
     ensures tail { take (size - end) (drop (start + len) array.new) ≡ take (size - end) (drop (place + end) array.old) }
-    ensures most { steps.new.moved ≤ steps.old.moved + (start + (size - end)) }
-    ensures least { steps.old.moved + start ≤ steps.new.moved }
+    ensures moved { steps.new.moved ≡ steps.old.moved + (start + (if place + end == start + len then 0 else size - end)) }
     ensures looked { steps.new.looked ≡ steps.old.looked }
 {
     let tail = size - end;

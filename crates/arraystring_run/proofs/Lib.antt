@@ -5,3 +5,4 @@ pub mod PrintLemmas
 pub mod ReadingLemmas
 pub mod LineLemmas
 pub mod AgreementLemmas
+pub mod FirstTightLemmas

@@ -1,5 +1,5 @@
 -- What commands do to a text: each edits a list of characters and is answered.
-use Rattle.std.specs.Prelude.{ℕ, ◌+◌, ◌-◌, ◌==◌, ◌&&◌, List, [], ◌∷◌, Bool, true, false, not, Option, Some, None, is_none, Result, Ok, Err, if◌then◌else◌, nat_lt, min, chars, reverse}
+use Rattle.std.specs.Prelude.{◌≡◌, ℕ, ◌+◌, ◌-◌, ◌==◌, ◌&&◌, List, [], ◌∷◌, ◌++◌, length, Bool, true, false, not, Option, Some, None, is_none, Result, Ok, Err, if◌then◌else◌, nat_lt, min, chars, reverse}
 use Rattle.std.specs.List.{filter}
 use Rattle.arraystring.specs.Text.{size, cut}
 use Rattle.arraystring.specs.Edits.{Edit, Cause, Room, answer_of, text_of, first_cause, part_in, addition, addition_of_cut, popping, truncation, trimming, removal, insertion, insertion_of_cut, split, clearing, draining, replacement, uppercase, lowercase}
@@ -141,3 +141,13 @@ first_tight_from k (c ∷ cs) t n = if tight c t n then Some k else first_tight_
 abbrev pub earlier_of : Option ℕ → Option ℕ → Option ℕ
 earlier_of None next = next
 earlier_of (Some k) next = Some k
+
+-- no command is tight on the text that those before it leave
+abbrev pub NoneTight : List Command → List ℕ → ℕ → Type 0
+NoneTight cs t n = (before : List Command) (c : Command) (later : List Command) → cs ≡ before ++ c ∷ later
+    → tight c (after before t n).text n ≡ false
+
+-- the command at position k is tight on the text that those before it leave, and none of these is tight
+abbrev pub IsFirstTight : List Command → List ℕ → ℕ → ℕ → Type 0
+IsFirstTight cs t n k = (before : List Command) × (c : Command) × (later : List Command) × (cs ≡ before ++ c ∷ later)
+    × (k ≡ length before) × (tight c (after before t n).text n ≡ true) × NoneTight before t n

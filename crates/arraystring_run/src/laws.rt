@@ -1,10 +1,16 @@
-//! Laws of scripts, which callers may rely on. Each does nothing when it is called and carries its
-//! fact in its contract.
-ghost use Rattle.std.specs.Prelude.{◌≡◌, ◌<◌, ◌⊎◌, ◌++◌, ◌∷◌, [], ℕ, List, length};
-ghost use Rattle.arraystring_run.specs.Runs.{after};
+//! Laws of runs and of scripts, which callers may rely on. Each does nothing when it is called and
+//! carries its fact in its contract.
+ghost use Rattle.std.specs.Prelude.{◌≡◌, ◌<◌, ◌⊎◌, ◌++◌, ◌∷◌, [], ℕ, List, MatchOption, length};
+ghost use Rattle.arraystring_run.specs.Runs.{after, first_tight_from, NoneTight, IsFirstTight};
 ghost use Rattle.arraystring_run.specs.Grammar.{arguments, line_of, AreArguments, IsLineOf};
 ghost use Rattle.arraystring_run.specs.Script.{lines, ended, all_ended, IsOneLine, AreOneLine, AreLinesOf, IsBadAt};
 ghost use Rattle.arraystring_run.specs.declared.commands.Command.{Command as Edit};
+
+/// The first tight position of a run is that of a command that is tight on the text that those
+/// before it leave, where none of these is; there is none where no command is tight.
+pub fn first_tight_position()
+    ensures { (cs : List Edit) (t : List ℕ) (n : ℕ) → MatchOption (first_tight_from 0 cs t n) (NoneTight cs t n) (IsFirstTight cs t n) }
+{}
 
 /// The lines of lines that are each ended are those lines, and so they are where a last line that
 /// is not empty lacks its end. Each input is of one of these two forms.

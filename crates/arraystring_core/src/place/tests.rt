@@ -97,6 +97,13 @@ fn a_trimmed_string_grows(rt: HostRuntime) {
     assert_eq!(rt; counted, text);
     assert_eq!(rt; steps.moved(), 6);
 
+    let mut text: ArrayString<4> = string(" ab");
+    text.trim();
+    let mut steps = Steps::new();
+    assert_eq!(rt; text.try_insert_str_counted(1, "xy", &mut steps), Ok(()));
+    assert_eq!(rt; text.as_str(), "axyb");
+    assert_eq!(rt; steps.moved(), 2);
+
     let mut text: ArrayString<4> = string("abcd");
     assert_eq!(rt; text.remove(0), Ok('a'));
     assert_eq!(rt; text.try_insert(1, 'x'), Ok(()));
