@@ -162,7 +162,7 @@ fn char_before_end(text: &str, steps: &mut Steps) -> (usize, char)
     ensures last { (front : List ℕ) × (chars text.now ≡ front ++ result.1 ∷ []) × (size front ≡ result.0) }
     ensures looked { steps.new.looked ≤ steps.old.looked + 4 }
     ensures least { steps.old.looked < steps.new.looked }
-    ensures counted { steps.old.looked ≤ steps.new.looked }
+    ensures each { steps.new.looked + result.0 ≡ steps.old.looked + length text.now }
     ensures moved { steps.new.moved ≡ steps.old.moved }
 {
     let all = text.as_bytes();

@@ -1,4 +1,4 @@
-use Rattle.std.proofs.Common.{rules, ◌≡◌}
+use Rattle.std.proofs.Common.{rules, arith, ap, length, ◌≡◌}
 use Rattle.arraystring_base.proofs.LastLemmas.{from_end, one-found, two-long, two-found, three-long, three-leads, three-scalar, three-found, four-long, four-leads, four-scalar, four-found}
 use Rattle.arraystring_base.proofs.utils.char_before_end.Goals as goal
 
@@ -111,3 +111,17 @@ returns-clause-last c =
     let fourth : c.look-fourth.result ≡ from_end c.args.text.now 4 = search rules in
     rw (c.as_bytes-all.ensures.value, c.from_u32_unchecked-2.ensures)
     (four-found c.args.text.now c.utf8.text c.requires.some c.look-last.result first c.if-last-lt128.false c.look-second.result second c.if-second-ge192.false c.look-third.result third c.if-third-ge192.false c.look-fourth.result fourth)
+
+pub returns-then-second-ge192-clause-each : goal.returns-then-second-ge192-clause-each
+returns-then-second-ge192-clause-each c =
+    let first : c.look-last.result ≡ from_end c.args.text.now 1 = search rules in
+    let long = two-long c.args.text.now c.utf8.text c.requires.some c.look-last.result first c.if-last-lt128.false in
+    omega (arith, long, ap length c.as_bytes-all.ensures.value)
+
+pub returns-clause-each : goal.returns-clause-each
+returns-clause-each c =
+    let first : c.look-last.result ≡ from_end c.args.text.now 1 = search rules in
+    let second : c.look-second.result ≡ from_end c.args.text.now 2 = search rules in
+    let third : c.look-third.result ≡ from_end c.args.text.now 3 = search rules in
+    let long = four-long c.args.text.now c.utf8.text c.requires.some c.look-last.result first c.if-last-lt128.false c.look-second.result second c.if-second-ge192.false c.look-third.result third c.if-third-ge192.false in
+    omega (arith, long.0, ap length c.as_bytes-all.ensures.value)
