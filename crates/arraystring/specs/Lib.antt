@@ -16,6 +16,7 @@ pub use Rattle.arraystring_core.specs.MadeLaws
 pub use Rattle.arraystring_core.specs.Taken
 pub use Rattle.arraystring_core.specs.Asked
 pub use Rattle.arraystring_core.specs.Ranges
+pub use Rattle.arraystring_core.specs.RangeLaws
 pub use Rattle.arraystring_core.specs.Drained
 pub use Rattle.arraystring_core.specs.FromUtf16
 pub use Rattle.arraystring_core.specs.Json

@@ -60,8 +60,9 @@ impl CacheString {
         CacheString(ArrayString::from_str_unchecked(string))
     }
 
-    /// The pieces joined. Refused with `OutOfBounds` where they are larger than the capacity; no
-    /// piece is taken behind the first that does not fit. The iterator must end.
+    /// The pieces joined. Refused with `OutOfBounds` where they are larger than the capacity. It
+    /// needs no piece after the first that does not fit, and a test shows that it takes none. The
+    /// iterator must end, and allow `next` until it does.
     pub fn try_from_iterator<'a, I: IntoIterator<Item = &'a str> + Drop>(
         pieces: I,
     ) -> Result<Self, OutOfBounds>
@@ -74,8 +75,9 @@ impl CacheString {
         Ok(CacheString(ArrayString::try_from_iterator(pieces)?))
     }
 
-    /// The longest leading run of whole characters of the joined pieces that fits. No piece is
-    /// taken behind the first that does not fit. The iterator must end.
+    /// The longest leading run of whole characters of the joined pieces that fits. It needs no
+    /// piece after the first that does not fit, and a test shows that it takes none. The iterator
+    /// must end, and allow `next` until it does.
     pub fn from_iterator<'a, I: IntoIterator<Item = &'a str> + Drop>(pieces: I) -> Self
         requires { IsFiniteIterable I.into_iter_gives I.IntoIter.can_next I.IntoIter.remaining pieces }
         ensures taken { (taken : List (Bor (List ℕ))) × Takes I.into_iter_gives I.IntoIter.next_gives joined_pieces pieces 63 taken
@@ -86,7 +88,8 @@ impl CacheString {
         CacheString(ArrayString::from_iterator(pieces))
     }
 
-    /// The pieces joined. All of them must fit, and the iterator must end.
+    /// The pieces joined. All of them must fit. The iterator must end, and allow `next` until it
+    /// does.
     pub fn from_iterator_unchecked<'a, I: IntoIterator<Item = &'a str> + Drop>(pieces: I) -> Self
         requires ends { IsFiniteIterable I.into_iter_gives I.IntoIter.can_next I.IntoIter.remaining pieces }
         requires fits { Fits I.into_iter_gives I.IntoIter.next_gives joined_pieces pieces 63 }
@@ -98,8 +101,9 @@ impl CacheString {
         CacheString(ArrayString::from_iterator_unchecked(pieces))
     }
 
-    /// The characters. Refused with `OutOfBounds` where they are larger than the capacity; no
-    /// character is taken behind the first that does not fit. The iterator must end.
+    /// The characters. Refused with `OutOfBounds` where they are larger than the capacity. It needs
+    /// no character after the first that does not fit, and a test shows that it takes none. The
+    /// iterator must end, and allow `next` until it does.
     pub fn try_from_chars<I: IntoIterator<Item = char> + Drop>(
         characters: I,
     ) -> Result<Self, OutOfBounds>
@@ -112,8 +116,9 @@ impl CacheString {
         Ok(CacheString(ArrayString::try_from_chars(characters)?))
     }
 
-    /// The characters up to the first that does not fit, also where a later shorter one would. No
-    /// character is taken behind it. The iterator must end.
+    /// The characters up to the first that does not fit, also where a later shorter one would. It
+    /// needs no character after that one, and a test shows that it takes none. The iterator must
+    /// end, and allow `next` until it does.
     pub fn from_chars<I: IntoIterator<Item = char> + Drop>(characters: I) -> Self
         requires { IsFiniteIterable I.into_iter_gives I.IntoIter.can_next I.IntoIter.remaining characters }
         ensures taken { (taken : List ℕ) × Takes I.into_iter_gives I.IntoIter.next_gives (λ cs. cs) characters 63 taken
@@ -124,7 +129,7 @@ impl CacheString {
         CacheString(ArrayString::from_chars(characters))
     }
 
-    /// The characters. All of them must fit, and the iterator must end.
+    /// The characters. All of them must fit. The iterator must end, and allow `next` until it does.
     pub fn from_chars_unchecked<I: IntoIterator<Item = char> + Drop>(characters: I) -> Self
         requires ends { IsFiniteIterable I.into_iter_gives I.IntoIter.can_next I.IntoIter.remaining characters }
         requires fits { Fits I.into_iter_gives I.IntoIter.next_gives (λ cs. cs) characters 63 }

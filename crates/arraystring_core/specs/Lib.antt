@@ -17,6 +17,7 @@ pub mod Taken
 pub mod TakenLaws
 pub mod Asked
 pub mod Ranges
+pub mod RangeLaws
 pub mod Drained
 pub mod FromUtf16
 pub mod Json

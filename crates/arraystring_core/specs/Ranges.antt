@@ -1,8 +1,18 @@
--- The ends of a range over `u8` in a text, as `drain` and `replace_range` read them: sums stop at 255.
-use Rattle.std.specs.Prelude.{ℕ, ◌+◌, min}
+-- The bounds of a range over `u8`, and its ends in a text.
+use Rattle.std.specs.Prelude.{◌≡◌, ℕ, ◌+◌, min}
 use Rattle.std.specs.declared.ops.Bound.{Bound}
 use Rattle.std.specs.declared.ops.Bound.TheVariants.{Included, Excluded, Unbounded}
 
+-- The claim holds of the bounds that the range tells: its own where it is one that has them, and else some.
+-- (An inclusive range that was walked to its end has none, nor has a range type that does not say which it has.)
+pub record OfToldBounds {R : Type 0} (has : R → Type 0) (start_of end_of : R → Bound ℕ) (range : R)
+    (claim : Bound ℕ → Bound ℕ → Type 0) : Type 0 where
+  pub start : Bound ℕ
+  pub end : Bound ℕ
+  pub told : has range → (start ≡ start_of range) × (end ≡ end_of range)
+  pub holds : claim start end
+
+-- the ends as `drain` and `replace_range` read them: sums stop at 255
 abbrev pub lo : Bound ℕ → ℕ
 lo (Included a) = a
 lo (Excluded a) = min (a + 1) 255

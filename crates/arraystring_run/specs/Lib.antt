@@ -10,6 +10,7 @@ pub use Rattle.arraystring.specs.Edits
 pub use Rattle.arraystring.specs.EditLaws
 pub use Rattle.arraystring.specs.Asked
 pub use Rattle.arraystring.specs.Ranges
+pub use Rattle.arraystring.specs.RangeLaws
 pub use Rattle.arraystring.specs.Drained
 pub use Rattle.arraystring.specs.Refusals
 pub mod Runs

@@ -40,8 +40,9 @@ impl<const N: usize> ArrayString<N> {
         made
     }
 
-    /// The pieces joined. Refused with `OutOfBounds` where they are larger than the capacity; no
-    /// piece is taken behind the first that does not fit. The iterator must end.
+    /// The pieces joined. Refused with `OutOfBounds` where they are larger than the capacity. It
+    /// needs no piece after the first that does not fit, and a test shows that it takes none. The
+    /// iterator must end, and allow `next` until it does.
     pub fn try_from_iterator<'a, I: IntoIterator<Item = &'a str> + Drop>(
         pieces: I,
     ) -> Result<Self, OutOfBounds>
@@ -56,8 +57,9 @@ impl<const N: usize> ArrayString<N> {
         Ok(made)
     }
 
-    /// The longest leading run of whole characters of the joined pieces that fits. No piece is
-    /// taken behind the first that does not fit. The iterator must end.
+    /// The longest leading run of whole characters of the joined pieces that fits. It needs no
+    /// piece after the first that does not fit, and a test shows that it takes none. The iterator
+    /// must end, and allow `next` until it does.
     pub fn from_iterator<'a, I: IntoIterator<Item = &'a str> + Drop>(pieces: I) -> Self
         requires { IsFiniteIterable I.into_iter_gives I.IntoIter.can_next I.IntoIter.remaining pieces }
         ensures taken { (taken : List (Bor (List ℕ))) × Takes I.into_iter_gives I.IntoIter.next_gives joined_pieces pieces (cap N) taken
@@ -70,7 +72,8 @@ impl<const N: usize> ArrayString<N> {
         made
     }
 
-    /// The pieces joined. All of them must fit, and the iterator must end.
+    /// The pieces joined. All of them must fit. The iterator must end, and allow `next` until it
+    /// does.
     pub fn from_iterator_unchecked<'a, I: IntoIterator<Item = &'a str> + Drop>(pieces: I) -> Self
         requires ends { IsFiniteIterable I.into_iter_gives I.IntoIter.can_next I.IntoIter.remaining pieces }
         requires fits { Fits I.into_iter_gives I.IntoIter.next_gives joined_pieces pieces (cap N) }
@@ -86,8 +89,9 @@ impl<const N: usize> ArrayString<N> {
         made
     }
 
-    /// The characters. Refused with `OutOfBounds` where they are larger than the capacity; no
-    /// character is taken behind the first that does not fit. The iterator must end.
+    /// The characters. Refused with `OutOfBounds` where they are larger than the capacity. It needs
+    /// no character after the first that does not fit, and a test shows that it takes none. The
+    /// iterator must end, and allow `next` until it does.
     pub fn try_from_chars<I: IntoIterator<Item = char> + Drop>(
         characters: I,
     ) -> Result<Self, OutOfBounds>
@@ -102,8 +106,9 @@ impl<const N: usize> ArrayString<N> {
         Ok(made)
     }
 
-    /// The characters up to the first that does not fit, also where a later shorter one would. No
-    /// character is taken behind it. The iterator must end.
+    /// The characters up to the first that does not fit, also where a later shorter one would. It
+    /// needs no character after that one, and a test shows that it takes none. The iterator must
+    /// end, and allow `next` until it does.
     pub fn from_chars<I: IntoIterator<Item = char> + Drop>(characters: I) -> Self
         requires { IsFiniteIterable I.into_iter_gives I.IntoIter.can_next I.IntoIter.remaining characters }
         ensures taken { (taken : List ℕ) × Takes I.into_iter_gives I.IntoIter.next_gives (λ cs. cs) characters (cap N) taken
@@ -116,7 +121,7 @@ impl<const N: usize> ArrayString<N> {
         made
     }
 
-    /// The characters. All of them must fit, and the iterator must end.
+    /// The characters. All of them must fit. The iterator must end, and allow `next` until it does.
     pub fn from_chars_unchecked<I: IntoIterator<Item = char> + Drop>(characters: I) -> Self
         requires ends { IsFiniteIterable I.into_iter_gives I.IntoIter.can_next I.IntoIter.remaining characters }
         requires fits { Fits I.into_iter_gives I.IntoIter.next_gives (λ cs. cs) characters (cap N) }

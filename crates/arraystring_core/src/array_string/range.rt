@@ -1,10 +1,11 @@
-//! Parts of a string by a range of bytes. Any `RangeBounds<u8>` serves that knows its bounds: an
-//! inclusive range of Rust that was walked to its end knows none.
+//! Parts of a string by a range of bytes. Any `RangeBounds<u8>` serves. The contracts speak of the
+//! bounds that the range tells. These are its own where it is one that has them, as each of Rust's
+//! is but an inclusive one that was walked to its end; of other ranges no contract says which.
 ghost use Rattle.std.specs.Prelude.{◌≡◌, ◌≢◌, ◌+◌, ◌-◌, ◌^◌, ◌≤◌, ◌++◌, min, IsTrue, MatchOption, OnOk, OnErr, Some, None, chars, map};
 ghost use Rattle.std.specs.Char.{to_ascii_uppercase, to_ascii_lowercase};
 ghost use Rattle.std.specs.Range.Bound.{start_index, end_index};
 ghost use Rattle.arraystring_base.specs.Text.{bytes, cap, size, front, back, boundary};
-ghost use Rattle.arraystring_core.specs.Ranges.{lo, hi};
+ghost use Rattle.arraystring_core.specs.Ranges.{OfToldBounds, lo, hi};
 ghost use Rattle.arraystring_core.specs.Drained.{with_left};
 ghost use Rattle.arraystring_core.specs.Edits.{Makes, with_text, draining, replacement, part, part_in};
 
@@ -15,9 +16,9 @@ use arraystring_base::utils::Steps;
 use std::ops::RangeBounds;
 
 impl<const N: usize> ArrayString<N> {
-    /// The part in the range, lent without a copy. The range must end no earlier than it starts,
-    /// and both ends must be boundaries; they are plain numbers, so `..=255` ends at 256. It must
-    /// know its bounds.
+    /// The part in the range, lent without a copy. The range must be one that has its bounds, end
+    /// no earlier than it starts, and have boundaries as both ends; they are plain numbers, so
+    /// `..=255` ends at 256. Of a range that has its bounds, a `get` that was `Some` shows the rest.
     pub fn slice<R: RangeBounds<u8> + Drop>(&self, range: R) -> &str
         requires known { R.has_bounds range }
         requires order { start_index (R.start_bound range) ≤ end_index (R.end_bound range) (size self.now.text) }
@@ -31,12 +32,11 @@ impl<const N: usize> ArrayString<N> {
     }
 
     /// The part in the range, lent without a copy; `None` where the range ends before it starts,
-    /// or an end is not a boundary. The ends are plain numbers, so `..=255` ends at 256. The range
-    /// must know its bounds.
+    /// or an end is not a boundary. The ends are plain numbers, so `..=255` ends at 256.
     pub fn get<R: RangeBounds<u8> + Drop>(&self, range: R) -> Option<&str>
-        requires { R.has_bounds range }
-        ensures { let found = part_in self.now.text (start_index (R.start_bound range)) (end_index (R.end_bound range) (size self.now.text)) in
-            MatchOption result (found ≡ None) (λ s. found ≡ Some (chars s.now)) }
+        ensures { OfToldBounds R.has_bounds R.start_bound R.end_bound range (λ start end.
+            let found = part_in self.now.text (start_index start) (end_index end (size self.now.text)) in
+            MatchOption result (found ≡ None) (λ s. found ≡ Some (chars s.now))) }
     {
         let (start, end) = plain_ends(range, self.len());
         if start > end || !self.is_boundary(start) || !self.is_boundary(end) {
@@ -48,12 +48,10 @@ impl<const N: usize> ArrayString<N> {
     /// Takes the part in the range out of the string, at once, and gives its characters. An
     /// excluded start and an included end add 1, and stop at 255. Refused with `OutOfBounds` where
     /// the range ends before it starts, then where it ends past the text, then with `Utf8` where its
-    /// start is inside a character, then where its end is; the text is then as it was. The range must
-    /// know its bounds.
+    /// start is inside a character, then where its end is; the text is then as it was.
     pub fn drain<R: RangeBounds<u8> + Drop>(&mut self, range: R) -> Result<Drain<N>, Error>
-        requires { R.has_bounds range }
-        ensures { let t = self.old.text in
-            Makes (draining t (lo (R.start_bound range)) (hi (R.end_bound range) (size t))) t (with_left result) self.new.text }
+        ensures { OfToldBounds R.has_bounds R.start_bound R.end_bound range (λ start end. let t = self.old.text in
+            Makes (draining t (lo start) (hi end (size t))) t (with_left result) self.new.text) }
     {
         self.drain_counted(range, &mut Steps::new())
     }
@@ -67,16 +65,16 @@ impl<const N: usize> ArrayString<N> {
         range: R,
         steps: &mut Steps,
     ) -> Result<Drain<N>, Error>
-        requires known { R.has_bounds range }
         requires looks { steps.old.looked ≤ 2 ^ 63 }
         requires moves { steps.old.moved ≤ 2 ^ 63 }
-        ensures edit { let t = self.old.text in
-            Makes (draining t (lo (R.start_bound range)) (hi (R.end_bound range) (size t))) t (with_left result) self.new.text }
+        // The edit, and then the moves: none at the start, none before the range, and the lesser side at least.
+        ensures edit { OfToldBounds R.has_bounds R.start_bound R.end_bound range (λ start end.
+            let t = self.old.text in let from = lo start in let to = hi end (size t) in
+            Makes (draining t from to) t (with_left result) self.new.text
+            × (from ≡ 0 → steps.new.moved ≡ steps.old.moved)
+            × (steps.new.moved ≤ steps.old.moved + (size t - to))
+            × OnOk result (from ≢ to → steps.old.moved + min from (size t - to) ≤ steps.new.moved)) }
         ensures refused { OnErr result (steps.new.moved ≡ steps.old.moved) }
-        ensures free { lo (R.start_bound range) ≡ 0 → steps.new.moved ≡ steps.old.moved }
-        ensures tail_alone { steps.new.moved ≤ steps.old.moved + (size self.old.text - hi (R.end_bound range) (size self.old.text)) }
-        ensures least { let start = lo (R.start_bound range) in let end = hi (R.end_bound range) (size self.old.text) in
-            OnOk result (start ≢ end → steps.old.moved + min start (size self.old.text - end) ≤ steps.new.moved) }
         ensures counted { steps.old.moved ≤ steps.new.moved }
         ensures looked { steps.new.looked ≡ steps.old.looked }
     {
@@ -88,16 +86,14 @@ impl<const N: usize> ArrayString<N> {
     /// Puts `with` in place of the part in the range. An excluded start and an included end add 1,
     /// and stop at 255. Refused with `OutOfBounds` where the range ends before it starts, then where
     /// it ends past the text, then where the result does not fit, then with `Utf8` where its start
-    /// is inside a character, then where its end is; the text is then as it was. The range must know
-    /// its bounds.
+    /// is inside a character, then where its end is; the text is then as it was.
     pub fn replace_range<R: RangeBounds<u8> + Drop>(
         &mut self,
         range: R,
         with: &str,
     ) -> Result<(), Error>
-        requires { R.has_bounds range }
-        ensures { let t = self.old.text in
-            Makes (replacement t (lo (R.start_bound range)) (hi (R.end_bound range) (size t)) (chars with.now) (cap N)) t result self.new.text }
+        ensures { OfToldBounds R.has_bounds R.start_bound R.end_bound range (λ start end. let t = self.old.text in
+            Makes (replacement t (lo start) (hi end (size t)) (chars with.now) (cap N)) t result self.new.text) }
     {
         self.replace_range_counted(range, with, &mut Steps::new())
     }
@@ -112,17 +108,16 @@ impl<const N: usize> ArrayString<N> {
         with: &str,
         steps: &mut Steps,
     ) -> Result<(), Error>
-        requires known { R.has_bounds range }
         requires looks { steps.old.looked ≤ 2 ^ 63 }
         requires moves { steps.old.moved ≤ 2 ^ 63 }
-        ensures edit { let t = self.old.text in
-            Makes (replacement t (lo (R.start_bound range)) (hi (R.end_bound range) (size t)) (chars with.now) (cap N)) t result self.new.text }
+        // The edit, and then the moves: none before the range where it does not grow, and the lesser side at least.
+        ensures edit { OfToldBounds R.has_bounds R.start_bound R.end_bound range (λ start end.
+            let t = self.old.text in let from = lo start in let to = hi end (size t) in let given = chars with.now in
+            Makes (replacement t from to given (cap N)) t result self.new.text
+            × (size given ≤ to - from → steps.new.moved ≤ steps.old.moved + (size t - to))
+            × OnOk result (to ≢ from + size given → steps.old.moved + min from (size t - to) ≤ steps.new.moved)) }
         ensures refused { OnErr result (steps.new.moved ≡ steps.old.moved) }
-        ensures tail_alone { let start = lo (R.start_bound range) in let end = hi (R.end_bound range) (size self.old.text) in
-            size (chars with.now) ≤ end - start → steps.new.moved ≤ steps.old.moved + (size self.old.text - end) }
         ensures most { steps.new.moved ≤ steps.old.moved + size self.old.text }
-        ensures least { let start = lo (R.start_bound range) in let end = hi (R.end_bound range) (size self.old.text) in
-            OnOk result (end ≢ start + size (chars with.now) → steps.old.moved + min start (size self.old.text - end) ≤ steps.new.moved) }
         ensures counted { steps.old.moved ≤ steps.new.moved }
         ensures looked { steps.new.looked ≡ steps.old.looked }
     {

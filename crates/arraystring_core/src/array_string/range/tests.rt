@@ -1,7 +1,7 @@
 //! Parts of a string, on values worked out by hand.
 use super::*;
 use crate::tests::{MaxString, SmallString, letters, string};
-use std::ops::Bound;
+use std::ops::{Bound, RangeBounds, RangeInclusive};
 use std::str;
 
 /// The part from one bound to the other by `slice`, where `get` finds it.
@@ -283,4 +283,129 @@ fn no_capacity(rt: HostRuntime) {
     assert_eq!(rt; drain.next(), None);
     assert_eq!(rt; drain.next_back(), None);
     assert_eq!(rt; left_of(none.drain(..=0)), Err(Error::OutOfBounds));
+}
+
+/// A range type that does not tell contracts which bounds it has.
+#[derive(Clone, Copy)]
+struct Silent {
+    start: Bound<u8>,
+    end: Bound<u8>,
+}
+
+impl RangeBounds<u8> for Silent {
+    fn start_bound(&self) -> Bound<&u8> {
+        self.start.as_ref()
+    }
+
+    fn end_bound(&self) -> Bound<&u8> {
+        self.end.as_ref()
+    }
+}
+
+#[test]
+fn a_range_type_that_tells_no_bounds(rt: HostRuntime) {
+    for (start, end, taken, left, replaced) in [
+        (
+            Bound::Included(1),
+            Bound::Excluded(3),
+            Some("BC"),
+            "AD🤔",
+            "AxD🤔",
+        ),
+        (
+            Bound::Excluded(0),
+            Bound::Included(2),
+            Some("BC"),
+            "AD🤔",
+            "AxD🤔",
+        ),
+        (
+            Bound::Included(4),
+            Bound::Unbounded,
+            Some("🤔"),
+            "ABCD",
+            "ABCDx",
+        ),
+        (
+            Bound::Unbounded,
+            Bound::Included(0),
+            Some("A"),
+            "BCD🤔",
+            "xBCD🤔",
+        ),
+        (Bound::Included(5), Bound::Unbounded, None, "ABCD🤔", "ABCD🤔"),
+        (
+            Bound::Included(3),
+            Bound::Excluded(2),
+            None,
+            "ABCD🤔",
+            "ABCD🤔",
+        ),
+    ] {
+        let range = Silent { start, end };
+        let text: SmallString = string("ABCD🤔");
+        assert_eq!(rt; text.get(range), taken);
+        let mut drained = text;
+        assert_eq!(rt; left_of(drained.drain(range)).ok(), taken.map(string));
+        assert_eq!(rt; drained.as_str(), left);
+        let mut other = text;
+        assert_eq!(rt; other.replace_range(range, "x").is_ok(), taken.is_some());
+        assert_eq!(rt; other.as_str(), replaced);
+    }
+}
+
+#[test]
+fn a_range_that_tells_no_bounds_is_counted(rt: HostRuntime) {
+    let range = Silent {
+        start: Bound::Included(1),
+        end: Bound::Included(2),
+    };
+    let mut text: SmallString = string("ABCD🤔");
+    let mut steps = Steps::new();
+    assert_eq!(rt;
+        left_of(text.drain_counted(range, &mut steps)),
+        Ok(string("BC"))
+    );
+    assert_eq!(rt; steps.moved(), 5);
+    assert_eq!(rt;
+        text.replace_range_counted(range, "", &mut steps),
+        Err(Error::Utf8)
+    );
+    assert_eq!(rt; text.as_str(), "AD🤔");
+    assert_eq!(rt; steps.moved(), 5);
+}
+
+/// `1..=3` after all three numbers were taken from it: it is empty and stands at 3.
+fn walked() -> RangeInclusive<u8> {
+    let mut range = 1..=3;
+    for _ in 0..3 {
+        let _ = range.next();
+    }
+    range
+}
+
+#[test]
+fn an_inclusive_range_that_was_walked_to_its_end(rt: HostRuntime) {
+    let text: SmallString = string("ABCD🤔");
+    assert_eq!(rt; text.get(walked()), Some(""));
+    let mut drained = text;
+    assert_eq!(rt; left_of(drained.drain(walked())), Ok(string("")));
+    assert_eq!(rt; drained, text);
+    let mut steps = Steps::new();
+    assert_eq!(rt;
+        left_of(drained.drain_counted(walked(), &mut steps)),
+        Ok(string(""))
+    );
+    assert_eq!(rt; steps.moved(), 0);
+    assert_eq!(rt; drained.replace_range(walked(), "xy"), Ok(()));
+    assert_eq!(rt; drained.as_str(), "ABCxyD🤔");
+    assert_eq!(rt;
+        drained.replace_range_counted(walked(), "z", &mut steps),
+        Ok(())
+    );
+    assert_eq!(rt; drained.as_str(), "ABCzxyD🤔");
+    assert_eq!(rt; steps.moved(), 7);
+    let mut short: SmallString = string("é");
+    assert_eq!(rt; short.get(walked()), None);
+    assert_eq!(rt; left_of(short.drain(walked())), Err(Error::OutOfBounds));
 }
