@@ -2,9 +2,14 @@
 use Rattle.std.proofs.Common.{◌≡◌, ℕ, ◌+◌, ◌-◌, ◌*◌, ◌/◌, ◌%◌, ◌<◌, ◌≤◌, ◌⊎◌, List, [], ◌∷◌, ◌++◌, length, get_or, refl, sym, ap, ◌∙◌, subst, arith, IsUtf8, chars, inl, inr, length-append}
 use Rattle.std.specs.Char.{IsScalar}
 use Rattle.std.proofs.lemmas.Bool.{cases_lt, lt-ltb, le-ltb}
-use Rattle.std.proofs.lemmas.List.{append-nil, get_or-append-add}
+use Rattle.std.proofs.lemmas.List.{append-nil, get_or-append-add, nil_from_length}
+use Rattle.std.proofs.lemmas.Str.{chars-nil}
 use Rattle.arraystring_base.specs.Text.{IsScalarValue, IsText, utf8, size, bytes}
 use Rattle.arraystring_base.specs.TextLaws.{width-bounds, bytes-append, bytes-chars, size-is, text-chars, scalar-is}
+
+-- no bytes are no characters
+pub chars_empty : (bs : List ℕ) → length bs ≡ 0 → chars bs ≡ []
+chars_empty bs none = ap chars (nil_from_length bs none) ∙ chars-nil
 
 -- the k-th byte from the end
 abbrev pub from_end : List ℕ → ℕ → ℕ

@@ -1,3 +1,2 @@
 pub mod CutLemmas
 pub mod LastLemmas
-pub mod ReadingLemmas

@@ -6,5 +6,6 @@ pub mod OrderLaws
 pub mod Utf16
 pub mod Utf16Laws
 pub mod Reading
+pub mod ReadingLaws
 pub mod Counts
 pub mod Names

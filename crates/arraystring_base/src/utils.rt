@@ -53,6 +53,7 @@ pub fn truncate_str_counted<'a>(text: &'a str, size: u8, steps: &mut Steps) -> &
 /// The place where the last character of `text` begins, and that character; `None` where the text
 /// is empty. It looks at no more than four bytes, at least at one where there is a character, and
 /// moves none. The count of looks plus four must be below 2^64.
+#[tactic(auto, using(crate::proofs::LastLemmas::chars_empty))]
 pub fn last_char(text: &str, steps: &mut Steps) -> Option<(usize, char)>
     requires { steps.old.looked + 4 < 2 ^ 64 }
     ensures some { IfSome result (λ last. (front : List ℕ) × (chars text.now ≡ front ++ last.1 ∷ []) × (size front ≡ last.0)) }
@@ -134,7 +135,8 @@ fn continues(byte: u8) -> bool
     byte >= 0x80 && byte < 0xC0
 }
 
-/// The last boundary that is not past `limit`.
+/// The last boundary that is not past `limit`. It looks once at each byte from `limit` back to it,
+/// but for the first byte of the text.
 fn last_boundary(text: &str, limit: usize, steps: &mut Steps) -> usize
     requires within { limit < length text.now }
     requires countable { steps.old.looked ≤ 2 ^ 63 }
@@ -143,6 +145,7 @@ fn last_boundary(text: &str, limit: usize, steps: &mut Steps) -> usize
     ensures nearest { (i : ℕ) → result < i → i ≤ limit → ¬ (IsCharBoundary text.now i) }
     ensures looked { steps.new.looked ≤ steps.old.looked + 4 }
     ensures least { 0 < limit → steps.old.looked < steps.new.looked }
+    ensures each { 0 < result → steps.new.looked + result ≡ steps.old.looked + limit + 1 }
     ensures counted { steps.old.looked ≤ steps.new.looked }
     ensures moved { steps.new.moved ≡ steps.old.moved }
 {

@@ -15,8 +15,6 @@ ghost use Rattle.arraystring_core.specs.Json.{json_text, text_within};
 ghost use Rattle.arraystring_core.specs.Stored.{Stored};
 ghost use Rattle.arraystring_core.specs.Taken.{joined};
 
-use arraystring_base::laws::text_reading;
-
 /// What comes behind characters or pieces that no longer fit changes no cut.
 pub fn what_comes_past_the_room()
     ensures characters { (taken more : List ℕ) (n : ℕ) → n < size taken → cut (taken ++ more) n ≡ cut taken n }
@@ -37,9 +35,7 @@ pub fn units_read_back()
     ensures whole { (t : List ℕ) (n : ℕ) (items : List Unit16) (result : Result Stored Error) → IsText t → size t ≤ n → IsReading (text_units t) items → GivesWhole (first_stop items n) result → IsOkAnd result (λ string. string.text ≡ t) }
     ensures run { (t : List ℕ) (n : ℕ) (items : List Unit16) (result : Result Stored Utf16) → IsText t → size t ≤ n → IsReading (text_units t) items → GivesRun (first_stop items n) result → IsOkAnd result (λ string. string.text ≡ t) }
     ensures lossy { (t : List ℕ) (n : ℕ) (items : List Unit16) → IsText t → size t ≤ n → IsReading (text_units t) items → cut (lossy_text items) n ≡ t }
-{
-    text_reading();
-}
+{}
 
 /// What a pop leaves, followed by the character that it answers, is the text before. Of the empty
 /// text it answers none, and leaves it.

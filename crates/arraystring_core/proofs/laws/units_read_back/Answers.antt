@@ -3,24 +3,25 @@ use Rattle.arraystring_base.specs.declared.utf16.Unit16.TheVariants.{Char}
 use Rattle.arraystring_base.specs.Text.{cut}
 use Rattle.arraystring_base.specs.CutLaws.{cut-all}
 use Rattle.arraystring_base.specs.Utf16.{End, lossy_text}
+use Rattle.arraystring_base.specs.ReadingLaws.{text-reading}
 use Rattle.arraystring_base.specs.Utf16Laws.{stop-is, lossy_text-characters}
 use Rattle.arraystring_core.specs.FromUtf16.{GivesWhole, GivesRun}
 use Rattle.arraystring_core.proofs.laws.units_read_back.Goals as goal
 
 pub returns-clause-reading : goal.returns-clause-reading
-returns-clause-reading c = λ t is. (map Char t, (c.text_reading.ensures t (map Char t) is).1 refl)
+returns-clause-reading c = λ t is. (map Char t, (text-reading t (map Char t) is).1 refl)
 
 pub returns-clause-whole : goal.returns-clause-whole
 returns-clause-whole c = λ t n items result is fits reads gives.
-    let same = (c.text_reading.ensures t items is).0 reads in
+    let same = (text-reading t items is).0 reads in
     subst (λ stop. GivesWhole stop result) (stop-is items n (End t) (same, fits)) gives
 
 pub returns-clause-run : goal.returns-clause-run
 returns-clause-run c = λ t n items result is fits reads gives.
-    let same = (c.text_reading.ensures t items is).0 reads in
+    let same = (text-reading t items is).0 reads in
     subst (λ stop. GivesRun stop result) (stop-is items n (End t) (same, fits)) gives
 
 pub returns-clause-lossy : goal.returns-clause-lossy
 returns-clause-lossy c = λ t n items is fits reads.
-    let same = (c.text_reading.ensures t items is).0 reads in
+    let same = (text-reading t items is).0 reads in
     ap (λ l. cut l n) (ap lossy_text same ∙ lossy_text-characters t) ∙ cut-all t n fits
