@@ -1,5 +1,5 @@
 //! `Directory`: users by their usernames.
-ghost use Rattle.std.specs.Prelude.{◌≡◌, ◌≢◌, ℕ, IfOk, OnOk, OnErr, Some, List};
+ghost use Rattle.std.specs.Prelude.{◌≡◌, ◌≢◌, ◌<◌, ◌^◌, ℕ, IfOk, OnOk, OnErr, Some, List, length};
 ghost use Rattle.std.specs.Iterator.{YieldsFirstBy, item_count};
 ghost use Rattle.std.specs.Option.{option_copied, option_map};
 ghost use Rattle.std.specs.List.{AllPairs};
@@ -73,6 +73,7 @@ impl Directory {
     pub fn names(&self) -> Names<'_>
         ensures keys { result ≡ map.keys self.now }
         ensures ascending { AllPairs IsBefore result }
+        ensures countable { length result < 2 ^ 63 }
     {
         Names {
             left: self.users.keys(),

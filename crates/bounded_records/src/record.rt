@@ -4,7 +4,7 @@
 //! and then zero bytes. Byte 21 is the number of the role's bytes, 0 to 5. Bytes 22 to 26 are the
 //! role's UTF-8 and then zero bytes. A zero byte among the counted ones is the character U+0000 and
 //! no padding.
-ghost use Rattle.std.specs.Prelude.{◌≡◌, ◌<◌, ◌+◌, ◌≤◌, ◌↔◌, Some, ℕ, List, suc, length, replicate, IsTrue, IfOk, IfErr, IsOkAnd};
+ghost use Rattle.std.specs.Prelude.{◌≡◌, ◌<◌, ◌+◌, ◌≤◌, ◌↔◌, Some, ℕ, List, suc, length, replicate, IsTrue, IfOk, IfErr, OnErr, IsOkAnd};
 ghost use Rattle.std.specs.List.{All};
 ghost use Rattle.std.specs.Result.{IsErrAnd};
 ghost use Rattle.arraystring.specs.Text.{IsText, IsWellFormed, bytes, size};
@@ -116,13 +116,11 @@ fn text_of<const N: usize>(field: &[u8]) -> Result<ArrayString<N>, RecordFault>
     requires long { length field.now ≡ 1 + N }
     requires fits { count field.now ≤ N }
     ensures ok { IfOk result (λ made. IsText made.text × (bytes made.text ≡ counted field.now)) }
-    ensures err { IfErr result (λ fault. (fault ≡ Utf8) × ¬ (IsWellFormed (counted field.now))) }
+    ensures fault { IfErr result (λ fault. fault ≡ Utf8) }
+    ensures malformed { OnErr result (¬ (IsWellFormed (counted field.now))) }
 {
     let end = 1 + field[0] as usize;
-    match ArrayString::try_from_utf8(&field[1..end]) {
-        Ok(text) => Ok(text),
-        Err(_) => Err(RecordFault::Utf8),
-    }
+    ArrayString::try_from_utf8(&field[1..end]).map_err(|_| RecordFault::Utf8)
 }
 
 /// Whether all bytes behind the counted ones are zero.

@@ -21,15 +21,15 @@ pub returns-in_err-text_of : goal.returns-in_err-text_of
 returns-in_err-text_of c =
     let p = err_from_is_err_and c.from_residual.result c.from_residual.ensures.1 in
     let is = refused_text _ _ _ c.if-given-ne27.false c.split_at.ensures.front c.split_at.ensures.back (c.if-username-gt20.false, c.if-role-gt5.false)
-    (λ well. c.in_err-text_of.ensures.err.1 well.0) in
-    rw (p.1, p.2, c.in_err-text_of.ensures.err.0) (record { user = is.user; only = is.only; fault = is.fault })
+    (λ well. c.in_err-text_of.ensures.malformed well.0) in
+    rw (p.1, p.2, c.in_err-text_of.ensures.fault) (record { user = is.user; only = is.only; fault = is.fault })
 
 pub returns-in_err-text_of-2 : goal.returns-in_err-text_of-2
 returns-in_err-text_of-2 c =
     let p = err_from_is_err_and c.from_residual-in_err-text_of-2.result c.from_residual-in_err-text_of-2.ensures.1 in
     let is = refused_text _ _ _ c.if-given-ne27.false c.split_at.ensures.front c.split_at.ensures.back (c.if-username-gt20.false, c.if-role-gt5.false)
-    (λ well. c.in_err-text_of-2.ensures.err.1 well.1) in
-    rw (p.1, p.2, c.in_err-text_of-2.ensures.err.0) (record { user = is.user; only = is.only; fault = is.fault })
+    (λ well. c.in_err-text_of-2.ensures.malformed well.1) in
+    rw (p.1, p.2, c.in_err-text_of-2.ensures.fault) (record { user = is.user; only = is.only; fault = is.fault })
 
 pub returns-then-not-is_padded : goal.returns-then-not-is_padded
 returns-then-not-is_padded c =
