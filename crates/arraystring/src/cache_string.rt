@@ -148,6 +148,7 @@ impl CacheString {
         ensures malformed { ¬ (IsWellFormed given.now) → inside result ≡ Err error.Utf8 }
         ensures whole { (t : List ℕ) → IsText t → bytes t ≡ given.now → IsWholeOrRefused t 63 (inside result) }
         ensures bytes { IfOk result (λ made. bytes made.0.text ≡ given.now) }
+        ensures text { IfOk result (λ made. IsText made.0.text) }
     {
         Ok(CacheString(ArrayString::try_from_utf8(given)?))
     }
@@ -158,6 +159,7 @@ impl CacheString {
     pub fn from_utf8(given: &[u8]) -> Result<Self, Utf8>
         ensures well_formed { IsOk result ↔ IsWellFormed given.now }
         ensures cut { (t : List ℕ) → IsText t → bytes t ≡ given.now → IfOk result (λ made. made.0.text ≡ cut t 63) }
+        ensures text { IfOk result (λ made. IsText made.0.text) }
     {
         Ok(CacheString(ArrayString::from_utf8(given)?))
     }
@@ -167,7 +169,8 @@ impl CacheString {
     pub fn from_utf8_unchecked(given: &[u8]) -> Self
         requires well_formed { IsWellFormed given.now }
         requires fits { length given.now ≤ 63 }
-        ensures { bytes result.0.text ≡ given.now }
+        ensures bytes { bytes result.0.text ≡ given.now }
+        ensures text { IsText result.0.text }
     {
         CacheString(ArrayString::from_utf8_unchecked(given))
     }

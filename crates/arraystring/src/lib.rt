@@ -29,7 +29,7 @@ pub mod utils {
 pub mod laws {
     pub use arraystring_base::laws::{
         boundaries, cut_of_cut, lent_text, longest_cut, one_stop, one_text, only_reading,
-        order_of_bytes, order_of_texts, parts, text_reading,
+        order_of_bytes, order_of_texts, parts, size_is_length, text_reading,
     };
     pub use arraystring_core::laws::{
         equal_texts, json_reads_back, pieces_make_one_text, popped, replaced_back, split_back,

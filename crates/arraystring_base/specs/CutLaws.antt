@@ -2,7 +2,7 @@
 use Rattle.std.proofs.Common.{◌≡◌, ℕ, ◌+◌, ◌-◌, ◌<◌, ◌≤◌, List, [], ◌∷◌, ◌++◌, length, refl, sym, ap, ◌∙◌, arith, IsUtf8, chars, length-append, inl, inr}
 use Rattle.std.proofs.lemmas.Bool.{le-leb, lt-leb, cases_lt}
 use Rattle.std.proofs.lemmas.List.{append-nil}
-use Rattle.arraystring_base.specs.Text.{width, size, bytes, cut, IsLeadingPart, IsLongestFitting}
+use Rattle.arraystring_base.specs.Text.{width, size, bytes, cut, IsText, IsLeadingPart, IsLongestFitting}
 use Rattle.arraystring_base.specs.TextLaws.{size-lent, bytes-chars}
 
 -- p is the cut of p ++ q, where the first character of q would pass n
@@ -31,6 +31,15 @@ cut-fits (c ∷ cs) n =
     elim (cases_lt n (width c)) [
       | inl over ↦ rw (lt-leb (width c) n over) (omega arith)
       | inr fits ↦ let rest = cut-fits cs (n - width c) in rw (le-leb (width c) n fits) (omega arith)
+    ]
+
+-- the cut of a text is a text
+pub text-cut : (t : List ℕ) (n : ℕ) → IsText t → IsText (cut t n)
+text-cut [] n is = tt
+text-cut (c ∷ cs) n is =
+    elim (cases_lt n (width c)) [
+      | inl over ↦ rw (lt-leb (width c) n over) tt
+      | inr fits ↦ rw (le-leb (width c) n fits) (is.0, text-cut cs (n - width c) is.1)
     ]
 
 -- a cut of a longer cut is the cut

@@ -1,6 +1,6 @@
 //! Laws of texts, which callers may rely on. Each does nothing when it is called and carries its
 //! fact in its contract.
-ghost use Rattle.std.specs.Prelude.{◌≡◌, ◌≤◌, ◌↔◌, ◌⊎◌, ◌++◌, ℕ, List, IsTrue, chars, map};
+ghost use Rattle.std.specs.Prelude.{◌≡◌, ◌≤◌, ◌↔◌, ◌⊎◌, ◌++◌, ℕ, List, IsTrue, chars, length, map};
 ghost use Rattle.std.specs.Ordering.{nat_cmp};
 ghost use Rattle.std.specs.Cmp.Lexicographic.{slice_cmp};
 ghost use Rattle.std.specs.declared.cmp.Ordering.TheVariants.{Less, Equal, Greater};
@@ -32,6 +32,12 @@ pub fn parts()
     ensures size { (t : List ℕ) (i : ℕ) → IsTrue (boundary t i) → size (front t i) ≡ i }
     ensures before { (p q : List ℕ) → front (p ++ q) (size p) ≡ p }
     ensures behind { (p q : List ℕ) → back (p ++ q) (size p) ≡ q }
+{}
+
+/// A text takes as many bytes as its UTF-8 has. So `len` of a string is how many bytes its
+/// `as_bytes` and its `as_str` lend.
+pub fn size_is_length()
+    ensures { (t : List ℕ) → size t ≡ length (bytes t) }
 {}
 
 /// Bytes spell one text.

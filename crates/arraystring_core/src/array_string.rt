@@ -1,6 +1,6 @@
 //! `ArrayString`: the type, what it shows, and what is added and taken at its end. The modules
 //! below hold its other calls.
-ghost use Rattle.std.specs.Prelude.{◌≡◌, ◌≢◌, ◌+◌, ◌-◌, ◌^◌, ◌<◌, ◌≤◌, ◌↔◌, min, IfSome, Ok, [], ◌∷◌, ◌++◌, IsTrue, chars, nat_eq};
+ghost use Rattle.std.specs.Prelude.{◌≡◌, ◌≢◌, ◌+◌, ◌-◌, ◌^◌, ◌<◌, ◌≤◌, ◌↔◌, min, IfSome, Ok, [], ◌∷◌, ◌++◌, IsTrue, chars, length, nat_eq};
 ghost use Rattle.std.specs.Cmp.{on_equiv, on_per, partial_equiv_from_equiv};
 ghost use Rattle.std.specs.Cmp.Lexicographic.{pointwise, nat_list_eq_equiv};
 ghost use Rattle.arraystring_base.specs.Text.{size, width, bytes, cap, front, back, boundary, IsText};
@@ -102,10 +102,14 @@ impl<const N: usize> ArrayString<N> {
         unsafe { str::from_utf8_unchecked(&all[start..start + self.size as usize]) }
     }
 
-    /// The UTF-8 of the text, lent without a copy.
+    /// The UTF-8 of the text, lent without a copy: as many bytes as `len` says. Each character of
+    /// the text is a Unicode scalar value.
     #[inline]
     pub fn as_bytes(&self) -> &[u8]
-        ensures { result.now ≡ bytes self.now.text }
+        ensures bytes { result.now ≡ bytes self.now.text }
+        ensures len { length result.now ≡ size self.now.text }
+        ensures text { IsText self.now.text }
+        ensures fits { size self.now.text ≤ cap N }
     {
         let start = self.start as usize;
         let all = &self.array[..];

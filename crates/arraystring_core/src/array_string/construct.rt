@@ -144,6 +144,7 @@ impl<const N: usize> ArrayString<N> {
         ensures malformed { ¬ (IsWellFormed given.now) → result ≡ Err Error.Utf8 }
         ensures whole { (t : List ℕ) → IsText t → bytes t ≡ given.now → IsWholeOrRefused t (cap N) result }
         ensures bytes { IfOk result (λ made. bytes made.text ≡ given.now) }
+        ensures text { IfOk result (λ made. IsText made.text) }
     {
         match str::from_utf8(given) {
             Ok(string) => match Self::try_from_str(string) {
@@ -160,6 +161,7 @@ impl<const N: usize> ArrayString<N> {
     pub fn from_utf8(given: &[u8]) -> Result<Self, Utf8>
         ensures well_formed { IsOk result ↔ IsWellFormed given.now }
         ensures cut { (t : List ℕ) → IsText t → bytes t ≡ given.now → IfOk result (λ made. made.text ≡ cut t (cap N)) }
+        ensures text { IfOk result (λ made. IsText made.text) }
     {
         let Ok(string) = str::from_utf8(given) else {
             return Err(Utf8);
@@ -172,7 +174,8 @@ impl<const N: usize> ArrayString<N> {
     pub fn from_utf8_unchecked(given: &[u8]) -> Self
         requires well_formed { IsWellFormed given.now }
         requires fits { length given.now ≤ cap N }
-        ensures { bytes result.text ≡ given.now }
+        ensures bytes { bytes result.text ≡ given.now }
+        ensures text { IsText result.text }
     {
         Self::from_str_unchecked(unsafe { str::from_utf8_unchecked(given) })
     }

@@ -1,7 +1,18 @@
-use Rattle.std.proofs.Common.{sym}
-use Rattle.arraystring_core.specs.StoredLaws.{lent-range, opened-bytes}
+use Rattle.std.proofs.Common.{sym, ◌∙◌, ap, arith, length}
+use Rattle.arraystring_base.specs.TextLaws.{size-is}
+use Rattle.arraystring_core.specs.StoredLaws.{lent-range, opened-bytes, opened-size, opened-text}
 use Rattle.arraystring_core.proofs.array_string.ArrayString.as_bytes.Goals as goal
 
-pub returns : goal.returns
-returns g c =
+pub returns-clause-bytes : goal.returns-clause-bytes
+returns-clause-bytes g c =
     rw (lent-range g.row.N _ _ _ c.self.invariant) (sym (opened-bytes g.row.N _ _ _ c.self.invariant _ c.self.view_is))
+
+pub returns-clause-len : goal.returns-clause-len
+returns-clause-len g c = ap length (returns-clause-bytes g c) ∙ sym (size-is c.args.self.now.text)
+
+pub returns-clause-text : goal.returns-clause-text
+returns-clause-text g c = opened-text g.row.N _ _ _ c.self.invariant _ c.self.view_is
+
+pub returns-clause-fits : goal.returns-clause-fits
+returns-clause-fits g c =
+    omega (arith, opened-size g.row.N _ _ _ c.self.invariant _ c.self.view_is, c.self.invariant.0)

@@ -1,6 +1,6 @@
 use Rattle.std.proofs.Common.{◌≤◌, ◌∙◌, ap, arith, rules, chars, length}
 use Rattle.arraystring_base.specs.Text.{size, bytes, cap}
-use Rattle.arraystring_base.specs.TextLaws.{well_formed-utf8, size-lent, bytes-chars}
+use Rattle.arraystring_base.specs.TextLaws.{well_formed-utf8, size-lent, bytes-chars, text-chars}
 use Rattle.arraystring_core.proofs.array_string.ArrayString.from_utf8_unchecked.Goals as goal
 
 pub from_utf8_unchecked-requires : goal.from_utf8_unchecked-requires
@@ -13,7 +13,11 @@ from_str_unchecked-requires g c =
     omega (arith, size-lent lent c.from_utf8_unchecked.utf8, ap length c.from_utf8_unchecked.ensures, c.requires.fits) in
     (search rules, fits)
 
-pub returns : goal.returns
-returns g c =
+pub returns-clause-bytes : goal.returns-clause-bytes
+returns-clause-bytes g c =
     ap bytes c.from_str_unchecked.ensures ∙ bytes-chars c.from_utf8_unchecked.result.now c.from_utf8_unchecked.utf8
     ∙ c.from_utf8_unchecked.ensures
+
+pub returns-clause-text : goal.returns-clause-text
+returns-clause-text g c =
+    rw c.from_str_unchecked.ensures (text-chars c.from_utf8_unchecked.result.now c.from_utf8_unchecked.utf8)

@@ -1,6 +1,6 @@
 use Rattle.std.proofs.Common.{◌≡◌, ◌<◌, ◌≤◌, ◌∙◌, sym, ap, arith, chars, refl}
 use Rattle.arraystring_base.specs.Text.{size, bytes, cap}
-use Rattle.arraystring_base.specs.TextLaws.{well_formed-utf8, utf8-well_formed, chars-bytes, bytes-chars}
+use Rattle.arraystring_base.specs.TextLaws.{well_formed-utf8, utf8-well_formed, chars-bytes, bytes-chars, text-chars}
 use Rattle.arraystring_core.proofs.array_string.ArrayString.try_from_utf8.Goals as goal
 
 pub returns-in-Ok-try_from_str : goal.returns-in-Ok-try_from_str
@@ -16,6 +16,7 @@ returns-in-Ok-try_from_str g c =
           let fits : size t ≤ cap g.row.N = omega (arith, made.0, ap size (ap chars read.0 ∙ same)) in
           (fits, text ∙ same);
       bytes = ap bytes text ∙ bytes-chars given read.1;
+      text = rw text (text-chars given read.1);
     }
 
 pub returns-in-Err-try_from_str : goal.returns-in-Err-try_from_str
@@ -29,6 +30,7 @@ returns-in-Err-try_from_str g c =
           let past : cap g.row.N < size t = omega (arith, c.in-Err-try_from_str.ensures.0, ap size (ap chars read.0 ∙ same)) in
           (past, refl);
       bytes = tt;
+      text = tt;
     }
 
 pub returns-in-Err-clause-whole : goal.returns-in-Err-clause-whole

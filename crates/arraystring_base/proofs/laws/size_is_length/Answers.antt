@@ -1,0 +1,5 @@
+use Rattle.arraystring_base.specs.TextLaws.{size-is}
+use Rattle.arraystring_base.proofs.laws.size_is_length.Goals as goal
+
+pub returns : goal.returns
+returns c = size-is

@@ -1,0 +1,128 @@
+-- What `decode` answers is decided by its bytes.
+use Rattle.std.proofs.Common.{◌≡◌, ◌↔◌, ℕ, ◌≤◌, List, length, take, drop, Result, Ok, Err, refl, sym, ap, subst, ◌∙◌, arith, length-append, length-drop, length-take-le, take-append-drop, take_at}
+use Rattle.std.specs.List.{All}
+use Rattle.std.specs.Result.{IsOkAnd, IsErrAnd}
+use Rattle.std.proofs.lemmas.List.{drop_at}
+use Rattle.arraystring.specs.Text.{bytes, IsText, IsWellFormed}
+use Rattle.arraystring.specs.TextLaws.{bytes_same}
+use Rattle.bounded_records.specs.declared.user.User.{User}
+use Rattle.bounded_records.specs.declared.record.RecordFault.{RecordFault}
+use Rattle.bounded_records.specs.declared.record.RecordFault.TheVariants.{Length, Count, Utf8, Padding}
+use Rattle.bounded_records.specs.Users.{texts}
+use Rattle.bounded_records.specs.Records.{field_of, count, counted, padding, IsRecord, username_field, role_field, HasLength, CountsFit, AreWellFormed, ArePadded, IsFirstFault}
+use Rattle.bounded_records.proofs.FieldLemmas.{length-field, counted-field, padding-field, field-is}
+
+-- a record passes all tests, and has the bytes of its texts
+module _ (bs username role : List ℕ) (is : IsRecord bs username role) where
+  first : username_field bs ≡ field_of 20 username
+  first = ap (take 21) is.same ∙ take_at (field_of 20 username) (field_of 5 role) 21 (length-field 20 username is.username_fits)
+
+  second : role_field bs ≡ field_of 5 role
+  second = ap (drop 21) is.same ∙ drop_at (field_of 20 username) (field_of 5 role) 21 (length-field 20 username is.username_fits)
+
+  has_length : HasLength bs
+  has_length =
+      ap length is.same ∙ length-append (field_of 20 username) (field_of 5 role)
+      ∙ omega (arith, length-field 20 username is.username_fits, length-field 5 role is.role_fits)
+
+  counts_fit : CountsFit bs
+  counts_fit = rw (first, second) (is.username_fits, is.role_fits)
+
+  username_bytes : counted (username_field bs) ≡ bytes username
+  username_bytes = ap counted first ∙ counted-field 20 username is.username_fits
+
+  role_bytes : counted (role_field bs) ≡ bytes role
+  role_bytes = ap counted second ∙ counted-field 5 role is.role_fits
+
+  are_well_formed : AreWellFormed bs
+  are_well_formed = ((username, (is.username_text, sym username_bytes)), (role, (is.role_text, sym role_bytes)))
+
+  are_padded : ArePadded bs
+  are_padded = rw (first, second) (padding-field 20 username is.username_fits, padding-field 5 role is.role_fits)
+
+  no_fault : (fault : RecordFault) → IsFirstFault bs fault → ⊥
+  no_fault Length f = f has_length
+  no_fault Count f = f.1 counts_fit
+  no_fault Utf8 f = f.2 are_well_formed
+  no_fault Padding f = f.3 are_padded
+
+-- one test is the first that fails
+one_fault : (bs : List ℕ) (e f : RecordFault) → IsFirstFault bs e → IsFirstFault bs f → e ≡ f
+one_fault bs Length Length a b = refl
+one_fault bs Length Count a b = absurd (a b.0)
+one_fault bs Length Utf8 a b = absurd (a b.0)
+one_fault bs Length Padding a b = absurd (a b.0)
+one_fault bs Count Length a b = absurd (b a.0)
+one_fault bs Count Count a b = refl
+one_fault bs Count Utf8 a b = absurd (a.1 b.1)
+one_fault bs Count Padding a b = absurd (a.1 b.1)
+one_fault bs Utf8 Length a b = absurd (b a.0)
+one_fault bs Utf8 Count a b = absurd (b.1 a.1)
+one_fault bs Utf8 Utf8 a b = refl
+one_fault bs Utf8 Padding a b = absurd (a.2 b.2)
+one_fault bs Padding Length a b = absurd (b a.0)
+one_fault bs Padding Count a b = absurd (b.1 a.1)
+one_fault bs Padding Utf8 a b = absurd (b.2 a.2)
+one_fault bs Padding Padding a b = refl
+
+-- bytes are the record of one user
+pub one_user : (bs u r v s : List ℕ) → IsRecord bs u r → IsRecord bs v s → (u ≡ v) × (r ≡ s)
+one_user bs u r v s is other = (
+  bytes_same u v (sym (username_bytes bs u r is) ∙ username_bytes bs v s other),
+  bytes_same r s (sym (role_bytes bs u r is) ∙ role_bytes bs v s other),
+)
+
+-- what `decode` says of its answer
+pub record IsAnswered (bs : List ℕ) (result : Result User RecordFault) : Type 0 where
+  pub user : (username role : List ℕ) → IsOkAnd result (λ user. texts user ≡ (username, role)) ↔ IsRecord bs username role
+  pub only : (u r v s : List ℕ) → IsRecord bs u r → IsRecord bs v s → (u ≡ v) × (r ≡ s)
+  pub fault : (fault : RecordFault) → IsErrAnd result (λ told. told ≡ fault) ↔ IsFirstFault bs fault
+
+pub refused : (bs : List ℕ) (fault : RecordFault) → IsFirstFault bs fault → IsAnswered bs (Err fault)
+refused bs fault is = record {
+  user = λ u r. (λ none. absurd none, λ record_is. absurd (no_fault bs u r record_is fault is));
+  only = one_user bs;
+  fault = λ other. (λ same. subst (IsFirstFault bs) same is, λ first_is. one_fault bs fault other is first_is);
+}
+
+accept : (bs : List ℕ) (user : User) → IsRecord bs user.username.text user.role.text → IsAnswered bs (Ok user)
+accept bs user is =
+    let u = user.username.text in
+    let r = user.role.text in record {
+      user = λ v s. (
+        λ same. subst (λ p. IsRecord bs p.0 p.1) same is,
+        λ other. let both = one_user bs u r v s is other in λ i. (both.0 i, both.1 i),
+      );
+      only = one_user bs;
+      fault = λ fault. (λ none. absurd none, λ first_is. absurd (no_fault bs u r is fault first_is));
+    }
+
+-- what the tests of the two fields decide
+module _ (bs u r : List ℕ) (long : HasLength bs) (cut_at : u ≡ username_field bs) (rest : r ≡ role_field bs) where
+  pub refused_count : ¬ ((count u ≤ 20) × (count r ≤ 5)) → IsAnswered bs (Err Count)
+  refused_count fails = refused bs Count (long, λ fit. fails (rw (cut_at, rest) fit))
+
+  module _ (fits : (count u ≤ 20) × (count r ≤ 5)) where
+    pub refused_text : ¬ (IsWellFormed (counted u) × IsWellFormed (counted r)) → IsAnswered bs (Err Utf8)
+    refused_text fails = refused bs Utf8 (long, rw (cut_at, rest) at fits, λ well. fails (rw (cut_at, rest) well))
+
+    module _ (user : User) (name : IsText user.username.text × (bytes user.username.text ≡ counted u))
+        (role : IsText user.role.text × (bytes user.role.text ≡ counted r)) where
+      pub refused_padding : ¬ (All (λ b. b ≡ 0) (padding u) × All (λ b. b ≡ 0) (padding r)) → IsAnswered bs (Err Padding)
+      refused_padding fails =
+          let well : IsWellFormed (counted u) × IsWellFormed (counted r) = ((user.username.text, name), (user.role.text, role)) in
+          refused bs Padding (long, rw (cut_at, rest) at fits, rw (cut_at, rest) at well, λ padded. fails (rw (cut_at, rest) padded))
+
+      pub accepted : All (λ b. b ≡ 0) (padding u) → All (λ b. b ≡ 0) (padding r) → IsAnswered bs (Ok user)
+      accepted zero_u zero_r =
+          let long_u : length u ≡ 21 = ap length cut_at ∙ length-take-le 21 bs (omega arith) in
+          let long_r : length r ≡ 6 = ap length rest ∙ omega (arith, length-drop 21 bs) in
+          let is_u = field-is 20 u user.username.text long_u fits.0 name.1 zero_u in
+          let is_r = field-is 5 r user.role.text long_r fits.1 role.1 zero_r in
+          accept bs user record {
+            username_text = name.0;
+            role_text = role.0;
+            username_fits = omega (arith, ap count is_u);
+            role_fits = omega (arith, ap count is_r);
+            same = sym (take-append-drop 21 bs) ∙ rw (← cut_at, ← rest, is_u, is_r) refl;
+          }

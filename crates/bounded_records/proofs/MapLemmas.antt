@@ -1,0 +1,109 @@
+-- A map from strings to users, read by the texts of both.
+use Rattle.std.proofs.Common.{◌≡◌, ◌≢◌, ℕ, List, [], ◌∷◌, map, Bool, true, false, cond, Option, Some, refl, sym, ap, ◌∙◌}
+use Rattle.std.specs.List.{AllByRecursion, AllPairs}
+use Rattle.std.specs.List.Sorted.{IsStrictlySortedBy}
+use Rattle.std.specs.Option.{option_map}
+use Rattle.std.specs.Ordering.{nat_cmp, eq_by_cmp}
+use Rattle.std.specs.declared.cmp.Ordering.TheVariants.{Less}
+use Rattle.std.specs.Cmp.{eq_by_cmp_equiv}
+use Rattle.std.specs.Cmp.Lexicographic.{slice_cmp, nat_list_cmp_total}
+use Rattle.std.specs.BTreeMap.{is_at}
+use Rattle.std.specs.Map.{lookup, keys_of}
+use Rattle.std.specs.FinMap as finite
+use Rattle.std.specs.FinMap.{find, put}
+use Rattle.std.proofs.lemmas.Bool.{false_from_ne_true}
+use Rattle.std.proofs.lemmas.List.{nil_from_length}
+use Rattle.std.proofs.lemmas.Map.Keys.{Less-from_sorted}
+use Rattle.std.proofs.lemmas.Map.Lookups.{exact_bytes}
+use Rattle.std.proofs.lemmas.Map.Views.{tells_apart}
+use Rattle.arraystring.specs.Stored.{Stored}
+use Rattle.arraystring.specs.Text.{IsBefore}
+use Rattle.arraystring.specs.OrderLaws.{order-says}
+use Rattle.bounded_records.specs.declared.user.User.{User}
+use Rattle.bounded_records.specs.Users.{by_text, texts}
+
+-- the map from the texts
+abbrev pub users_of : List (Stored × User) → finite.FinMap (slice_cmp nat_cmp) (List ℕ × List ℕ)
+users_of es = finite.from_entries (by_text es)
+
+-- whether a key has the text q
+abbrev has_text : List ℕ → Stored → Bool
+has_text q = is_at (λ (k : Stored). slice_cmp nat_cmp q k.text)
+
+texts-cond : (b : Bool) (x y : Option User) → option_map texts (cond b x y) ≡ cond b (option_map texts x) (option_map texts y)
+texts-cond true x y = refl
+texts-cond false x y = refl
+
+find-by_text : (es : List (Stored × User)) (q : List ℕ) → find (slice_cmp nat_cmp) q (by_text es) ≡ option_map texts (lookup (has_text q) es)
+find-by_text [] q = refl
+find-by_text (e ∷ es) q =
+    ap (cond (eq_by_cmp (slice_cmp nat_cmp) q e.0.text) (Some (texts e.1))) (find-by_text es q)
+    ∙ sym (texts-cond (has_text q e.0) (Some e.1) (lookup (has_text q) es))
+
+pub get-users : (es : List (Stored × User)) (q : List ℕ) → finite.get (users_of es) q ≡ option_map texts (lookup (has_text q) es)
+get-users es q = finite.get-from_entries nat_list_cmp_total (by_text es) q ∙ find-by_text es q
+
+-- one user more
+pub insert-users : (old new : List (Stored × User)) (k : Stored) (u : User)
+    → ((q : Stored) → lookup (has_text q.text) new ≡ cond (has_text k.text q) (Some u) (lookup (has_text q.text) old))
+    → users_of new ≡ finite.insert (users_of old) k.text (texts u)
+insert-users old new k u is =
+    finite.same_map nat_list_cmp_total exact_bytes (users_of new) (finite.insert (users_of old) k.text (texts u))
+    (λ q. get-users new q ∙ ap (option_map texts) (is (record { text = q; spare = [] }))
+    ∙ texts-cond (has_text k.text (record { text = q; spare = [] })) (Some u) (lookup (has_text q) old)
+    ∙ ap (λ b. cond b (Some (texts u)) (option_map texts (lookup (has_text q) old))) ((eq_by_cmp_equiv nat_list_cmp_total).symm k.text q)
+    ∙ ap (cond (eq_by_cmp (slice_cmp nat_cmp) q k.text) (Some (texts u))) (sym (get-users old q))
+    ∙ sym (finite.get-insert nat_list_cmp_total (users_of old) k.text (texts u) q))
+
+-- what stands under a text afterwards
+module _ (m : finite.FinMap (slice_cmp nat_cmp) (List ℕ × List ℕ)) (t : List ℕ) (u : List ℕ × List ℕ) where
+  pub get-inserted : finite.get (finite.insert m t u) t ≡ Some u
+  get-inserted =
+      finite.get-insert nat_list_cmp_total m t u t
+      ∙ ap (λ b. cond b (Some u) (finite.get m t)) ((eq_by_cmp_equiv nat_list_cmp_total).refl t)
+
+  pub get-others : (q : List ℕ) → q ≢ t → finite.get (finite.insert m t u) q ≡ finite.get m q
+  get-others q ne =
+      finite.get-insert nat_list_cmp_total m t u q
+      ∙ ap (λ b. cond b (Some u) (finite.get m q)) (false_from_ne_true _ (λ is. ne (tells_apart exact_bytes q t is)))
+
+-- the texts ascend as the keys do
+abbrev pub key_texts : List Stored → List (List ℕ)
+key_texts ks = map (λ k. k.text) ks
+
+below-texts : (t : List ℕ) (ks : List Stored) → AllByRecursion (λ k. slice_cmp nat_cmp t k.text ≡ Less) ks
+    → AllByRecursion (λ x. slice_cmp nat_cmp t x ≡ Less) (key_texts ks)
+below-texts t [] is = tt
+below-texts t (k ∷ ks) is = (is.0, below-texts t ks is.1)
+
+sorted-texts : (ks : List Stored) → IsStrictlySortedBy (λ a b. slice_cmp nat_cmp a.text b.text) ks
+    → IsStrictlySortedBy (slice_cmp nat_cmp) (key_texts ks)
+unfolding IsStrictlySortedBy
+sorted-texts [] is = tt
+sorted-texts (k ∷ ks) is = (below-texts k.text ks is.0, sorted-texts ks is.1)
+
+pub ascending-texts : (ks : List Stored) → IsStrictlySortedBy (λ a b. slice_cmp nat_cmp a.text b.text) ks → AllPairs IsBefore (key_texts ks)
+ascending-texts ks is i j d lt within =
+    order-says _ _ Less (sym (Less-from_sorted (slice_cmp nat_cmp) (key_texts ks) i j d (sorted-texts ks is) lt within))
+
+-- the map's keys are these texts
+entries-empty : finite.entries (finite.empty {X = List ℕ × List ℕ} {R = slice_cmp nat_cmp}) ≡ []
+entries-empty = nil_from_length _ (sym (finite.len-entries _) ∙ finite.len-empty (slice_cmp nat_cmp) (List ℕ × List ℕ))
+
+entries-users : (es : List (Stored × User)) → IsStrictlySortedBy (λ a b. slice_cmp nat_cmp a.text b.text) (keys_of es)
+    → finite.entries (users_of es) ≡ by_text es
+unfolding IsStrictlySortedBy
+entries-users [] is = entries-empty
+entries-users (e ∷ []) is =
+    finite.entries-insert nat_list_cmp_total finite.empty e.0.text (texts e.1) ∙ ap (put (slice_cmp nat_cmp) e.0.text (texts e.1)) entries-empty
+entries-users (e ∷ f ∷ es) is =
+    finite.entries-insert nat_list_cmp_total (users_of (f ∷ es)) e.0.text (texts e.1)
+    ∙ ap (put (slice_cmp nat_cmp) e.0.text (texts e.1)) (entries-users (f ∷ es) is.1) ∙ rw is.0.0 refl
+
+first-texts : (es : List (Stored × User)) → keys_of (by_text es) ≡ key_texts (keys_of es)
+first-texts [] = refl
+first-texts (e ∷ es) = ap (λ l. e.0.text ∷ l) (first-texts es)
+
+pub keys-users : (es : List (Stored × User)) → IsStrictlySortedBy (λ a b. slice_cmp nat_cmp a.text b.text) (keys_of es)
+    → finite.keys (users_of es) ≡ key_texts (keys_of es)
+keys-users es is = ap keys_of (entries-users es is) ∙ first-texts es

@@ -1,0 +1,10 @@
+-- The names under which the faults are printed.
+use Rattle.std.specs.Prelude.{List, ℕ, codes}
+use Rattle.bounded_records.specs.declared.record.RecordFault.{RecordFault}
+use Rattle.bounded_records.specs.declared.record.RecordFault.TheVariants.{Length, Count, Utf8, Padding}
+
+abbrev pub fault_name : RecordFault → List ℕ
+fault_name Length = codes "Length"
+fault_name Count = codes "Count"
+fault_name Utf8 = codes "Utf8"
+fault_name Padding = codes "Padding"

@@ -1,0 +1,59 @@
+-- A user as a record of 27 bytes. A field of N places is a byte that counts and N bytes behind it.
+use Rattle.std.specs.Prelude.{◌≡◌, ℕ, ◌+◌, ◌-◌, ◌≤◌, List, ◌∷◌, ◌++◌, length, take, drop, replicate, slice_index}
+use Rattle.std.specs.List.{All}
+use Rattle.arraystring.specs.Text.{size, bytes, IsText, IsWellFormed}
+use Rattle.bounded_records.specs.declared.record.RecordFault.{RecordFault}
+use Rattle.bounded_records.specs.declared.record.RecordFault.TheVariants.{Length, Count, Utf8, Padding}
+
+-- a text in a field of so many places: the number of its bytes, its UTF-8, and zero bytes
+abbrev pub field_of : ℕ → List ℕ → List ℕ
+field_of places text = size text ∷ (bytes text ++ replicate (places - size text) 0)
+
+-- the record of a user: the username in a field of 20 places, the role in one of 5
+abbrev pub record_of : List ℕ → List ℕ → List ℕ
+record_of username role = field_of 20 username ++ field_of 5 role
+
+-- the bytes are the record of a user of these texts, which fit their fields
+pub record IsRecord (record_bytes username role : List ℕ) : Type 0 where
+  pub username_text : IsText username
+  pub role_text : IsText role
+  pub username_fits : size username ≤ 20
+  pub role_fits : size role ≤ 5
+  pub same : record_bytes ≡ record_of username role
+
+-- the two fields of 27 bytes
+abbrev pub username_field : List ℕ → List ℕ
+username_field bs = take 21 bs
+
+abbrev pub role_field : List ℕ → List ℕ
+role_field bs = drop 21 bs
+
+-- the count of a field, the bytes that it counts, and the bytes behind those
+abbrev pub count : List ℕ → ℕ
+count field = slice_index field 0
+
+abbrev pub counted : List ℕ → List ℕ
+counted field = take (count field) (drop 1 field)
+
+abbrev pub padding : List ℕ → List ℕ
+padding field = drop (1 + count field) field
+
+-- the four tests
+abbrev pub HasLength : List ℕ → Type 0
+HasLength bs = length bs ≡ 27
+
+abbrev pub CountsFit : List ℕ → Type 0
+CountsFit bs = (count (username_field bs) ≤ 20) × (count (role_field bs) ≤ 5)
+
+abbrev pub AreWellFormed : List ℕ → Type 0
+AreWellFormed bs = IsWellFormed (counted (username_field bs)) × IsWellFormed (counted (role_field bs))
+
+abbrev pub ArePadded : List ℕ → Type 0
+ArePadded bs = All (λ b. b ≡ 0) (padding (username_field bs)) × All (λ b. b ≡ 0) (padding (role_field bs))
+
+-- the test of the fault is the first that the bytes fail
+abbrev pub IsFirstFault : List ℕ → RecordFault → Type 0
+IsFirstFault bs Length = ¬ (HasLength bs)
+IsFirstFault bs Count = HasLength bs × ¬ (CountsFit bs)
+IsFirstFault bs Utf8 = HasLength bs × CountsFit bs × ¬ (AreWellFormed bs)
+IsFirstFault bs Padding = HasLength bs × CountsFit bs × AreWellFormed bs × ¬ (ArePadded bs)

@@ -1,0 +1,12 @@
+-- Users as contracts see them: by their texts.
+use Rattle.std.specs.Prelude.{ℕ, List, map}
+use Rattle.arraystring.specs.Stored.{Stored}
+use Rattle.bounded_records.specs.declared.user.User.{User}
+
+-- the texts of a user's username and role
+abbrev pub texts : User → List ℕ × List ℕ
+texts user = (user.username.text, user.role.text)
+
+-- the entries of a map from strings to users, by the texts of both
+abbrev pub by_text : List (Stored × User) → List (List ℕ × (List ℕ × List ℕ))
+by_text entries = map (λ e. (e.0.text, texts e.1)) entries

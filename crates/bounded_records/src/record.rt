@@ -1,0 +1,132 @@
+//! A user as a record of 27 bytes, and back.
+//!
+//! Byte 0 is the number of the username's bytes, 0 to 20. Bytes 1 to 20 are the username's UTF-8
+//! and then zero bytes. Byte 21 is the number of the role's bytes, 0 to 5. Bytes 22 to 26 are the
+//! role's UTF-8 and then zero bytes. A zero byte among the counted ones is the character U+0000 and
+//! no padding.
+ghost use Rattle.std.specs.Prelude.{◌≡◌, ◌<◌, ◌+◌, ◌≤◌, ◌↔◌, Some, ℕ, List, suc, length, replicate, IsTrue, IfOk, IfErr, OnErr, IsOkAnd};
+ghost use Rattle.std.specs.List.{All};
+ghost use Rattle.std.specs.Result.{IsErrAnd};
+ghost use Rattle.arraystring.specs.Text.{IsText, IsWellFormed, bytes, size};
+ghost use Rattle.bounded_records.specs.declared.record.RecordFault.{RecordFault};
+ghost use Rattle.bounded_records.specs.declared.record.RecordFault.TheVariants.{Utf8};
+ghost use Rattle.bounded_records.specs.Names.{fault_name};
+ghost use Rattle.bounded_records.specs.Records.{IsRecord, field_of, count, counted, padding, IsFirstFault};
+ghost use Rattle.bounded_records.specs.Users.{texts};
+
+use crate::User;
+use arraystring::ArrayString;
+use std::error::Error;
+use std::fmt;
+
+/// Why bytes are no record. The cases stand in the order of the tests, each of which judges the
+/// whole record.
+#[derive(Clone, Copy, PartialEq, Eq, Debug)]
+pub enum RecordFault {
+    /// The bytes are not 27.
+    Length,
+    /// A count is above the capacity of its text.
+    Count,
+    /// The counted bytes of a text are not well-formed UTF-8 (the Unicode Standard, section 3.9).
+    Utf8,
+    /// A byte behind the counted ones of a text is not zero.
+    Padding,
+}
+
+impl RecordFault {
+    /// The name of the case.
+    fn name(&self) -> &'static str
+        ensures { result.now ≡ fault_name self.now }
+    {
+        match self {
+            RecordFault::Length => "Length",
+            RecordFault::Count => "Count",
+            RecordFault::Utf8 => "Utf8",
+            RecordFault::Padding => "Padding",
+        }
+    }
+}
+
+/// The name alone, which does not pad to a width that is asked for.
+impl fmt::Display for RecordFault {
+    ghost output = { λ fault. Some (fault_name fault) };
+
+    ghost styled_output = { λ fault _. Some (fault_name fault) };
+
+    fn fmt<W: fmt::Write>(&self, f: &mut fmt::Formatter<W>) -> fmt::Result {
+        f.write_str(self.name())
+    }
+}
+
+impl Error for RecordFault {}
+
+/// The record of a user. It takes no memory.
+pub fn encode(user: &User) -> [u8; 27]
+    ensures { IsRecord result user.now.username.text user.now.role.text }
+{
+    let mut record = [0; 27];
+    let (username, role) = record.split_at_mut(21);
+    put(username, &user.username);
+    put(role, &user.role);
+    record
+}
+
+/// The user whose record `given` is, which is one alone. Refused with `Length` where there are not
+/// 27 bytes, else with `Count` where a count is above the capacity of its text, else with `Utf8`
+/// where counted bytes are not well-formed UTF-8, else with `Padding` where a byte behind them is
+/// not zero. It takes no memory.
+pub fn decode(given: &[u8]) -> Result<User, RecordFault>
+    ensures user { (username role : List ℕ) → IsOkAnd result (λ user. texts user ≡ (username, role)) ↔ IsRecord given.now username role }
+    ensures only { (username role other_username other_role : List ℕ) → IsRecord given.now username role → IsRecord given.now other_username other_role
+        → (username ≡ other_username) × (role ≡ other_role) }
+    ensures fault { (fault : RecordFault) → IsErrAnd result (λ told. told ≡ fault) ↔ IsFirstFault given.now fault }
+{
+    if given.len() != 27 {
+        return Err(RecordFault::Length);
+    }
+    let (username, role) = given.split_at(21);
+    if username[0] > 20 || role[0] > 5 {
+        return Err(RecordFault::Count);
+    }
+    let user = User {
+        username: text_of(username)?,
+        role: text_of(role)?,
+    };
+    if !is_padded(username) || !is_padded(role) {
+        return Err(RecordFault::Padding);
+    }
+    Ok(user)
+}
+
+/// Writes a text into a field of zero bytes.
+fn put<const N: usize>(field: &mut [u8], text: &ArrayString<N>)
+    requires { field.old ≡ replicate (suc N) 0 }
+    ensures field { field.new ≡ field_of N text.now.text }
+    ensures text { IsText text.now.text }
+    ensures fits { size text.now.text ≤ N }
+{
+    let end = 1 + text.len() as usize;
+    field[0] = text.len();
+    field[1..end].copy_from_slice(text.as_bytes());
+}
+
+/// The text of a field whose count fits. Refused with `Utf8` where its counted bytes are not
+/// well-formed UTF-8.
+fn text_of<const N: usize>(field: &[u8]) -> Result<ArrayString<N>, RecordFault>
+    requires long { length field.now ≡ 1 + N }
+    requires fits { count field.now ≤ N }
+    ensures ok { IfOk result (λ made. IsText made.text × (bytes made.text ≡ counted field.now)) }
+    ensures fault { IfErr result (λ fault. fault ≡ Utf8) }
+    ensures malformed { OnErr result (¬ (IsWellFormed (counted field.now))) }
+{
+    let end = 1 + field[0] as usize;
+    ArrayString::try_from_utf8(&field[1..end]).map_err(|_| RecordFault::Utf8)
+}
+
+/// Whether all bytes behind the counted ones are zero.
+fn is_padded(field: &[u8]) -> bool
+    requires { count field.now < length field.now }
+    ensures { IsTrue result ↔ All (λ b. b ≡ 0) (padding field.now) }
+{
+    field[1 + field[0] as usize..].iter().all(|&b| b == 0)
+}
