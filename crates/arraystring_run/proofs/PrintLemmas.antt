@@ -2,12 +2,12 @@
 use Rattle.std.proofs.Common.{◌≡◌, ℕ, List, [], ◌∷◌, ◌++◌, refl, sym, ap, subst, ◌∙◌, append_assoc, map, take, drop, take-append-drop, Option, Some, None, IfSome, Result, Ok, Err, OnOk}
 use Rattle.std.proofs.lemmas.List.{append-nil, map-append}
 use Rattle.std.proofs.lemmas.Fmt.{contents_after_writes}
-use Rattle.std.specs.Fmt.{WritesText}
+use Rattle.std.specs.Fmt.{WritesText, option_append}
 use Rattle.arraystring_run.specs.Runs.{Said, said}
 use Rattle.arraystring_run.specs.declared.commands.Reply.{Reply}
 use Rattle.std.proofs.KnownBytes.{Appends-nil, Appends-trans}
 use Rattle.std.specs.Io.KnownBytes.{Appends}
-use Rattle.arraystring_run.specs.Script.{ended, printed, replies_printed, AppendsFront}
+use Rattle.arraystring_run.specs.Script.{line_feed, ended, printed, replies_printed, AppendsFront}
 
 pub printed-more : (rs : List Said) (r : Said) → replies_printed (rs ++ r ∷ []) ≡ replies_printed rs ++ ended (printed r)
 printed-more [] r = append-nil (ended (printed r))
@@ -49,14 +49,16 @@ front-then a b c bs cs p q = record {
   appended = Appends-trans a b c bs q.done p q.appended;
 }
 
--- ---- a value that was printed into a string
+-- ---- a line that was printed into a string
 
 pub on-ok : {A E : Type 0} (r : Result A E) (P Q : Type 0) → (P → Q) → OnOk r P → OnOk r Q
 on-ok (Ok x) P Q f p = f p
 on-ok (Err e) P Q f p = tt
 
-pub shown : {W : Type 0} (contents : W → List ℕ) (o : Option (List ℕ)) (s t : W) (P : List ℕ → Type 0)
-    → WritesText (λ x given y. contents y ≡ contents x ++ given) s o t → contents s ≡ [] → P (contents t) → IfSome o P
-shown contents None s t P w none p = tt
-shown contents (Some bs) s t P w none p =
-    subst P (contents_after_writes (λ x given y. contents y ≡ contents x ++ given) contents (λ _ _ _ e. e) s bs t w ∙ ap (λ l. l ++ bs) none) p
+pub line_shown : {W : Type 0} (contents : W → List ℕ) (word : List ℕ) (o : Option (List ℕ)) (s t : W) (P : List ℕ → Type 0)
+    → WritesText (λ x given y. contents y ≡ contents x ++ given) s (option_append (Some word) (option_append o (Some (line_feed ∷ [])))) t
+    → contents s ≡ [] → P (contents t) → IfSome o (λ bs. P (ended (word ++ bs)))
+line_shown contents word None s t P w none p = tt
+line_shown contents word (Some bs) s t P w none p =
+    let line = word ++ (bs ++ line_feed ∷ []) in
+    subst P (contents_after_writes (λ x given y. contents y ≡ contents x ++ given) contents (λ _ _ _ e. e) s line t w ∙ ap (λ l. l ++ line) none ∙ sym (append_assoc word bs (line_feed ∷ []))) p

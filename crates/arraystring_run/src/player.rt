@@ -4,7 +4,7 @@ ghost use Rattle.std.specs.Io.KnownBytes.{IsAtEnd};
 ghost use Rattle.arraystring.specs.Text.{cap};
 ghost use Rattle.arraystring_run.specs.Script.{lines, IsBadAt, IfBadLine, IsPlayed, IsPartPlayed, AppendsFront, capacity_named, status_of, told_of, fault_line, usage_line};
 
-use crate::printing::{put_line, put_shown, write_all_replies};
+use crate::printing::{put, put_shown, write_all_replies};
 use crate::run;
 use crate::script::commands;
 use arraystring::ArrayString;
@@ -102,7 +102,7 @@ pub fn serve<I: Read, O: Write, E: Write>(
         Some("cache") => told(play::<63, I, O>(alloc, input, output), errors),
         Some("max") => told(play::<255, I, O>(alloc, input, output), errors),
         _ => {
-            let _ = put_line(errors, "usage: ", "arraystring_run small or cache or max");
+            let _ = put(errors, "usage: arraystring_run small or cache or max\n");
             2
         }
     }
@@ -121,15 +121,15 @@ fn told<E: Write>(played: Result<(), PlayFault>, errors: &mut E) -> u8
             2
         }
         Err(PlayFault::Memory) => {
-            let _ = put_line(errors, "out of memory", "");
+            let _ = put(errors, "out of memory\n");
             3
         }
         Err(PlayFault::Read) => {
-            let _ = put_line(errors, "read failed", "");
+            let _ = put(errors, "read failed\n");
             4
         }
         Err(PlayFault::Write) => {
-            let _ = put_line(errors, "write failed", "");
+            let _ = put(errors, "write failed\n");
             4
         }
     }

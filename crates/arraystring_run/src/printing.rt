@@ -33,17 +33,17 @@ fn write_reply<const N: usize, O: Write>(output: &mut O, reply: &Reply<N>) -> io
     ensures part { AppendsFront (O.contents output.old) (O.contents output.new) (ended (printed (said reply.now))) }
 {
     match reply {
-        Reply::Done => put_line(output, "done", ""),
+        Reply::Done => put(output, "done\n"),
         Reply::Char(ch) => put_shown(output, "char ", *ch),
-        Reply::NoChar => put_line(output, "no char", ""),
+        Reply::NoChar => put(output, "no char\n"),
         Reply::Text(text) => put_line(output, "text ", text.as_str()),
-        Reply::NoText => put_line(output, "no text", ""),
+        Reply::NoText => put(output, "no text\n"),
         Reply::Number(number) => put_shown(output, "number ", *number),
         Reply::Refused(error) => put_shown(output, "refused ", *error),
     }
 }
 
-/// Writes a line of a word and a short value.
+/// Writes a line of a word and a short value: at most 30 bytes, which `bad line ` and a `usize` take.
 pub(crate) fn put_shown<D: Display + Drop, O: Write>(
     output: &mut O,
     word: &str,
@@ -52,23 +52,23 @@ pub(crate) fn put_shown<D: Display + Drop, O: Write>(
     ensures whole { OnOk result (IfSome (D.output value) (λ bs. Appends (O.contents output.old) (O.contents output.new) (ended (word.now ++ bs)))) }
     ensures part { IfSome (D.output value) (λ bs. AppendsFront (O.contents output.old) (O.contents output.new) (ended (word.now ++ bs))) }
 {
-    let mut shown = ArrayString::<20>::new();
-    write!(shown, "{value}")?;
-    put_line(output, word, shown.as_str())
+    let mut line = ArrayString::<30>::new();
+    writeln!(line, "{word}{value}")?;
+    put(output, line.as_str())
 }
 
-/// Writes a line of two parts.
-pub(crate) fn put_line<O: Write>(output: &mut O, word: &str, rest: &str) -> io::Result<()>
-    ensures whole { OnOk result (Appends (O.contents output.old) (O.contents output.new) (ended (word.now ++ rest.now))) }
-    ensures part { AppendsFront (O.contents output.old) (O.contents output.new) (ended (word.now ++ rest.now)) }
+/// Writes a line of a word and a text.
+fn put_line<O: Write>(output: &mut O, word: &str, text: &str) -> io::Result<()>
+    ensures whole { OnOk result (Appends (O.contents output.old) (O.contents output.new) (ended (word.now ++ text.now))) }
+    ensures part { AppendsFront (O.contents output.old) (O.contents output.new) (ended (word.now ++ text.now)) }
 {
     put(output, word)?;
-    put(output, rest)?;
+    put(output, text)?;
     put(output, "\n")
 }
 
 /// Writes a text; an interrupted write is tried again.
-fn put<O: Write>(output: &mut O, text: &str) -> io::Result<()>
+pub(crate) fn put<O: Write>(output: &mut O, text: &str) -> io::Result<()>
     ensures whole { OnOk result (Appends (O.contents output.old) (O.contents output.new) text.now) }
     ensures part { AppendsFront (O.contents output.old) (O.contents output.new) text.now }
 {
