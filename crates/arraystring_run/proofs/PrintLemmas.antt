@@ -1,10 +1,64 @@
 -- Replies, part printed.
-use Rattle.std.proofs.Common.{◌≡◌, List, [], ◌∷◌, ◌++◌, sym, ap, ◌∙◌, append_assoc}
-use Rattle.std.proofs.lemmas.List.{append-nil}
-use Rattle.arraystring_run.specs.Runs.{Said}
-use Rattle.arraystring_run.specs.Script.{ended, printed, replies_printed}
+use Rattle.std.proofs.Common.{◌≡◌, ℕ, List, [], ◌∷◌, ◌++◌, refl, sym, ap, subst, ◌∙◌, append_assoc, map, take, drop, take-append-drop, Option, Some, None, IfSome, Result, Ok, Err, OnOk}
+use Rattle.std.proofs.lemmas.List.{append-nil, map-append}
+use Rattle.std.proofs.lemmas.Fmt.{contents_after_writes}
+use Rattle.std.specs.Fmt.{WritesText, option_append}
+use Rattle.arraystring_run.specs.Runs.{Said, said}
+use Rattle.arraystring_run.specs.declared.commands.Reply.{Reply}
+use Rattle.std.proofs.KnownBytes.{Appends-nil, Appends-trans}
+use Rattle.std.specs.Io.KnownBytes.{Appends}
+use Rattle.arraystring_run.specs.Script.{line_feed, ended, printed, replies_printed, AppendsFront}
 
 pub printed-more : (rs : List Said) (r : Said) → replies_printed (rs ++ r ∷ []) ≡ replies_printed rs ++ ended (printed r)
 printed-more [] r = append-nil (ended (printed r))
 printed-more (q ∷ rs) r =
     ap (λ l. ended (printed q) ++ l) (printed-more rs r) ∙ sym (append_assoc (ended (printed q)) (replies_printed rs) (ended (printed r)))
+
+printed-both : (rs qs : List Said) → replies_printed (rs ++ qs) ≡ replies_printed rs ++ replies_printed qs
+printed-both [] qs = refl
+printed-both (r ∷ rs) qs =
+    ap (λ l. ended (printed r) ++ l) (printed-both rs qs) ∙ sym (append_assoc (ended (printed r)) (replies_printed rs) (replies_printed qs))
+
+pub printed-parts : {N : ℕ} (rs : List (Reply N)) (i : ℕ)
+    → replies_printed (map said rs) ≡ replies_printed (map said (take i rs)) ++ replies_printed (map said (drop i rs))
+printed-parts rs i =
+    ap (λ l. replies_printed (map said l)) (sym (take-append-drop i rs)) ∙ ap replies_printed (map-append said (take i rs) (drop i rs))
+    ∙ printed-both (map said (take i rs)) (map said (drop i rs))
+
+-- ---- a leading part of what was to be appended
+
+pub front-none : (a : Option (List ℕ)) (bs : List ℕ) → AppendsFront a a bs
+front-none a bs = record { done = []; later = bs; whole = refl; appended = Appends-nil a }
+
+pub front-all : (a b : Option (List ℕ)) (bs : List ℕ) → Appends a b bs → AppendsFront a b bs
+front-all a b bs p = record { done = bs; later = []; whole = sym (append-nil bs); appended = p }
+
+pub front-more : (a b : Option (List ℕ)) (bs cs : List ℕ) → AppendsFront a b bs → AppendsFront a b (bs ++ cs)
+front-more a b bs cs p = record {
+  done = p.done;
+  later = p.later ++ cs;
+  whole = ap (λ l. l ++ cs) p.whole ∙ append_assoc p.done p.later cs;
+  appended = p.appended;
+}
+
+pub front-then : (a b c : Option (List ℕ)) (bs cs : List ℕ) → Appends a b bs → AppendsFront b c cs → AppendsFront a c (bs ++ cs)
+front-then a b c bs cs p q = record {
+  done = bs ++ q.done;
+  later = q.later;
+  whole = ap (λ l. bs ++ l) q.whole ∙ sym (append_assoc bs q.done q.later);
+  appended = Appends-trans a b c bs q.done p q.appended;
+}
+
+-- ---- a line that was printed into a string
+
+pub on-ok : {A E : Type 0} (r : Result A E) (P Q : Type 0) → (P → Q) → OnOk r P → OnOk r Q
+on-ok (Ok x) P Q f p = f p
+on-ok (Err e) P Q f p = tt
+
+pub line_shown : {W : Type 0} (contents : W → List ℕ) (word : List ℕ) (o : Option (List ℕ)) (s t : W) (P : List ℕ → Type 0)
+    → WritesText (λ x given y. contents y ≡ contents x ++ given) s (option_append (Some word) (option_append o (Some (line_feed ∷ [])))) t
+    → contents s ≡ [] → P (contents t) → IfSome o (λ bs. P (ended (word ++ bs)))
+line_shown contents word None s t P w none p = tt
+line_shown contents word (Some bs) s t P w none p =
+    let line = word ++ (bs ++ line_feed ∷ []) in
+    subst P (contents_after_writes (λ x given y. contents y ≡ contents x ++ given) contents (λ _ _ _ e. e) s line t w ∙ ap (λ l. l ++ line) none ∙ sym (append_assoc word bs (line_feed ∷ []))) p

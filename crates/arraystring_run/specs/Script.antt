@@ -84,6 +84,13 @@ replies_printed (r ∷ rs) = ended (printed r) ++ replies_printed rs
 abbrev pub all_printed : List Said → List ℕ → List ℕ
 all_printed rs t = replies_printed rs ++ ended (codes "final " ++ bytes t)
 
+-- some leading part of bs was appended
+pub record AppendsFront (old new : Option (List ℕ)) (bs : List ℕ) : Type 0 where
+  pub done : List ℕ
+  pub later : List ℕ
+  pub whole : bs ≡ done ++ later
+  pub appended : Appends old new done
+
 -- the printed lines of a run from the empty text at the capacity n
 abbrev pub run_printed : List Command → ℕ → List ℕ
 run_printed cs n = let ran = after cs [] n in all_printed ran.replies ran.text
@@ -91,6 +98,10 @@ run_printed cs n = let ran = after cs [] n in all_printed ran.replies ran.text
 -- the input is the lines of some commands, and the writer's bytes grew by the printed lines of their run
 abbrev pub IsPlayed : List ℕ → ℕ → Option (List ℕ) → Option (List ℕ) → Type 0
 IsPlayed input n old new = (cs : List Command) × AreLinesOf (lines input) cs × Appends old new (run_printed cs n)
+
+-- the input is the lines of some commands, and a leading part of the printed lines of their run was appended
+abbrev pub IsPartPlayed : List ℕ → ℕ → Option (List ℕ) → Option (List ℕ) → Type 0
+IsPartPlayed input n old new = (cs : List Command) × AreLinesOf (lines input) cs × AppendsFront old new (run_printed cs n)
 
 -- the capacity that a word names
 abbrev pub capacity_named : Option (Bor (List ℕ)) → Option ℕ
@@ -107,3 +118,19 @@ status_of (Err (BadLine k)) = 2
 status_of (Err Memory) = 3
 status_of (Err Read) = 4
 status_of (Err Write) = 4
+
+-- the line that says how a program is called
+abbrev pub usage_line : List ℕ
+usage_line = ended (codes "usage: arraystring_run small or cache or max")
+
+-- the line of a fault
+abbrev pub fault_line : PlayFault → List ℕ
+fault_line (BadLine k) = ended (codes "bad line " ++ decimal k)
+fault_line Memory = ended (codes "out of memory")
+fault_line Read = ended (codes "read failed")
+fault_line Write = ended (codes "write failed")
+
+-- what is said of a script that was played, or not
+abbrev pub told_of : {A : Type 0} → Result A PlayFault → List ℕ
+told_of (Ok _) = []
+told_of (Err e) = fault_line e

@@ -1,10 +1,10 @@
 //! A script played from a reader to a writer.
-ghost use Rattle.std.specs.Prelude.{◌≡◌, ◌≢◌, ◌≤◌, ℕ, None, IfOk, IfErr, IfSome, OnOk};
-ghost use Rattle.std.specs.Io.KnownBytes.{Keeps};
+ghost use Rattle.std.specs.Prelude.{◌≡◌, ◌≢◌, ◌≤◌, ◌⊎◌, ℕ, None, IfOk, IfErr, IfSome, OnOk};
+ghost use Rattle.std.specs.Io.KnownBytes.{IsAtEnd};
 ghost use Rattle.arraystring.specs.Text.{cap};
-ghost use Rattle.arraystring_run.specs.Script.{lines, IsBadAt, IfBadLine, IsPlayed, capacity_named, status_of};
+ghost use Rattle.arraystring_run.specs.Script.{lines, IsBadAt, IfBadLine, IsPlayed, IsPartPlayed, AppendsFront, capacity_named, status_of, told_of, fault_line, usage_line};
 
-use crate::printing::write_all_replies;
+use crate::printing::{put, put_shown, write_all_replies};
 use crate::run;
 use crate::script::commands;
 use arraystring::ArrayString;
@@ -37,8 +37,9 @@ const LARGEST: usize = usize::MAX / 4;
 /// Nothing is written before the whole script was read and accepted and the run was made, and no
 /// memory is taken after that. The faults come in this order: `Read` or `Memory` while the input is
 /// read, `BadLine` or `Memory` by whichever line or growth is met first, `Memory` of the run, and
-/// then `Write`, after which some beginning of the output may have gone out. A read that was
-/// interrupted is tried again. An `N` for which no memory has an array is want of memory.
+/// then `Write`, after which a leading part of the output has gone out, which may be none or all. A
+/// read that was interrupted is tried again. An `N` for which no memory has an array is want of
+/// memory.
 pub fn play<const N: usize, I: Read, O: Write>(
     alloc: Global,
     input: &mut I,
@@ -46,7 +47,10 @@ pub fn play<const N: usize, I: Read, O: Write>(
 ) -> Result<(), PlayFault>
     ensures played { OnOk result (IfSome (I.remaining input.old) (λ given. IsPlayed given (cap N) (O.contents output.old) (O.contents output.new))) }
     ensures bad_line { IfErr result (λ e. IfBadLine e (λ k. IfSome (I.remaining input.old) (λ given. IsBadAt (lines given) k))) }
-    ensures unwritten { IfErr result (λ e. e ≢ PlayFault.Write → Keeps (O.contents output.old) (O.contents output.new)) }
+    ensures unwritten { IfErr result (λ e. e ≢ PlayFault.Write → output.new ≡ output.old) }
+    ensures part_played { IfErr result (λ e. e ≡ PlayFault.Write → IfSome (I.remaining input.old) (λ given. IsPartPlayed given (cap N) (O.contents output.old) (O.contents output.new))) }
+    ensures end { OnOk result (IsAtEnd (I.remaining input.new)) }
+    ensures end_of_bad { IfErr result (λ e. IfBadLine e (λ _. IsAtEnd (I.remaining input.new))) }
 {
     let script = read_all(alloc, input)?;
     let commands = commands(alloc, &script)?;
@@ -77,12 +81,19 @@ pub fn serve<I: Read, O: Write, E: Write>(
     output: &mut O,
     errors: &mut E,
 ) -> u8
-    ensures other_word { capacity_named word.entry ≡ None → (result ≡ 2) × (input.new ≡ input.old) }
+    ensures other_word { capacity_named word.entry ≡ None → (result ≡ 2) × (input.new ≡ input.old) × (output.new ≡ output.old)
+        × AppendsFront (E.contents errors.old) (E.contents errors.new) usage_line }
     ensures played { IfSome (capacity_named word.entry) (λ n. result ≡ 0
         → IfSome (I.remaining input.old) (λ given. IsPlayed given n (O.contents output.old) (O.contents output.new))) }
     ensures bad_line { IfSome (capacity_named word.entry) (λ _. result ≡ 2
-        → IfSome (I.remaining input.old) (λ given. (k : ℕ) × IsBadAt (lines given) k)) }
-    ensures unwritten { result ≢ 0 → result ≢ 4 → Keeps (O.contents output.old) (O.contents output.new) }
+        → (k : ℕ) × IfSome (I.remaining input.old) (λ given. IsBadAt (lines given) k) × AppendsFront (E.contents errors.old) (E.contents errors.new) (fault_line (PlayFault.BadLine k))) }
+    ensures no_memory { result ≡ 3 → AppendsFront (E.contents errors.old) (E.contents errors.new) (fault_line PlayFault.Memory) }
+    ensures failed { IfSome (capacity_named word.entry) (λ n. result ≡ 4
+        → ((output.new ≡ output.old) × AppendsFront (E.contents errors.old) (E.contents errors.new) (fault_line PlayFault.Read))
+        ⊎ (IfSome (I.remaining input.old) (λ given. IsPartPlayed given n (O.contents output.old) (O.contents output.new))
+        × AppendsFront (E.contents errors.old) (E.contents errors.new) (fault_line PlayFault.Write))) }
+    ensures quiet { result ≡ 0 → errors.new ≡ errors.old }
+    ensures unwritten { result ≢ 0 → result ≢ 4 → output.new ≡ output.old }
     // 0, 2, 3 or 4
     ensures status { (result ≤ 4) × (result ≢ 1) }
 {
@@ -91,7 +102,7 @@ pub fn serve<I: Read, O: Write, E: Write>(
         Some("cache") => told(play::<63, I, O>(alloc, input, output), errors),
         Some("max") => told(play::<255, I, O>(alloc, input, output), errors),
         _ => {
-            let _ = errors.write_all(b"usage: arraystring_run small or cache or max\n");
+            let _ = put(errors, "usage: arraystring_run small or cache or max\n");
             2
         }
     }
@@ -99,24 +110,26 @@ pub fn serve<I: Read, O: Write, E: Write>(
 
 /// Writes the line of a fault, and answers the status.
 fn told<E: Write>(played: Result<(), PlayFault>, errors: &mut E) -> u8
-    ensures { result ≡ status_of played }
+    ensures status { result ≡ status_of played }
+    ensures line { AppendsFront (E.contents errors.old) (E.contents errors.new) (told_of played) }
+    ensures quiet { result ≡ 0 → errors.new ≡ errors.old }
 {
     match played {
         Ok(()) => 0,
         Err(PlayFault::BadLine(number)) => {
-            let _ = writeln!(errors, "bad line {number}");
+            let _ = put_shown(errors, "bad line ", number);
             2
         }
         Err(PlayFault::Memory) => {
-            let _ = errors.write_all(b"out of memory\n");
+            let _ = put(errors, "out of memory\n");
             3
         }
         Err(PlayFault::Read) => {
-            let _ = errors.write_all(b"read failed\n");
+            let _ = put(errors, "read failed\n");
             4
         }
         Err(PlayFault::Write) => {
-            let _ = errors.write_all(b"write failed\n");
+            let _ = put(errors, "write failed\n");
             4
         }
     }
@@ -124,6 +137,7 @@ fn told<E: Write>(played: Result<(), PlayFault>, errors: &mut E) -> u8
 
 /// Reads to the end; a refused growth and a failed read are told apart.
 fn read_all<I: Read>(alloc: Global, input: &mut I) -> Result<Vec<u8>, PlayFault>
+    ensures end { OnOk result (IsAtEnd (I.remaining input.new)) }
     ensures whole { IfOk result (λ v. IfSome (I.remaining input.old) (λ given. v.items ≡ given)) }
     ensures faults { IfErr result (λ e. e ≢ PlayFault.Write) }
     ensures no_line { IfErr result (λ e. IfBadLine e (λ _. ⊥)) }

@@ -1,12 +1,13 @@
 //! The lines that are printed of a run. Nothing here is given an allocator, so nothing takes
-//! memory.
-ghost use Rattle.std.specs.Prelude.{map, OnOk};
+//! memory. Where a write fails, what was written is a leading part of what was to be.
+ghost use Rattle.std.specs.Prelude.{◌++◌, map, IfSome, OnOk};
 ghost use Rattle.std.specs.Io.KnownBytes.{Appends};
 ghost use Rattle.arraystring_run.specs.Runs.{said};
-ghost use Rattle.arraystring_run.specs.Script.{ended, printed, all_printed};
+ghost use Rattle.arraystring_run.specs.Script.{ended, printed, all_printed, AppendsFront};
 
 use crate::Reply;
 use arraystring::ArrayString;
+use std::fmt::{Display, Write as _};
 use std::io;
 use std::io::Write;
 
@@ -16,30 +17,78 @@ pub(crate) fn write_all_replies<const N: usize, O: Write>(
     replies: &[Reply<N>],
     last: &ArrayString<N>,
 ) -> io::Result<()>
-    ensures { OnOk result (Appends (O.contents output.old) (O.contents output.new) (all_printed (map said replies.now) last.now.text)) }
+    ensures whole { OnOk result (Appends (O.contents output.old) (O.contents output.new) (all_printed (map said replies.now) last.now.text)) }
+    ensures part { AppendsFront (O.contents output.old) (O.contents output.new) (all_printed (map said replies.now) last.now.text) }
 {
     for reply in replies {
         write_reply(output, reply)?;
     }
-    let text = last.as_str();
-    writeln!(output, "final {text}")?;
+    put_line(output, "final ", last.as_str())?;
     output.flush()
 }
 
 /// Writes the line of a reply.
 fn write_reply<const N: usize, O: Write>(output: &mut O, reply: &Reply<N>) -> io::Result<()>
-    ensures { OnOk result (Appends (O.contents output.old) (O.contents output.new) (ended (printed (said reply.now)))) }
+    ensures whole { OnOk result (Appends (O.contents output.old) (O.contents output.new) (ended (printed (said reply.now)))) }
+    ensures part { AppendsFront (O.contents output.old) (O.contents output.new) (ended (printed (said reply.now))) }
 {
     match reply {
-        Reply::Done => output.write_all(b"done\n"),
-        Reply::Char(ch) => writeln!(output, "char {ch}"),
-        Reply::NoChar => output.write_all(b"no char\n"),
-        Reply::Text(text) => {
-            let text = text.as_str();
-            writeln!(output, "text {text}")
-        }
-        Reply::NoText => output.write_all(b"no text\n"),
-        Reply::Number(number) => writeln!(output, "number {number}"),
-        Reply::Refused(error) => writeln!(output, "refused {error}"),
+        Reply::Done => put(output, "done\n"),
+        Reply::Char(ch) => put_shown(output, "char ", *ch),
+        Reply::NoChar => put(output, "no char\n"),
+        Reply::Text(text) => put_line(output, "text ", text.as_str()),
+        Reply::NoText => put(output, "no text\n"),
+        Reply::Number(number) => put_shown(output, "number ", *number),
+        Reply::Refused(error) => put_shown(output, "refused ", *error),
     }
+}
+
+/// Writes a line of a word and a short value: at most 30 bytes, which `bad line ` and a `usize` take.
+pub(crate) fn put_shown<D: Display + Drop, O: Write>(
+    output: &mut O,
+    word: &str,
+    value: D,
+) -> io::Result<()>
+    ensures whole { OnOk result (IfSome (D.output value) (λ bs. Appends (O.contents output.old) (O.contents output.new) (ended (word.now ++ bs)))) }
+    ensures part { IfSome (D.output value) (λ bs. AppendsFront (O.contents output.old) (O.contents output.new) (ended (word.now ++ bs))) }
+{
+    let mut line = ArrayString::<30>::new();
+    writeln!(line, "{word}{value}")?;
+    put(output, line.as_str())
+}
+
+/// Writes a line of a word and a text.
+fn put_line<O: Write>(output: &mut O, word: &str, text: &str) -> io::Result<()>
+    ensures whole { OnOk result (Appends (O.contents output.old) (O.contents output.new) (ended (word.now ++ text.now))) }
+    ensures part { AppendsFront (O.contents output.old) (O.contents output.new) (ended (word.now ++ text.now)) }
+{
+    put(output, word)?;
+    put(output, text)?;
+    put(output, "\n")
+}
+
+/// Writes a text; an interrupted write is tried again.
+pub(crate) fn put<O: Write>(output: &mut O, text: &str) -> io::Result<()>
+    ensures whole { OnOk result (Appends (O.contents output.old) (O.contents output.new) text.now) }
+    ensures part { AppendsFront (O.contents output.old) (O.contents output.new) text.now }
+{
+    let mut rest = text.as_bytes();
+    for _ in 0..u64::MAX {
+        if rest.is_empty() {
+            return Ok(());
+        }
+        match output.write(rest) {
+            Ok(0) => return Err(io::ErrorKind::WriteZero.into()),
+            Ok(n) => {
+                rest = &rest[n..];
+                continue;
+            }
+            Err(e) => {
+                if e.kind() != io::ErrorKind::Interrupted {
+                    return Err(e);
+                }
+            }
+        }
+    }
+    Err(io::ErrorKind::Other.into())
 }

@@ -1,5 +1,6 @@
 //! Runs of commands, over one string and over two.
-ghost use Rattle.std.specs.Prelude.{◌≡◌, ◌≤◌, [], length, map, vec_len, if◌then◌else◌, IfOk, IsOk, OnOk, OnErr, Some, None};
+ghost use Rattle.std.specs.Prelude.{◌≡◌, ◌≤◌, [], length, map, vec_len, vec_capacity, if◌then◌else◌, IfOk, IsOk, OnOk, OnErr, Some, None};
+ghost use Rattle.std.specs.Vec.{vec_ptr};
 ghost use Rattle.arraystring.specs.Text.{cap, size};
 ghost use Rattle.arraystring_run.specs.Runs.{said, after, first_tight_from, earlier_of};
 ghost use Rattle.arraystring_run.specs.Agreement.{untight, AllAgree, IsNoSooner};
@@ -39,17 +40,40 @@ pub fn run<const N: usize>(
     // `len` says that the text fits, also where the run is refused
     let _fits = text.len();
     let mut replies = Vec::with_capacity(alloc, commands.len())?;
+    // only a list with room for a reply tells the size of one, which `fill` asks for
     let mut first_tight = None;
-    for (position, command) in commands.iter().enumerate() {
-        let (reply, is_tight) = step(text, *command);
-        first_tight = earlier(first_tight, is_tight, position);
-        replies.push_reserved(reply);
+    if !commands.is_empty() {
+        first_tight = fill(text, commands, &mut replies);
     }
     let _fits = text.len();
     Ok(Outcome {
         replies,
         first_tight,
     })
+}
+
+/// Makes each command in turn, and adds its reply to a list that has room for all replies and
+/// stays where it is.
+fn fill<const N: usize>(
+    text: &mut ArrayString<N>,
+    commands: &[Command<'_>],
+    replies: &mut Vec<Reply<N>>,
+) -> Option<usize>
+    requires empty { vec_len replies.old ≡ 0 }
+    requires room { length commands.now ≤ vec_capacity replies.old }
+    ensures replies { map said replies.new.items ≡ (after commands.now text.old.text (cap N)).replies }
+    ensures one_each { vec_len replies.new ≡ length commands.now }
+    ensures in_place { vec_ptr replies.new ≡ vec_ptr replies.old }
+    ensures text { text.new.text ≡ (after commands.now text.old.text (cap N)).text }
+    ensures first_tight { result ≡ first_tight_from 0 commands.now text.old.text (cap N) }
+{
+    let mut first_tight = None;
+    for (position, command) in commands.iter().enumerate() {
+        let (reply, is_tight) = step(text, *command);
+        first_tight = earlier(first_tight, is_tight, position);
+        replies.push_reserved(reply);
+    }
+    first_tight
 }
 
 /// Makes the same commands on two strings, as `run` does on each.
@@ -88,11 +112,10 @@ pub fn run_both<const N: usize, const M: usize>(
     let _fits = (first.len(), second.len());
     let mut second_replies = Vec::with_capacity(alloc, commands.len())?;
     let first_outcome = run(alloc, first, commands)?;
+    // only a list with room for a reply tells the size of one, which `fill` asks for
     let mut first_tight = None;
-    for (position, command) in commands.iter().enumerate() {
-        let (reply, is_tight) = step(second, *command);
-        first_tight = earlier(first_tight, is_tight, position);
-        second_replies.push_reserved(reply);
+    if !commands.is_empty() {
+        first_tight = fill(second, commands, &mut second_replies);
     }
     let _fits = second.len();
     Ok((
