@@ -19,8 +19,10 @@ use std::fmt;
 use std::ops::Add;
 use std::str::FromStr;
 
+mod compare;
+
 /// A string of at most 63 bytes of UTF-8. What it has no call for is called on the string inside.
-#[derive(Clone, Copy, Default, PartialEq, Eq, PartialOrd, Ord, Hash, Debug)]
+#[derive(Clone, Copy, Debug)]
 pub struct CacheString(pub ArrayString<63>);
 
 impl CacheString {
@@ -207,6 +209,15 @@ impl CacheString {
         ensures { Makes (split self.old.0.text at) self.old.0.text (with_text (inside result)) self.new.0.text }
     {
         Ok(CacheString(self.0.split_off(at)?))
+    }
+}
+
+/// The empty string.
+impl Default for CacheString {
+    ghost is_default = { λ s. s.0.text ≡ [] };
+
+    fn default() -> Self {
+        Self::new()
     }
 }
 

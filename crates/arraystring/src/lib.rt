@@ -47,4 +47,6 @@ pub mod prelude {
 #[cfg(test)]
 mod parity;
 #[cfg(test)]
+mod surface;
+#[cfg(test)]
 mod tests;

@@ -1,6 +1,7 @@
 //! The example of the README, and the other doors to the string.
 use super::prelude::{MaxString, OutOfBounds, SmallString};
 use super::{ArrayString, Error};
+use std::alloc::Global;
 use std::cmp::Ordering;
 use std::hash::{DefaultHasher, Hash, Hasher};
 use std::test::Fail;
@@ -122,4 +123,59 @@ fn a_string_that_was_trimmed_is_as_one_made_at_once(rt: HostRuntime) -> Result<(
     ArrayString::<8>::try_from_str("ab")?.hash(&mut fourth);
     assert_eq!(rt; third.finish(), fourth.finish());
     Ok(())
+}
+
+/// Text of `count` letters.
+fn letters(alloc: Global, count: usize) -> Result<String, Fail> {
+    Ok("a".repeat(alloc, count)?)
+}
+
+#[test]
+fn no_capacity_is_above_255(rt: HostRuntime) -> Result<(), Fail> {
+    assert_eq!(rt; ArrayString::<300>::capacity(), 255);
+    let most = letters(rt.alloc(), 255)?;
+    let string = ArrayString::<300>::try_from_str(&most)?;
+    assert_eq!(rt; string.as_str(), most.as_str());
+    let more = letters(rt.alloc(), 256)?;
+    assert_eq!(rt; ArrayString::<300>::try_from_str(&more), Err(OutOfBounds));
+    Ok(())
+}
+
+#[test]
+fn room_is_asked_before_the_place(rt: HostRuntime) {
+    let mut text = SmallString::from("ABCD🤔");
+    assert_eq!(rt; text.try_insert(1, 'A'), Ok(()));
+    assert_eq!(rt; text.try_insert(2, 'B'), Ok(()));
+    assert_eq!(rt; text.as_str(), "AABBCD🤔");
+    assert_eq!(rt; text.try_insert(20, 'C'), Err(Error::OutOfBounds));
+    assert_eq!(rt; text.try_insert(8, 'D'), Err(Error::Utf8));
+    assert_eq!(rt; text.as_str(), "AABBCD🤔");
+    let mut full = SmallString::from("abcdefghijklmnopqrstuvw");
+    assert_eq!(rt; full.try_insert(0, 'C'), Err(Error::OutOfBounds));
+    assert_eq!(rt; full.as_str(), "abcdefghijklmnopqrstuvw");
+    let mut face = ArrayString::<4>::from("🤔");
+    assert_eq!(rt; face.try_insert(1, 'x'), Err(Error::OutOfBounds));
+    assert_eq!(rt; face.insert_str(1, "x"), Err(Error::Utf8));
+    assert_eq!(rt; face.as_str(), "🤔");
+}
+
+#[test]
+fn a_full_text_is_replaced(rt: HostRuntime) {
+    let mut text = ArrayString::<4>::from("abcd");
+    assert_eq!(rt; text.replace_range(0..4, "x"), Ok(()));
+    assert_eq!(rt; text.as_str(), "x");
+    let mut text = ArrayString::<4>::from("abcd");
+    assert_eq!(rt; text.replace_range(0..0, "xy"), Err(Error::OutOfBounds));
+    assert_eq!(rt; text.as_str(), "abcd");
+}
+
+#[test]
+fn the_bytes_are_those_of_utf8(rt: HostRuntime) {
+    let shown = ArrayString::<8>::from_utf16_lossy(&[0xD834, 0xDD1E, 0xD800]);
+    let bytes = [0xF0, 0x9D, 0x84, 0x9E, 0xEF, 0xBF, 0xBD];
+    assert_eq!(rt; shown.as_bytes(), bytes.as_slice());
+    assert_eq!(rt;
+        ArrayString::<8>::from("\u{1D11E}\u{FFFD}").as_bytes(),
+        bytes.as_slice()
+    );
 }

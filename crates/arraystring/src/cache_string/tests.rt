@@ -1,5 +1,9 @@
 //! Each call once, on values worked out by hand.
+ghost use Rattle.std.specs.Prelude.{◌≡◌, ◌↔◌, IsTrue, IfOk};
+
 use super::*;
+use crate::integration::NotText;
+use std::alloc::AllocError;
 use std::cmp::Ordering;
 use std::fmt::Write;
 use std::hash::{DefaultHasher, Hash, Hasher};
@@ -129,6 +133,20 @@ fn a_string_is_split(rt: HostRuntime) {
     assert_eq!(rt; text.0.as_str(), "AB🤔");
 }
 
+/// A clone has the text.
+fn cloned(string: &CacheString) -> Result<CacheString, AllocError>
+    ensures { IfOk result (λ clone. clone.0.text ≡ string.now.0.text) }
+{
+    string.clone()
+}
+
+/// What a caller can say of a comparison.
+fn is_same_text(left: &CacheString, right: &CacheString) -> bool
+    ensures { IsTrue result ↔ (left.now.0.text ≡ right.now.0.text) }
+{
+    left == right && left.cmp(right) == Ordering::Equal
+}
+
 fn hash_of<T: Hash>(value: &T) -> u64 {
     let mut state = DefaultHasher::new();
     value.hash(&mut state);
@@ -136,13 +154,15 @@ fn hash_of<T: Hash>(value: &T) -> u64 {
 }
 
 #[test]
-fn texts_are_compared_and_hashed(rt: HostRuntime) {
+fn texts_are_compared_and_hashed(rt: HostRuntime) -> Result<(), Fail> {
     let low = CacheString::from_str_truncate("\u{FFFF}");
     let high = CacheString::from_str_truncate("\u{10000}");
     assert_eq!(rt; low.cmp(&high), Ordering::Less);
     assert_eq!(rt; high.partial_cmp(&low), Some(Ordering::Greater));
     assert!(rt; low != high);
+    assert!(rt; is_same_text(&low, &cloned(&low)?) && !is_same_text(&low, &high));
     assert_eq!(rt; hash_of(&low), hash_of(&"\u{FFFF}"));
+    Ok(())
 }
 
 #[test]
@@ -153,6 +173,52 @@ fn texts_are_printed(rt: HostRuntime) -> Result<(), Fail> {
         printed.as_str(),
         "abc|abc|CacheString(ArrayString { array: \"abc\", size: 3 })"
     );
+    Ok(())
+}
+
+#[test]
+fn no_text_is_padded(rt: HostRuntime) -> Result<(), Fail> {
+    for text in ["", ZEROS_63, "aé€🤔"] {
+        let string = CacheString::from_str_truncate(text);
+        let printed = format!(in rt.alloc(); "{string}")?;
+        assert_eq!(rt; printed.as_str(), text);
+        let padded = format!(in rt.alloc(); "{string:2}|{string:>70}|{string:^70}|{string:.1}")?;
+        let wanted = format!(in rt.alloc(); "{text}|{text}|{text}|{text}")?;
+        assert_eq!(rt; padded.as_str(), wanted.as_str());
+    }
+    Ok(())
+}
+
+#[test]
+fn a_debug_text_on_lines_of_its_own(rt: HostRuntime) -> Result<(), Fail> {
+    let string = CacheString::from_str_truncate("aé€🤔");
+    let printed = format!(in rt.alloc(); "{string:#?}")?;
+    let wanted =
+        "CacheString(\n    ArrayString {\n        array: \"aé€🤔\",\n        size: 10,\n    },\n)";
+    assert_eq!(rt; printed.as_str(), wanted);
+    // A width is handed on to the fields, as derived forms do.
+    let abc = CacheString::from_str_truncate("abc");
+    let printed = format!(in rt.alloc(); "{abc:5?}")?;
+    assert_eq!(rt;
+        printed.as_str(),
+        "CacheString(ArrayString { array: \"abc\", size:     3 })"
+    );
+    Ok(())
+}
+
+#[test]
+fn refusals_print_their_name_in_each_form(rt: HostRuntime) -> Result<(), Fail> {
+    let error = Error::OutOfBounds;
+    let printed = format!(in rt.alloc(); "{error}|{error:20}|{error:?}|{error:#?}|{error:>20?}")?;
+    assert_eq!(rt;
+        printed.as_str(),
+        "OutOfBounds|OutOfBounds|Error::OutOfBounds|Error::OutOfBounds|Error::OutOfBounds"
+    );
+    let refusal = NotText;
+    let printed = format!(in rt.alloc();
+        "{refusal}|{refusal:12}|{refusal:?}|{refusal:#?}|{refusal:>12?}"
+    )?;
+    assert_eq!(rt; printed.as_str(), "NotText|NotText|NotText|NotText|NotText");
     Ok(())
 }
 
