@@ -4,6 +4,8 @@ ghost use Rattle.arraystring_base.specs.Text.{cap, cut};
 
 use super::*;
 
+mod edges;
+
 pub(crate) type SmallString = ArrayString<23>;
 
 pub(crate) type MaxString = ArrayString<255>;

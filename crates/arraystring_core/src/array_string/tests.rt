@@ -123,3 +123,38 @@ fn printed_for_debugging(rt: HostRuntime) -> Result<(), Fail> {
     assert_eq!(rt; printed.as_str(), "ArrayString { array: \"abc\", size: 3 }");
     Ok(())
 }
+
+#[test]
+fn the_size_that_is_printed_counts_bytes(rt: HostRuntime) -> Result<(), Fail> {
+    let mut text: ArrayString<8> = ArrayString::new();
+    text.push_str("aé");
+    assert_eq!(rt; text.remove(0).is_ok(), true);
+    let printed = format!(in rt.alloc(); "{text:?}")?;
+    assert_eq!(rt; printed.as_str(), "ArrayString { array: \"é\", size: 2 }");
+    Ok(())
+}
+
+#[test]
+fn printed_for_debugging_on_lines_and_in_a_width(rt: HostRuntime) -> Result<(), Fail> {
+    let mut text: ArrayString<8> = ArrayString::new();
+    text.push_str("abc");
+    let printed = format!(in rt.alloc(); "{text:#?}")?;
+    assert_eq!(rt;
+        printed.as_str(),
+        "ArrayString {\n    array: \"abc\",\n    size: 3,\n}"
+    );
+    let printed = format!(in rt.alloc(); "{text:4?}")?;
+    assert_eq!(rt;
+        printed.as_str(),
+        "ArrayString { array: \"abc\", size:    3 }"
+    );
+    Ok(())
+}
+
+#[test]
+fn bytes_of_characters(rt: HostRuntime) {
+    let mut text: ArrayString<8> = ArrayString::new();
+    text.push_str("\u{1D11E}\u{FFFD}");
+    let wanted = [0xF0, 0x9D, 0x84, 0x9E, 0xEF, 0xBF, 0xBD];
+    assert_eq!(rt; text.as_bytes(), wanted.as_slice());
+}

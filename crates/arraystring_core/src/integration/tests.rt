@@ -13,6 +13,16 @@ fn a_string_is_read_back(rt: HostRuntime) -> Result<(), Fail> {
 }
 
 #[test]
+fn a_full_string_is_read_back(rt: HostRuntime) -> Result<(), Fail> {
+    let letters = "abcde".repeat(rt.alloc(), 51)?;
+    let string = ArrayString::<255>::from(letters.as_str());
+    let value = string.to_value(rt.alloc())?;
+    assert_eq!(rt; value.as_str(), Some(letters.as_str()));
+    assert_eq!(rt; ArrayString::from_value(&value), Ok(string));
+    Ok(())
+}
+
+#[test]
 fn a_text_is_cut_to_the_capacity(rt: HostRuntime) -> Result<(), Fail> {
     let letters = "abcdefghij".repeat(rt.alloc(), 7)?;
     let value = Value::String(letters);

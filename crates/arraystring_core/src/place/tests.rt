@@ -116,6 +116,36 @@ fn a_trimmed_string_grows(rt: HostRuntime) {
     assert_eq!(rt; most.try_push('x'), Err(OutOfBounds));
 }
 
+/// The string with `given` before the index, where it fits, and how many bytes moved.
+fn inserted(text: ArrayString<8>, index: u8, given: &str) -> (ArrayString<8>, u64) {
+    let mut text = text;
+    let mut steps = Steps::new();
+    let _ = text.try_insert_str_counted(index, given, &mut steps);
+    (text, steps.moved())
+}
+
+#[test]
+fn an_insertion_with_room_behind_the_text_moves_what_is_behind_it(rt: HostRuntime) {
+    let [behind, _] = both("abcd");
+    assert_eq!(rt; inserted(behind, 3, "x"), (string("abcxd"), 1));
+    assert_eq!(rt; inserted(behind, 0, "x"), (string("xabcd"), 4));
+    assert_eq!(rt; inserted(behind, 4, "xy"), (string("abcdxy"), 0));
+}
+
+#[test]
+fn what_a_removal_leaves_stays_where_it_is_until_it_grows(rt: HostRuntime) {
+    let mut text: ArrayString<8> = string("abcdefgh");
+    assert_eq!(rt; text.remove(0), Ok('a'));
+    assert_eq!(rt; inserted(text, 7, "x"), (string("bcdefghx"), 7));
+}
+
+#[test]
+fn what_a_drain_leaves_stays_where_it_is_until_it_grows(rt: HostRuntime) {
+    let mut text: ArrayString<8> = string("abcdefgh");
+    assert_eq!(rt; left_of(text.drain(..2)), Ok(string("ab")));
+    assert_eq!(rt; inserted(text, 6, "x"), (string("cdefghx"), 6));
+}
+
 #[test]
 fn texts_are_lent(rt: HostRuntime) {
     for text in both("abCDef") {

@@ -52,6 +52,28 @@ fn a_width_does_not_pad(rt: HostRuntime) -> Result<(), Fail> {
 }
 
 #[test]
+fn a_text_of_each_width_is_printed_whole(rt: HostRuntime) -> Result<(), Fail> {
+    for text in ["", "a", "é", "€", "🤔", "aé€🤔bé"] {
+        let string: ArrayString<23> = ArrayString::from(text);
+        let printed = format!(in rt.alloc(); "{string}|{string:9}|{string:>9}")?;
+        let wanted = format!(in rt.alloc(); "{text}|{text}|{text}")?;
+        assert_eq!(rt; printed.as_str(), wanted.as_str());
+    }
+    Ok(())
+}
+
+#[test]
+fn a_full_text_is_printed_whole(rt: HostRuntime) -> Result<(), Fail> {
+    let letters = "abcde".repeat(rt.alloc(), 51)?;
+    let string: ArrayString<255> = ArrayString::from(letters.as_str());
+    let printed = format!(in rt.alloc(); "{string}")?;
+    assert_eq!(rt; printed.as_str(), letters.as_str());
+    let printed = format!(in rt.alloc(); "{string:300}")?;
+    assert_eq!(rt; printed.as_str(), letters.as_str());
+    Ok(())
+}
+
+#[test]
 fn a_sum_is_cut(rt: HostRuntime) {
     let ab: ArrayString<3> = ArrayString::from("ab");
     assert_eq!(rt; (ab + "cd").as_str(), "abc");

@@ -134,6 +134,81 @@ fn a_lent_iterator_has_given_what_did_not_fit(rt: HostRuntime) {
     assert_eq!(rt; lent.next(), Some("ef"));
 }
 
+/// The string of the characters, if they fit, and the next of them that was not taken.
+fn of_lent_chars<const N: usize>(
+    given: &str,
+) -> (Result<ArrayString<N>, OutOfBounds>, Option<char>) {
+    let mut lent = given.chars();
+    (ArrayString::try_from_chars(&mut lent), lent.next())
+}
+
+/// The string of the pieces, if they fit, and the next of them that was not taken.
+fn of_lent_pieces<'a, const N: usize>(
+    given: &[&'a str],
+) -> (Result<ArrayString<N>, OutOfBounds>, Option<&'a str>) {
+    let mut lent = given.iter().copied();
+    (ArrayString::try_from_iterator(lent.by_ref()), lent.next())
+}
+
+/// The text with characters behind it, and the next of them that was not taken.
+fn with_lent_chars<const N: usize>(text: &str, given: &str) -> (ArrayString<N>, Option<char>) {
+    let mut made = ArrayString::from(text);
+    let mut lent = given.chars();
+    made.extend_chars(&mut lent);
+    (made, lent.next())
+}
+
+/// The text with pieces behind it, and the next of them that was not taken.
+fn with_lent_pieces<'a, const N: usize>(
+    text: &str,
+    given: &[&'a str],
+) -> (ArrayString<N>, Option<&'a str>) {
+    let mut made = ArrayString::from(text);
+    let mut lent = given.iter().copied();
+    made.extend_strs(lent.by_ref());
+    (made, lent.next())
+}
+
+#[test]
+fn characters_are_taken_up_to_the_first_that_does_not_fit(rt: HostRuntime) {
+    assert_eq!(rt; of_lent_chars::<5>("ab🤔cd"), (Err(OutOfBounds), Some('c')));
+    assert_eq!(rt;
+        of_lent_chars::<5>("abcdexyz"),
+        (Err(OutOfBounds), Some('y'))
+    );
+    let wanted = ArrayString::<23>::from("abcde");
+    assert_eq!(rt; of_lent_chars("abcde"), (Ok(wanted), None));
+    let wanted = ArrayString::<5>::from("abc");
+    assert_eq!(rt; with_lent_chars("ab", "c🤔de"), (wanted, Some('d')));
+    let wanted = ArrayString::<5>::from("abcde");
+    assert_eq!(rt; with_lent_chars("abc", "dexyz"), (wanted, Some('y')));
+}
+
+#[test]
+fn pieces_are_taken_up_to_the_first_that_does_not_fit(rt: HostRuntime) {
+    let pieces = ["ab", "c🤔", "d", "e"];
+    assert_eq!(rt; of_lent_pieces::<5>(&pieces), (Err(OutOfBounds), Some("d")));
+    let wanted = ArrayString::<23>::from("abc🤔de");
+    assert_eq!(rt; of_lent_pieces(&pieces), (Ok(wanted), None));
+    let wanted = ArrayString::<7>::from("xyabc");
+    assert_eq!(rt; with_lent_pieces("xy", &pieces), (wanted, Some("d")));
+    let wanted = ArrayString::<5>::from("xyzab");
+    assert_eq!(rt; with_lent_pieces("xyz", &pieces), (wanted, Some("d")));
+}
+
+#[test]
+fn a_full_string_takes_one_more_item(rt: HostRuntime) {
+    let letters = [b'x'; 255];
+    let Ok(full) = ArrayString::<255>::from_utf8(&letters) else {
+        return assert!(rt; false, "letters are text");
+    };
+    assert_eq!(rt; with_lent_chars(full.as_str(), "abc"), (full, Some('b')));
+    assert_eq!(rt;
+        with_lent_pieces(full.as_str(), &["a", "b"]),
+        (full, Some("b"))
+    );
+}
+
 #[test]
 fn bytes_are_judged_whole(rt: HostRuntime) {
     assert_eq!(rt;

@@ -137,6 +137,14 @@ fn a_full_string(rt: HostRuntime) {
 }
 
 #[test]
+fn a_full_string_of_letters(rt: HostRuntime) {
+    let mut text: SmallString = string("abcdefghijklmnopqrstuvw");
+    assert_eq!(rt; text.len(), 23);
+    assert_eq!(rt; text.try_insert(0, 'C'), Err(Error::OutOfBounds));
+    assert_eq!(rt; text.as_str(), "abcdefghijklmnopqrstuvw");
+}
+
+#[test]
 fn room_is_asked_before_the_place(rt: HostRuntime) {
     let mut text: ArrayString<4> = string("🤔");
     for index in 1..4 {

@@ -234,6 +234,13 @@ fn the_size_of_the_result_decides(rt: HostRuntime) {
 }
 
 #[test]
+fn a_whole_text_is_replaced(rt: HostRuntime) {
+    let mut text: ArrayString<4> = string("abcd");
+    assert_eq!(rt; text.replace_range(0..4, "x"), Ok(()));
+    assert_eq!(rt; text.as_str(), "x");
+}
+
+#[test]
 fn what_is_replaced_can_be_put_back(rt: HostRuntime) {
     let before: SmallString = string("ABCD🤔");
     let mut text = before;

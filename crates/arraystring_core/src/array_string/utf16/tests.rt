@@ -58,6 +58,13 @@ fn faults(rt: HostRuntime) {
 }
 
 #[test]
+fn a_replacement_needs_three_bytes(rt: HostRuntime) {
+    assert!(rt; is_faulty(&[0xD800], string::<1>("")));
+    assert!(rt; is_faulty(&[0xD800], string::<2>("")));
+    assert!(rt; is_faulty(&[0xD800], string::<3>("\u{FFFD}")));
+}
+
+#[test]
 fn the_first_stop_decides(rt: HostRuntime) {
     assert!(rt;
         is_faulty(&[0x61, 0x62, 0xD800], string::<2>("ab")),

@@ -47,3 +47,14 @@ fn what_is_left_is_printed(rt: HostRuntime) -> Result<(), Fail> {
     assert_eq!(rt; printed.as_str(), "Drain(\"bc\")");
     Ok(())
 }
+
+#[test]
+fn what_is_left_is_printed_on_lines_and_in_a_width(rt: HostRuntime) -> Result<(), Fail> {
+    let drain = drained("bc");
+    let printed = format!(in rt.alloc(); "{drain:#?}|{drain:12?}|{drain:>12?}")?;
+    assert_eq!(rt;
+        printed.as_str(),
+        "Drain(\n    \"bc\",\n)|Drain(\"bc\")|Drain(\"bc\")"
+    );
+    Ok(())
+}
