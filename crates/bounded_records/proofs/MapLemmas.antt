@@ -40,30 +40,30 @@ find-by_text (e ∷ es) q =
     ap (cond (eq_by_cmp (slice_cmp nat_cmp) q e.0.text) (Some (texts e.1))) (find-by_text es q)
     ∙ sym (texts-cond (has_text q e.0) (Some e.1) (lookup (has_text q) es))
 
-pub get-users : (es : List (Stored × User)) (q : List ℕ) → finite.get (users_of es) q ≡ option_map texts (lookup (has_text q) es)
-get-users es q = finite.get-from_entries nat_list_cmp_total (by_text es) q ∙ find-by_text es q
+pub get_users : (es : List (Stored × User)) (q : List ℕ) → finite.get (users_of es) q ≡ option_map texts (lookup (has_text q) es)
+get_users es q = finite.get-from_entries nat_list_cmp_total (by_text es) q ∙ find-by_text es q
 
 -- one user more
-pub insert-users : (old new : List (Stored × User)) (k : Stored) (u : User)
+pub insert_users : (old new : List (Stored × User)) (k : Stored) (u : User)
     → ((q : Stored) → lookup (has_text q.text) new ≡ cond (has_text k.text q) (Some u) (lookup (has_text q.text) old))
     → users_of new ≡ finite.insert (users_of old) k.text (texts u)
-insert-users old new k u is =
+insert_users old new k u is =
     finite.same_map nat_list_cmp_total exact_bytes (users_of new) (finite.insert (users_of old) k.text (texts u))
-    (λ q. get-users new q ∙ ap (option_map texts) (is (record { text = q; spare = [] }))
+    (λ q. get_users new q ∙ ap (option_map texts) (is (record { text = q; spare = [] }))
     ∙ texts-cond (has_text k.text (record { text = q; spare = [] })) (Some u) (lookup (has_text q) old)
     ∙ ap (λ b. cond b (Some (texts u)) (option_map texts (lookup (has_text q) old))) ((eq_by_cmp_equiv nat_list_cmp_total).symm k.text q)
-    ∙ ap (cond (eq_by_cmp (slice_cmp nat_cmp) q k.text) (Some (texts u))) (sym (get-users old q))
+    ∙ ap (cond (eq_by_cmp (slice_cmp nat_cmp) q k.text) (Some (texts u))) (sym (get_users old q))
     ∙ sym (finite.get-insert nat_list_cmp_total (users_of old) k.text (texts u) q))
 
 -- what stands under a text afterwards
 module _ (m : finite.FinMap (slice_cmp nat_cmp) (List ℕ × List ℕ)) (t : List ℕ) (u : List ℕ × List ℕ) where
-  pub get-inserted : finite.get (finite.insert m t u) t ≡ Some u
-  get-inserted =
+  pub get_inserted : finite.get (finite.insert m t u) t ≡ Some u
+  get_inserted =
       finite.get-insert nat_list_cmp_total m t u t
       ∙ ap (λ b. cond b (Some u) (finite.get m t)) ((eq_by_cmp_equiv nat_list_cmp_total).refl t)
 
-  pub get-others : (q : List ℕ) → q ≢ t → finite.get (finite.insert m t u) q ≡ finite.get m q
-  get-others q ne =
+  pub get_others : (q : List ℕ) → q ≢ t → finite.get (finite.insert m t u) q ≡ finite.get m q
+  get_others q ne =
       finite.get-insert nat_list_cmp_total m t u q
       ∙ ap (λ b. cond b (Some u) (finite.get m q)) (false_from_ne_true _ (λ is. ne (tells_apart exact_bytes q t is)))
 
@@ -82,8 +82,8 @@ unfolding IsStrictlySortedBy
 sorted-texts [] is = tt
 sorted-texts (k ∷ ks) is = (below-texts k.text ks is.0, sorted-texts ks is.1)
 
-pub ascending-texts : (ks : List Stored) → IsStrictlySortedBy (λ a b. slice_cmp nat_cmp a.text b.text) ks → AllPairs IsBefore (key_texts ks)
-ascending-texts ks is i j d lt within =
+pub ascending_texts : (ks : List Stored) → IsStrictlySortedBy (λ a b. slice_cmp nat_cmp a.text b.text) ks → AllPairs IsBefore (key_texts ks)
+ascending_texts ks is i j d lt within =
     order-says _ _ Less (sym (Less-from_sorted (slice_cmp nat_cmp) (key_texts ks) i j d (sorted-texts ks is) lt within))
 
 -- the map's keys are these texts
@@ -104,6 +104,6 @@ first-texts : (es : List (Stored × User)) → keys_of (by_text es) ≡ key_text
 first-texts [] = refl
 first-texts (e ∷ es) = ap (λ l. e.0.text ∷ l) (first-texts es)
 
-pub keys-users : (es : List (Stored × User)) → IsStrictlySortedBy (λ a b. slice_cmp nat_cmp a.text b.text) (keys_of es)
+pub keys_users : (es : List (Stored × User)) → IsStrictlySortedBy (λ a b. slice_cmp nat_cmp a.text b.text) (keys_of es)
     → finite.keys (users_of es) ≡ key_texts (keys_of es)
-keys-users es is = ap keys_of (entries-users es is) ∙ first-texts es
+keys_users es is = ap keys_of (entries-users es is) ∙ first-texts es

@@ -51,6 +51,7 @@ impl Directory {
 
     /// Puts `user` under its username and answers the user that stood there; all other users stay.
     /// Refused only for want of memory; the directory is then as it was.
+    #[tactic(auto, using(crate::proofs::MapLemmas::get_users, crate::proofs::MapLemmas::insert_users, crate::proofs::MapLemmas::get_inserted))]
     pub fn insert(&mut self, user: User) -> Result<Option<User>, AllocError>
         ensures old { IfOk result (λ old. option_map texts old ≡ map.get self.old user.username.text) }
         ensures after { OnOk result (self.new ≡ map.insert self.old user.username.text (texts user)) }
@@ -62,6 +63,7 @@ impl Directory {
     }
 
     /// The user under `username`; `None` where there is none. It takes no memory.
+    #[tactic(auto, using(crate::proofs::MapLemmas::get_users))]
     pub fn get(&self, username: &ArrayString<20>) -> Option<&User>
         ensures { option_map texts (option_copied result) ≡ map.get self.now username.now.text }
     {
@@ -70,6 +72,7 @@ impl Directory {
 
     /// The usernames, each once, in ascending order of their characters, which is that of their
     /// bytes. It takes no memory.
+    #[tactic(auto, using(crate::proofs::MapLemmas::keys_users))]
     pub fn names(&self) -> Names<'_>
         ensures keys { result ≡ map.keys self.now }
         ensures ascending { AllPairs IsBefore result }

@@ -11,7 +11,7 @@ ghost use Rattle.arraystring.specs.Text.{IsText, IsWellFormed, bytes, size};
 ghost use Rattle.bounded_records.specs.declared.record.RecordFault.{RecordFault};
 ghost use Rattle.bounded_records.specs.declared.record.RecordFault.TheVariants.{Utf8};
 ghost use Rattle.bounded_records.specs.Names.{fault_name};
-ghost use Rattle.bounded_records.specs.Records.{IsRecord, field_of, count, counted, padding, IsFirstFault};
+ghost use Rattle.bounded_records.specs.Records.{IsRecord, field_of, count, counted, padding, HasLength, IsFirstFault};
 ghost use Rattle.bounded_records.specs.Users.{texts};
 
 use crate::User;
@@ -81,24 +81,25 @@ pub fn decode(given: &[u8]) -> Result<User, RecordFault>
         → (username ≡ other_username) × (role ≡ other_role) }
     ensures fault { (fault : RecordFault) → IsErrAnd result (λ told. told ≡ fault) ↔ IsFirstFault given.now fault }
 {
-    if given.len() != 27 {
+    if !has_length(given) {
         return Err(RecordFault::Length);
     }
     let (username, role) = given.split_at(21);
-    if username[0] > 20 || role[0] > 5 {
+    if !counts_fit(username, role) {
         return Err(RecordFault::Count);
     }
     let user = User {
         username: text_of(username)?,
         role: text_of(role)?,
     };
-    if !is_padded(username) || !is_padded(role) {
+    if !are_padded(username, role) {
         return Err(RecordFault::Padding);
     }
     Ok(user)
 }
 
 /// Writes a text into a field of zero bytes.
+#[tactic(auto, using(crate::proofs::FieldLemmas::written))]
 fn put<const N: usize>(field: &mut [u8], text: &ArrayString<N>)
     requires { field.old ≡ replicate (suc N) 0 }
     ensures field { field.new ≡ field_of N text.now.text }
@@ -108,6 +109,22 @@ fn put<const N: usize>(field: &mut [u8], text: &ArrayString<N>)
     let end = 1 + text.len() as usize;
     field[0] = text.len();
     field[1..end].copy_from_slice(text.as_bytes());
+}
+
+/// Whether there are as many bytes as a record has.
+fn has_length(given: &[u8]) -> bool
+    ensures { IsTrue result ↔ HasLength given.now }
+{
+    given.len() == 27
+}
+
+/// Whether both fields count no more bytes than they have places.
+fn counts_fit(username: &[u8], role: &[u8]) -> bool
+    requires username { 0 < length username.now }
+    requires role { 0 < length role.now }
+    ensures { IsTrue result ↔ ((count username.now ≤ 20) × (count role.now ≤ 5)) }
+{
+    username[0] <= 20 && role[0] <= 5
 }
 
 /// The text of a field whose count fits. Refused with `Utf8` where its counted bytes are not
@@ -121,6 +138,15 @@ fn text_of<const N: usize>(field: &[u8]) -> Result<ArrayString<N>, RecordFault>
 {
     let end = 1 + field[0] as usize;
     ArrayString::try_from_utf8(&field[1..end]).map_err(|_| RecordFault::Utf8)
+}
+
+/// Whether all bytes behind the counted ones are zero, in both fields.
+fn are_padded(username: &[u8], role: &[u8]) -> bool
+    requires username { count username.now < length username.now }
+    requires role { count role.now < length role.now }
+    ensures { IsTrue result ↔ (All (λ b. b ≡ 0) (padding username.now) × All (λ b. b ≡ 0) (padding role.now)) }
+{
+    is_padded(username) && is_padded(role)
 }
 
 /// Whether all bytes behind the counted ones are zero.
