@@ -217,8 +217,8 @@ fn counted_truncate(text: &mut String, size: u8) -> bool {
 
 #[inline(never)]
 fn counted_trim(text: &mut String) {
-    text.truncate(text.trim_end_matches(' ').len());
-    let start = text.len() - text.trim_start_matches(' ').len();
+    text.truncate(text.trim_end().len());
+    let start = text.len() - text.trim_start().len();
     text.drain(..start);
 }
 

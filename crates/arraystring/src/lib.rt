@@ -33,7 +33,7 @@ pub mod laws {
     };
     pub use arraystring_core::laws::{
         equal_texts, json_reads_back, pieces_make_one_text, popped, replaced_back, split_back,
-        trimmed, units_read_back, walks, what_comes_past_the_room,
+        trimmed, units_read_back, walks, what_comes_past_the_room, white_space,
     };
 }
 

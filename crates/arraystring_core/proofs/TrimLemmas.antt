@@ -1,18 +1,12 @@
--- The spaces at the ends of a text.
-use Rattle.std.proofs.Common.{◌≡◌, ℕ, List, [], ◌∷◌, ◌++◌, length, refl, sym, ap, subst, ◌∙◌, arith, Bool, true, false, inl, inr}
-use Rattle.std.proofs.lemmas.Bool.{cases_Bool, eqb-true}
+-- The characters at the ends of a text that pass a test.
+use Rattle.std.proofs.Common.{◌≡◌, ℕ, List, [], ◌∷◌, ◌++◌, refl, sym, ap, subst, ◌∙◌, Bool, true, false, inl, inr}
+use Rattle.std.proofs.lemmas.Bool.{cases_Bool}
 use Rattle.std.proofs.lemmas.List.{append_assoc, reverse-append, reverse-reverse}
 use Rattle.std.proofs.lemmas.List.Elements.{All-nil, All-cons, All-head, All-tail, All-append}
 use Rattle.std.proofs.lemmas.List.Sums.{take_while-cons}
 use Rattle.std.specs.Prelude.{All, IfSome, take_while, reverse}
-use Rattle.arraystring_base.specs.Text.{width, size, back, boundary}
-use Rattle.arraystring_base.specs.BoundaryLaws.{boundary-is, back-is}
-use Rattle.arraystring_core.specs.Edits.{first_of, last_of, without_leading, without_trailing, is_space}
+use Rattle.arraystring_core.specs.Edits.{first_of, last_of, without_leading, without_trailing}
 use Rattle.arraystring_core.specs.EditLaws.{last_of-push}
-
-space-width : width 32 ≡ 1
-unfolding width
-space-width = refl
 
 -- the characters that pass, and those from the first that does not
 leading-parts : (p : ℕ → Bool) (t : List ℕ) → take_while p t ++ without_leading p t ≡ t
@@ -23,29 +17,13 @@ leading-parts p (c ∷ cs) =
       | inr stops ↦ rw (take_while-cons p c cs, stops) refl
     ]
 
--- each space takes one byte
-spaces-size : (t : List ℕ) → size (take_while is_space t) ≡ length (take_while is_space t)
-spaces-size [] = refl
-spaces-size (c ∷ cs) =
-    elim (cases_Bool (is_space c)) [
-      | inl passes ↦
-          let wide : width c ≡ 1 = ap width (eqb-true c 32 passes) ∙ space-width in
-          rw (take_while-cons is_space c cs, passes) (omega (arith, wide, spaces-size cs))
-      | inr stops ↦ rw (take_while-cons is_space c cs, stops) refl
-    ]
+-- a first character that passes is dropped, and one that does not stays
+pub without_leading-passes : (p : ℕ → Bool) (c : ℕ) (cs : List ℕ) → p c ≡ true → without_leading p (c ∷ cs) ≡ without_leading p cs
+without_leading-passes p c cs passes = rw passes refl
 
--- the place behind the spaces at the start
-module _ (t : List ℕ) (k : ℕ) (is : k ≡ length (take_while is_space t)) where
-  long : size (take_while is_space t) ≡ k
-  long = spaces-size t ∙ sym is
-
-  pub leading-boundary : boundary t k ≡ true
-  leading-boundary =
-      ap (λ l. boundary l k) (sym (leading-parts is_space t)) ∙ boundary-is (take_while is_space t) (without_leading is_space t) k long
-
-  pub back-leading : back t k ≡ without_leading is_space t
-  back-leading =
-      ap (λ l. back l k) (sym (leading-parts is_space t)) ∙ back-is (take_while is_space t) (without_leading is_space t) k long
+pub without_leading-stops : (p : ℕ → Bool) (text : List ℕ) (c : ℕ) (cs : List ℕ) → text ≡ c ∷ cs → p c ≡ false
+    → without_leading p text ≡ text
+without_leading-stops p text c cs parts stops = ap (without_leading p) parts ∙ rw stops (sym parts)
 
 -- a last character that passes is dropped, and one that does not stays
 pub without_trailing-passes : (p : ℕ → Bool) (t : List ℕ) (c : ℕ) → p c ≡ true
@@ -97,25 +75,25 @@ All-reverse P (c ∷ cs) h =
     (All-append P (reverse cs) (c ∷ []) (All-reverse P cs (All-tail P c cs h)) (All-cons P c [] (All-head P c cs h) (All-nil P)))
 
 -- a text between what is dropped at its ends
-module _ (t : List ℕ) where
+module _ (p : ℕ → Bool) (t : List ℕ) where
   abbrev kept : List ℕ
-  kept = without_trailing is_space t
+  kept = without_trailing p t
 
-  trailing-parts : t ≡ kept ++ reverse (take_while is_space (reverse t))
+  trailing-parts : t ≡ kept ++ reverse (take_while p (reverse t))
   trailing-parts =
-      sym (reverse-reverse t) ∙ ap reverse (sym (leading-parts is_space (reverse t)))
-      ∙ reverse-append (take_while is_space (reverse t)) (without_leading is_space (reverse t))
+      sym (reverse-reverse t) ∙ ap reverse (sym (leading-parts p (reverse t)))
+      ∙ reverse-append (take_while p (reverse t)) (without_leading p (reverse t))
 
-  pub trimmed-parts : t ≡ take_while is_space kept ++ (without_leading is_space kept ++ reverse (take_while is_space (reverse t)))
+  pub trimmed-parts : t ≡ take_while p kept ++ (without_leading p kept ++ reverse (take_while p (reverse t)))
   trimmed-parts =
-      trailing-parts ∙ ap (λ l. l ++ reverse (take_while is_space (reverse t))) (sym (leading-parts is_space kept))
-      ∙ append_assoc (take_while is_space kept) (without_leading is_space kept) (reverse (take_while is_space (reverse t)))
+      trailing-parts ∙ ap (λ l. l ++ reverse (take_while p (reverse t))) (sym (leading-parts p kept))
+      ∙ append_assoc (take_while p kept) (without_leading p kept) (reverse (take_while p (reverse t)))
 
-  pub trailing-pass : (P : ℕ → Type 0) → ((c : ℕ) → is_space c ≡ true → P c) → All P (reverse (take_while is_space (reverse t)))
-  trailing-pass P of_true = All-reverse P (take_while is_space (reverse t)) (leading-pass P is_space of_true (reverse t))
+  pub trailing-pass : (P : ℕ → Type 0) → ((c : ℕ) → p c ≡ true → P c) → All P (reverse (take_while p (reverse t)))
+  trailing-pass P of_true = All-reverse P (take_while p (reverse t)) (leading-pass P p of_true (reverse t))
 
-  pub trailing-bare : (P : ℕ → Type 0) → ((c : ℕ) → is_space c ≡ false → P c) → IfSome (last_of (without_leading is_space kept)) P
+  pub trailing-bare : (P : ℕ → Type 0) → ((c : ℕ) → p c ≡ false → P c) → IfSome (last_of (without_leading p kept)) P
   trailing-bare P of_false =
-      last-bare P (take_while is_space kept) (without_leading is_space kept)
-      (subst (λ l. IfSome (last_of l) P) (sym (leading-parts is_space kept))
-      (subst (λ o. IfSome o P) (sym (last_of-reverse (without_leading is_space (reverse t)))) (leading-bare P is_space of_false (reverse t))))
+      last-bare P (take_while p kept) (without_leading p kept)
+      (subst (λ l. IfSome (last_of l) P) (sym (leading-parts p kept))
+      (subst (λ o. IfSome o P) (sym (last_of-reverse (without_leading p (reverse t)))) (leading-bare P p of_false (reverse t))))

@@ -1,9 +1,13 @@
 -- Laws of edits: when a cause holds, and what an edit then does.
-use Rattle.std.proofs.Common.{◌≡◌, ℕ, ◌+◌, ◌<◌, ◌≤◌, List, [], ◌∷◌, ◌++◌, ap, ◌∙◌, arith, true, false, inl, inr, refl, sym, subst, Option, Some, None, Result, Ok, Err}
+use Rattle.std.proofs.Common.{◌≡◌, ℕ, ◌+◌, ◌<◌, ◌≤◌, List, [], ◌∷◌, ◌++◌, ap, ◌∙◌, arith, suc, true, false, inl, inr, refl, sym, subst, Option, Some, None, Result, Ok, Err}
 use Rattle.std.proofs.lemmas.Bool.{cases_lt, lt-ltb, le-ltb, and_right, both_ways}
+use Rattle.std.proofs.Math.Bool.{or_assoc, or-false}
+use Rattle.std.proofs.lemmas.Bool.Decides.{nat_tests}
+use Rattle.std.specs.Char.{is_whitespace}
+use Rattle.std.specs.Prelude.{◌&&◌, ◌||◌, ◌==◌, nat_le, nat_lt}
 use Rattle.arraystring_base.specs.Text.{size, boundary}
 use Rattle.arraystring_base.specs.BoundaryLaws.{boundary-end}
-use Rattle.arraystring_core.specs.Edits.{Cause, Room, Edit, Makes, first_cause, text_of, error_of, ok_unless, inside, addition, from_out_of_bounds, last_of, all_but_last}
+use Rattle.arraystring_core.specs.Edits.{Cause, Room, Edit, Makes, first_cause, text_of, error_of, ok_unless, inside, addition, from_out_of_bounds, last_of, all_but_last, is_white_space}
 use Rattle.arraystring_base.specs.declared.error.Error.{Error}
 
 -- an edit with a cause, and one without
@@ -81,3 +85,31 @@ addition-err t given new n e m =
       | inl over ↦ (over, m.err)
       | inr fits ↦ let is = m.answer ∙ ap (λ f. ok_unless f tt) (addition-fits t given n fits) in absurd (cc)
     ]
+
+-- the ranges of white space are those of `char::is_whitespace`
+range-std : (a b c : ℕ) → (nat_le (suc a) c && nat_le c b) ≡ (nat_lt a c && nat_lt c (suc b))
+range-std a b c = grind (arith, nat_tests)
+
+pair-std : (a c : ℕ) → (nat_le a c && nat_le c (suc a)) ≡ (c == a || c == suc a)
+pair-std a c = grind (arith, nat_tests)
+
+single-std : (a c : ℕ) → (nat_le a c && nat_le c a) ≡ (c == a)
+single-std a c = grind (arith, nat_tests)
+
+pub is_white_space_std : (c : ℕ) → is_white_space c ≡ is_whitespace c
+unfolding is_white_space
+is_white_space_std c =
+    simp (
+      range-std 0x0008 0x000D c,
+      single-std 0x0020 c,
+      single-std 0x0085 c,
+      single-std 0x00A0 c,
+      single-std 0x1680 c,
+      range-std 0x1FFF 0x200A c,
+      pair-std 0x2028 c,
+      single-std 0x202F c,
+      single-std 0x205F c,
+      single-std 0x3000 c,
+      or_assoc,
+      or-false,
+    ) refl

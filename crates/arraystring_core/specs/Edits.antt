@@ -1,5 +1,5 @@
 -- What each edit does to a text: its causes in the order of its tests, its answer, and the text after.
-use Rattle.std.specs.Prelude.{◌≡◌, ℕ, ◌+◌, ◌-◌, List, [], ◌∷◌, ◌++◌, Bool, not, ◌&&◌, ◌==◌, Option, Some, None, Result, Ok, Err, OnOk, OnErr, if◌then◌else◌, nat_lt, nat_le, is_none, slice_index, drop, map, reverse}
+use Rattle.std.specs.Prelude.{◌≡◌, ℕ, ◌+◌, ◌-◌, List, [], ◌∷◌, ◌++◌, Bool, false, not, ◌&&◌, ◌||◌, ◌==◌, Option, Some, None, Result, Ok, Err, OnOk, OnErr, if◌then◌else◌, nat_lt, nat_le, is_none, slice_index, drop, map, reverse}
 use Rattle.std.specs.Char.{to_ascii_uppercase, to_ascii_lowercase}
 use Rattle.arraystring_base.specs.Text.{size, cut, front, back, boundary}
 use Rattle.arraystring_core.specs.Stored.{Stored}
@@ -117,8 +117,21 @@ part t start end = back (front t end) start
 abbrev pub part_in : List ℕ → ℕ → ℕ → Option (List ℕ)
 part_in t start end = if nat_le start end && (boundary t start && boundary t end) then Some (part t start end) else None
 
+-- the space, U+0020
 abbrev pub is_space : ℕ → Bool
 is_space c = c == 0x20
+
+-- c is in one of these ranges, each given by its first and its last character
+abbrev pub in_ranges : List (ℕ × ℕ) → ℕ → Bool
+in_ranges [] c = false
+in_ranges ((first, last) ∷ ranges) c = (nat_le first c && nat_le c last) || in_ranges ranges c
+
+-- the characters with the property White_Space of the Unicode Standard (UAX #44, file PropList.txt), and no others
+unfoldable pub is_white_space : ℕ → Bool
+is_white_space = in_ranges (
+    (0x0009, 0x000D) ∷ (0x0020, 0x0020) ∷ (0x0085, 0x0085) ∷ (0x00A0, 0x00A0) ∷ (0x1680, 0x1680)
+    ∷ (0x2000, 0x200A) ∷ (0x2028, 0x2029) ∷ (0x202F, 0x202F) ∷ (0x205F, 0x205F) ∷ (0x3000, 0x3000) ∷ []
+    )
 
 -- the table
 
@@ -148,8 +161,9 @@ insertion_of_cut t i given n = record {
 abbrev pub truncation : List ℕ → ℕ → Edit (Unit {0})
 truncation t i = record { tests = inside t i ∷ []; answer = tt; after = front t i }
 
-abbrev pub trimming : List ℕ → Edit (Unit {0})
-trimming t = record { tests = []; answer = tt; after = without_leading is_space (without_trailing is_space t) }
+-- the characters at both ends that pass are dropped
+abbrev pub trimming : (ℕ → Bool) → List ℕ → Edit (Unit {0})
+trimming passes t = record { tests = []; answer = tt; after = without_leading passes (without_trailing passes t) }
 
 -- the character that begins at i is taken out
 abbrev pub removal : List ℕ → ℕ → Edit ℕ

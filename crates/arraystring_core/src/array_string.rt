@@ -19,6 +19,7 @@ mod extend;
 mod insert;
 mod range;
 mod remove;
+mod trim;
 mod utf16;
 
 /// A string of at most `N` bytes of UTF-8, and at most 255, that lies in the value itself. In all

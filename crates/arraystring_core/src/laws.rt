@@ -1,6 +1,7 @@
 //! Laws of strings, which callers may rely on. Each does nothing when it is called and carries its
 //! fact in its contract.
-ghost use Rattle.std.specs.Prelude.{◌≡◌, ◌≢◌, ◌+◌, ◌-◌, ◌<◌, ◌≤◌, ◌++◌, ◌∷◌, ◌↔◌, ℕ, List, [], All, IfSome, IsTrue, None, Some, Result, IsOkAnd, length, map, nat_eq, reverse, chars};
+ghost use Rattle.std.specs.Prelude.{◌≡◌, ◌≢◌, ◌+◌, ◌-◌, ◌<◌, ◌≤◌, ◌++◌, ◌∷◌, ◌↔◌, ℕ, Bool, false, List, [], All, IfSome, IsTrue, None, Some, Result, IsOkAnd, length, map, nat_eq, reverse, chars};
+ghost use Rattle.std.specs.Char.{is_whitespace};
 ghost use Rattle.std.specs.Cmp.Lexicographic.{pointwise};
 ghost use Rattle.std.specs.Hash as fed;
 ghost use Rattle.arraystring_base.specs.Text.{IsText, bytes, cut, size};
@@ -9,7 +10,7 @@ ghost use Rattle.arraystring_base.specs.declared.error.Utf16.{Utf16};
 ghost use Rattle.arraystring_base.specs.declared.utf16.Unit16.{Unit16};
 ghost use Rattle.arraystring_base.specs.Utf16.{IsReading, first_stop, lossy_text, text_units};
 ghost use Rattle.arraystring_core.specs.Drained.{End, walked};
-ghost use Rattle.arraystring_core.specs.Edits.{first_cause, first_of, last_of, part, popping, replacement, split, trimming};
+ghost use Rattle.arraystring_core.specs.Edits.{first_cause, first_of, last_of, part, popping, replacement, split, trimming, is_white_space};
 ghost use Rattle.arraystring_core.specs.FromUtf16.{GivesWhole, GivesRun};
 ghost use Rattle.arraystring_core.specs.Json.{json_text, text_within};
 ghost use Rattle.arraystring_core.specs.Stored.{Stored};
@@ -44,11 +45,17 @@ pub fn popped()
     ensures empty { ((popping []).answer ≡ None) × ((popping []).after ≡ []) }
 {}
 
-/// A text is spaces, then what a trim leaves of it, then spaces; and what it leaves neither begins
-/// nor ends with a space.
+/// A text is characters that pass, then what a trim of those leaves of it, then characters that
+/// pass; and what it leaves neither begins nor ends with one that passes.
 pub fn trimmed()
-    ensures spaces { (t : List ℕ) → (before behind : List ℕ) × All (λ c. c ≡ 0x20) before × All (λ c. c ≡ 0x20) behind × (t ≡ before ++ ((trimming t).after ++ behind)) }
-    ensures bare { (t : List ℕ) → IfSome (first_of (trimming t).after) (λ c. c ≢ 0x20) × IfSome (last_of (trimming t).after) (λ c. c ≢ 0x20) }
+    ensures dropped { (passes : ℕ → Bool) (t : List ℕ) → (before behind : List ℕ) × All (λ c. IsTrue (passes c)) before × All (λ c. IsTrue (passes c)) behind × (t ≡ before ++ ((trimming passes t).after ++ behind)) }
+    ensures bare { (passes : ℕ → Bool) (t : List ℕ) → IfSome (first_of (trimming passes t).after) (λ c. passes c ≡ false) × IfSome (last_of (trimming passes t).after) (λ c. passes c ≡ false) }
+{}
+
+/// The ranges of white space are those of `char::is_whitespace`.
+#[tactic(auto, using(crate::specs::EditLaws::is_white_space_std))]
+pub fn white_space()
+    ensures { (c : ℕ) → is_white_space c ≡ is_whitespace c }
 {}
 
 /// Where a split is not refused, the text that it keeps followed by its answer is the text before.

@@ -4,7 +4,7 @@ use Rattle.std.proofs.lemmas.List.{append-nil}
 use Rattle.std.proofs.lemmas.Bool.{and_parts, eqb-true}
 use Rattle.arraystring.specs.Text.{size, utf8}
 use Rattle.arraystring.specs.TextLaws.{bytes_same}
-use Rattle.arraystring.specs.Edits.{part_in, addition, addition_of_cut, popping, truncation, trimming, removal, insertion, insertion_of_cut, split, clearing, draining, replacement, uppercase, lowercase}
+use Rattle.arraystring.specs.Edits.{part_in, addition, addition_of_cut, popping, truncation, trimming, is_white_space, removal, insertion, insertion_of_cut, split, clearing, draining, replacement, uppercase, lowercase}
 use Rattle.arraystring_run.specs.declared.commands.Command.{Command}
 use Rattle.arraystring_run.specs.declared.commands.Command.TheVariants.{TryPush, TryPushStr, PushStr, Pop, Truncate, Trim, Remove, RetainNot, TryInsert, TryInsertStr, InsertStr, SplitOff, Clear, Drain, DrainThrough, DrainBack, ReplaceRange, Upper, Lower, Get, Len, Capacity, AsStr}
 use Rattle.arraystring_run.specs.Runs.{Done, Char, Edited, edit, made, done, leaves, char_or_none, text_or_none, without, end_through, Ran, after}
@@ -119,7 +119,7 @@ heard w given t n =
     if equals w (codes "push_str") then done (addition_of_cut t (text 0) n) t else
     if equals w (codes "pop") then made char_or_none (popping t) t else
     if equals w (codes "truncate") then done (truncation t a) t else
-    if equals w (codes "trim") then done (trimming t) t else
+    if equals w (codes "trim") then done (trimming is_white_space t) t else
     if equals w (codes "remove") then made Char (removal t a) t else
     if equals w (codes "retain_not") then leaves Done (without a t) else
     if equals w (codes "try_insert") then done (insertion t a (b ∷ []) n) t else

@@ -2,7 +2,7 @@
 use Rattle.std.specs.Prelude.{◌≡◌, ℕ, ◌+◌, ◌-◌, ◌==◌, ◌&&◌, List, [], ◌∷◌, ◌++◌, length, Bool, true, false, not, Option, Some, None, is_none, Result, Ok, Err, if◌then◌else◌, nat_lt, min, chars, reverse}
 use Rattle.std.specs.List.{filter}
 use Rattle.arraystring.specs.Text.{size, cut}
-use Rattle.arraystring.specs.Edits.{Edit, Cause, Room, answer_of, text_of, first_cause, part_in, addition, addition_of_cut, popping, truncation, trimming, removal, insertion, insertion_of_cut, split, clearing, draining, replacement, uppercase, lowercase}
+use Rattle.arraystring.specs.Edits.{Edit, Cause, Room, answer_of, text_of, first_cause, part_in, addition, addition_of_cut, popping, truncation, trimming, is_white_space, removal, insertion, insertion_of_cut, split, clearing, draining, replacement, uppercase, lowercase}
 use Rattle.arraystring.specs.Refusals.{Error, OutOfBounds}
 use Rattle.arraystring_run.specs.declared.commands.Command.{Command}
 use Rattle.arraystring_run.specs.declared.commands.Command.TheVariants.{TryPush, TryPushStr, PushStr, Pop, Truncate, Trim, Remove, RetainNot, TryInsert, TryInsertStr, InsertStr, SplitOff, Clear, Drain, DrainThrough, DrainBack, ReplaceRange, Upper, Lower, Get, Len, Capacity, AsStr}
@@ -72,7 +72,7 @@ edit (TryPushStr given) t n = done (addition t (chars given.now) n) t
 edit (PushStr given) t n = done (addition_of_cut t (chars given.now) n) t
 edit Pop t n = made char_or_none (popping t) t
 edit (Truncate i) t n = done (truncation t i) t
-edit Trim t n = done (trimming t) t
+edit Trim t n = done (trimming is_white_space t) t
 edit (Remove i) t n = made Char (removal t i) t
 edit (RetainNot c) t n = leaves Done (without c t)
 edit (TryInsert i c) t n = done (insertion t i (c ∷ []) n) t

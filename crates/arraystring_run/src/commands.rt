@@ -23,7 +23,7 @@ pub enum Command<'a> {
     /// Keeps the part before a size; all of the text where the size is past it. Refused where it is
     /// inside a character.
     Truncate(u8),
-    /// Drops all spaces (U+0020) at both ends.
+    /// Drops all white space at both ends, as `ArrayString::trim` does.
     Trim,
     /// Takes the character at a place. Refused where the place is not below the length, then where
     /// it is inside a character.

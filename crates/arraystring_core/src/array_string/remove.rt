@@ -1,14 +1,14 @@
 //! What is taken out of a string.
-ghost use Rattle.std.specs.Prelude.{◌≡◌, ◌+◌, ◌-◌, ◌^◌, ◌<◌, ◌≤◌, min, Ok, IsTrue, IfOk, OnErr, chars, length, slice_index, drop, take_while};
+ghost use Rattle.std.specs.Prelude.{◌≡◌, ◌+◌, ◌-◌, ◌^◌, ◌<◌, ◌≤◌, min, Ok, IsTrue, IfOk, OnErr, chars, slice_index, drop};
 ghost use Rattle.std.specs.List.Retain.{IsFiltered};
 ghost use Rattle.arraystring_base.specs.Text.{size, width, back, boundary};
-ghost use Rattle.arraystring_core.specs.Edits.{Makes, from_utf8_error, with_text, truncation, trimming, removal, clearing, split, is_space, without_trailing};
+ghost use Rattle.arraystring_core.specs.Edits.{Makes, from_utf8_error, with_text, truncation, removal, clearing, split};
 ghost use Rattle.arraystring_core.specs.Asked.{MayBeAsked};
 
 use crate::ArrayString;
 use crate::place::retain_at;
 use arraystring_base::error::{Error, Utf8};
-use arraystring_base::utils::{Steps, last_char};
+use arraystring_base::utils::Steps;
 
 impl<const N: usize> ArrayString<N> {
     /// Keeps the part before the byte `size`; a size past the text changes nothing. Refused with
@@ -24,35 +24,6 @@ impl<const N: usize> ArrayString<N> {
         }
         self.keep(size);
         Ok(())
-    }
-
-    /// Drops all spaces (U+0020) at both ends, and nothing else.
-    pub fn trim(&mut self)
-        ensures { Makes (trimming self.old.text) self.old.text (Ok result) self.new.text }
-    {
-        self.trim_counted(&mut Steps::new());
-    }
-
-    /// The same as `trim`. It moves no byte, and looks at least at each space that it drops at the
-    /// end and at the character before them. Both counts must be at most 2^63.
-    pub fn trim_counted(&mut self, steps: &mut Steps)
-        requires looks { steps.old.looked ≤ 2 ^ 63 }
-        requires moves { steps.old.moved ≤ 2 ^ 63 }
-        ensures edit { Makes (trimming self.old.text) self.old.text (Ok result) self.new.text }
-        ensures moved { steps.new.moved ≡ steps.old.moved }
-        ensures least { steps.old.looked + min (length self.old.text) (length self.old.text - length (without_trailing is_space self.old.text) + 1) ≤ steps.new.looked }
-        ensures counted { steps.old.looked ≤ steps.new.looked }
-    {
-        // A look at a field, after which the proof knows that the text fits.
-        let _ = &self.array;
-        while let Some((start, ch)) = last_char(self.as_str(), steps) {
-            if ch != ' ' {
-                break;
-            }
-            self.keep(start as u8);
-        }
-        let start = leading_spaces(self.as_str());
-        self.drop_front(start);
     }
 
     /// Takes the character that begins at the byte `index`. Refused with `OutOfBounds` where the
@@ -138,13 +109,6 @@ impl<const N: usize> ArrayString<N> {
         };
         ch
     }
-}
-
-/// How many spaces stand at the start of `text`.
-fn leading_spaces(text: &str) -> usize
-    ensures { result ≡ length (take_while is_space (chars text.now)) }
-{
-    text.chars().take_while(|ch| *ch == ' ').count()
 }
 
 #[cfg(test)]

@@ -93,6 +93,9 @@ fn scripts_are_played(rt: HostRuntime) {
         Err(PlayFault::BadLine(2)),
         b"",
     );
+    let trimmed = "push_str \ta\u{3000}\ntrim\nlen\n";
+    let wanted = b"done\ndone\nnumber 1\nfinal a\n";
+    plays(&rt, rt.alloc(), trimmed.as_bytes(), Ok(()), wanted);
     let refused = b"push_str 0123456789abcdefghijklm\ntry_push n\npop\npop\n";
     let wanted = b"done\nrefused OutOfBounds\nchar m\nchar l\nfinal 0123456789abcdefghijk\n";
     plays(&rt, rt.alloc(), refused, Ok(()), wanted);

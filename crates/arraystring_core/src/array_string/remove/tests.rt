@@ -46,29 +46,6 @@ fn a_text_is_truncated(rt: HostRuntime) {
 }
 
 #[test]
-fn spaces_are_trimmed(rt: HostRuntime) {
-    for (text, wanted) in [
-        ("   🤔", "🤔"),
-        ("   ", ""),
-        ("\t a ", "\t a"),
-        (" a\u{A0}", "a\u{A0}"),
-        ("\u{2003}a ", "\u{2003}a"),
-        (" a  b ", "a  b"),
-        ("   to be trimmed     ", "to be trimmed"),
-        ("", ""),
-    ] {
-        let mut trimmed: MaxString = string(text);
-        trimmed.trim();
-        assert_eq!(rt; trimmed.as_str(), wanted);
-    }
-    for text in ["  ab", "ab  ", " ab ", "ab"] {
-        let mut full: ArrayString<4> = string(text);
-        full.trim();
-        assert_eq!(rt; full.as_str(), "ab");
-    }
-}
-
-#[test]
 fn moves_of_removals(rt: HostRuntime) {
     for (index, result, after, moved) in [
         (0, Ok('A'), "BCD🤔", 0),
@@ -83,13 +60,6 @@ fn moves_of_removals(rt: HostRuntime) {
         assert_eq!(rt; text.remove_counted(index, &mut steps), result);
         assert_eq!(rt; text.as_str(), after);
         assert_eq!(rt; steps.moved(), moved);
-    }
-    for (text, trimmed) in [("  abcdef", "abcdef"), (" 🤔  ", "🤔"), ("    ", "")] {
-        let mut string: ArrayString<8> = string(text);
-        let mut steps = Steps::new();
-        string.trim_counted(&mut steps);
-        assert_eq!(rt; string.as_str(), trimmed);
-        assert_eq!(rt; steps.moved(), 0);
     }
 }
 

@@ -1,11 +1,13 @@
-use Rattle.std.proofs.Common.{◌≡◌, ◌+◌, ◌*◌, ◌≤◌, length}
+use Rattle.std.proofs.Common.{◌≡◌, ℕ, ◌+◌, ◌*◌, ◌≤◌, Bool, length}
 use Rattle.arraystring_base.specs.Text.{size}
-use Rattle.arraystring_core.specs.Edits.{without_trailing, is_space}
-use Rattle.arraystring_core.proofs.array_string.ArrayString.trim_counted.Given as goal
+use Rattle.arraystring_core.specs.Asked.{AnswersAs}
+use Rattle.arraystring_core.specs.Edits.{without_trailing}
+use Rattle.arraystring_core.proofs.array_string.ArrayString.drop_trailing.Given as goal
 
 abbrev pub invariant-loop-start : goal.invariant-loop-start
 invariant-loop-start g l = record {
-  trimmed : without_trailing is_space l.self.text ≡ without_trailing is_space l.initial.self.text;
+  same : (passes : ℕ → Bool) → AnswersAs (goal.F-post g) l.fn.drops passes
+      → without_trailing passes l.self.text ≡ without_trailing passes l.initial.self.text;
   looked : l.steps.looked + 4 * size l.self.text ≤ l.initial.steps.looked + 4 * size l.initial.self.text;
   fits : size l.initial.self.text ≤ 255;
   least : l.initial.steps.looked + length l.initial.self.text ≤ l.steps.looked + length l.self.text;

@@ -1,0 +1,92 @@
+//! The ends of a string are trimmed.
+ghost use Rattle.std.specs.Prelude.{◌≡◌, ◌+◌, ◌-◌, ◌^◌, ◌≤◌, ℕ, Bool, min, Ok, length};
+ghost use Rattle.arraystring_core.specs.Asked.{AnswersAs};
+ghost use Rattle.arraystring_core.specs.Edits.{Makes, trimming, is_space, is_white_space, without_leading, without_trailing};
+
+use crate::ArrayString;
+use arraystring_base::utils::{Steps, last_char};
+
+impl<const N: usize> ArrayString<N> {
+    /// Drops all white space at both ends, and nothing else: the characters for which
+    /// `char::is_whitespace` is true, which is the property White_Space of the Unicode Standard.
+    pub fn trim(&mut self)
+        ensures { Makes (trimming is_white_space self.old.text) self.old.text (Ok result) self.new.text }
+    {
+        self.trim_counted(&mut Steps::new());
+    }
+
+    /// The same as `trim`. It moves no byte, and looks at least at each character that it drops at
+    /// the end and at the character before them. Both counts must be at most 2^63.
+    pub fn trim_counted(&mut self, steps: &mut Steps)
+        requires looks { steps.old.looked ≤ 2 ^ 63 }
+        requires moves { steps.old.moved ≤ 2 ^ 63 }
+        ensures edit { Makes (trimming is_white_space self.old.text) self.old.text (Ok result) self.new.text }
+        ensures moved { steps.new.moved ≡ steps.old.moved }
+        ensures least { steps.old.looked + min (length self.old.text) (length self.old.text - length (without_trailing is_white_space self.old.text) + 1) ≤ steps.new.looked }
+        ensures counted { steps.old.looked ≤ steps.new.looked }
+    {
+        self.drop_trailing(is_white_space, steps);
+        self.drop_leading(is_white_space);
+    }
+
+    /// Drops all spaces (U+0020) at both ends, and nothing else. Like `trim` it moves no byte.
+    pub fn trim_spaces(&mut self)
+        ensures { Makes (trimming is_space self.old.text) self.old.text (Ok result) self.new.text }
+    {
+        self.drop_trailing(is_space, &mut Steps::new());
+        self.drop_leading(is_space);
+    }
+
+    /// Drops the characters at the end for which `drops` answers true, up to the last for which it
+    /// does not. It moves no byte, and looks at least at each character that it drops and at the
+    /// one before them.
+    fn drop_trailing<F: Fn(char) -> bool + Drop>(&mut self, drops: F, steps: &mut Steps)
+        requires asked { F.IsAlwaysCallable drops }
+        requires looks { steps.old.looked ≤ 2 ^ 63 }
+        ensures text { (passes : ℕ → Bool) → AnswersAs F.post drops passes → self.new.text ≡ without_trailing passes self.old.text }
+        ensures moved { steps.new.moved ≡ steps.old.moved }
+        ensures least { steps.old.looked + min (length self.old.text) (length self.old.text - length self.new.text + 1) ≤ steps.new.looked }
+        ensures counted { steps.old.looked ≤ steps.new.looked }
+    {
+        // A look at a field, after which the proof knows that the text fits.
+        let _ = &self.array;
+        while let Some((start, ch)) = last_char(self.as_str(), steps) {
+            if !drops(ch) {
+                break;
+            }
+            self.keep(start as u8);
+        }
+    }
+
+    /// Drops the characters at the start for which `drops` answers true, up to the first for which
+    /// it does not. It moves no byte.
+    fn drop_leading<F: Fn(char) -> bool + Drop>(&mut self, drops: F)
+        requires asked { F.IsAlwaysCallable drops }
+        ensures { (passes : ℕ → Bool) → AnswersAs F.post drops passes → self.new.text ≡ without_leading passes self.old.text }
+    {
+        while let Some(ch) = self.as_str().chars().next() {
+            if !drops(ch) {
+                break;
+            }
+            self.drop_front(ch.len_utf8());
+        }
+    }
+}
+
+/// Whether `ch` has the property White_Space.
+#[tactic(auto, using(crate::specs::EditLaws::is_white_space_std))]
+fn is_white_space(ch: char) -> bool
+    ensures { result ≡ is_white_space ch }
+{
+    ch.is_whitespace()
+}
+
+/// Whether `ch` is the space, U+0020.
+fn is_space(ch: char) -> bool
+    ensures { result ≡ is_space ch }
+{
+    ch == ' '
+}
+
+#[cfg(test)]
+mod tests;
