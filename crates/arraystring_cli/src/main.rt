@@ -1,66 +1,78 @@
 //! Plays a script of commands from standard input to standard output.
 #![tactic(auto)]
 
-use arraystring_run::serve;
-use std::io::{BufWriter, ErrorKind, Write};
-use std::process::ExitCode;
-use std::{env, io};
+ghost use Rattle.std.specs.Prelude.{◌≡◌, ◌≢◌, ◌≤◌, ℕ, List, length, take, None, Ok, Err, IfSome, IsSome};
+ghost use Rattle.std.specs.declared.env.FillError.TheVariants.{NotPresent};
+ghost use Rattle.arraystring_run.specs.Text.{IsText, size, bytes};
+ghost use Rattle.arraystring_run.specs.Script.{lines, IsBadAt, AppendsFront, capacity_named, fault_line, usage_line};
+ghost use Rattle.arraystring_run.specs.declared.player.PlayFault.{PlayFault as Fault};
 
-/// What the arguments are: one text, something else, or no memory for them.
-#[derive(Drop)]
-enum Arguments {
-    One(String),
-    Other,
-    NoMemory,
-}
+use arraystring::MaxString;
+use arraystring_run::{names_capacity, serve};
+use std::alloc::Global;
+use std::env::{Env, FillError};
+use std::io;
+use std::io::{BufWriter, Read, Write};
+use std::process::ExitCode;
 
 fn main(rt: HostRuntime) -> ExitCode {
-    let status = match read_arguments(&rt) {
-        Arguments::One(word) => play(&rt, &word),
-        Arguments::Other => serve(
-            rt.alloc(),
-            None,
-            &mut rt.reader(),
-            &mut io::writer(&rt),
-            &mut rt.stderr(),
-        ),
-        Arguments::NoMemory => out_of_memory(&rt),
-    };
-    ExitCode::from(status)
+    let word = given_word(&rt);
+    let word = word.as_ref().map(MaxString::as_str);
+    let (input, output, errors) = (&mut rt.reader(), &mut io::writer(&rt), &mut rt.stderr());
+    ExitCode::from(serve_buffered(rt.alloc(), word, input, output, errors))
 }
 
-fn read_arguments(rt: &HostRuntime) -> Arguments {
-    let mut all = match env::args(rt) {
-        Ok(all) => all,
-        Err(error) => {
-            if error.kind() == ErrorKind::OutOfMemory {
-                return Arguments::NoMemory;
-            }
-            return Arguments::Other;
+/// The word that the program was given: its only argument, where that is UTF-8. It takes no memory,
+/// so an argument of more than 255 bytes is none; no capacity has so long a name.
+fn given_word<E: Env>(env: &E) -> Option<MaxString> {
+    let mut first = [0u8; 255];
+    let count = env.arg(1, &mut first);
+    let second = env.arg(2, &mut [0u8; 1]);
+    only_word(count, &first, second)
+}
+
+/// The text of the first argument, the first `count` bytes of `first`, where there is no second.
+fn only_word(
+    count: Result<usize, FillError>,
+    first: &[u8],
+    second: Result<usize, FillError>,
+) -> Option<MaxString>
+    ensures text { IfSome result (λ word. (n : ℕ) × (count ≡ Ok n) × (bytes word.text ≡ take n first.now)) }
+    ensures alone { IsSome result → second ≡ Err NotPresent }
+    ensures whole { (t : List ℕ) → IsText t → size t ≤ 255 → (n : ℕ) → count ≡ Ok n → n ≤ length first.now
+        → bytes t ≡ take n first.now → second ≡ Err NotPresent → IsSome result }
+{
+    let (Ok(count), Err(FillError::NotPresent)) = (count, second) else {
+        return None;
+    };
+    MaxString::try_from_utf8(first.get(..count)?).ok()
+}
+
+/// Serves a word with a buffer before the output, so that a line costs no system call of its own. A
+/// word that names no capacity takes no memory; where there is none for a buffer, none is used.
+fn serve_buffered<I: Read, O: Write, E: Write>(
+    alloc: Global,
+    word: Option<&str>,
+    input: &mut I,
+    output: &mut O,
+    errors: &mut E,
+) -> u8
+    ensures other_word { capacity_named word.entry ≡ None → (result ≡ 2) × (input.new ≡ input.old) × (output.new ≡ output.old)
+        × AppendsFront (E.contents errors.old) (E.contents errors.new) usage_line }
+    ensures bad_line { IfSome (capacity_named word.entry) (λ _. result ≡ 2
+        → (k : ℕ) × IfSome (I.remaining input.old) (λ given. IsBadAt (lines given) k) × AppendsFront (E.contents errors.old) (E.contents errors.new) (fault_line (Fault.BadLine k))) }
+    ensures no_memory { result ≡ 3 → AppendsFront (E.contents errors.old) (E.contents errors.new) (fault_line Fault.Memory) }
+    ensures quiet { result ≡ 0 → errors.new ≡ errors.old }
+    // 0, 2, 3 or 4
+    ensures status { (result ≤ 4) × (result ≢ 1) }
+{
+    if names_capacity(word) {
+        if let Ok(mut buffered) = BufWriter::new(alloc, &mut *output) {
+            return serve(alloc, word, input, &mut buffered, errors);
         }
-    };
-    let _program = all.next();
-    match (all.next(), all.next()) {
-        (Some(word), None) => Arguments::One(word),
-        _ => Arguments::Other,
     }
+    serve(alloc, word, input, output, errors)
 }
 
-/// Plays with a buffer before standard output, so that a line costs no system call of its own.
-fn play(rt: &HostRuntime, word: &str) -> u8 {
-    match BufWriter::new(rt.alloc(), io::writer(rt)) {
-        Ok(mut output) => serve(
-            rt.alloc(),
-            Some(word),
-            &mut rt.reader(),
-            &mut output,
-            &mut rt.stderr(),
-        ),
-        Err(_) => out_of_memory(rt),
-    }
-}
-
-fn out_of_memory(rt: &HostRuntime) -> u8 {
-    let _ = rt.stderr().write_all(b"out of memory\n");
-    3
-}
+#[cfg(test)]
+mod tests;

@@ -11,5 +11,5 @@ mod script;
 mod steps;
 
 pub use commands::{Command, Reply};
-pub use player::{PlayFault, play, serve};
+pub use player::{PlayFault, names_capacity, play, serve};
 pub use runs::{Outcome, run, run_both};

@@ -1,5 +1,5 @@
 //! A script played from a reader to a writer.
-ghost use Rattle.std.specs.Prelude.{◌≡◌, ◌≢◌, ◌≤◌, ◌⊎◌, ℕ, None, IfOk, IfErr, IfSome, OnOk};
+ghost use Rattle.std.specs.Prelude.{◌≡◌, ◌≢◌, ◌≤◌, ◌⊎◌, ℕ, None, is_some, IfOk, IfErr, IfSome, OnOk};
 ghost use Rattle.std.specs.Io.KnownBytes.{IsAtEnd};
 ghost use Rattle.arraystring.specs.Text.{cap};
 ghost use Rattle.arraystring_run.specs.Script.{lines, IsBadAt, IfBadLine, IsPlayed, IsPartPlayed, AppendsFront, capacity_named, status_of, told_of, fault_line, usage_line};
@@ -106,6 +106,13 @@ pub fn serve<I: Read, O: Write, E: Write>(
             2
         }
     }
+}
+
+/// Whether a word names a capacity, as `serve` reads it: `small`, `cache` or `max`.
+pub fn names_capacity(word: Option<&str>) -> bool
+    ensures { result ≡ is_some (capacity_named word.entry) }
+{
+    matches!(word, Some("small" | "cache" | "max"))
 }
 
 /// Writes the line of a fault, and answers the status.
