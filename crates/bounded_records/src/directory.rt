@@ -1,5 +1,5 @@
 //! `Directory`: users by their usernames.
-ghost use Rattle.std.specs.Prelude.{◌≡◌, ◌≢◌, ◌<◌, ◌^◌, ℕ, IfOk, OnOk, OnErr, Some, List, length};
+ghost use Rattle.std.specs.Prelude.{◌≡◌, ◌≢◌, ◌<◌, ◌^◌, ℕ, IfOk, OnOk, OnErr, None, Some, List, length};
 ghost use Rattle.std.specs.Iterator.{YieldsFirstBy, item_count};
 ghost use Rattle.std.specs.Option.{option_copied, option_map};
 ghost use Rattle.std.specs.List.{AllPairs};
@@ -50,7 +50,8 @@ impl Directory {
     }
 
     /// Puts `user` under its username and answers the user that stood there; all other users stay.
-    /// Refused only for want of memory; the directory is then as it was.
+    /// Refused only for want of memory, and only where no user stands there; the directory is then
+    /// as it was.
     #[tactic(auto, using(crate::proofs::MapLemmas::get_users, crate::proofs::MapLemmas::insert_users, crate::proofs::MapLemmas::get_inserted))]
     pub fn insert(&mut self, user: User) -> Result<Option<User>, AllocError>
         ensures old { IfOk result (λ old. option_map texts old ≡ map.get self.old user.username.text) }
@@ -58,6 +59,7 @@ impl Directory {
         ensures found { OnOk result (map.get self.new user.username.text ≡ Some (texts user)) }
         ensures others { (name : List ℕ) → name ≢ user.username.text → map.get self.new name ≡ map.get self.old name }
         ensures err { OnErr result (self.new ≡ self.old) }
+        ensures absent { OnErr result (map.get self.old user.username.text ≡ None) }
     {
         Ok(self.users.insert(user.username, user)?)
     }
