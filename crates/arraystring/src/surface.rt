@@ -106,6 +106,7 @@ fn each_path_names_the_same(rt: HostRuntime) -> Result<(), Fail> {
 }
 
 #[test]
+#[tactic(auto, unfolding(arraystring_base::specs::Text::width))]
 fn the_calls_on_bytes_are_at_hand(rt: HostRuntime) {
     let mut array = [0; 4];
     let mut steps = Steps::new();

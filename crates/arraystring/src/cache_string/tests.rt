@@ -1,5 +1,7 @@
 //! Each call once, on values worked out by hand.
-ghost use Rattle.std.specs.Prelude.{◌≡◌, ◌↔◌, IsTrue, IfOk};
+ghost use Rattle.std.specs.Prelude.{◌≡◌, IfOk, nat_eq};
+ghost use Rattle.std.specs.Cmp.Lexicographic.{pointwise, slice_cmp};
+ghost use Rattle.std.specs.Ordering.{nat_cmp};
 
 use super::*;
 use crate::integration::NotText;
@@ -140,11 +142,17 @@ fn cloned(string: &CacheString) -> Result<CacheString, AllocError>
     string.clone()
 }
 
-/// What a caller can say of a comparison.
+/// What a caller can say of `==` and of the order.
 fn is_same_text(left: &CacheString, right: &CacheString) -> bool
-    ensures { IsTrue result ↔ (left.now.0.text ≡ right.now.0.text) }
+    ensures { result ≡ pointwise nat_eq left.now.0.text right.now.0.text }
 {
-    left == right && left.cmp(right) == Ordering::Equal
+    left == right
+}
+
+fn order(left: &CacheString, right: &CacheString) -> Ordering
+    ensures { result ≡ slice_cmp nat_cmp left.now.0.text right.now.0.text }
+{
+    left.cmp(right)
 }
 
 fn hash_of<T: Hash>(value: &T) -> u64 {
@@ -157,7 +165,7 @@ fn hash_of<T: Hash>(value: &T) -> u64 {
 fn texts_are_compared_and_hashed(rt: HostRuntime) -> Result<(), Fail> {
     let low = CacheString::from_str_truncate("\u{FFFF}");
     let high = CacheString::from_str_truncate("\u{10000}");
-    assert_eq!(rt; low.cmp(&high), Ordering::Less);
+    assert_eq!(rt; order(&low, &high), Ordering::Less);
     assert_eq!(rt; high.partial_cmp(&low), Some(Ordering::Greater));
     assert!(rt; low != high);
     assert!(rt; is_same_text(&low, &cloned(&low)?) && !is_same_text(&low, &high));
