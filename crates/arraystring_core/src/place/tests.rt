@@ -80,48 +80,50 @@ fn left_of(answer: Result<Drain<8>, Error>) -> Result<ArrayString<8>, Error> {
     Ok(string(answer?.as_str()))
 }
 
-#[test]
-fn a_trimmed_string_grows(rt: HostRuntime) {
-    let mut text: ArrayString<8> = string("  abcdef");
-    let mut steps = Steps::new();
-    text.trim_counted(&mut steps);
-    assert_eq!(rt; steps.moved(), 0);
-    let mut counted = text;
-    assert_eq!(rt; text.try_push_str("xy"), Ok(()));
-    assert_eq!(rt; text.as_str(), "abcdefxy");
-    assert_eq!(rt; text.len(), 8);
-    assert_eq!(rt; text, ArrayString::from_str_truncate("abcdefxy"));
-
-    let mut steps = Steps::new();
-    assert_eq!(rt; counted.try_insert_str_counted(6, "xy", &mut steps), Ok(()));
-    assert_eq!(rt; counted, text);
-    assert_eq!(rt; steps.moved(), 6);
-
-    let mut text: ArrayString<4> = string(" ab");
-    text.trim();
-    let mut steps = Steps::new();
-    assert_eq!(rt; text.try_insert_str_counted(1, "xy", &mut steps), Ok(()));
-    assert_eq!(rt; text.as_str(), "axyb");
-    assert_eq!(rt; steps.moved(), 2);
-
-    let mut text: ArrayString<4> = string("abcd");
-    assert_eq!(rt; text.remove(0), Ok('a'));
-    assert_eq!(rt; text.try_insert(1, 'x'), Ok(()));
-    assert_eq!(rt; text.as_str(), "bxcd");
-
-    let mut most: ArrayString<300> = letters();
-    assert_eq!(rt; most.remove(0), Ok('x'));
-    assert_eq!(rt; most.try_push('x'), Ok(()));
-    assert_eq!(rt; most, letters());
-    assert_eq!(rt; most.try_push('x'), Err(OutOfBounds));
-}
-
 /// The string with `given` before the index, where it fits, and how many bytes moved.
 fn inserted(text: ArrayString<8>, index: u8, given: &str) -> (ArrayString<8>, u64) {
     let mut text = text;
     let mut steps = Steps::new();
     let _ = text.try_insert_str_counted(index, given, &mut steps);
     (text, steps.moved())
+}
+
+#[test]
+fn a_trimmed_string_grows(rt: HostRuntime) {
+    let mut text: ArrayString<8> = string("  abcdef");
+    let mut steps = Steps::new();
+    text.trim_counted(&mut steps);
+    assert_eq!(rt; steps.moved(), 0);
+    assert_eq!(rt; inserted(text, 6, "xy"), (string("abcdefxy"), 6));
+    assert_eq!(rt;
+        (text.try_push_str("xy"), text),
+        (Ok(()), string("abcdefxy"))
+    );
+    assert_eq!(rt; text.len(), 8);
+}
+
+#[test]
+fn a_trimmed_string_grows_inside(rt: HostRuntime) {
+    let mut text: ArrayString<4> = string(" ab");
+    text.trim();
+    let mut steps = Steps::new();
+    assert_eq!(rt; text.try_insert_str_counted(1, "xy", &mut steps), Ok(()));
+    assert_eq!(rt; (text, steps.moved()), (string("axyb"), 2));
+}
+
+#[test]
+fn a_character_takes_the_place_of_the_first(rt: HostRuntime) {
+    let mut text: ArrayString<4> = string("abcd");
+    assert_eq!(rt; text.remove(0), Ok('a'));
+    assert_eq!(rt; (text.try_insert(1, 'x'), text), (Ok(()), string("bxcd")));
+}
+
+#[test]
+fn the_most_letters_begin_behind_the_start(rt: HostRuntime) {
+    let mut most: ArrayString<300> = letters();
+    assert_eq!(rt; most.remove(0), Ok('x'));
+    assert_eq!(rt; (most.try_push('x'), most), (Ok(()), letters()));
+    assert_eq!(rt; most.try_push('x'), Err(OutOfBounds));
 }
 
 #[test]
@@ -149,23 +151,44 @@ fn what_a_drain_leaves_stays_where_it_is_until_it_grows(rt: HostRuntime) {
 #[test]
 fn texts_are_lent(rt: HostRuntime) {
     for text in both("abCDef") {
-        assert_eq!(rt; text, string("abCDef"));
         assert_eq!(rt; text.as_str(), "abCDef");
         assert_eq!(rt; text.as_bytes(), b"abCDef".as_slice());
-        assert_eq!(rt; text.len(), 6);
-        assert!(rt; !text.is_empty());
-        assert_eq!(rt; text.get(1..3), Some("bC"));
-        assert_eq!(rt; text.get(4..), Some("ef"));
-        assert_eq!(rt; text.get(..7), None);
-        assert_eq!(rt; sliced(&text, 1, 3), Some("bC"));
+        assert_eq!(rt; (text.len(), text.is_empty()), (6, false));
+    }
+    for text in both("aBé") {
+        assert_eq!(rt; text.as_bytes(), [0x61, 0x42, 0xC3, 0xA9].as_slice());
+    }
+}
+
+#[test]
+fn texts_are_equal_wherever_they_begin(rt: HostRuntime) {
+    for text in both("abCDef") {
+        assert_eq!(rt; text, string("abCDef"));
         assert!(rt; text != string("abCDe"));
     }
     for text in both("aBé") {
         assert_eq!(rt; text, string("aBé"));
-        assert_eq!(rt; text.as_bytes(), [0x61, 0x42, 0xC3, 0xA9].as_slice());
-        assert_eq!(rt; text.get(1..), Some("Bé"));
-        assert_eq!(rt; text.get(..3), None);
+    }
+}
+
+#[test]
+fn parts_are_lent(rt: HostRuntime) {
+    for text in both("abCDef") {
+        assert_eq!(rt;
+            [text.get(1..3), text.get(4..), text.get(..7)],
+            [Some("bC"), Some("ef"), None]
+        );
+        assert_eq!(rt; sliced(&text, 1, 3), Some("bC"));
+    }
+    for text in both("aBé") {
+        assert_eq!(rt; [text.get(1..), text.get(..3)], [Some("Bé"), None]);
         assert_eq!(rt; sliced(&text, 2, 4), Some("é"));
+    }
+}
+
+#[test]
+fn boundaries_count_from_the_start_of_the_text(rt: HostRuntime) {
+    for text in both("aBé") {
         assert_eq!(rt; is_char_boundary(&text, 2), Ok(()));
         assert_eq!(rt; is_char_boundary(&text, 3), Err(Utf8));
         assert_eq!(rt; is_char_boundary(&text, 5), Err(Utf8));
@@ -173,60 +196,106 @@ fn texts_are_lent(rt: HostRuntime) {
 }
 
 #[test]
-fn texts_grow_at_the_end(rt: HostRuntime) {
-    for (text, with_one, with_two, with_cut) in [
-        ("abcdef", "abcdefx", "abcdefé", "abcdefxy"),
-        ("aBé", "aBéx", "aBéé", "aBéxyz"),
-    ] {
-        for before in both(text) {
-            let mut grown = before;
-            assert_eq!(rt; grown.try_push('x'), Ok(()));
-            assert_eq!(rt; grown.as_str(), with_one);
-            assert_eq!(rt; pushed(before, 'é'), Some(string(with_two)));
-            assert_eq!(rt; pushed_str(before, "é"), Some(string(with_two)));
-            let mut grown = before;
-            assert_eq!(rt; grown.try_push_str("é"), Ok(()));
-            assert_eq!(rt; grown.as_str(), with_two);
-            assert_eq!(rt; grown.try_push_str("€"), Err(OutOfBounds));
-            assert_eq!(rt; grown.try_push('€'), Err(OutOfBounds));
-            assert_eq!(rt; grown.as_str(), with_two);
-            let mut grown = before;
-            grown.push_str("xyz");
-            assert_eq!(rt; grown.as_str(), with_cut);
-            let mut grown = before;
-            grown.extend_chars(['x', 'y', 'z']);
-            assert_eq!(rt; grown.as_str(), with_cut);
-            let mut grown = before;
-            grown.extend_strs(["x", "yz"]);
-            assert_eq!(rt; grown.as_str(), with_cut);
+fn a_character_is_added(rt: HostRuntime) {
+    for (text, wanted) in [("abcdef", "abcdefx"), ("aBé", "aBéx")] {
+        for mut text in both(text) {
+            assert_eq!(rt; (text.try_push('x'), text), (Ok(()), string(wanted)));
         }
     }
 }
 
 #[test]
-fn texts_grow_inside(rt: HostRuntime) {
-    for (text, inserted, with_front_two, with_cut, replaced) in [
-        ("abcdef", "aébcdef", "xyabcdef", "abxycdef", "axyzcdef"),
-        ("aBé", "aéBé", "xyaBé", "aBxyzé", "axyzé"),
-    ] {
+fn a_text_is_added(rt: HostRuntime) {
+    for (text, wanted) in [("abcdef", "abcdefé"), ("aBé", "aBéé")] {
         for before in both(text) {
-            let mut grown = before;
-            assert_eq!(rt; grown.try_insert(1, 'é'), Ok(()));
-            assert_eq!(rt; grown.as_str(), inserted);
-            assert_eq!(rt; with_front_str(before, "xy"), Some(string(with_front_two)));
-            let mut grown = before;
-            assert_eq!(rt; grown.try_insert_str(0, "xy"), Ok(()));
-            assert_eq!(rt; grown.as_str(), with_front_two);
-            assert_eq!(rt; grown.try_insert_str(1, "€"), Err(Error::OutOfBounds));
-            assert_eq!(rt; grown.as_str(), with_front_two);
-            let mut grown = before;
-            assert_eq!(rt; grown.insert_str(2, "xyz"), Ok(()));
-            assert_eq!(rt; grown.as_str(), with_cut);
-            let mut grown = before;
-            assert_eq!(rt; grown.replace_range(1..2, "xyz"), Ok(()));
-            assert_eq!(rt; grown.as_str(), replaced);
+            let wanted = string(wanted);
+            assert_eq!(rt; pushed(before, 'é'), Some(wanted));
+            assert_eq!(rt; pushed_str(before, "é"), Some(wanted));
+            let mut text = before;
+            assert_eq!(rt; (text.try_push_str("é"), text), (Ok(()), wanted));
         }
     }
+}
+
+#[test]
+fn what_does_not_fit_is_refused(rt: HostRuntime) {
+    for text in ["abcdefé", "aBéé"] {
+        for before in both(text) {
+            let mut text = before;
+            assert_eq!(rt; text.try_push_str("€"), Err(OutOfBounds));
+            assert_eq!(rt; (text.try_push('€'), text), (Err(OutOfBounds), before));
+        }
+    }
+}
+
+#[test]
+fn texts_are_filled_up(rt: HostRuntime) {
+    for (text, wanted) in [("abcdef", "abcdefxy"), ("aBé", "aBéxyz")] {
+        for before in both(text) {
+            let mut by_text = before;
+            by_text.push_str("xyz");
+            let mut by_chars = before;
+            by_chars.extend_chars(['x', 'y', 'z']);
+            let mut by_strs = before;
+            by_strs.extend_strs(["x", "yz"]);
+            assert_eq!(rt; [by_text, by_chars, by_strs], [string(wanted); 3]);
+        }
+    }
+}
+
+#[test]
+fn a_character_is_inserted(rt: HostRuntime) {
+    for (text, wanted) in [("abcdef", "aébcdef"), ("aBé", "aéBé")] {
+        for mut text in both(text) {
+            assert_eq!(rt; (text.try_insert(1, 'é'), text), (Ok(()), string(wanted)));
+        }
+    }
+}
+
+#[test]
+fn a_text_is_put_in_front(rt: HostRuntime) {
+    for (text, wanted) in [("abcdef", "xyabcdef"), ("aBé", "xyaBé")] {
+        for before in both(text) {
+            let wanted = string(wanted);
+            assert_eq!(rt; with_front_str(before, "xy"), Some(wanted));
+            let mut text = before;
+            assert_eq!(rt; (text.try_insert_str(0, "xy"), text), (Ok(()), wanted));
+        }
+    }
+}
+
+#[test]
+fn what_does_not_fit_inside_is_refused(rt: HostRuntime) {
+    for text in ["xyabcdef", "xyaBé"] {
+        for before in both(text) {
+            let mut text = before;
+            let refused = text.try_insert_str(1, "€");
+            assert_eq!(rt; (refused, text), (Err(Error::OutOfBounds), before));
+        }
+    }
+}
+
+#[test]
+fn a_text_is_inserted_as_far_as_it_fits(rt: HostRuntime) {
+    for (text, wanted) in [("abcdef", "abxycdef"), ("aBé", "aBxyzé")] {
+        for mut text in both(text) {
+            assert_eq!(rt; (text.insert_str(2, "xyz"), text), (Ok(()), string(wanted)));
+        }
+    }
+}
+
+#[test]
+fn a_part_is_replaced_by_a_longer_one(rt: HostRuntime) {
+    for (text, wanted) in [("abcdef", "axyzcdef"), ("aBé", "axyzé")] {
+        for mut text in both(text) {
+            let replaced = text.replace_range(1..2, "xyz");
+            assert_eq!(rt; (replaced, text), (Ok(()), string(wanted)));
+        }
+    }
+}
+
+#[test]
+fn what_fits_is_put_in_front(rt: HostRuntime) {
     for before in both("abcdef") {
         assert_eq!(rt; with_front(before, 'é'), Some(string("éabcdef")));
         assert_eq!(rt; with_front(before, '🤔'), None);
@@ -238,84 +307,165 @@ fn texts_grow_inside(rt: HostRuntime) {
 }
 
 #[test]
-fn texts_shrink_at_the_ends(rt: HostRuntime) {
-    for (text, last, popped, kept, rest, trimmed) in [
-        ("abcdef", 'f', "abcde", "ab", "cdef", "abcdef"),
-        (" cdef ", ' ', " cdef", " c", "def ", "cdef"),
-        ("aBé", 'é', "aB", "aB", "é", "aBé"),
-        (" aé", 'é', " a", " a", "é", "aé"),
+fn the_last_character_is_popped(rt: HostRuntime) {
+    for (text, last, wanted) in [
+        ("abcdef", 'f', "abcde"),
+        (" cdef ", ' ', " cdef"),
+        ("aBé", 'é', "aB"),
+        (" aé", 'é', " a"),
     ] {
-        for before in both(text) {
-            let mut less = before;
-            assert_eq!(rt; less.pop(), Some(last));
-            assert_eq!(rt; less.as_str(), popped);
-            let mut less = before;
-            assert_eq!(rt; less.truncate(2), Ok(()));
-            assert_eq!(rt; less.as_str(), kept);
-            let mut less = before;
-            assert_eq!(rt; less.split_off(2), Ok(string(rest)));
-            assert_eq!(rt; less.as_str(), kept);
-            assert_eq!(rt; less.split_off(3), Err(Error::OutOfBounds));
-            assert_eq!(rt; less.as_str(), kept);
-            let mut less = before;
-            less.trim();
-            assert_eq!(rt; less.as_str(), trimmed);
-            less.clear();
-            assert!(rt; less.is_empty());
-            assert_eq!(rt; less.try_push_str("abcdefgh"), Ok(()));
-            assert_eq!(rt; less.as_str(), "abcdefgh");
+        for mut text in both(text) {
+            assert_eq!(rt; (text.pop(), text), (Some(last), string(wanted)));
         }
     }
 }
 
 #[test]
-fn texts_shrink_inside(rt: HostRuntime) {
-    for (text, second, removed, part, drained, replaced, retained) in [
-        ("abcdef", 'b', "acdef", "bc", "adef", "axdef", "bcef"),
-        ("aBCé", 'B', "aCé", "BC", "aé", "axé", "BCé"),
-        ("aBCd", 'B', "aCd", "BC", "ad", "axd", "BC"),
+fn texts_are_truncated(rt: HostRuntime) {
+    for (text, wanted) in [
+        ("abcdef", "ab"),
+        (" cdef ", " c"),
+        ("aBé", "aB"),
+        (" aé", " a"),
     ] {
+        for mut text in both(text) {
+            assert_eq!(rt; (text.truncate(2), text), (Ok(()), string(wanted)));
+        }
+    }
+}
+
+#[test]
+fn texts_are_split(rt: HostRuntime) {
+    for (text, kept, rest) in [
+        ("abcdef", "ab", "cdef"),
+        (" cdef ", " c", "def "),
+        ("aBé", "aB", "é"),
+        (" aé", " a", "é"),
+    ] {
+        for mut text in both(text) {
+            assert_eq!(rt; (text.split_off(2), text), (Ok(string(rest)), string(kept)));
+            let refused = text.split_off(3);
+            assert_eq!(rt; (refused, text), (Err(Error::OutOfBounds), string(kept)));
+        }
+    }
+}
+
+#[test]
+fn spaces_are_trimmed(rt: HostRuntime) {
+    for (text, wanted) in [
+        ("abcdef", "abcdef"),
+        (" cdef ", "cdef"),
+        ("aBé", "aBé"),
+        (" aé", "aé"),
+    ] {
+        for mut text in both(text) {
+            text.trim();
+            assert_eq!(rt; text, string(wanted));
+        }
+    }
+}
+
+#[test]
+fn a_cleared_text_has_all_the_room(rt: HostRuntime) {
+    for text in ["abcdef", " cdef ", "aBé", " aé"] {
+        for mut text in both(text) {
+            text.trim();
+            text.clear();
+            assert!(rt; text.is_empty());
+            let filled = text.try_push_str("abcdefgh");
+            assert_eq!(rt; (filled, text), (Ok(()), string("abcdefgh")));
+        }
+    }
+}
+
+#[test]
+fn characters_are_removed(rt: HostRuntime) {
+    for (text, second, wanted) in [
+        ("abcdef", 'b', "acdef"),
+        ("aBCé", 'B', "aCé"),
+        ("aBCd", 'B', "aCd"),
+    ] {
+        for mut text in both(text) {
+            assert_eq!(rt; (text.remove(1), text), (Ok(second), string(wanted)));
+            assert_eq!(rt; text.remove(7), Err(Error::OutOfBounds));
+        }
+    }
+}
+
+#[test]
+fn the_first_character_is_put_back(rt: HostRuntime) {
+    for text in ["abcdef", "aBCé", "aBCd"] {
         for before in both(text) {
-            let mut less = before;
-            assert_eq!(rt; less.remove(1), Ok(second));
-            assert_eq!(rt; less.as_str(), removed);
-            assert_eq!(rt; less.remove(7), Err(Error::OutOfBounds));
-            let mut less = before;
-            assert_eq!(rt; less.remove(0), Ok('a'));
-            assert_eq!(rt; less.try_insert_str(0, "a"), Ok(()));
-            assert_eq!(rt; less, before);
-            assert_eq!(rt; left_of(less.drain(1..3)), Ok(string(part)));
-            assert_eq!(rt; less.as_str(), drained);
-            assert_eq!(rt; left_of(less.drain(2..1)), Err(Error::OutOfBounds));
-            let mut less = before;
-            assert_eq!(rt; less.replace_range(1..3, "x"), Ok(()));
-            assert_eq!(rt; less.as_str(), replaced);
-            let mut less = before;
-            less.retain(|ch| ch != 'a' && ch != 'd');
-            assert_eq!(rt; less.as_str(), retained);
+            let mut text = before;
+            assert_eq!(rt; text.remove(0), Ok('a'));
+            assert_eq!(rt; (text.try_insert_str(0, "a"), text), (Ok(()), before));
+        }
+    }
+}
+
+#[test]
+fn parts_are_drained(rt: HostRuntime) {
+    for (text, part, wanted) in [
+        ("abcdef", "bc", "adef"),
+        ("aBCé", "BC", "aé"),
+        ("aBCd", "BC", "ad"),
+    ] {
+        for mut text in both(text) {
+            let drained = left_of(text.drain(1..3));
+            assert_eq!(rt; (drained, text), (Ok(string(part)), string(wanted)));
+            assert_eq!(rt; left_of(text.drain(2..1)), Err(Error::OutOfBounds));
+        }
+    }
+}
+
+#[test]
+fn parts_are_replaced(rt: HostRuntime) {
+    for (text, wanted) in [("abcdef", "axdef"), ("aBCé", "axé"), ("aBCd", "axd")] {
+        for mut text in both(text) {
+            let replaced = text.replace_range(1..3, "x");
+            assert_eq!(rt; (replaced, text), (Ok(()), string(wanted)));
+        }
+    }
+}
+
+#[test]
+fn characters_are_retained(rt: HostRuntime) {
+    for (text, wanted) in [("abcdef", "bcef"), ("aBCé", "BCé"), ("aBCd", "BC")] {
+        for mut text in both(text) {
+            text.retain(|ch| ch != 'a' && ch != 'd');
+            assert_eq!(rt; text, string(wanted));
         }
     }
 }
 
 #[test]
 fn letters_change_case(rt: HostRuntime) {
-    for (text, upper, lower, upper_in, lower_in) in [
-        ("abcdef", "ABCDEF", "abcdef", "aBCdef", "abcdef"),
-        ("ABCDEF", "ABCDEF", "abcdef", "ABCDEF", "AbcDEF"),
-        ("aBCé", "ABCé", "abcé", "aBCé", "abcé"),
-        ("AbcD", "ABCD", "abcd", "ABCD", "AbcD"),
+    for (text, upper, lower) in [
+        ("abcdef", "ABCDEF", "abcdef"),
+        ("ABCDEF", "ABCDEF", "abcdef"),
+        ("aBCé", "ABCé", "abcé"),
+        ("AbcD", "ABCD", "abcd"),
     ] {
         for before in both(text) {
-            let mut changed = before;
-            changed.make_ascii_uppercase();
-            assert_eq!(rt; changed.as_str(), upper);
-            let mut changed = before;
-            changed.make_ascii_lowercase();
-            assert_eq!(rt; changed.as_str(), lower);
-            assert_eq!(rt;
-                cased(&before, 1, 3),
-                Some([string(upper_in), string(lower_in)])
-            );
+            let mut raised = before;
+            raised.make_ascii_uppercase();
+            let mut lowered = before;
+            lowered.make_ascii_lowercase();
+            assert_eq!(rt; [raised, lowered], [string(upper), string(lower)]);
+        }
+    }
+}
+
+#[test]
+fn letters_change_case_in_a_range(rt: HostRuntime) {
+    for (text, upper, lower) in [
+        ("abcdef", "aBCdef", "abcdef"),
+        ("ABCDEF", "ABCDEF", "AbcDEF"),
+        ("aBCé", "aBCé", "abcé"),
+        ("AbcD", "ABCD", "AbcD"),
+    ] {
+        for before in both(text) {
+            assert_eq!(rt; cased(&before, 1, 3), Some([string(upper), string(lower)]));
         }
     }
 }

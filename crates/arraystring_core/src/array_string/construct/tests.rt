@@ -48,19 +48,40 @@ fn of_pieces_that_fit<const N: usize>(pieces: &[&str]) -> Option<ArrayString<N>>
 }
 
 #[test]
-fn a_text_by_each_constructor(rt: HostRuntime) {
+fn a_text_by_each_constructor_that_can_refuse(rt: HostRuntime) {
     for text in ["My String", "", "🤔🤔🤔🤔🤔", ZEROS_23] {
         let wanted = SmallString::from_str_truncate(text);
         assert_eq!(rt; wanted.as_str(), text);
         assert_eq!(rt; SmallString::try_from_str(text), Ok(wanted));
         assert_eq!(rt; SmallString::try_from_iterator([text]), Ok(wanted));
-        assert_eq!(rt; SmallString::from_iterator([text]), wanted);
         assert_eq!(rt; SmallString::try_from_chars(text.chars()), Ok(wanted));
+        assert_eq!(rt; text.parse::<SmallString>(), Ok(wanted));
+    }
+}
+
+#[test]
+fn a_text_by_each_constructor_of_what_fits(rt: HostRuntime) {
+    for text in ["My String", "", "🤔🤔🤔🤔🤔", ZEROS_23] {
+        let wanted = SmallString::from_str_truncate(text);
+        assert_eq!(rt; SmallString::from_iterator([text]), wanted);
         assert_eq!(rt; SmallString::from_chars(text.chars()), wanted);
+        assert_eq!(rt; SmallString::from(text), wanted);
+    }
+}
+
+#[test]
+fn a_text_by_its_bytes(rt: HostRuntime) {
+    for text in ["My String", "", "🤔🤔🤔🤔🤔", ZEROS_23] {
+        let wanted = SmallString::from_str_truncate(text);
         assert_eq!(rt; SmallString::try_from_utf8(text.as_bytes()), Ok(wanted));
         assert_eq!(rt; SmallString::from_utf8(text.as_bytes()), Ok(wanted));
-        assert_eq!(rt; SmallString::from(text), wanted);
-        assert_eq!(rt; text.parse::<SmallString>(), Ok(wanted));
+    }
+}
+
+#[test]
+fn a_text_that_is_known_to_fit(rt: HostRuntime) {
+    for text in ["My String", "", "🤔🤔🤔🤔🤔", ZEROS_23] {
+        let wanted = SmallString::from_str_truncate(text);
         assert_eq!(rt; of_text_that_fits::<23>(text), Some([wanted; 3]));
         assert_eq!(rt; of_pieces_that_fit::<23>(&[text]), Some(wanted));
     }

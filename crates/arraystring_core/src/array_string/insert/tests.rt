@@ -119,18 +119,34 @@ fn moves_of_insertions(rt: HostRuntime) {
 }
 
 #[test]
-fn a_full_string(rt: HostRuntime) {
+fn a_full_string_refuses_a_character(rt: HostRuntime) {
     let mut text: SmallString = string(ZEROS_23);
     assert_eq!(rt; text.try_insert(0, 'C'), Err(Error::OutOfBounds));
 
     let mut text: ArrayString<4> = string("abcd");
     for index in 0..5 {
         assert_eq!(rt; text.try_insert(index, 'x'), Err(Error::OutOfBounds));
+        assert_eq!(rt; with_char(text, index, 'x'), None);
+    }
+    assert_eq!(rt; text.as_str(), "abcd");
+}
+
+#[test]
+fn a_full_string_takes_the_empty_text_alone(rt: HostRuntime) {
+    let mut text: ArrayString<4> = string("abcd");
+    for index in 0..5 {
         assert_eq!(rt; text.try_insert_str(index, "x"), Err(Error::OutOfBounds));
         assert_eq!(rt; text.try_insert_str(index, ""), Ok(()));
-        assert_eq!(rt; text.insert_str(index, "x"), Ok(()));
-        assert_eq!(rt; with_char(text, index, 'x'), None);
         assert_eq!(rt; with_str(text, index, ""), Some(text));
+    }
+    assert_eq!(rt; text.as_str(), "abcd");
+}
+
+#[test]
+fn a_full_string_takes_nothing_of_a_text(rt: HostRuntime) {
+    let mut text: ArrayString<4> = string("abcd");
+    for index in 0..5 {
+        assert_eq!(rt; text.insert_str(index, "x"), Ok(()));
     }
     assert_eq!(rt; text.insert_str(5, ""), Err(Error::OutOfBounds));
     assert_eq!(rt; text.as_str(), "abcd");
