@@ -7,6 +7,8 @@ mod line;
 mod player;
 mod printing;
 mod runs;
+#[cfg(test)]
+mod scarce;
 mod script;
 mod steps;
 

@@ -20,7 +20,7 @@ pub enum PlayFault {
     Memory,
     /// A read failed.
     Read,
-    /// A write failed; some beginning of the output may have been written.
+    /// A write failed, or the flush behind the last; a leading part of the output was written.
     Write,
 }
 
@@ -73,7 +73,7 @@ pub fn play<const N: usize, I: Read, O: Write>(
 ///
 /// Where the status is not 0, one line on `errors` says why: 2 for another word, or none, and for
 /// a bad line; 3 for want of memory; 4 for a read or a write that failed. A fault of `errors`
-/// changes nothing.
+/// changes nothing but how much of the line has gone out.
 pub fn serve<I: Read, O: Write, E: Write>(
     alloc: Global,
     word: Option<&str>,

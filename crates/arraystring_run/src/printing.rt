@@ -43,7 +43,8 @@ fn write_reply<const N: usize, O: Write>(output: &mut O, reply: &Reply<N>) -> io
     }
 }
 
-/// Writes a line of a word and a short value: at most 30 bytes, which `bad line ` and a `usize` take.
+/// Writes a line of a word and a short value. It is made at once, in a string that is as long as
+/// `bad line `, the 20 digits of a `usize` and a line feed.
 pub(crate) fn put_shown<D: Display + Drop, O: Write>(
     output: &mut O,
     word: &str,
@@ -67,7 +68,8 @@ fn put_line<O: Write>(output: &mut O, word: &str, text: &str) -> io::Result<()>
     put(output, "\n")
 }
 
-/// Writes a text; an interrupted write is tried again.
+/// Writes a text; an interrupted write is tried again. Where another fails, a leading part of the
+/// text was written.
 pub(crate) fn put<O: Write>(output: &mut O, text: &str) -> io::Result<()>
     ensures whole { OnOk result (Appends (O.contents output.old) (O.contents output.new) text.now) }
     ensures part { AppendsFront (O.contents output.old) (O.contents output.new) text.now }

@@ -1,25 +1,27 @@
 //! Scripts over memory, and readers and writers that fail.
 use super::*;
+use crate::scarce::{Scarce, TIMES};
 use std::io;
 use std::process::Abort;
 use std::test::Fail;
 
-/// Gives at most `step` bytes a read; the read at `fails_at`, from 1, fails with `kind`.
+/// Gives at most `step` bytes a read; behind the first `reads`, so many as `faults` fail with `kind`.
 #[derive(Drop)]
-struct FakeReader {
-    bytes: &'static [u8],
+struct FakeReader<'a> {
+    bytes: &'a [u8],
     step: usize,
-    fails_at: usize,
+    reads: usize,
+    faults: u8,
     kind: ErrorKind,
 }
 
-impl Read for FakeReader {
+impl Read for FakeReader<'_> {
     fn read(&mut self, buf: &mut [u8]) -> io::Result<usize> {
-        self.fails_at = self.fails_at.saturating_sub(1);
-        if self.fails_at == 0 {
-            self.fails_at = usize::MAX;
+        if self.reads == 0 && self.faults > 0 {
+            self.faults -= 1;
             return Err(self.kind.into());
         }
+        self.reads = self.reads.saturating_sub(1);
         let count = self.step.min(self.bytes.len()).min(buf.len());
         buf[..count].copy_from_slice(&self.bytes[..count]);
         self.bytes = &self.bytes[count..];
@@ -27,23 +29,46 @@ impl Read for FakeReader {
     }
 }
 
-/// Takes `room` bytes, and then fails or answers that it took none.
+/// Takes at most `step` bytes a write; behind the first `room` bytes, so many writes as `faults`
+/// fail with `kind`, or take nothing where there is none.
 #[derive(Drop)]
 struct FakeWriter {
+    taken: Vec<u8>,
+    step: usize,
     room: usize,
-    fails: bool,
+    faults: u8,
+    kind: Option<ErrorKind>,
     flushes: bool,
-    taken: usize,
+}
+
+impl FakeWriter {
+    fn new(alloc: Global, room: usize, kind: Option<ErrorKind>) -> FakeWriter {
+        FakeWriter {
+            taken: Vec::new(alloc),
+            step: usize::MAX,
+            room,
+            faults: 1,
+            kind,
+            flushes: true,
+        }
+    }
 }
 
 impl Write for FakeWriter {
     fn write(&mut self, buf: &[u8]) -> io::Result<usize> {
-        let count = self.room.min(buf.len());
-        if count == 0 && self.fails {
-            return Err(ErrorKind::Other.into());
+        let room = self.room.saturating_sub(self.taken.len());
+        let mut count = self.step.min(buf.len());
+        if self.faults > 0 {
+            if room == 0 {
+                self.faults -= 1;
+                return match self.kind {
+                    Some(kind) => Err(kind.into()),
+                    None => Ok(0),
+                };
+            }
+            count = count.min(room);
         }
-        self.room -= count;
-        self.taken = self.taken.saturating_add(count);
+        self.taken.extend_from_slice(&buf[..count])?;
         Ok(count)
     }
 
@@ -106,6 +131,49 @@ fn scripts_are_played(rt: HostRuntime) {
         Ok(()),
         b"no char\nnumber 23\nfinal \n",
     );
+    let inside = "push_str é\nremove 1\ntruncate 1\n".as_bytes();
+    let wanted = "done\nrefused Utf8\nrefused Utf8\nfinal é\n".as_bytes();
+    plays(&rt, rt.alloc(), inside, Ok(()), wanted);
+}
+
+#[test]
+fn names_of_capacities(rt: HostRuntime) {
+    for word in ["small", "cache", "max"] {
+        assert!(rt; names_capacity(Some(word)));
+    }
+    for word in [None, Some(""), Some("Small"), Some("small "), Some("big")] {
+        assert!(rt; !names_capacity(word));
+    }
+}
+
+/// More than a thousand lines, 64 KiB, a hundred reads and a thousand bytes of capacity.
+#[test]
+fn long_scripts_are_played(rt: HostRuntime) -> Result<(), Fail> {
+    let mut script = Vec::new(rt.alloc());
+    let mut wanted = Vec::new(rt.alloc());
+    for _ in 0..6000u16 {
+        script.extend_from_slice(b"push_str ab\n")?;
+        wanted.extend_from_slice(b"done\n")?;
+    }
+    wanted.extend_from_slice(b"final ")?;
+    for _ in 0..127u8 {
+        wanted.extend_from_slice(b"ab")?;
+    }
+    wanted.extend_from_slice(b"a\n")?;
+    let mut input = FakeReader {
+        bytes: &script,
+        step: 500,
+        reads: 0,
+        faults: 0,
+        kind: ErrorKind::Other,
+    };
+    let mut output = Vec::new(rt.alloc());
+    let played = play::<2000, FakeReader, Vec<u8>>(rt.alloc(), &mut input, &mut output);
+    assert_eq!(rt; played, Ok(()));
+    assert_eq!(rt; output.as_slice(), wanted.as_slice());
+    script.extend_from_slice(b"Len\n")?;
+    plays(&rt, rt.alloc(), &script, Err(PlayFault::BadLine(6001)), b"");
+    Ok(())
 }
 
 /// Each line stands behind a line `len`, and before another.
@@ -314,59 +382,86 @@ fn the_example_cut_at_each_byte(rt: HostRuntime) {
     assert_eq!(rt; next, CUTS.len());
 }
 
+/// A read that fails is told, also where a bad line was read before it.
 #[test]
-fn a_failed_read_is_told(rt: HostRuntime) -> Result<(), Fail> {
-    for fails_at in 1..9usize {
+fn a_failed_read_is_told(rt: HostRuntime) {
+    for reads in 0..8usize {
         let mut input = FakeReader {
             bytes: b"len\nbad\nlen\n",
             step: 2,
-            fails_at,
+            reads,
+            faults: 1,
             kind: ErrorKind::Other,
         };
         let mut output = Vec::new(rt.alloc());
         let played = play::<23, FakeReader, Vec<u8>>(rt.alloc(), &mut input, &mut output);
-        let wanted = if fails_at <= 7 {
+        let wanted = if reads < 7 {
             PlayFault::Read
         } else {
             PlayFault::BadLine(2)
         };
-        assert_eq!(rt; played, Err(wanted), "at {fails_at}");
+        assert_eq!(rt; played, Err(wanted), "after {reads}");
         assert_eq!(rt; output.len(), 0);
     }
-    Ok(())
 }
 
 #[test]
-fn interruptions_are_passed_over(rt: HostRuntime) -> Result<(), Fail> {
-    for fails_at in 1..25usize {
-        let mut input = FakeReader {
-            bytes: SCRIPT.as_bytes(),
-            step: 2,
-            fails_at,
-            kind: ErrorKind::Interrupted,
-        };
-        let mut output = Vec::new(rt.alloc());
-        let played = play::<23, FakeReader, Vec<u8>>(rt.alloc(), &mut input, &mut output);
-        assert_eq!(rt; played, Ok(()), "at {fails_at}");
-        assert_eq!(rt; output.as_slice(), OUTPUT.as_bytes());
+fn short_and_interrupted_reads_are_joined(rt: HostRuntime) {
+    for step in 1..=SCRIPT.len() {
+        for faults in 0..3u8 {
+            let mut input = FakeReader {
+                bytes: SCRIPT.as_bytes(),
+                step,
+                reads: 1,
+                faults,
+                kind: ErrorKind::Interrupted,
+            };
+            let mut output = Vec::new(rt.alloc());
+            let played = play::<23, FakeReader, Vec<u8>>(rt.alloc(), &mut input, &mut output);
+            assert_eq!(rt; played, Ok(()), "at {step}");
+            assert_eq!(rt; output.as_slice(), OUTPUT.as_bytes());
+        }
     }
-    Ok(())
 }
 
+/// Plays the script to a writer, and compares what is answered and what the writer took.
+fn writes(
+    rt: &impl Abort,
+    alloc: Global,
+    mut output: FakeWriter,
+    answer: Result<(), PlayFault>,
+    wanted: &[u8],
+) {
+    let mut input = SCRIPT.as_bytes();
+    let played = play::<23, &[u8], FakeWriter>(alloc, &mut input, &mut output);
+    assert_eq!(rt; played, answer);
+    assert_eq!(rt; output.taken.as_slice(), wanted);
+}
+
+/// What a writer took before it failed is all that it had room for, and nothing comes after it.
 #[test]
 fn a_failed_write_is_told(rt: HostRuntime) {
-    for room in 0..=OUTPUT.len() {
-        for fails in [true, false] {
-            let mut input = SCRIPT.as_bytes();
-            let mut output = FakeWriter {
-                room,
-                fails,
-                flushes: room < OUTPUT.len(),
-                taken: 0,
-            };
-            let played = play::<23, &[u8], FakeWriter>(rt.alloc(), &mut input, &mut output);
-            assert_eq!(rt; played, Err(PlayFault::Write), "at {room}");
-            assert_eq!(rt; output.taken, room);
+    let whole = OUTPUT.as_bytes();
+    for room in 0..whole.len() {
+        for kind in [Some(ErrorKind::Other), None] {
+            let output = FakeWriter::new(rt.alloc(), room, kind);
+            let wanted = &whole[..room];
+            writes(&rt, rt.alloc(), output, Err(PlayFault::Write), wanted);
+        }
+    }
+    let mut output = FakeWriter::new(rt.alloc(), usize::MAX, None);
+    output.flushes = false;
+    writes(&rt, rt.alloc(), output, Err(PlayFault::Write), whole);
+}
+
+#[test]
+fn short_and_interrupted_writes_are_gone_on_with(rt: HostRuntime) {
+    for step in 1..=OUTPUT.len() {
+        for faults in 0..3u8 {
+            let mut output = FakeWriter::new(rt.alloc(), 5, Some(ErrorKind::Interrupted));
+            output.step = step;
+            output.faults = faults;
+            writes(&rt, rt.alloc(), output, Ok(()), OUTPUT.as_bytes());
         }
     }
 }
@@ -459,11 +554,27 @@ fn words_are_served(rt: HostRuntime) {
 }
 
 #[test]
-fn faults_are_served(rt: HostRuntime) -> Result<(), Fail> {
+fn the_example_is_served(rt: HostRuntime) {
+    let wanted =
+        "done\ndone\ndone\ntext 🤔DC\nno text\nrefused OutOfBounds\ntext AABB\nfinal AABB\n";
+    serves(
+        &rt,
+        rt.alloc(),
+        Some("small"),
+        EXAMPLE.as_bytes(),
+        0,
+        wanted.as_bytes(),
+        b"",
+    );
+}
+
+#[test]
+fn faults_are_served(rt: HostRuntime) {
     let mut unreadable = FakeReader {
         bytes: SCRIPT.as_bytes(),
         step: 8,
-        fails_at: 3,
+        reads: 2,
+        faults: 1,
         kind: ErrorKind::Other,
     };
     let mut output = Vec::new(rt.alloc());
@@ -473,72 +584,82 @@ fn faults_are_served(rt: HostRuntime) -> Result<(), Fail> {
     assert_eq!(rt; status, 4);
     assert_eq!(rt; output.len(), 0);
     assert_eq!(rt; errors.as_slice(), b"read failed\n".as_slice());
-    let mut full = FakeWriter {
-        room: 9,
-        fails: true,
-        flushes: true,
-        taken: 0,
-    };
+    let mut full = FakeWriter::new(rt.alloc(), 9, Some(ErrorKind::Other));
     errors.clear();
     let mut input = SCRIPT.as_bytes();
     let status = serve(rt.alloc(), word, &mut input, &mut full, &mut errors);
     assert_eq!(rt; status, 4);
+    assert_eq!(rt; full.taken.as_slice(), &OUTPUT.as_bytes()[..9]);
     assert_eq!(rt; errors.as_slice(), b"write failed\n".as_slice());
-    let mut input: &[u8] = b"bad";
-    let status = serve(rt.alloc(), word, &mut input, &mut output, &mut full);
-    assert_eq!(rt; status, 2);
-    Ok(())
 }
 
-const RATION: usize = 65536;
-
-const STEP: usize = 16;
-
-/// Takes all the memory that there is, in blocks of ever smaller sizes.
-fn hoard(alloc: Global) -> Result<Vec<Vec<u8>>, Fail> {
-    let mut blocks = Vec::with_capacity(alloc, 200000)?;
-    let mut size = 1usize << 46;
-    for _ in 0..4000000u32 {
-        if size < STEP || blocks.len() == blocks.capacity() {
-            break;
-        }
-        match Vec::<u8>::with_capacity(alloc, size) {
-            Ok(block) => blocks.push(block)?,
-            Err(_) => size /= 2,
-        }
-    }
-    Ok(blocks)
-}
-
-/// Where ever more memory is left, from none up, each growth is refused in turn until a run meets
-/// none that is.
+/// A fault of `errors` changes nothing but the line itself.
 #[test]
-fn each_refused_growth_is_want_of_memory(rt: HostRuntime) -> Result<(), Fail> {
+fn a_failed_line_is_let_go(rt: HostRuntime) {
+    let line = b"bad line 1\n";
+    for room in 0..line.len() {
+        let mut input: &[u8] = b"bad";
+        let mut output = Vec::new(rt.alloc());
+        let mut errors = FakeWriter::new(rt.alloc(), room, Some(ErrorKind::Other));
+        let word = Some("max");
+        let status = serve(rt.alloc(), word, &mut input, &mut output, &mut errors);
+        assert_eq!(rt; status, 2);
+        assert_eq!(rt; output.len(), 0);
+        assert_eq!(rt; errors.taken.as_slice(), &line[..room]);
+    }
+}
+
+/// Where ever more memory is left, from none up, `serve` tells each growth that is refused.
+#[test]
+fn want_of_memory_is_served(rt: HostRuntime) -> Result<(), Fail> {
     let mut output = Vec::with_capacity(rt.alloc(), 1000)?;
     let mut errors = Vec::with_capacity(rt.alloc(), 1000)?;
-    let mut ration = Vec::<u8>::with_capacity(rt.alloc(), RATION)?;
-    let blocks = hoard(rt.alloc())?;
+    let mut scarce = Scarce::new(rt.alloc())?;
     let mut refused = 0u32;
     let mut status = 3;
-    for step in 0..4000u32 {
-        drop(ration);
-        ration = Vec::with_capacity(rt.alloc(), RATION - step as usize * STEP)?;
-        let mut input = SCRIPT.as_bytes();
+    for _ in 0..TIMES {
+        scarce.leave_more(rt.alloc())?;
+        let mut input = EXAMPLE.as_bytes();
         let word = Some("small");
         status = serve(rt.alloc(), word, &mut input, &mut output, &mut errors);
-        if status == 0 {
+        if status != 3 {
             break;
         }
-        assert_eq!(rt; status, 3);
+        refused = refused.saturating_add(1);
         assert_eq!(rt; output.len(), 0);
         assert_eq!(rt; errors.as_slice(), b"out of memory\n".as_slice());
         errors.clear();
-        refused = refused.saturating_add(1);
     }
-    drop(ration);
-    drop(blocks);
-    assert!(rt; refused > 0);
+    drop(scarce);
+    // the script, the commands and the replies
+    assert!(rt; refused >= 3);
     assert_eq!(rt; status, 0);
-    assert_eq!(rt; output.as_slice(), OUTPUT.as_bytes());
+    assert_eq!(rt; output.as_slice(), CUTS[21].1.as_bytes());
+    assert_eq!(rt; errors.len(), 0);
+    Ok(())
+}
+
+/// Where ever more memory is left, from none up, `play` tells each growth that is refused.
+#[test]
+fn want_of_memory_is_told(rt: HostRuntime) -> Result<(), Fail> {
+    let mut output = Vec::with_capacity(rt.alloc(), 1000)?;
+    let mut scarce = Scarce::new(rt.alloc())?;
+    let mut refused = 0u32;
+    let mut played = Err(PlayFault::Memory);
+    for _ in 0..TIMES {
+        scarce.leave_more(rt.alloc())?;
+        let mut input = EXAMPLE.as_bytes();
+        played = play::<23, &[u8], Vec<u8>>(rt.alloc(), &mut input, &mut output);
+        if played != Err(PlayFault::Memory) {
+            break;
+        }
+        refused = refused.saturating_add(1);
+        assert_eq!(rt; output.len(), 0);
+    }
+    drop(scarce);
+    // the script, the commands and the replies
+    assert!(rt; refused >= 3);
+    assert_eq!(rt; played, Ok(()));
+    assert_eq!(rt; output.as_slice(), CUTS[21].1.as_bytes());
     Ok(())
 }

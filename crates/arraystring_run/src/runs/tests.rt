@@ -1,5 +1,6 @@
 //! Runs of commands, on values worked out by hand.
 use super::*;
+use crate::scarce::{Scarce, TIMES};
 use arraystring::error::Error::{OutOfBounds, Utf8};
 use std::process::Abort;
 use std::test::Fail;
@@ -639,5 +640,97 @@ fn replies_may_differ_behind_a_tight_command(rt: HostRuntime) -> Result<(), Fail
     let (first, second) = at_two_capacities(&rt, rt.alloc(), "", &commands, wanted)?;
     assert_eq!(rt; first, (Some(1), text_of::<5>("abcd")));
     assert_eq!(rt; second, (None, text_of::<23>("abcde")));
+    Ok(())
+}
+
+/// Says how many of 300 letters fit, each being pushed by a command of its own.
+fn pushed<const N: usize>(rt: &impl Abort, outcome: &Outcome<N>, fit: usize) {
+    assert_eq!(rt; outcome.replies.len(), 300);
+    for (position, reply) in outcome.replies.iter().enumerate() {
+        let wanted = if position < fit {
+            Reply::Done
+        } else {
+            Reply::Refused(OutOfBounds)
+        };
+        assert_eq!(rt; *reply, wanted, "at {position}");
+    }
+    assert_eq!(rt; outcome.first_tight, Some(fit));
+}
+
+#[test]
+fn long_runs_are_made(rt: HostRuntime) -> Result<(), Fail> {
+    let commands = [Command::TryPush('a'); 300];
+    let mut text: ArrayString<255> = ArrayString::new();
+    let outcome = run(rt.alloc(), &mut text, &commands)?;
+    pushed(&rt, &outcome, 255);
+    assert_eq!(rt; text.len(), 255);
+    Ok(())
+}
+
+/// The capacity of the first string may be the greater one.
+#[test]
+fn long_runs_are_made_on_both(rt: HostRuntime) -> Result<(), Fail> {
+    let commands = [Command::TryPush('a'); 300];
+    let mut first: ArrayString<255> = ArrayString::new();
+    let mut second: ArrayString<120> = ArrayString::new();
+    let (large, small) = run_both(rt.alloc(), &mut first, &mut second, &commands)?;
+    pushed(&rt, &large, 255);
+    pushed(&rt, &small, 120);
+    assert_eq!(rt; (first.len(), second.len()), (255, 120));
+    Ok(())
+}
+
+/// Where ever more memory is left, from none up, a refused growth of `run` leaves the text.
+#[test]
+fn want_of_memory_leaves_the_text(rt: HostRuntime) -> Result<(), Fail> {
+    let commands = [Command::TryPush('c'); 100];
+    let mut text: ArrayString<23> = text_of("ab");
+    let mut scarce = Scarce::new(rt.alloc())?;
+    let mut refused = 0u32;
+    let mut made = 0usize;
+    for _ in 0..TIMES {
+        scarce.leave_more(rt.alloc())?;
+        if let Ok(outcome) = run(rt.alloc(), &mut text, &commands) {
+            made = outcome.replies.len();
+            break;
+        }
+        refused = refused.saturating_add(1);
+        assert_eq!(rt; text.as_str(), "ab");
+    }
+    drop(scarce);
+    assert!(rt; refused >= 1);
+    assert_eq!(rt; made, 100);
+    assert_eq!(rt; text.as_str(), "abccccccccccccccccccccc");
+    Ok(())
+}
+
+/// The second list is wanted before the first command is made: where there is room for one list
+/// alone, both texts are as they were.
+#[test]
+fn want_of_memory_leaves_both_texts(rt: HostRuntime) -> Result<(), Fail> {
+    let commands = [Command::TryPush('c'); 300];
+    let mut alone: ArrayString<23> = text_of("ab");
+    let mut first: ArrayString<23> = text_of("ab");
+    let mut second: ArrayString<4> = text_of("ab");
+    let mut scarce = Scarce::new(rt.alloc())?;
+    let mut refused = 0u32;
+    let mut refused_alone = 0u32;
+    let mut made = 0usize;
+    for _ in 0..TIMES {
+        scarce.leave_more(rt.alloc())?;
+        if run(rt.alloc(), &mut alone, &commands).is_err() {
+            refused_alone = refused_alone.saturating_add(1);
+        }
+        if let Ok(outcomes) = run_both(rt.alloc(), &mut first, &mut second, &commands) {
+            made = outcomes.1.replies.len();
+            break;
+        }
+        refused = refused.saturating_add(1);
+        assert_eq!(rt; (first.as_str(), second.as_str()), ("ab", "ab"));
+    }
+    drop(scarce);
+    assert!(rt; refused_alone >= 1 && refused > refused_alone);
+    assert_eq!(rt; made, 300);
+    assert_eq!(rt; (first.len(), second.as_str()), (23, "abcc"));
     Ok(())
 }
