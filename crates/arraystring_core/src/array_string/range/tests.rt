@@ -96,29 +96,42 @@ fn parts_are_drained(rt: HostRuntime) {
     assert_eq!(rt; left_of(text.drain(..6)), Err(Error::OutOfBounds));
     assert_eq!(rt; left_of(text.drain(3..2)), Err(Error::OutOfBounds));
     assert_eq!(rt; text.as_str(), "D🤔");
+}
 
+#[test]
+fn parts_are_drained_by_each_kind_of_bound(rt: HostRuntime) {
+    for (start, end, part, after) in [
+        (Bound::Included(1), Bound::Excluded(3), "bc", "ad"),
+        (Bound::Included(1), Bound::Included(1), "b", "acd"),
+        (Bound::Unbounded, Bound::Included(2), "abc", "d"),
+        (Bound::Included(2), Bound::Unbounded, "cd", "ab"),
+        (Bound::Excluded(0), Bound::Included(2), "bc", "ad"),
+        (Bound::Unbounded, Bound::Unbounded, "abcd", ""),
+    ] {
+        let mut text: ArrayString<4> = string("abcd");
+        let drained = left_of(text.drain((start, end)));
+        assert_eq!(rt; (drained, text), (Ok(string(part)), string(after)));
+    }
+}
+
+#[test]
+fn parts_are_drained_by_each_kind_of_range(rt: HostRuntime) {
     let full: ArrayString<4> = string("abcd");
     let mut text = full;
-    assert_eq!(rt; left_of(text.drain(1..3)), Ok(string("bc")));
-    assert_eq!(rt; text.as_str(), "ad");
+    let drained = left_of(text.drain(1..3));
+    assert_eq!(rt; (drained, text), (Ok(string("bc")), string("ad")));
     let mut text = full;
-    assert_eq!(rt; left_of(text.drain(1..=1)), Ok(string("b")));
-    assert_eq!(rt; text.as_str(), "acd");
+    let drained = left_of(text.drain(1..=1));
+    assert_eq!(rt; (drained, text), (Ok(string("b")), string("acd")));
     let mut text = full;
-    assert_eq!(rt; left_of(text.drain(..=2)), Ok(string("abc")));
-    assert_eq!(rt; text.as_str(), "d");
+    let drained = left_of(text.drain(..=2));
+    assert_eq!(rt; (drained, text), (Ok(string("abc")), string("d")));
     let mut text = full;
-    assert_eq!(rt; left_of(text.drain(2..)), Ok(string("cd")));
-    assert_eq!(rt; text.as_str(), "ab");
+    let drained = left_of(text.drain(2..));
+    assert_eq!(rt; (drained, text), (Ok(string("cd")), string("ab")));
     let mut text = full;
-    assert_eq!(rt;
-        left_of(text.drain((Bound::Excluded(0), Bound::Included(2)))),
-        Ok(string("bc"))
-    );
-    assert_eq!(rt; text.as_str(), "ad");
-    let mut text = full;
-    assert_eq!(rt; left_of(text.drain(..)), Ok(full));
-    assert_eq!(rt; text.as_str(), "");
+    let drained = left_of(text.drain(..));
+    assert_eq!(rt; (drained, text), (Ok(full), string("")));
 }
 
 /// What `drain` answered, as a string.
