@@ -2,6 +2,7 @@
 use crate::greeting::greet;
 use crate::json::sent_and_read;
 use crate::log_line::{Level, log_line};
+use crate::parts::{drop_part, part};
 use crate::scores::{look_up, record};
 use arraystring::{ArrayString, Error};
 use std::collections::BTreeMap;
@@ -35,6 +36,22 @@ fn a_long_line_is_marked(rt: HostRuntime) {
         log_line(Level::Warning, over).as_str(),
         "warning: 012345678901234567890123456789012345678901234567890…"
     );
+}
+
+#[test]
+fn parts_end_between_characters(rt: HostRuntime) -> Result<(), Fail> {
+    let mut text = ArrayString::<16>::try_from_str("añb 🤔")?;
+    assert_eq!(rt; part(&text, 1, 3), Some("ñ"));
+    assert_eq!(rt; part(&text, 5, 9), Some("🤔"));
+    assert_eq!(rt; part(&text, 0, 2), None);
+    assert_eq!(rt; part(&text, 3, 1), None);
+    assert_eq!(rt; part(&text, 3, 10), None);
+    assert_eq!(rt; drop_part(&mut text, 1, 4), Ok(()));
+    assert_eq!(rt; text.as_str(), "a 🤔");
+    assert_eq!(rt; drop_part(&mut text, 2, 5), Err(Error::Utf8));
+    assert_eq!(rt; drop_part(&mut text, 2, 7), Err(Error::OutOfBounds));
+    assert_eq!(rt; text.as_str(), "a 🤔");
+    Ok(())
 }
 
 #[test]
