@@ -1,0 +1,19 @@
+//! A greeting that is cut where it would get too long.
+ghost use Rattle.std.specs.Prelude.{◌≡◌, ◌<◌, ◌↔◌, ◌++◌, IsOk, IfOk, IfErr, chars, codes};
+ghost use Rattle.arraystring.specs.Refusals.{OutOfBounds};
+ghost use Rattle.arraystring.specs.Text.{size, cut};
+
+use arraystring::{ArrayString, Error};
+
+/// `@`, the name and `, welcome back`, cut to the whole characters that fit into 20 bytes. Refused
+/// with `OutOfBounds` where not even `@` and the name fit.
+pub fn greet(name: &str) -> Result<ArrayString<20>, Error>
+    ensures text { IfOk result (λ greeting. greeting.text ≡ cut (codes "@" ++ (chars name.now ++ codes ", welcome back")) 20) }
+    ensures fits { IsOk result ↔ (size (chars name.now) < 20) }
+    ensures refused { IfErr result (λ error. error ≡ OutOfBounds) }
+{
+    let mut greeting = ArrayString::try_from_str(name)?;
+    greeting.try_insert_str(0, "@")?;
+    greeting.push_str(", welcome back");
+    Ok(greeting)
+}

@@ -1,0 +1,17 @@
+//! A name that is sent as JSON.
+ghost use Rattle.std.specs.Prelude.{◌≡◌, IfOk};
+
+use arraystring::ArrayString;
+use arraystring::integration::NotText;
+use std::alloc::{AllocError, Global};
+
+/// The name after it was made a JSON value and read back, which is the name.
+pub fn sent_and_read(name: &ArrayString<32>, alloc: Global) -> Result<ArrayString<32>, AllocError>
+    ensures { IfOk result (λ read. read.text ≡ name.now.text) }
+{
+    let value = name.to_value(alloc)?;
+    match ArrayString::from_value(&value) {
+        Ok(read) => Ok(read),
+        Err(NotText) => unreachable!(),
+    }
+}

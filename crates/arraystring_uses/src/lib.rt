@@ -1,0 +1,10 @@
+//! Uses of `arraystring`, as a caller writes them.
+#![tactic(auto)]
+
+pub mod greeting;
+pub mod json;
+pub mod log_line;
+pub mod parts;
+pub mod scores;
+#[cfg(test)]
+mod tests;

@@ -1,0 +1,34 @@
+//! Points under names, in the order of the names.
+ghost use Rattle.std.specs.Prelude.{◌≡◌, ◌≢◌, ℕ, List, Some, IfOk, OnOk, OnErr};
+ghost use Rattle.std.specs.List.{AllPairs};
+ghost use Rattle.arraystring.specs.Text.{IsBefore};
+ghost use Rattle.arraystring_uses.specs.Scores.{names, points};
+
+use arraystring::ArrayString;
+use std::alloc::AllocError;
+use std::collections::BTreeMap;
+
+/// The name of a player.
+pub type Name = ArrayString<16>;
+
+/// Puts `score` under `name`, and returns what was there.
+pub fn record(
+    scores: &mut BTreeMap<Name, u32>,
+    name: Name,
+    score: u32,
+) -> Result<Option<u32>, AllocError>
+    ensures old { IfOk result (λ old. old ≡ points scores.old name.text) }
+    ensures found { OnOk result (points scores.new name.text ≡ Some score) }
+    ensures others { (other : List ℕ) → other ≢ name.text → points scores.new other ≡ points scores.old other }
+    ensures refused { OnErr result (points scores.new name.text ≡ points scores.old name.text) }
+    ensures ordered { AllPairs IsBefore (names scores.new) }
+{
+    Ok(scores.insert(name, score)?)
+}
+
+/// What is under `name`.
+pub fn look_up(scores: &BTreeMap<Name, u32>, name: &Name) -> Option<u32>
+    ensures { result ≡ points scores.now name.now.text }
+{
+    scores.get(name).copied()
+}
