@@ -2,6 +2,9 @@
 use super::*;
 use std::test::Fail;
 
+/// As many letters as fit.
+const LETTERS: &str = "abcdefghijklmnopqrstuvwxyzABCDEFGHIJKLMNOPQRSTUVWXYZabcdefghijk";
+
 #[test]
 fn a_string_is_read_back(rt: HostRuntime) -> Result<(), Fail> {
     let string = CacheString::from_str_truncate("abcdefg");
@@ -26,6 +29,104 @@ fn other_values_are_not_texts(rt: HostRuntime) -> Result<(), Fail> {
     for text in ["null", "true", "7", "0.5", "[]", "{}"] {
         let value = Value::from_str(rt.alloc(), text)?;
         assert_eq!(rt; CacheString::from_value(&value), Err(NotText), "{text}");
+    }
+    Ok(())
+}
+
+/// How many bytes are left at most.
+const RATION: usize = 65536;
+
+/// How many more bytes are left each time.
+const STEP: usize = 16;
+
+/// How many times more can be left.
+const TIMES: u32 = 4000;
+
+/// All the memory that there is, but for what is left.
+#[derive(Drop)]
+struct Scarce {
+    blocks: Vec<Vec<u8>>,
+    ration: Vec<u8>,
+    left: usize,
+}
+
+impl Scarce {
+    /// Takes all memory, in blocks of ever smaller sizes.
+    fn new(alloc: Global) -> Result<Scarce, Fail> {
+        let ration = Vec::with_capacity(alloc, RATION)?;
+        let mut blocks = Vec::with_capacity(alloc, 200000)?;
+        let mut size = 1usize << 46;
+        for _ in 0..4000000u32 {
+            if size < STEP || blocks.len() == blocks.capacity() {
+                break;
+            }
+            match Vec::<u8>::with_capacity(alloc, size) {
+                Ok(block) => blocks.push(block)?,
+                Err(_) => size /= 2,
+            }
+        }
+        Ok(Scarce {
+            blocks,
+            ration,
+            left: 0,
+        })
+    }
+
+    /// Leaves a little more memory, the first time none.
+    fn leave_more(&mut self, alloc: Global) -> Result<(), Fail> {
+        self.ration = Vec::new(alloc);
+        self.ration = Vec::with_capacity(alloc, RATION.saturating_sub(self.left))?;
+        self.left = self.left.saturating_add(STEP);
+        Ok(())
+    }
+}
+
+/// Where ever more memory is left, from none up, a refused growth of `to_value` leaves the string.
+#[test]
+fn want_of_memory_leaves_the_string(rt: HostRuntime) -> Result<(), Fail> {
+    let string: ArrayString<63> = ArrayString::from_str_truncate(LETTERS);
+    let mut scarce = Scarce::new(rt.alloc())?;
+    let mut refused = 0u32;
+    let mut made = Err(AllocError);
+    for _ in 0..TIMES {
+        scarce.leave_more(rt.alloc())?;
+        made = string.to_value(rt.alloc());
+        if made.is_ok() {
+            break;
+        }
+        refused = refused.saturating_add(1);
+        assert_eq!(rt; string.as_str(), LETTERS);
+    }
+    drop(scarce);
+    assert!(rt; refused >= 1);
+    for value in [made?, string.to_value(rt.alloc())?] {
+        assert_eq!(rt; value.as_str(), Some(LETTERS));
+        assert_eq!(rt; ArrayString::from_value(&value), Ok(string));
+    }
+    Ok(())
+}
+
+/// The same of a `CacheString`.
+#[test]
+fn want_of_memory_leaves_the_cache_string(rt: HostRuntime) -> Result<(), Fail> {
+    let string = CacheString::from_str_truncate(LETTERS);
+    let mut scarce = Scarce::new(rt.alloc())?;
+    let mut refused = 0u32;
+    let mut made = Err(AllocError);
+    for _ in 0..TIMES {
+        scarce.leave_more(rt.alloc())?;
+        made = string.to_value(rt.alloc());
+        if made.is_ok() {
+            break;
+        }
+        refused = refused.saturating_add(1);
+        assert_eq!(rt; string.0.as_str(), LETTERS);
+    }
+    drop(scarce);
+    assert!(rt; refused >= 1);
+    for value in [made?, string.to_value(rt.alloc())?] {
+        assert_eq!(rt; value.as_str(), Some(LETTERS));
+        assert_eq!(rt; CacheString::from_value(&value), Ok(string));
     }
     Ok(())
 }
