@@ -70,6 +70,8 @@ fn put_line<O: Write>(output: &mut O, word: &str, text: &str) -> io::Result<()>
 
 /// Writes a text; an interrupted write is tried again. Where another fails, a leading part of the
 /// text was written.
+// In its caller a constant text is copied without a call.
+#[inline(always)]
 pub(crate) fn put<O: Write>(output: &mut O, text: &str) -> io::Result<()>
     ensures whole { OnOk result (Appends (O.contents output.old) (O.contents output.new) text.now) }
     ensures part { AppendsFront (O.contents output.old) (O.contents output.new) text.now }
