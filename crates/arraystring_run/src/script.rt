@@ -5,6 +5,7 @@ ghost use Rattle.arraystring_run.specs.Script.{lines, line_feed, AreLinesOf, IsB
 use crate::Command;
 use crate::line::command;
 use crate::player::PlayFault;
+use memchr::memchr;
 use std::alloc::Global;
 
 /// The commands of a whole script, one a line, which borrow their texts from it.
@@ -36,11 +37,7 @@ fn line_end(text: &[u8]) -> usize
     ensures ended { result < length text.now → slice_index text.now result ≡ line_feed }
     ensures one_line { (i : ℕ) → i < result → slice_index text.now i ≢ line_feed }
 {
-    let mut end = 0;
-    while end < text.len() && text[end] != b'\n' {
-        end += 1;
-    }
-    end
+    memchr(b'\n', text).unwrap_or(text.len())
 }
 
 /// What follows a line that ends at `end`.
