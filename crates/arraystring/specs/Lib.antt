@@ -11,12 +11,12 @@ pub use Rattle.arraystring_core.specs.Stored
 pub use Rattle.arraystring_core.specs.StoredLaws
 pub use Rattle.arraystring_core.specs.Edits
 pub use Rattle.arraystring_core.specs.EditLaws
-pub use Rattle.arraystring_core.specs.Made
-pub use Rattle.arraystring_core.specs.MadeLaws
+pub use Rattle.arraystring_core.specs.Construct
+pub use Rattle.arraystring_core.specs.ConstructLaws
 pub use Rattle.arraystring_core.specs.Taken
-pub use Rattle.arraystring_core.specs.Asked
-pub use Rattle.arraystring_core.specs.Ranges
-pub use Rattle.arraystring_core.specs.RangeLaws
+pub use Rattle.arraystring_core.specs.Retain
+pub use Rattle.arraystring_core.specs.RangeEnds
+pub use Rattle.arraystring_core.specs.RangeEndLaws
 pub use Rattle.arraystring_core.specs.Drained
 pub use Rattle.arraystring_core.specs.FromUtf16
 pub use Rattle.arraystring_core.specs.Json

@@ -2,7 +2,7 @@ use Rattle.std.proofs.Common.{◌≡◌, Result, Option, Some, None, Ok, Err, ap
 use Rattle.std.specs.Result.{IsErrAnd}
 use Rattle.arraystring.specs.Edits.{Cause, ok_unless, error_of}
 use Rattle.arraystring.specs.EditLaws.{Makes-text}
-use Rattle.arraystring.specs.RangeLaws.{at_own_bounds}
+use Rattle.arraystring.specs.RangeEndLaws.{at_own_bounds}
 use Rattle.arraystring.specs.Refusals.{Error}
 use Rattle.arraystring_uses.proofs.parts.drop_part.Goals as goal
 
