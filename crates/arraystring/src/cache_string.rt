@@ -9,9 +9,9 @@ ghost use Rattle.arraystring_base.specs.Text.{size, bytes, cut, IsText, IsWellFo
 ghost use Rattle.arraystring_base.specs.Utf16.{IsReading, first_stop, lossy_text};
 ghost use Rattle.arraystring_core.specs.Edits.{Makes, from_out_of_bounds, with_text, addition, addition_of_cut, split};
 ghost use Rattle.arraystring_core.specs.FromUtf16.{GivesWhole, GivesRun};
-ghost use Rattle.arraystring_core.specs.Made.{IsWholeOrRefused};
+ghost use Rattle.arraystring_core.specs.Construct.{IsWholeOrRefused};
 ghost use Rattle.arraystring_core.specs.Taken.{Takes, TakesAll, Fits, Gives, joined, joined_pieces, piece_text};
-ghost use Rattle.arraystring.specs.Cached.{inside};
+ghost use Rattle.arraystring.specs.Cached.{held};
 
 use crate::error::{Error, OutOfBounds, Utf8, Utf16};
 use arraystring_core::ArrayString;
@@ -42,7 +42,7 @@ impl CacheString {
 
     /// The text `string`. Refused with `OutOfBounds` where it is larger than the capacity.
     pub fn try_from_str(string: &str) -> Result<Self, OutOfBounds>
-        ensures { IsWholeOrRefused (chars string.now) 63 (from_out_of_bounds (inside result)) }
+        ensures { IsWholeOrRefused (chars string.now) 63 (from_out_of_bounds (held result)) }
     {
         Ok(CacheString(ArrayString::try_from_str(string)?))
     }
@@ -70,9 +70,9 @@ impl CacheString {
     ) -> Result<Self, OutOfBounds>
         requires { IsFiniteIterable I.into_iter_gives I.IntoIter.can_next I.IntoIter.remaining pieces }
         ensures taken { (taken : List (Bor (List ℕ))) × Takes I.into_iter_gives I.IntoIter.next_gives joined_pieces pieces 63 taken
-            × IsWholeOrRefused (joined_pieces taken) 63 (from_out_of_bounds (inside result)) }
+            × IsWholeOrRefused (joined_pieces taken) 63 (from_out_of_bounds (held result)) }
         ensures whole { (all : List (List ℕ)) → Gives I.into_iter_gives I.IntoIter.next_gives piece_text pieces all
-            → IsWholeOrRefused (joined all) 63 (from_out_of_bounds (inside result)) }
+            → IsWholeOrRefused (joined all) 63 (from_out_of_bounds (held result)) }
     {
         Ok(CacheString(ArrayString::try_from_iterator(pieces)?))
     }
@@ -111,9 +111,9 @@ impl CacheString {
     ) -> Result<Self, OutOfBounds>
         requires { IsFiniteIterable I.into_iter_gives I.IntoIter.can_next I.IntoIter.remaining characters }
         ensures taken { (taken : List ℕ) × Takes I.into_iter_gives I.IntoIter.next_gives (λ cs. cs) characters 63 taken
-            × IsWholeOrRefused taken 63 (from_out_of_bounds (inside result)) }
+            × IsWholeOrRefused taken 63 (from_out_of_bounds (held result)) }
         ensures whole { (all : List ℕ) → Gives I.into_iter_gives I.IntoIter.next_gives (λ c. c) characters all
-            → IsWholeOrRefused all 63 (from_out_of_bounds (inside result)) }
+            → IsWholeOrRefused all 63 (from_out_of_bounds (held result)) }
     {
         Ok(CacheString(ArrayString::try_from_chars(characters)?))
     }
@@ -147,8 +147,8 @@ impl CacheString {
     /// well-formed UTF-8 (the Unicode Standard, section 3.9), and else with `Error::OutOfBounds`
     /// where it is larger than the capacity.
     pub fn try_from_utf8(given: &[u8]) -> Result<Self, Error>
-        ensures malformed { ¬ (IsWellFormed given.now) → inside result ≡ Err error.Utf8 }
-        ensures whole { (t : List ℕ) → IsText t → bytes t ≡ given.now → IsWholeOrRefused t 63 (inside result) }
+        ensures malformed { ¬ (IsWellFormed given.now) → held result ≡ Err error.Utf8 }
+        ensures whole { (t : List ℕ) → IsText t → bytes t ≡ given.now → IsWholeOrRefused t 63 (held result) }
         ensures bytes { IfOk result (λ made. bytes made.0.text ≡ given.now) }
         ensures text { IfOk result (λ made. IsText made.0.text) }
     {
@@ -180,7 +180,7 @@ impl CacheString {
     /// The text whose UTF-16 `units` is. It is read item by item up to the first that ends it: a
     /// lone surrogate is refused with `Utf16`, a character that does not fit with `OutOfBounds`.
     pub fn try_from_utf16(units: &[u16]) -> Result<Self, Error>
-        ensures { (items : List Unit16) → IsReading units.now items → GivesWhole (first_stop items 63) (inside result) }
+        ensures { (items : List Unit16) → IsReading units.now items → GivesWhole (first_stop items 63) (held result) }
     {
         Ok(CacheString(ArrayString::try_from_utf16(units)?))
     }
@@ -189,7 +189,7 @@ impl CacheString {
     /// lone surrogate stands right behind it, also where the string is full; what stands behind a
     /// character that does not fit is not looked at.
     pub fn from_utf16(units: &[u16]) -> Result<Self, Utf16>
-        ensures { (items : List Unit16) → IsReading units.now items → GivesRun (first_stop items 63) (inside result) }
+        ensures { (items : List Unit16) → IsReading units.now items → GivesRun (first_stop items 63) (held result) }
     {
         Ok(CacheString(ArrayString::from_utf16(units)?))
     }
@@ -206,7 +206,7 @@ impl CacheString {
     /// allowed. Refused with `OutOfBounds` where `at` is past the text, then with `Utf8` where it is
     /// inside a character; the text is then as it was.
     pub fn split_off(&mut self, at: u8) -> Result<Self, Error>
-        ensures { Makes (split self.old.0.text at) self.old.0.text (with_text (inside result)) self.new.0.text }
+        ensures { Makes (split self.old.0.text at) self.old.0.text (with_text (held result)) self.new.0.text }
     {
         Ok(CacheString(self.0.split_off(at)?))
     }
@@ -234,7 +234,7 @@ impl From<ArrayString<63>> for CacheString {
 impl FromStr for CacheString {
     type Err = OutOfBounds;
 
-    ghost from_str_gives = { λ string result. IsWholeOrRefused (chars string) 63 (from_out_of_bounds (inside result)) };
+    ghost from_str_gives = { λ string result. IsWholeOrRefused (chars string) 63 (from_out_of_bounds (held result)) };
 
     fn from_str(string: &str) -> Result<Self, OutOfBounds> {
         Self::try_from_str(string)

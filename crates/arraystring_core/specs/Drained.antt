@@ -10,12 +10,12 @@ use Rattle.arraystring_core.specs.Edits.{first_of, last_of, all_but_last}
 -- the characters that are left, those that were given from the front, and numbers that no public clause names
 pub record Drained : Type 0 where
   pub left : List ℕ
-  pub given : List ℕ
+  pub yielded : List ℕ
   pub spare : List ℕ
 
 -- the part of `removed` from the boundary i on is left
 abbrev pub drained : Stored → ℕ → Drained
-drained removed i = record { left = back removed.text i; given = front removed.text i; spare = removed.spare }
+drained removed i = record { left = back removed.text i; yielded = front removed.text i; spare = removed.spare }
 
 -- the answer of `drain`, seen as what is left
 abbrev pub with_left : Result Drained Error → Result (List ℕ) Error
@@ -29,16 +29,16 @@ pub record IsDrained (places : ℕ) (removed : Stored) (i : ℕ) : Type 0 where
 
 -- nothing is forgotten
 module _ (places : ℕ) (removed : Stored) (i : ℕ) (is : IsDrained places removed i) where
-  abbrev pub given_back : Stored
-  given_back = record { text = (drained removed i).given ++ (drained removed i).left; spare = (drained removed i).spare }
+  abbrev pub put_back : Stored
+  put_back = record { text = (drained removed i).yielded ++ (drained removed i).left; spare = (drained removed i).spare }
 
-  pub drained-removed : given_back ≡ removed
+  pub drained-removed : put_back ≡ removed
   drained-removed = ap with_spare (front-back removed.text i)
     where
       with_spare : List ℕ → Stored
       with_spare t = record { text = t; spare = removed.spare }
 
-  pub drained-front : size (drained removed i).given ≡ i
+  pub drained-front : size (drained removed i).yielded ≡ i
   drained-front = front-size removed.text i is.at
 
 -- the end from which a character is asked for

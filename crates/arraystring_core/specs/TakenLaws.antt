@@ -13,8 +13,8 @@ use Rattle.arraystring_base.specs.TextLaws.{size-append, bytes-append}
 use Rattle.arraystring_base.specs.CutLaws.{cut-past}
 use Rattle.arraystring_base.specs.declared.error.Error.{Error}
 use Rattle.arraystring_core.specs.Stored.{Stored}
-use Rattle.arraystring_core.specs.Made.{IsWholeOrRefused}
-use Rattle.arraystring_core.specs.MadeLaws.{made-more}
+use Rattle.arraystring_core.specs.Construct.{IsWholeOrRefused}
+use Rattle.arraystring_core.specs.ConstructLaws.{made-more}
 use Rattle.arraystring_core.specs.Taken.{joined, joined_pieces, piece_text, TakesAll, Takes, Fits, Gives}
 
 -- texts joined

@@ -31,7 +31,7 @@ impl<const N: usize> Model for Drain<N> {
 
     ghost invariant = { λ d. IsDrained N d.removed d.front };
 
-    ghost inverse = { λ v. record { removed = record { text = v.given ++ v.left; spare = v.spare }; front = text_size v.given } };
+    ghost inverse = { λ v. record { removed = record { text = v.yielded ++ v.left; spare = v.spare }; front = text_size v.yielded } };
 
     ghost inverse_ok = { λ d h i. record {
       removed = drained-removed N d.removed d.front h i;

@@ -7,7 +7,7 @@ pub mod drain;
 pub mod integration;
 pub mod laws;
 mod place;
-mod ranges;
+mod range_ends;
 pub mod utils;
 
 pub use array_string::ArrayString;

@@ -2,7 +2,7 @@
 ghost use Rattle.std.specs.Prelude.{◌≡◌, ◌≢◌, ◌+◌, ◌-◌, ◌^◌, ◌<◌, ◌≤◌, ◌++◌, ℕ, List, if◌then◌else◌, ◌==◌, min, length, take, drop, chars, IsUtf8};
 ghost use Rattle.std.specs.List.Retain.{IsFiltered};
 ghost use Rattle.arraystring_base.specs.Text.{cap, utf8, width};
-ghost use Rattle.arraystring_core.specs.Asked.{MayBeAsked};
+ghost use Rattle.arraystring_core.specs.Retain.{MayBeAsked};
 
 use arraystring_base::utils::{Steps, shift};
 use std::str;

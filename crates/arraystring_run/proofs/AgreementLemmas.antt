@@ -62,7 +62,7 @@ module _ (t given : List ℕ) (n m : ℕ) (le : n ≤ m) (loose : adds_less t gi
   adds_all = sym (is_cut-larger given (m - size t)) ∙ le-ltb (m - size t) (size given) fits_more
 
   same_cut : cut given (n - size t) ≡ cut given (m - size t)
-  same_cut = cut-all given (n - size t) fits ∙ sym (cut-all given (m - size t) fits_more)
+  same_cut = cut-all fits ∙ sym (cut-all fits_more)
 
 -- an insertion of a cut is the same at both capacities
 insert-same : (i : ℕ) (given : _) (t : List ℕ) (n m : ℕ) → n ≤ m → tight (InsertStr i given) t n ≡ false → IsSameStep (InsertStr i given) t n m

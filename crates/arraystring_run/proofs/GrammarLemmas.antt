@@ -255,7 +255,7 @@ char-utf8 c is = subst IsUtf8 (append-nil (utf8 c)) (bytes-utf8 (c ∷ []) (is, 
 argument-utf8 : (a : Argument) (bs : List ℕ) → IsSpelled bs a → IsUtf8 bs
 argument-utf8 (Number n) bs number = digits-utf8 bs number.digits
 argument-utf8 (Character c) bs (is, e) = rw e (char-utf8 c is)
-argument-utf8 (Text t) bs (well, e) = rw e (well_formed-utf8 t well)
+argument-utf8 (Text t) bs (well, e) = rw e (well_formed-utf8 well)
 
 arguments-utf8 : (given : List Argument) (bs : List ℕ) → AreSpelled bs given → IsUtf8 bs
 arguments-utf8 [] bs none = rw none IsUtf8-nil
@@ -301,7 +301,7 @@ behind-space front rest u =
     let here : get_or line (length front) 0 ≡ space = get_or-append_seam front space rest 0 in
     let within : length front < length line = omega (arith, length-append front (space ∷ rest)) in
     let behind : drop (length front + 1) line ≡ rest = drop-append-add front (space ∷ rest) 1 in
-    utf8-well_formed rest (subst IsUtf8 behind (IsUtf8-drop line (length front + 1) u (IsCharBoundary-after_ascii line (length front) u within (omega (arith, here)))))
+    utf8-well_formed {bs = rest} (subst IsUtf8 behind (IsUtf8-drop line (length front + 1) u (IsCharBoundary-after_ascii line (length front) u within (omega (arith, here)))))
 
 pub number-behind : (bs : List ℕ) (n : ℕ) (rest : List ℕ) → IsUtf8 bs → IsNumberBefore bs n rest → IsWellFormed rest
 number-behind bs n rest u (digits, number, e) = behind-space digits rest (subst IsUtf8 e u)

@@ -2,7 +2,7 @@ pub mod RunLemmas
 pub mod GrammarLemmas
 pub mod ScriptLemmas
 pub mod PrintLemmas
-pub mod ReadingLemmas
+pub mod OneReadingLemmas
 pub mod LineLemmas
 pub mod AgreementLemmas
 pub mod FirstTightLemmas

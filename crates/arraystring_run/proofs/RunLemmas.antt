@@ -17,7 +17,7 @@ is_cut-larger t n =
     elim (cases_lt n (size t)) [
       | inl over ↦ let le = cut-fits t n in let lt : size (cut t n) < size t = omega arith in
           lt-ltb n (size t) over ∙ sym (lt-ltb (size (cut t n)) (size t) lt)
-      | inr fits ↦ let same : size (cut t n) ≡ size t = ap size (cut-all t n fits) in
+      | inr fits ↦ let same : size (cut t n) ≡ size t = ap size (cut-all fits) in
           le-ltb n (size t) fits ∙ sym (le-ltb (size (cut t n)) (size t) (omega arith))
     ]
 

@@ -15,7 +15,7 @@ module _ (bs rest : List ℕ) (c : ℕ) (is : bs ≡ encode_utf8 c ++ rest) wher
   pub one-char : IsUtf8 bs → length rest ≡ 0 → IsScalarValue c × (bs ≡ utf8 c)
   one-char u none =
       let found = cons_from_encodes (chars bs) rest c (encodes-chars bs u ∙ is) in
-      let all : IsText (c ∷ found.0) = subst IsText found.1 (text-chars bs u) in (
+      let all : IsText (c ∷ found.0) = subst IsText found.1 (text-chars u) in (
         all.0,
         is ∙ ap (λ l. encode_utf8 c ++ l) (nil_from_length rest none) ∙ append-nil (encode_utf8 c) ∙ sym (utf8-is c),
       )

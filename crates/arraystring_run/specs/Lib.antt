@@ -8,9 +8,9 @@ pub use Rattle.arraystring.specs.Stored
 pub use Rattle.arraystring.specs.StoredLaws
 pub use Rattle.arraystring.specs.Edits
 pub use Rattle.arraystring.specs.EditLaws
-pub use Rattle.arraystring.specs.Asked
-pub use Rattle.arraystring.specs.Ranges
-pub use Rattle.arraystring.specs.RangeLaws
+pub use Rattle.arraystring.specs.Retain
+pub use Rattle.arraystring.specs.RangeEnds
+pub use Rattle.arraystring.specs.RangeEndLaws
 pub use Rattle.arraystring.specs.Drained
 pub use Rattle.arraystring.specs.Refusals
 pub mod Runs

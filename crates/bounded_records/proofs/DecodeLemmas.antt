@@ -68,8 +68,8 @@ one_fault bs Padding Padding a b = refl
 -- bytes are the record of one user
 pub one_user : (bs u r v s : List ℕ) → IsRecord bs u r → IsRecord bs v s → (u ≡ v) × (r ≡ s)
 one_user bs u r v s is other = (
-  bytes_same u v (sym (username_bytes bs u r is) ∙ username_bytes bs v s other),
-  bytes_same r s (sym (role_bytes bs u r is) ∙ role_bytes bs v s other),
+  bytes_same {a = u} {b = v} (sym (username_bytes bs u r is) ∙ username_bytes bs v s other),
+  bytes_same {a = r} {b = s} (sym (role_bytes bs u r is) ∙ role_bytes bs v s other),
 )
 
 -- what `decode` says of its answer

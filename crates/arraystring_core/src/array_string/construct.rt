@@ -4,7 +4,7 @@ ghost use Rattle.std.specs.Borrow.{Bor};
 ghost use Rattle.std.specs.Iterator.{IsFiniteIterable};
 ghost use Rattle.arraystring_base.specs.Text.{size, bytes, cap, cut, IsText, IsWellFormed};
 ghost use Rattle.arraystring_core.specs.Edits.{from_out_of_bounds};
-ghost use Rattle.arraystring_core.specs.Made.{IsWholeOrRefused};
+ghost use Rattle.arraystring_core.specs.Construct.{IsWholeOrRefused};
 ghost use Rattle.arraystring_core.specs.Taken.{Takes, TakesAll, Fits, Gives, joined, joined_pieces, piece_text};
 
 use super::ArrayString;

@@ -5,11 +5,11 @@ ghost use Rattle.std.specs.Prelude.{◌≡◌, ◌≢◌, ◌+◌, ◌-◌, ◌^
 ghost use Rattle.std.specs.Char.{to_ascii_uppercase, to_ascii_lowercase};
 ghost use Rattle.std.specs.Range.Bound.{start_index, end_index};
 ghost use Rattle.arraystring_base.specs.Text.{bytes, cap, size, front, back, boundary};
-ghost use Rattle.arraystring_core.specs.Ranges.{OfToldBounds, lo, hi};
+ghost use Rattle.arraystring_core.specs.RangeEnds.{OfToldBounds, lo, hi};
 ghost use Rattle.arraystring_core.specs.Drained.{with_left};
 ghost use Rattle.arraystring_core.specs.Edits.{Makes, with_text, draining, replacement, part, part_in};
 
-use crate::ranges::{plain_ends, saturating_ends};
+use crate::range_ends::{plain_ends, saturating_ends};
 use crate::{ArrayString, Drain};
 use arraystring_base::error::Error;
 use arraystring_base::utils::Steps;

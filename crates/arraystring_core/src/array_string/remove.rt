@@ -3,7 +3,7 @@ ghost use Rattle.std.specs.Prelude.{◌≡◌, ◌+◌, ◌-◌, ◌^◌, ◌<�
 ghost use Rattle.std.specs.List.Retain.{IsFiltered};
 ghost use Rattle.arraystring_base.specs.Text.{size, width, back, boundary};
 ghost use Rattle.arraystring_core.specs.Edits.{Makes, from_utf8_error, with_text, truncation, removal, clearing, split};
-ghost use Rattle.arraystring_core.specs.Asked.{MayBeAsked};
+ghost use Rattle.arraystring_core.specs.Retain.{MayBeAsked};
 
 use crate::ArrayString;
 use crate::place::retain_at;

@@ -1,6 +1,6 @@
 //! The ends of a string are trimmed.
 ghost use Rattle.std.specs.Prelude.{◌≡◌, ◌+◌, ◌-◌, ◌^◌, ◌≤◌, ℕ, Bool, min, Ok, length};
-ghost use Rattle.arraystring_core.specs.Asked.{AnswersAs};
+ghost use Rattle.arraystring_core.specs.Retain.{AnswersAs};
 ghost use Rattle.arraystring_core.specs.Edits.{Makes, trimming, is_space, is_white_space, without_leading, without_trailing};
 
 use crate::ArrayString;

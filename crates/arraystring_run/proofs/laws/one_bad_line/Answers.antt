@@ -1,4 +1,4 @@
-use Rattle.arraystring_run.proofs.ReadingLemmas.{bad-refused, one-bad}
+use Rattle.arraystring_run.proofs.OneReadingLemmas.{bad-refused, one-bad}
 use Rattle.arraystring_run.proofs.laws.one_bad_line.Goals as goal
 
 pub returns : goal.returns

@@ -12,11 +12,11 @@ returns-in_ok-only_char-in-try_push-clause-some c =
 
 pub returns-in-try_push_str-clause-some : goal.returns-in-try_push_str-clause-some
 returns-in-try_push_str-clause-some c =
-    line-given (TryPushStr c.args.rest) c.args.word.now c.args.rest.now c.in-try_push_str.is (spelled-one (Text c.args.rest.now) c.args.rest.now (utf8-well_formed c.args.rest.now c.utf8.rest, refl))
+    line-given (TryPushStr c.args.rest) c.args.word.now c.args.rest.now c.in-try_push_str.is (spelled-one (Text c.args.rest.now) c.args.rest.now (utf8-well_formed c.utf8.rest, refl))
 
 pub returns-in-push_str-clause-some : goal.returns-in-push_str-clause-some
 returns-in-push_str-clause-some c =
-    line-given (PushStr c.args.rest) c.args.word.now c.args.rest.now c.in-push_str.is (spelled-one (Text c.args.rest.now) c.args.rest.now (utf8-well_formed c.args.rest.now c.utf8.rest, refl))
+    line-given (PushStr c.args.rest) c.args.word.now c.args.rest.now c.in-push_str.is (spelled-one (Text c.args.rest.now) c.args.rest.now (utf8-well_formed c.utf8.rest, refl))
 
 pub returns-in_ok-number-in-truncate-clause-some : goal.returns-in_ok-number-in-truncate-clause-some
 returns-in_ok-number-in-truncate-clause-some c =
@@ -150,7 +150,7 @@ returns-in_ok-end-in-replace_range-clause-some c =
     let rest = c.in_ok-start-in-replace_range.rest.now in
     let next = c.in_ok-end-in-replace_range.ensures.some in
     let given = c.in_ok-end-in-replace_range.given.now in
-    let u = well_formed-utf8 rest (number-behind c.args.rest.now c.in_ok-start-in-replace_range.start rest c.utf8.rest before) in
+    let u = well_formed-utf8 {bs = rest} (number-behind c.args.rest.now c.in_ok-start-in-replace_range.start rest c.utf8.rest before) in
     let well = number-behind rest c.in_ok-end-in-replace_range.end given u next in
     line-given (ReplaceRange c.in_ok-start-in-replace_range.start c.in_ok-end-in-replace_range.end c.in_ok-end-in-replace_range.given) c.args.word.now c.args.rest.now c.in-replace_range.is (spelled-before c.args.rest.now c.in_ok-start-in-replace_range.start rest (Number c.in_ok-end-in-replace_range.end ∷ Text given ∷ []) before (spelled-before rest c.in_ok-end-in-replace_range.end given (Text given ∷ []) next (spelled-one (Text given) given (well, refl))))
 

@@ -9,6 +9,6 @@ returns g c =
     let room = c.capacity.result - c.len.result in
     let left : room ≡ cap g.row.N - size c.args.text.now.text =
     ap (λ k. k - c.len.result) c.capacity.ensures ∙ ap (λ k. cap g.row.N - k) c.len.ensures.value in
-    ap (nat_lt room) (sym (size-lent c.args.given.now c.utf8.given))
+    ap (nat_lt room) (sym (size-lent c.utf8.given))
     ∙ ap (λ k. nat_lt k (size (chars c.args.given.now))) left
     ∙ is_cut-larger (chars c.args.given.now) (cap g.row.N - size c.args.text.now.text)

@@ -1,8 +1,7 @@
-use Rattle.std.proofs.Common.{arith, ◌≡◌, ◌≤◌, ◌++◌, codes, ap, sym, ◌∙◌, refl}
+use Rattle.std.proofs.Common.{arith, ◌≡◌, ◌≤◌, ◌++◌, codes, ap, ◌∙◌, refl}
 use Rattle.std.specs.Str.{chars}
 use Rattle.arraystring.specs.Text.{size, width, cut}
-use Rattle.arraystring.specs.CutLaws.{cut-past_part}
-use Rattle.arraystring_uses.proofs.InsertionLemmas.{is_put, is_refused}
+use Rattle.arraystring.specs.EditLaws.{addition_of_cut-cuts, insertion_at_start-made, insertion_at_start-refused}
 use Rattle.arraystring_uses.proofs.greeting.greet.Goals as goal
 
 at_sign : chars (codes "@") ≡ codes "@"
@@ -19,25 +18,25 @@ message = refl
 
 pub returns-in_err-try_insert_str-clause-fits : goal.returns-in_err-try_insert_str-clause-fits
 returns-in_err-try_insert_str-clause-fits c =
-    let refused = is_refused _ _ _ _ _ c.in_err-try_insert_str.ensures in
+    let refused = insertion_at_start-refused _ 20 c.in_err-try_insert_str.ensures in
     grind (arith, refused.0, at_sign, one_byte)
 
 pub returns-in_err-try_insert_str-clause-refused : goal.returns-in_err-try_insert_str-clause-refused
 returns-in_err-try_insert_str-clause-refused c =
-    let refused = is_refused _ _ _ _ _ c.in_err-try_insert_str.ensures in
+    let refused = insertion_at_start-refused _ 20 c.in_err-try_insert_str.ensures in
     grind (arith, refused.1, c.from_residual-in_err-try_insert_str.ensures)
 
 pub returns-clause-text : goal.returns-clause-text
 returns-clause-text c =
-    let put = is_put _ _ _ _ c.in_ok-try_insert_str.ensures in
+    let put = insertion_at_start-made _ 20 c.in_ok-try_insert_str.ensures in
     let t = c.try_insert_str.new.self.text in
     let same : t ≡ codes "@" ++ chars c.args.name.now =
     put.1 ∙ ap (λ l. l ++ c.in_ok-greeting.greeting.text) at_sign ∙ ap (λ l. codes "@" ++ l) c.in_ok-greeting.ensures.1 in
     let fits : size t ≤ 20 = omega (arith, put.0, ap size same, ap size at_sign, one_byte, ap size c.in_ok-greeting.ensures.1) in
-    c.push_str.ensures.ok ∙ sym (cut-past_part t _ 20 fits) ∙ ap (λ l. cut (t ++ l) 20) message
+    addition_of_cut-cuts _ 20 fits c.push_str.ensures ∙ ap (λ l. cut (t ++ l) 20) message
     ∙ ap (λ l. cut (l ++ codes ", welcome back") 20) same
 
 pub returns-clause-fits : goal.returns-clause-fits
 returns-clause-fits c =
-    let put = is_put _ _ _ _ c.in_ok-try_insert_str.ensures in
+    let put = insertion_at_start-made _ 20 c.in_ok-try_insert_str.ensures in
     (λ _. omega (arith, put.0, ap size at_sign, one_byte, ap size c.in_ok-greeting.ensures.1), λ _. refl)

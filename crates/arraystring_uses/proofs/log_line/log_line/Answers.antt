@@ -24,7 +24,7 @@ name_fits Failure = omega arith
 begun : (level : Level) (name line : List ℕ) → name ≡ level_name level → line ≡ cut (chars name) 64 → line ≡ level_name level
 begun level name line is made =
     made ∙ ap (λ l. cut (chars l) 64) is ∙ ap (λ l. cut l 64) (name_chars level)
-    ∙ cut-all (level_name level) 64 (omega (arith, name_fits level))
+    ∙ cut-all {n = 64} (omega (arith, name_fits level))
 
 pub push_marked-requires : goal.push_marked-requires
 push_marked-requires c =

@@ -3,8 +3,7 @@ use Rattle.std.specs.Str.{chars}
 use Rattle.arraystring.specs.Text.{size, width, bytes, cut}
 use Rattle.arraystring.specs.TextLaws.{size-append, chars-bytes}
 use Rattle.arraystring.specs.CutLaws.{cut-fits, cut-past_part}
-use Rattle.arraystring.specs.EditLaws.{addition-ok, addition-err}
-use Rattle.arraystring.specs.Refusals.{Error, OutOfBounds}
+use Rattle.arraystring.specs.EditLaws.{addition-made, addition-refused}
 use Rattle.arraystring_uses.proofs.log_line.push_marked.Goals as goal
 
 mark_width : width 0x2026 ≡ 3
@@ -14,14 +13,14 @@ mark_width = refl
 -- where the text does not fit, the line has taken nothing of it
 pub overflow_sub-len : goal.overflow_sub-len
 overflow_sub-len c =
-    let kept = (addition-err {E = Error} _ _ _ 64 OutOfBounds c.in-Err.ensures).1 in
+    let kept = c.in-Err.ensures.err in
     omega (arith, c.requires, c.len.ensures.value, ap size kept)
 
 -- and then takes the part that fits into the bytes left
 module _ (line text part_bytes : List ℕ) (room : ℕ) (within : size line ≤ 61) (left : room ≡ 61 - size line)
     (spelled : IsUtf8 part_bytes) (is : part_bytes ≡ bytes (cut text room)) where
   part_is : chars part_bytes ≡ cut text room
-  part_is = chars-bytes part_bytes (cut text room) spelled is
+  part_is = chars-bytes spelled is
 
   together-fits : size line + size (chars part_bytes) ≤ 61
   together-fits = omega (arith, within, left, ap size part_is, cut-fits text room)
@@ -31,7 +30,7 @@ module _ (line text part_bytes : List ℕ) (room : ℕ) (within : size line ≤ 
 
 pub push_str_unchecked-requires : goal.push_str_unchecked-requires
 push_str_unchecked-requires c =
-    let kept = (addition-err {E = Error} _ _ _ 64 OutOfBounds c.in-Err.ensures).1 in
+    let kept = c.in-Err.ensures.err in
     let left : 61 - c.len.result ≡ 61 - size c.args.line.now.text = omega (arith, c.len.ensures.value, ap size kept) in
     let enough = together-fits c.args.line.now.text (chars c.args.text.now) _ _ c.requires left c.truncate_str.utf8 c.truncate_str.ensures in
     let room : size c.try_push_str.new.self.text + size (chars c.truncate_str.result.now) ≤ 64 = omega (arith, enough, ap size kept) in
@@ -39,7 +38,7 @@ push_str_unchecked-requires c =
 
 pub push_unchecked-requires : goal.push_unchecked-requires
 push_unchecked-requires c =
-    let kept = (addition-err {E = Error} _ _ _ 64 OutOfBounds c.in-Err.ensures).1 in
+    let kept = c.in-Err.ensures.err in
     let left : 61 - c.len.result ≡ 61 - size c.args.line.now.text = omega (arith, c.len.ensures.value, ap size kept) in
     let enough = together-fits c.args.line.now.text (chars c.args.text.now) _ _ c.requires left c.truncate_str.utf8 c.truncate_str.ensures in
     let room : size c.push_str_unchecked.new.self.text + width 0x2026 ≤ 64 =
@@ -48,21 +47,21 @@ push_unchecked-requires c =
 
 pub returns-in-Err-clause-whole : goal.returns-in-Err-clause-whole
 returns-in-Err-clause-whole c fits =
-    let over = (addition-err {E = Error} _ _ _ 64 OutOfBounds c.in-Err.ensures).0 in
+    let over = (addition-refused _ 64 c.in-Err.ensures).0 in
     absurd (omega (arith, fits, over, size-append c.args.line.now.text (chars c.args.text.now)))
 
 pub returns-in-Err-clause-cut : goal.returns-in-Err-clause-cut
 returns-in-Err-clause-cut c over =
-    let kept = (addition-err {E = Error} _ _ _ 64 OutOfBounds c.in-Err.ensures).1 in
+    let kept = c.in-Err.ensures.err in
     let left : 61 - c.len.result ≡ 61 - size c.args.line.now.text = omega (arith, c.len.ensures.value, ap size kept) in
     c.push_unchecked.ensures
     ∙ ap (λ l. l ++ 0x2026 ∷ []) (c.push_str_unchecked.ensures ∙ ap (λ l. l ++ chars c.truncate_str.result.now) kept
     ∙ together c.args.line.now.text (chars c.args.text.now) _ _ c.requires left c.truncate_str.utf8 c.truncate_str.ensures)
 
 pub returns-in_default-clause-whole : goal.returns-in_default-clause-whole
-returns-in_default-clause-whole c _ = (addition-ok Error _ _ _ 64 c.in_default.ensures).1
+returns-in_default-clause-whole c _ = c.in_default.ensures.ok
 
 pub returns-in_default-clause-cut : goal.returns-in_default-clause-cut
 returns-in_default-clause-cut c over =
-    let fits = (addition-ok Error _ _ _ 64 c.in_default.ensures).0 in
+    let fits = (addition-made _ 64 c.in_default.ensures).0 in
     absurd (omega (arith, fits, over, size-append c.args.line.now.text (chars c.args.text.now)))

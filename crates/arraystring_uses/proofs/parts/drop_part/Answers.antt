@@ -1,19 +1,10 @@
-use Rattle.std.proofs.Common.{◌≡◌, Result, Option, Some, None, Ok, Err, ap, refl, ◌∙◌}
+use Rattle.std.proofs.Common.{◌≡◌, Result, Ok, Err, ap, sym, ◌∙◌}
 use Rattle.std.specs.Result.{IsErrAnd}
-use Rattle.arraystring.specs.Edits.{Cause, ok_unless, error_of}
-use Rattle.arraystring.specs.EditLaws.{Makes-text}
-use Rattle.arraystring.specs.RangeLaws.{at_own_bounds}
+use Rattle.arraystring.specs.Edits.{ok_unless}
+use Rattle.arraystring.specs.EditLaws.{edit-made, edit-refused, edit-text}
+use Rattle.arraystring.specs.RangeEndLaws.{at_own_bounds}
 use Rattle.arraystring.specs.Refusals.{Error}
 use Rattle.arraystring_uses.proofs.parts.drop_part.Goals as goal
-
--- whether an edit is refused, and by what, does not hang on what it gives
-made : {A B : Type 0} (f : Option Cause) (given answer : A) (other : B) → Ok given ≡ ok_unless f answer → Ok other ≡ ok_unless f other
-made None given answer other e = refl
-made (Some cause) given answer other e = absurd (cc)
-
-refused : {A B : Type 0} (f : Option Cause) (error : Error) (answer : A) (other : B) → Err error ≡ ok_unless f answer → Err error ≡ ok_unless f other
-refused None error answer other e = absurd (cc)
-refused (Some cause) error answer other e = let same : error ≡ error_of cause = cc in ap Err same
 
 -- `?` passes the error on
 passed : {A : Type 0} (result : Result A Error) (error : Error) → IsErrAnd result (λ e. e ≡ error) → result ≡ Err error
@@ -21,14 +12,15 @@ passed (Ok a) error is = absurd is
 passed (Err e) error is = ap Err is
 
 pub returns-clause-answer : goal.returns-clause-answer
-returns-clause-answer g c = made _ _ _ tt (at_own_bounds c.in_ok-drain.ensures tt).answer
+returns-clause-answer g c = ap (λ f. ok_unless f tt) (sym (edit-made (at_own_bounds c.in_ok-drain.ensures tt)).0)
 
 pub returns-clause-text : goal.returns-clause-text
-returns-clause-text g c = Makes-text _ _ _ _ (at_own_bounds c.in_ok-drain.ensures tt)
+returns-clause-text g c = edit-text (at_own_bounds c.in_ok-drain.ensures tt)
 
 pub returns-in_err-drain-clause-answer : goal.returns-in_err-drain-clause-answer
 returns-in_err-drain-clause-answer g c =
-    passed _ _ c.from_residual.ensures.1 ∙ refused _ _ _ tt (at_own_bounds c.in_err-drain.ensures tt).answer
+    let refused = edit-refused (at_own_bounds c.in_err-drain.ensures tt) in
+    passed _ _ c.from_residual.ensures.1 ∙ ap Err refused.2 ∙ ap (λ f. ok_unless f tt) (sym refused.1)
 
 pub returns-in_err-drain-clause-text : goal.returns-in_err-drain-clause-text
-returns-in_err-drain-clause-text g c = Makes-text _ _ _ _ (at_own_bounds c.in_err-drain.ensures tt)
+returns-in_err-drain-clause-text g c = edit-text (at_own_bounds c.in_err-drain.ensures tt)

@@ -1,6 +1,6 @@
 use Rattle.std.proofs.Common.{◌≡◌, ℕ, ◌+◌, ◌*◌, ◌≤◌, Bool, length}
 use Rattle.arraystring_base.specs.Text.{size}
-use Rattle.arraystring_core.specs.Asked.{AnswersAs}
+use Rattle.arraystring_core.specs.Retain.{AnswersAs}
 use Rattle.arraystring_core.specs.Edits.{without_trailing}
 use Rattle.arraystring_core.proofs.array_string.ArrayString.drop_trailing.Given as goal
 

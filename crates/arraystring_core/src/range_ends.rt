@@ -1,7 +1,7 @@
 //! The ends of ranges over `u8`.
 ghost use Rattle.std.specs.Prelude.{◌≡◌};
 ghost use Rattle.std.specs.Range.Bound.{start_index, end_index};
-ghost use Rattle.arraystring_core.specs.Ranges.{OfToldBounds, lo, hi};
+ghost use Rattle.arraystring_core.specs.RangeEnds.{OfToldBounds, lo, hi};
 
 use std::ops::{Bound, RangeBounds};
 

@@ -30,7 +30,7 @@ rest-same v w x y (a ∷ given) (b ∷ also) one two e (f, o, whole, spelled, ne
 argument-same : (a b : Argument) (bs : List ℕ) → kind a ≡ kind b → IsSpelled bs a → IsSpelled bs b → a ≡ b
 argument-same (Number m) (Number n) bs e is also = ap Number (is.value ∙ sym also.value)
 argument-same (Character c) (Character d) bs e is also =
-    let same = bytes_same (c ∷ []) (d ∷ []) (append-nil (utf8 c) ∙ sym is.1 ∙ also.1 ∙ sym (append-nil (utf8 d))) in
+    let same = bytes_same {a = c ∷ []} {b = d ∷ []} (append-nil (utf8 c) ∙ sym is.1 ∙ also.1 ∙ sym (append-nil (utf8 d))) in
     ap Character (ap (λ l. get_or l 0 0) same)
 argument-same (Text s) (Text t) bs e is also = ap Text (sym is.1 ∙ also.1)
 argument-same (Number m) (Character d) bs e is also = absurd (omega (arith, e))

@@ -1,9 +1,9 @@
 use Rattle.std.proofs.Common.{rules, ◌≡◌, ℕ}
 use Rattle.std.specs.Bound.{bound_map}
 use Rattle.std.specs.Borrow.{Bor}
-use Rattle.arraystring_core.specs.Ranges.{lo, hi}
-use Rattle.arraystring_core.proofs.ranges.saturating_ends.Goals.{in-Included, in-Excluded, in-Unbounded, in-Included-end_bound, in-Excluded-end_bound, in-Unbounded-end_bound}
-use Rattle.arraystring_core.proofs.ranges.saturating_ends.Goals as goal
+use Rattle.arraystring_core.specs.RangeEnds.{lo, hi}
+use Rattle.arraystring_core.proofs.range_ends.saturating_ends.Goals.{in-Included, in-Excluded, in-Unbounded, in-Included-end_bound, in-Excluded-end_bound, in-Unbounded-end_bound}
+use Rattle.arraystring_core.proofs.range_ends.saturating_ends.Goals as goal
 
 -- the bounds that the two calls answered
 pub returns : goal.returns

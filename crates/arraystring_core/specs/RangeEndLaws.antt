@@ -1,7 +1,7 @@
 -- What is claimed of the bounds that a range tells.
 use Rattle.std.proofs.Common.{ℕ, subst}
 use Rattle.std.specs.declared.ops.Bound.{Bound}
-use Rattle.arraystring_core.specs.Ranges.{OfToldBounds}
+use Rattle.arraystring_core.specs.RangeEnds.{OfToldBounds}
 
 -- is claimed of its own bounds, where it has them
 pub at_own_bounds : {R : Type 0} {has : R → Type 0} {start_of end_of : R → Bound ℕ} {range : R} {claim : Bound ℕ → Bound ℕ → Type 0}

@@ -8,7 +8,7 @@ use Rattle.arraystring_base.specs.declared.error.Error.{Error}
 use Rattle.arraystring_base.specs.declared.error.OutOfBounds.{OutOfBounds}
 use Rattle.arraystring_core.specs.Stored.{Stored}
 use Rattle.arraystring_core.specs.Edits.{from_out_of_bounds}
-use Rattle.arraystring_core.specs.Made.{IsWholeOrRefused}
+use Rattle.arraystring_core.specs.Construct.{IsWholeOrRefused}
 
 -- what does not fit is refused
 pub refused-made : (result : Result Stored OutOfBounds) (t : List ℕ) (n : ℕ) → IsErr result → n < size t → IsWholeOrRefused t n (from_out_of_bounds result)

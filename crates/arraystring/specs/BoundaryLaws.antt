@@ -1,0 +1,138 @@
+-- Laws of boundaries, and of the parts of a text before one, from one on and between two.
+use Rattle.std.proofs.Common.{◌≡◌, ℕ, ◌+◌, ◌-◌, ◌≤◌, ◌↔◌, List, [], ◌∷◌, ◌++◌, take, drop, true, false, Bool, Some, None, append_assoc, arith, if◌then◌else◌, ap, sym, ◌∙◌, refl}
+use Rattle.std.proofs.lemmas.Bool.{le-leb, leb-true, and_parts}
+use Rattle.std.specs.Prelude.{nat_le, ◌&&◌}
+use Rattle.arraystring_base.specs.Text.{IsText, IsLeadingPart, width, size, bytes, front, back, boundary}
+use Rattle.arraystring_base.specs.TextLaws.{size-append}
+use Rattle.arraystring_base.specs.CutLaws.{cut-cut}
+use Rattle.arraystring_base.specs.BoundaryLaws as law
+use Rattle.arraystring_core.specs.Edits.{part, part_in}
+
+-- the parts before and from a place are the text
+pub front-back : (t : List ℕ) (i : ℕ) → front t i ++ back t i ≡ t
+front-back = law.front-back
+
+-- before the start stands nothing
+pub front-start : (t : List ℕ) → front t 0 ≡ []
+front-start = law.front-start
+
+-- from the start on stands the text
+pub back-start : (t : List ℕ) → back t 0 ≡ t
+back-start = law.back-start
+
+-- the start is a boundary
+pub boundary-start : (t : List ℕ) → boundary t 0 ≡ true
+boundary-start t = law.boundary-is [] t 0 refl
+
+-- before the end stands the text
+pub front-end : (t : List ℕ) → front t (size t) ≡ t
+front-end = law.front-end
+
+-- from the end on stands nothing
+pub back-end : (t : List ℕ) → back t (size t) ≡ []
+back-end = law.back-end
+
+-- the end is a boundary
+pub boundary-end : (t : List ℕ) → boundary t (size t) ≡ true
+boundary-end = law.boundary-end
+
+-- where two texts are joined, the first stands before
+pub front-is : (p q : List ℕ) (i : ℕ) → size p ≡ i → front (p ++ q) i ≡ p
+front-is = law.front-is
+
+-- and the second from there on
+pub back-is : (p q : List ℕ) (i : ℕ) → size p ≡ i → back (p ++ q) i ≡ q
+back-is = law.back-is
+
+-- and a boundary is there
+pub boundary-is : (p q : List ℕ) (i : ℕ) → size p ≡ i → boundary (p ++ q) i ≡ true
+boundary-is = law.boundary-is
+
+-- a place is a boundary where a leading part has its size, and nowhere else
+pub boundary-leading : (t : List ℕ) (i : ℕ) → (boundary t i ≡ true) ↔ ((p : List ℕ) × IsLeadingPart p t × (size p ≡ i))
+boundary-leading = law.boundary-leading
+
+-- no boundary lies past the text
+pub boundary-within : (t : List ℕ) (i : ℕ) → boundary t i ≡ true → i ≤ size t
+boundary-within = law.boundary-within
+
+-- before a boundary stand as many bytes as it says
+pub front-size : (t : List ℕ) (i : ℕ) → boundary t i ≡ true → size (front t i) ≡ i
+front-size = law.front-size
+
+-- from a boundary on stand the other bytes
+pub back-size : (t : List ℕ) (i : ℕ) → boundary t i ≡ true → size (back t i) ≡ size t - i
+back-size = law.back-size
+
+-- the first bytes of a text are those of the part before a boundary
+pub bytes-front : (t : List ℕ) (i : ℕ) → boundary t i ≡ true → take i (bytes t) ≡ bytes (front t i)
+bytes-front = law.bytes-front
+
+-- and the others those of the part from it on
+pub bytes-back : (t : List ℕ) (i : ℕ) → boundary t i ≡ true → drop i (bytes t) ≡ bytes (back t i)
+bytes-back = law.bytes-back
+
+-- behind the character that begins at a boundary is the next boundary
+pub next-char : (t : List ℕ) (i : ℕ) → boundary t i ≡ true → (c : ℕ) (rest : List ℕ) → back t i ≡ c ∷ rest
+    → (boundary t (i + width c) ≡ true) × (back t (i + width c) ≡ rest) × (front t (i + width c) ≡ front t i ++ c ∷ [])
+next-char = law.next-char
+
+-- the part before a place is a text where the whole is
+pub front-text : (t : List ℕ) (i : ℕ) → IsText t → IsText (front t i)
+front-text = law.front-text
+
+-- and so is the part from it on
+pub back-text : (t : List ℕ) (i : ℕ) → IsText t → IsText (back t i)
+back-text = law.back-text
+
+-- the part from the start to the end is the text
+pub part-all : (t : List ℕ) → part t 0 (size t) ≡ t
+part-all t = ap (λ l. back l 0) (law.front-end t) ∙ law.back-start t
+
+-- the part between two boundaries
+module _ (t : List ℕ) (start end : ℕ) (order : start ≤ end) where
+  -- the parts before, between and behind are the text
+  pub part-joined : front t start ++ (part t start end ++ back t end) ≡ t
+  part-joined =
+      let f = front t end in
+      ap (λ l. l ++ (part t start end ++ back t end)) (sym (cut-cut t end start order))
+      ∙ sym (append_assoc (front f start) (part t start end) (back t end))
+      ∙ ap (λ l. l ++ back t end) (law.front-back f start) ∙ law.front-back t end
+
+  -- a boundary of the text is one of what stands before the end
+  pub boundary-in_front : boundary t start ≡ true → boundary (front t end) start ≡ true
+  boundary-in_front = law.boundary-in_front t start end order
+
+  -- the part has as many bytes as lie between its ends
+  pub part-size : boundary t start ≡ true → boundary t end ≡ true → size (part t start end) ≡ end - start
+  part-size starts ends =
+      law.back-size (front t end) start (boundary-in_front starts) ∙ ap (λ k. k - start) (law.front-size t end ends)
+
+  -- a range between two boundaries has its part
+  pub part_in-some : boundary t start ≡ true → boundary t end ≡ true → part_in t start end ≡ Some (part t start end)
+  part_in-some starts ends = rw (le-leb start end order, starts, ends) refl
+
+-- a range that has a part is in order and lies between two boundaries
+pub part_in-found : (t : List ℕ) (start end : ℕ) {found : List ℕ} → part_in t start end ≡ Some found
+    → (start ≤ end) × (boundary t start ≡ true) × (boundary t end ≡ true) × (found ≡ part t start end)
+part_in-found t start end {found} some =
+    let tests = go (nat_le start end && (boundary t start && boundary t end)) some in
+    let order = and_parts (nat_le start end) (boundary t start && boundary t end) tests.0 in
+    let ends = and_parts (boundary t start) (boundary t end) order.1 in
+    (leb-true start end order.0, ends.0, ends.1, tests.1)
+  where
+    go : (b : Bool) → (if b then Some (part t start end) else None) ≡ Some found → (b ≡ true) × (found ≡ part t start end)
+    go true is = (refl, cc)
+    go false is = absurd (cc)
+
+-- a part is no larger than its text
+pub part-fits : (t : List ℕ) (start end : ℕ) → size (part t start end) ≤ size t
+part-fits t start end =
+    let f = front t end in
+    omega (
+      arith,
+      ap size (law.front-back t end),
+      size-append f (back t end),
+      ap size (law.front-back f start),
+      size-append (front f start) (back f start),
+    )
