@@ -186,7 +186,7 @@ impl CacheString {
     }
 
     /// The longest leading run of characters of `units` that fits. Refused with `Utf16` where a
-    /// lone surrogate stands right behind it, also where the string is full; what stands behind a
+    /// lone surrogate comes right after that run, also if the string is full. What comes after a
     /// character that does not fit is not looked at.
     pub fn from_utf16(units: &[u16]) -> Result<Self, Utf16>
         ensures { (items : List Unit16) → IsReading units.now items → GivesRun (first_stop items 63) (held result) }
@@ -202,9 +202,9 @@ impl CacheString {
         CacheString(ArrayString::from_utf16_lossy(units))
     }
 
-    /// Answers the part from the byte `at` on and keeps the part before it; the length itself is
-    /// allowed. Refused with `OutOfBounds` where `at` is past the text, then with `Utf8` where it is
-    /// inside a character; the text is then as it was.
+    /// Returns the part from the byte index `at` on and keeps the part before it. `at` may be the
+    /// length. Refused with `OutOfBounds` where `at` is past the text, then with `Utf8` where it is
+    /// inside a character. The text is then as it was.
     pub fn split_off(&mut self, at: u8) -> Result<Self, Error>
         ensures { Makes (split self.old.0.text at) self.old.0.text (with_text (held result)) self.new.0.text }
     {
@@ -241,7 +241,7 @@ impl FromStr for CacheString {
     }
 }
 
-/// The text. It does not pad to a width that is asked for.
+/// The text. A width that is asked for is ignored: nothing is padded.
 impl fmt::Display for CacheString {
     ghost output = { λ s. Some (bytes s.0.text) };
 
@@ -252,7 +252,7 @@ impl fmt::Display for CacheString {
     }
 }
 
-/// The string with the longest leading run of whole characters of the text that fits behind it.
+/// The string with the given text added at its end: as many of its leading whole characters as fit.
 impl<'a> Add<&'a str> for CacheString {
     type Output = Self;
 
@@ -266,7 +266,7 @@ impl<'a> Add<&'a str> for CacheString {
 impl fmt::Write for CacheString {
     ghost write_str_gives = { λ s given t. bytes t.0.text ≡ bytes s.0.text ++ given };
 
-    /// Adds `string` at the end. Refused where not all of it fits; the text is then as it was. A
+    /// Adds `string` at the end. Refused where not all of it fits. The text is then as it was. A
     /// `write!` of several pieces leaves those before the one that is refused.
     fn write_str(&mut self, string: &str) -> fmt::Result
         ensures ok { IsOk result → bytes self.new.0.text ≡ bytes self.old.0.text ++ string.now }

@@ -15,7 +15,7 @@ pub type SmallString = ArrayString<23>;
 /// A string of at most 255 bytes of UTF-8, the greatest capacity that there is.
 pub type MaxString = ArrayString<255>;
 
-/// Boundaries, cuts and moves of bytes. Sizes and places count bytes of UTF-8.
+/// Boundaries, cuts and moves of bytes. Sizes and indices count bytes of UTF-8.
 pub mod utils {
     pub use arraystring_base::utils::{
         Steps, encode, is_boundary, is_inside_boundary, look, shift, truncate_str,

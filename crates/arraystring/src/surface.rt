@@ -1,4 +1,4 @@
-//! The paths by which callers reach the crate, and the traits of what stands there.
+//! The paths by which callers reach the crate, and the traits of the types at those paths.
 use crate::drain::Drain;
 use crate::error::{OutOfBounds, Utf8, Utf16};
 use crate::integration::NotText;

@@ -210,13 +210,13 @@ greater-before a b e = less-before b a (nat_list_cmp_total.antisymm b a ∙ ap o
 before-greater : (a b : List ℕ) → IsBefore b a → slice_cmp nat_cmp a b ≡ Greater
 before-greater a b is = nat_list_cmp_total.antisymm a b ∙ ap ordering_reverse (before-less b a is)
 
--- what each answer says
+-- what each result says
 pub order-says : (a b : List ℕ) (o : Ordering) → o ≡ slice_cmp nat_cmp a b → MatchOrdering o (IsBefore a b) (a ≡ b) (IsBefore b a)
 order-says a b Less e = less-before a b (sym e)
 order-says a b Equal e = equal-same a b (sym e)
 order-says a b Greater e = greater-before a b (sym e)
 
--- the order is total and transitive, and no text stands before itself
+-- the order is total and transitive, and no text comes before itself
 one-of_three : (a b : List ℕ) (o : Ordering) → MatchOrdering o (IsBefore a b) (a ≡ b) (IsBefore b a)
     → IsBefore a b ⊎ (a ≡ b) ⊎ IsBefore b a
 one-of_three a b Less is = inl is

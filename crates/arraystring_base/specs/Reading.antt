@@ -14,7 +14,7 @@ is_low unit = nat_le 0xDC00 unit && nat_lt unit 0xE000
 abbrev pub pair_character : ℕ → ℕ → ℕ
 pair_character high low = 0x1_0000 + ((high - 0xD800) * 0x400 + (low - 0xDC00))
 
--- the item of a unit that stands by itself
+-- the item of a unit that is no part of a pair
 unfoldable pub single_item : ℕ → Unit16
 single_item unit = if nat_le 0xD800 unit && nat_lt unit 0xE000 then Lone unit else Char unit
 

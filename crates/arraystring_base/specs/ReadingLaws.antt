@@ -41,7 +41,7 @@ is-high u h = and_from _ _ (le-leb _ _ h.0) (lt-ltb _ _ h.1)
 is-low : (u : ℕ) → IsLow u → is_low u ≡ true
 is-low u h = and_from _ _ (le-leb _ _ h.0) (lt-ltb _ _ h.1)
 
--- a high unit takes the low one behind it, and any other stands for itself
+-- a high unit takes the low one after it, and any other is an item by itself
 read_before-pair : (high low : ℕ) (items : List Unit16) → IsHigh high → IsLow low
     → read_before high (Lone low ∷ items) ≡ Char (pair_character high low) ∷ items
 unfolding read_before
@@ -75,7 +75,7 @@ reading-first : (units : List ℕ) (low : ℕ) (rest : List Unit16) → reading 
 reading-first [] low rest e = absurd (cc)
 reading-first (v ∷ units) low rest e = (units, ap (λ x. x ∷ units) (read_before-first v (reading units) low rest e))
 
--- the reading, by what stands first
+-- the reading, by what comes first
 reading-low : (u : ℕ) (units : List ℕ) → IsLow u → reading (u ∷ units) ≡ Lone u ∷ reading units
 reading-low u units is =
     read_before-single u (reading units) (λ low rest e high l. omega arith)

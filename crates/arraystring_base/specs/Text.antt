@@ -40,7 +40,7 @@ bytes (c ∷ cs) = utf8 c ++ bytes cs
 abbrev pub IsWellFormed : List ℕ → Type 0
 IsWellFormed bs = (t : List ℕ) × (IsText t × (bytes t ≡ bs))
 
--- the capacity of N places: a length is kept in one byte
+-- the capacity of an array of N bytes: a length is kept in one byte
 abbrev pub cap : ℕ → ℕ
 cap n = min n 255
 
@@ -72,7 +72,7 @@ pub record IsLongestFitting (p t : List ℕ) (n : ℕ) : Type 0 where
   pub fits : size p ≤ n
   pub longest : (q : List ℕ) → IsLeadingPart q t → size q ≤ n → IsLeadingPart q p
 
--- a stands before b: b goes on where a ends, or has the greater character where they first differ
+-- a comes before b: b goes on where a ends, or has the greater character where they first differ
 abbrev pub IsBefore : List ℕ → List ℕ → Type 0
 IsBefore a b =
     ((c : ℕ) × (rest : List ℕ) × (b ≡ a ++ c ∷ rest))

@@ -38,7 +38,7 @@ abbrev pub joined_units : List Unit16 → List ℕ
 joined_units [] = []
 joined_units (item ∷ items) = item_units item ++ joined_units items
 
--- no lone high surrogate stands directly before a lone low one
+-- no lone high surrogate comes directly before a lone low one
 abbrev pub NoPairApart : List Unit16 → Type 0
 NoPairApart items =
     (before after : List Unit16) (high low : ℕ) → items ≡ before ++ Lone high ∷ Lone low ∷ after → IsHigh high → IsLow low → ⊥
@@ -50,13 +50,13 @@ pub record IsReading (units : List ℕ) (items : List Unit16) : Type 0 where
   pub joined : units ≡ joined_units items
   pub apart : NoPairApart items
 
--- the leading run of characters that fits, and what stands behind it: nothing, a lone surrogate, or a character
+-- the leading run of characters that fits, and what comes after it: nothing, a lone surrogate, or a character
 pub data Stop : Type 0 where
   End : List ℕ → Stop
   Fault : List ℕ → Stop
   Full : List ℕ → Stop
 
--- the items stop so at n bytes: the run leads them and fits, and a character behind it would no longer fit
+-- the items stop so at n bytes: the run leads them and fits, and a character after it would no longer fit
 abbrev pub StopsAt : List Unit16 → ℕ → Stop → Type 0
 StopsAt items n (End run) = (items ≡ map Char run) × (size run ≤ n)
 StopsAt items n (Fault run) =

@@ -1,5 +1,5 @@
-//! What a call refuses, and the conversions to `Error`. No printed form pads to a width that is
-//! asked for.
+//! What a call refuses, and the conversions to `Error`. No printed form is padded to a width that
+//! is asked for.
 ghost use Rattle.std.specs.Prelude.{◌≡◌, ◌++◌, Some, codes};
 ghost use Rattle.std.proofs.Common.{ap};
 ghost use Rattle.std.specs.Hash as fed;
@@ -36,7 +36,7 @@ impl Error {
     }
 }
 
-/// A hasher is written the text of the name.
+/// Writes the name to the hasher, as `str` does.
 impl Hash for Error {
     ghost hash_input = { λ e. fed.str (error_name e) };
 
@@ -71,7 +71,7 @@ impl fmt::Debug for Error {
 impl StdError for Error {}
 
 /// Bytes that are not well-formed UTF-8 (the Unicode Standard, section 3.9), or an index inside a
-/// character. `is_char_boundary` answers it for an index past the text too.
+/// character. `is_char_boundary` returns it for an index past the text too.
 #[derive(Clone, Copy, Default, PartialEq, Eq)]
 pub struct Utf8;
 

@@ -25,8 +25,8 @@ pub fn boundaries()
     ensures { (t : List ℕ) (i : ℕ) → IsTrue (boundary t i) ↔ ((p : List ℕ) × IsLeadingPart p t × (size p ≡ i)) }
 {}
 
-/// The parts before and from a place are the text; before a boundary stand as many bytes as it
-/// says, and where two texts are joined, the parts are those two.
+/// The parts before and from an index, joined, are the text. The part before a boundary has as many
+/// bytes as the boundary says. At the index where two texts are joined, the parts are those two.
 pub fn parts()
     ensures joined { (t : List ℕ) (i : ℕ) → front t i ++ back t i ≡ t }
     ensures size { (t : List ℕ) (i : ℕ) → IsTrue (boundary t i) → size (front t i) ≡ i }
@@ -35,7 +35,7 @@ pub fn parts()
 {}
 
 /// A text takes as many bytes as its UTF-8 has. So `len` of a string is how many bytes its
-/// `as_bytes` and its `as_str` lend.
+/// `as_bytes` and its `as_str` return.
 pub fn size_is_length()
     ensures { (t : List ℕ) → size t ≡ length (bytes t) }
 {}
@@ -52,7 +52,7 @@ pub fn lent_text(given: &str)
 {}
 
 /// The order of the bytes of two texts is the order of their characters: the bytes are less where
-/// the one text stands before the other, and equal where the texts are the same.
+/// the one text comes before the other, and equal where the texts are the same.
 pub fn order_of_bytes()
     ensures same { (a b : List ℕ) → slice_cmp nat_cmp (bytes a) (bytes b) ≡ slice_cmp nat_cmp a b }
     ensures less { (a b : List ℕ) → (slice_cmp nat_cmp (bytes a) (bytes b) ≡ Less) ↔ IsBefore a b }
@@ -60,8 +60,8 @@ pub fn order_of_bytes()
     ensures greater { (a b : List ℕ) → (slice_cmp nat_cmp (bytes a) (bytes b) ≡ Greater) ↔ IsBefore b a }
 {}
 
-/// Of two texts that are not the same, one stands before the other; what stands before a text
-/// stands before all that follow it; and no text stands before itself.
+/// Of two texts that are not the same, one comes before the other. What comes before a text comes
+/// before all texts that follow it. No text comes before itself.
 pub fn order_of_texts()
     ensures total { (a b : List ℕ) → IsBefore a b ⊎ (a ≡ b) ⊎ IsBefore b a }
     ensures transitive { (a b c : List ℕ) → IsBefore a b → IsBefore b c → IsBefore a c }
@@ -80,7 +80,7 @@ pub fn text_reading()
 {}
 
 /// The first stop of items at `n` bytes is where the longest leading run of characters that fits
-/// ends, with what stands behind it; no other stop is so.
+/// ends, with what comes after it; no other stop is so.
 pub fn one_stop()
     ensures { (items : List Unit16) (n : ℕ) (stop : Stop) → (StopsAt items n stop) ↔ (first_stop items n ≡ stop) }
 {}

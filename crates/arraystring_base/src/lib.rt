@@ -1,5 +1,5 @@
-//! The bottom of the bounded string: its errors, the UTF-8 of characters, where a text may be cut,
-//! and how UTF-16 is read. It stands on `std` alone and takes no memory.
+//! The lowest crate of the bounded string: its errors, the UTF-8 of characters, where a text may be
+//! cut, and how UTF-16 is read. It uses `std` alone and takes no memory.
 #![tactic(auto)]
 
 pub mod error;

@@ -57,8 +57,8 @@ impl Steps {
     }
 }
 
-/// The byte at `at`, counted as one look. It must be there, and the count of looks must be below
-/// 2^64 - 1.
+/// The byte at the offset `at`, counted as one look. The offset must be below the length, and the
+/// count of looks must be below 2^64 - 1.
 pub fn look(bytes: &[u8], at: usize, steps: &mut Steps) -> u8
     requires in_bounds { at < length bytes.now }
     requires countable { steps.old.looked < 2 ^ 64 - 1 }

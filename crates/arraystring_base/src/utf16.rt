@@ -11,7 +11,7 @@ use std::marker::Model;
 /// An item of a reading.
 #[derive(Clone, Copy, PartialEq, Eq, Debug)]
 pub enum Unit16 {
-    /// A character: a unit that is no surrogate, or a high surrogate and the low one behind it.
+    /// A character: a unit that is no surrogate, or a high surrogate and the low one after it.
     Char(char),
     /// A surrogate that has no partner.
     Lone(u16),
@@ -66,7 +66,7 @@ impl<'a> Iterator for Units<'a> {
 
 impl<'a> FusedIterator for Units<'a> {}
 
-/// The character of the pair that `high` begins, and the units behind the pair.
+/// The character of the pair that `high` begins, and the units after the pair.
 fn pair<'a>(high: u16, rest: &'a [u16]) -> Option<(char, &'a [u16])>
     ensures some { IfSome result (λ p. (low : ℕ) × IsHigh high × IsLow low × (p.0 ≡ pair_character high low) × (rest.now ≡ low ∷ p.1.now)) }
     ensures none { IfNone result ((low : ℕ) (more : List ℕ) → rest.now ≡ low ∷ more → IsHigh high → IsLow low → ⊥) }
@@ -97,7 +97,7 @@ fn is_low(unit: u16) -> bool
     unit >= 0xDC00 && unit < 0xE000
 }
 
-/// The item of a unit that stands by itself.
+/// The item of a unit that is no part of a pair.
 #[tactic(auto, unfolding(crate::specs::Reading::single_item))]
 fn single_item(unit: u16) -> Unit16
     ensures { result ≡ single_item unit }

@@ -1,4 +1,4 @@
-//! Boundaries, cuts and moves of bytes. Sizes and places count bytes of UTF-8.
+//! Boundaries, cuts and moves of bytes. Sizes and indices count bytes of UTF-8.
 ghost use Rattle.std.specs.Prelude.{◌≡◌, ◌+◌, ◌-◌, ◌^◌, ◌==◌, if◌then◌else◌, ◌≤◌, ◌<◌, ◌↔◌, ◌++◌, ◌∷◌, [], ℕ, List, length, take, drop, chars, IsTrue, IsOk, IfSome, IfNone, IsCharBoundary};
 ghost use Rattle.arraystring_base.specs.Text.{bytes, cut, utf8, width, size, boundary};
 
@@ -24,7 +24,7 @@ pub fn is_boundary(text: &str, at: usize) -> bool
     text.is_char_boundary(at)
 }
 
-/// The longest leading run of whole characters of `text` that takes at most `size` bytes, lent
+/// The longest leading run of whole characters of `text` that takes at most `size` bytes, borrowed
 /// from the text.
 pub fn truncate_str(text: &str, size: u8) -> &str
     ensures { result.now ≡ bytes (cut (chars text.now) size) }
@@ -32,8 +32,8 @@ pub fn truncate_str(text: &str, size: u8) -> &str
     truncate_str_counted(text, size, &mut Steps::new())
 }
 
-/// The same as `truncate_str`. It looks at no more than four bytes, at least at one where `size` is
-/// not 0 and is below the length, and moves none. The count of looks must be at most 2^63.
+/// The same as `truncate_str`. It looks at no more than four bytes, and at one at least where
+/// `size` is not 0 and is below the length. It moves none. The count of looks must be at most 2^63.
 pub fn truncate_str_counted<'a>(text: &'a str, size: u8, steps: &mut Steps) -> &'a str
     requires { steps.old.looked ≤ 2 ^ 63 }
     ensures value { result.now ≡ bytes (cut (chars text.now) size) }
@@ -50,9 +50,9 @@ pub fn truncate_str_counted<'a>(text: &'a str, size: u8, steps: &mut Steps) -> &
     &text[..end]
 }
 
-/// The place where the last character of `text` begins, and that character; `None` where the text
-/// is empty. It looks at no more than four bytes, at least at one where there is a character, and
-/// moves none. The count of looks plus four must be below 2^64.
+/// The index at which the last character of `text` begins, and that character; `None` where the
+/// text is empty. It looks at no more than four bytes, and at one at least where there is a
+/// character. It moves none. The count of looks plus four must be below 2^64.
 #[tactic(auto, using(crate::proofs::LastLemmas::chars_empty))]
 pub fn last_char(text: &str, steps: &mut Steps) -> Option<(usize, char)>
     requires { steps.old.looked + 4 < 2 ^ 64 }
@@ -70,8 +70,8 @@ pub fn last_char(text: &str, steps: &mut Steps) -> Option<(usize, char)>
     Some((start, ch))
 }
 
-/// Writes the UTF-8 of `ch` from `at` on and answers how many bytes it takes. It must fit into the
-/// array from there; no other byte changes.
+/// Writes the UTF-8 of `ch` into the array, from the offset `at` on, and returns how many bytes it
+/// takes. It must fit into the array from there. No other byte changes.
 #[tactic(auto, unfolding(crate::specs::Text::width, crate::specs::Text::utf8))]
 pub fn encode<const N: usize>(ch: char, array: &mut [u8; N], at: usize) -> usize
     requires { at + width ch ≤ N }
@@ -104,9 +104,9 @@ pub fn encode<const N: usize>(ch: char, array: &mut [u8; N], at: usize) -> usize
     }
 }
 
-/// Takes the `len` bytes that stand from `from` on to `to`, overlapping or not, and counts them as
-/// moves, none where they stay. Both runs must lie in the array, and the count of moves plus `len`
-/// must be below 2^64; no byte outside the target changes.
+/// Moves `len` bytes of the array from the offset `from` to the offset `to`; the two runs may
+/// overlap. Each byte counts as a move, and none where `from` is `to`. Both runs must lie in the
+/// array, and the count of moves plus `len` must be below 2^64. No byte outside the target changes.
 pub fn shift<const N: usize>(
     array: &mut [u8; N],
     from: usize,

@@ -23,7 +23,7 @@ fn main(rt: HostRuntime) -> ExitCode {
 }
 
 /// The word that the program was given: its only argument, where that is UTF-8. It takes no memory,
-/// so an argument of more than 255 bytes is none; no capacity has so long a name.
+/// so an argument of more than 255 bytes counts as none. No capacity has so long a name.
 fn given_word<E: Env>(env: &E) -> Option<MaxString> {
     let mut first = [0u8; 255];
     let count = env.arg(1, &mut first);
@@ -48,8 +48,9 @@ fn only_word(
     MaxString::try_from_utf8(first.get(..count)?).ok()
 }
 
-/// Serves a word with a buffer before the output, so that a line costs no system call of its own. A
-/// word that names no capacity takes no memory; where there is none for a buffer, none is used.
+/// Serves a word with a buffer before the output, so that a line costs no system call of its own.
+/// For a word that names no capacity no memory is taken. Where there is no memory for a buffer, the
+/// output is not buffered.
 fn serve_buffered<I: Read, O: Write, E: Write>(
     alloc: Global,
     word: Option<&str>,

@@ -58,7 +58,7 @@ fn the_only_argument_is_the_word(rt: HostRuntime) {
     assert_eq!(rt; word.map(|word| word.len()), Some(255));
 }
 
-/// Serves a script, and compares the status, what is written and what is told.
+/// Serves a script, and compares the status, the output and the line on `errors`.
 fn serves(
     rt: &impl Abort,
     alloc: Global,

@@ -17,7 +17,7 @@ pub record Drained : Type 0 where
 abbrev pub drained : Stored → ℕ → Drained
 drained removed i = record { left = back removed.text i; yielded = front removed.text i; spare = removed.spare }
 
--- the answer of `drain`, seen as what is left
+-- the result of `drain`, seen as what is left
 abbrev pub with_left : Result Drained Error → Result (List ℕ) Error
 with_left (Ok d) = Ok d.left
 with_left (Err e) = Err e

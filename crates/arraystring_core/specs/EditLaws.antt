@@ -45,7 +45,7 @@ all_but_last-push [] c = refl
 all_but_last-push (a ∷ []) c = refl
 all_but_last-push (a ∷ b ∷ t) c = ap (λ l. a ∷ l) (all_but_last-push (b ∷ t) c)
 
--- a boundary is not inside, and a place in the text that is no boundary is
+-- a boundary is not inside, and an index in the text that is no boundary is
 pub inside-not : (t : List ℕ) (i : ℕ) → boundary t i ≡ true → (inside t i).holds ≡ false
 inside-not t i b = rw b (and_right _ false refl)
 
@@ -58,7 +58,7 @@ inside-so t i le b =
           absurd (both_ways (boundary t i) b (ap (boundary t) end ∙ boundary-end t))
     ]
 
--- nor is a place past the text
+-- nor is an index past the text
 pub inside-past : (t : List ℕ) (i : ℕ) → size t ≤ i → (inside t i).holds ≡ false
 inside-past t i ge = rw (le-ltb i (size t) ge)
 
@@ -69,7 +69,7 @@ addition-fits t given n fits = rw (le-ltb n (size t + size given) fits) refl
 pub addition-over : (t given : List ℕ) (n : ℕ) → n < size t + size given → first_cause (addition t given n).tests ≡ Some Room
 addition-over t given n over = rw (lt-ltb n (size t + size given) over) refl
 
--- what an addition did, by what it answered
+-- what an addition did, by what it returned
 pub addition-ok : (E : Type 0) (t given new : List ℕ) (n : ℕ) → Makes (addition t given n) t (from_out_of_bounds {E = E} (Ok tt)) new
     → (size t + size given ≤ n) × (new ≡ t ++ given)
 addition-ok E t given new n m =

@@ -1,4 +1,4 @@
--- What each edit does to a text: its causes in the order of its tests, its answer, and the text after.
+-- What each edit does to a text: its causes in the order of its tests, what it returns, and the text after.
 use Rattle.std.specs.Prelude.{◌≡◌, ℕ, ◌+◌, ◌-◌, List, [], ◌∷◌, ◌++◌, Bool, false, not, ◌&&◌, ◌||◌, ◌==◌, Option, Some, None, Result, Ok, Err, OnOk, OnErr, if◌then◌else◌, nat_lt, nat_le, is_none, slice_index, drop, map, reverse}
 use Rattle.std.specs.Char.{to_ascii_uppercase, to_ascii_lowercase}
 use Rattle.arraystring_base.specs.Text.{size, cut, front, back, boundary}
@@ -6,7 +6,7 @@ use Rattle.arraystring_core.specs.Stored.{Stored}
 use Rattle.arraystring_base.specs.declared.error.Error.{Error}
 use Rattle.arraystring_base.specs.declared.error.Error.TheVariants as error
 
--- why an edit is refused: a place that is not in the text, a result that does not fit, a place inside a character
+-- why an edit is refused: an index that is not in the text, a result that does not fit, an index inside a character
 pub data Cause : Type 0 where
   Past : Cause
   Room : Cause
@@ -30,7 +30,7 @@ past t i = record { holds = nat_lt (size t) i; cause = Past }
 abbrev pub crossed : ℕ → ℕ → Test
 crossed start end = record { holds = nat_lt end start; cause = Past }
 
--- no character of t begins at i or behind it
+-- no character of t begins at i or after it
 abbrev pub at_end : List ℕ → ℕ → Test
 at_end t i = record { holds = nat_le (size t) i; cause = Past }
 
@@ -64,7 +64,7 @@ answer_of edit = ok_unless (first_cause edit.tests) edit.answer
 abbrev pub text_of : {A : Type 0} → Edit A → List ℕ → List ℕ
 text_of edit t = if is_none (first_cause edit.tests) then edit.after else t
 
--- the answer is the row's, the text after it is the row's, and after a refusal t stays
+-- the result is the row's, the text after it is the row's, and after a refusal t stays
 pub record Makes {A : Type 0} (edit : Edit A) (t : List ℕ) (result : Result A Error) (new : List ℕ) : Type 0 where
   pub answer : result ≡ answer_of edit
   pub ok : OnOk result (new ≡ edit.after)
@@ -80,7 +80,7 @@ abbrev pub from_utf8_error : {A E : Type 0} → Result A E → Result A Error
 from_utf8_error (Ok answer) = Ok answer
 from_utf8_error (Err e) = Err error.Utf8
 
--- the result of a call that answers a string
+-- the result of a call that returns a string
 abbrev pub with_text : Result Stored Error → Result (List ℕ) Error
 with_text (Ok s) = Ok s.text
 with_text (Err e) = Err e
@@ -176,7 +176,7 @@ removal t i = record {
 abbrev pub clearing : Edit (Unit {0})
 clearing = record { tests = []; answer = tt; after = [] }
 
--- the part from i on is the answer
+-- the part from i on is returned
 abbrev pub split : List ℕ → ℕ → Edit (List ℕ)
 split t i = record { tests = past t i ∷ inside t i ∷ []; answer = back t i; after = front t i }
 

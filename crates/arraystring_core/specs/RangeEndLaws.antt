@@ -1,4 +1,4 @@
--- What is claimed of the bounds that a range tells.
+-- What is claimed of the bounds that a range's methods return.
 use Rattle.std.proofs.Common.{ℕ, subst}
 use Rattle.std.specs.declared.ops.Bound.{Bound}
 use Rattle.arraystring_core.specs.RangeEnds.{OfToldBounds}

@@ -28,7 +28,7 @@ module _ (places : ℕ) (array : List ℕ) (start n : ℕ) (is : IsStored places
       ∙ ap (λ b. front ++ (b ++ back)) stored-bytes
       ∙ ap (λ d. front ++ d) (take-append-drop n (drop start array)) ∙ take-append-drop start array
 
-  -- how long the range is that is lent
+  -- how long the range is that is borrowed
   pub lent-range : (start + n) - start ≡ n
   lent-range = omega arith
 

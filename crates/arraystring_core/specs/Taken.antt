@@ -1,15 +1,15 @@
--- What a call takes from an iterator that is handed in, and the text of the pieces that it gives.
+-- What a call takes from an iterator that is passed in, and the text of the pieces that it gives.
 use Rattle.std.specs.Prelude.{◌≡◌, ℕ, ◌<◌, ◌≤◌, List, [], ◌∷◌, ◌++◌, ◌⊎◌, Option, map, chars}
 use Rattle.std.specs.Iterator.{Drains, Yields, AlwaysYields}
 use Rattle.std.specs.Borrow.{Bor}
 use Rattle.arraystring_base.specs.Text.{size}
 
--- texts, or the bytes of texts, one behind the other
+-- texts, or the bytes of texts, one after the other
 abbrev pub joined : List (List ℕ) → List ℕ
 joined [] = []
 joined (t ∷ ts) = t ++ joined ts
 
--- the text of a piece that is lent, and of pieces, one behind the other
+-- the text of a borrowed piece, and of pieces, one after the other
 abbrev pub piece_text : Bor (List ℕ) → List ℕ
 piece_text piece = chars piece.now
 
@@ -21,7 +21,7 @@ abbrev pub IsFirstPast : {A : Type 0} → (List A → List ℕ) → ℕ → List
 IsFirstPast {A} spelled room items = (before : List A) × (last : A) × (items ≡ before ++ last ∷ [])
     × (size (spelled before) ≤ room) × (room < size (spelled items))
 
--- `becomes` says which iterators what is handed in may become, and `steps` what one call of `next` may give
+-- `becomes` says which iterators what is passed in may become, and `steps` what one call of `next` may give
 module _ {U T A : Type 0} (becomes : U → T → Type 0) (steps : T → Option A → T → Type 0) where
   -- the items are all that come
   abbrev pub TakesAll : U → List A → Type 0

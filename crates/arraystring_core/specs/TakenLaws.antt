@@ -22,12 +22,12 @@ pub joined-append : (a b : List (List ℕ)) → joined (a ++ b) ≡ joined a ++ 
 joined-append [] b = refl
 joined-append (t ∷ a) b = ap (λ l. t ++ l) (joined-append a b) ∙ sym (append_assoc t (joined a) (joined b))
 
--- the bytes of the texts, one behind the other, are those of the joined text
+-- the bytes of the texts, one after the other, are those of the joined text
 pub bytes-joined : (ts : List (List ℕ)) → bytes (joined ts) ≡ joined (map bytes ts)
 bytes-joined [] = refl
 bytes-joined (t ∷ ts) = bytes-append t (joined ts) ∙ ap (λ l. bytes t ++ l) (bytes-joined ts)
 
--- texts behind the first that no longer fits change no cut
+-- texts after the first that no longer fits change no cut
 pub cut-joined_past : (taken more : List (List ℕ)) (n : ℕ) → n < size (joined taken) → cut (joined (taken ++ more)) n ≡ cut (joined taken) n
 cut-joined_past taken more n past = ap (λ l. cut l n) (joined-append taken more) ∙ cut-past (joined taken) (joined more) n past
 

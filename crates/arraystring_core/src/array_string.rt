@@ -23,7 +23,7 @@ mod trim;
 mod utf16;
 
 /// A string of at most `N` bytes of UTF-8, and at most 255, that lies in the value itself. In all
-/// its calls sizes, places, room and capacity count bytes of UTF-8.
+/// its calls sizes, indices and capacity count bytes of UTF-8.
 ///
 /// Contracts name its text, the list of its characters, and no byte of the array.
 #[derive(Clone, Copy)]
@@ -91,7 +91,7 @@ impl<const N: usize> ArrayString<N> {
         self.size == 0
     }
 
-    /// The text, lent without a copy. Each of its characters is a Unicode scalar value.
+    /// The text, borrowed without a copy. Each of its characters is a Unicode scalar value.
     #[inline]
     pub fn as_str(&self) -> &str
         ensures bytes { result.now ≡ bytes self.now.text }
@@ -103,8 +103,8 @@ impl<const N: usize> ArrayString<N> {
         unsafe { str::from_utf8_unchecked(&all[start..start + self.size as usize]) }
     }
 
-    /// The UTF-8 of the text, lent without a copy: as many bytes as `len` says. Each character of
-    /// the text is a Unicode scalar value.
+    /// The UTF-8 of the text, borrowed without a copy: as many bytes as `len` says. Each character
+    /// of the text is a Unicode scalar value.
     #[inline]
     pub fn as_bytes(&self) -> &[u8]
         ensures bytes { result.now ≡ bytes self.now.text }
@@ -117,7 +117,7 @@ impl<const N: usize> ArrayString<N> {
         &all[start..start + self.size as usize]
     }
 
-    /// Adds `ch` at the end. Refused with `OutOfBounds` where it does not fit; the text is then as
+    /// Adds `ch` at the end. Refused with `OutOfBounds` where it does not fit. The text is then as
     /// it was.
     #[inline]
     pub fn try_push(&mut self, ch: char) -> Result<(), OutOfBounds>
@@ -144,7 +144,7 @@ impl<const N: usize> ArrayString<N> {
         self.size = (self.size as usize + len) as u8;
     }
 
-    /// Adds `string` at the end. Refused with `OutOfBounds` where not all of it fits; the text is
+    /// Adds `string` at the end. Refused with `OutOfBounds` where not all of it fits. The text is
     /// then as it was.
     #[inline]
     pub fn try_push_str(&mut self, string: &str) -> Result<(), OutOfBounds>
@@ -186,8 +186,8 @@ impl<const N: usize> ArrayString<N> {
         self.pop_counted(&mut Steps::new())
     }
 
-    /// The same as `pop`. It looks at no more than four bytes, at least at one where there is a
-    /// character, and moves none. Both counts must be at most 2^63.
+    /// The same as `pop`. It looks at no more than four bytes, and at one at least where there is a
+    /// character. It moves none. Both counts must be at most 2^63.
     pub fn pop_counted(&mut self, steps: &mut Steps) -> Option<char>
         requires looks { steps.old.looked ≤ 2 ^ 63 }
         requires moves { steps.old.moved ≤ 2 ^ 63 }
@@ -209,7 +209,7 @@ impl<const N: usize> ArrayString<N> {
         is_boundary(self.as_str(), at)
     }
 
-    /// Whether there is room for `ch` behind `len` bytes. Where there is room for four more, its
+    /// Whether there is room for `ch` after `len` bytes. Where there is room for four more, its
     /// width is not asked.
     #[inline]
     fn has_room(len: usize, ch: char) -> bool
@@ -278,7 +278,7 @@ impl<const N: usize> ArrayString<N> {
         encode(ch, &mut self.array, place + at);
     }
 
-    /// Takes out the text between two boundaries, without a move where it stands at the start.
+    /// Takes out the text between two boundaries, without a move where it begins at index 0.
     fn take_out(&mut self, start: usize, end: usize, steps: &mut Steps)
         requires order { start ≤ end }
         requires start { IsTrue (boundary self.old.text start) }

@@ -12,8 +12,8 @@ mod compare;
 /// The characters that `drain` took out of a string. They are given from the front and from the
 /// back, each once; what is not given stays in its order.
 ///
-/// Contracts name the list of the characters that are left. It keeps the removed text, shortened
-/// by what was given from the back, and one place in it, and takes no memory.
+/// Contracts name the list of the characters that are left. It keeps the removed text, shortened by
+/// what was given from the back, and one index into it. It takes no memory.
 #[derive(Clone, Copy)]
 pub struct Drain<const N: usize> {
     removed: ArrayString<N>,
@@ -48,7 +48,7 @@ impl<const N: usize> Drain<N> {
         Drain { removed, front: 0 }
     }
 
-    /// What is left, lent without a copy.
+    /// What is left, borrowed without a copy.
     pub fn as_str(&self) -> &str
         ensures bytes { result.now ≡ bytes self.now.left }
         ensures text { IsText self.now.left }

@@ -10,7 +10,7 @@ use std::alloc::{AllocError, Global};
 use std::error::Error;
 use std::fmt;
 
-/// A JSON value that is not a text. No printed form pads to a width that is asked for.
+/// A JSON value that is not a text. No printed form is padded to a width that is asked for.
 #[derive(Clone, Copy, PartialEq, Eq)]
 pub struct NotText;
 

@@ -16,14 +16,15 @@ ghost use Rattle.arraystring_core.specs.Json.{json_text, text_within};
 ghost use Rattle.arraystring_core.specs.Stored.{Stored};
 ghost use Rattle.arraystring_core.specs.Taken.{joined};
 
-/// What comes behind characters or pieces that no longer fit changes no cut.
+/// What comes after characters or pieces that no longer fit changes no cut.
 pub fn what_comes_past_the_room()
     ensures characters { (taken more : List ℕ) (n : ℕ) → n < size taken → cut (taken ++ more) n ≡ cut taken n }
     ensures pieces { (taken more : List (List ℕ)) (n : ℕ) → n < size (joined taken) → cut (joined (taken ++ more)) n ≡ cut (joined taken) n }
 {}
 
-/// The text whose bytes are those of pieces, one behind the other, is the pieces joined, and so has
-/// the same cuts. So `from_iterator` of pieces is `from_str_truncate` of the text that they make.
+/// The text whose bytes are those of the pieces, one after the other, is the pieces joined, and so
+/// has the same cuts. So `from_iterator` of pieces is `from_str_truncate` of the text that they
+/// make.
 pub fn pieces_make_one_text(whole: &str)
     ensures text { (pieces : List (List ℕ)) → whole.now ≡ joined (map bytes pieces) → chars whole.now ≡ joined pieces }
     ensures cut { (pieces : List (List ℕ)) (n : ℕ) → whole.now ≡ joined (map bytes pieces) → cut (joined pieces) n ≡ cut (chars whole.now) n }
@@ -38,8 +39,8 @@ pub fn units_read_back()
     ensures lossy { (t : List ℕ) (n : ℕ) (items : List Unit16) → IsText t → size t ≤ n → IsReading (text_units t) items → cut (lossy_text items) n ≡ t }
 {}
 
-/// What a pop leaves, followed by the character that it answers, is the text before. Of the empty
-/// text it answers none, and leaves it.
+/// What a pop leaves, followed by the character that it returns, is the text before. Of the empty
+/// text it returns none, and leaves it.
 pub fn popped()
     ensures last { (front : List ℕ) (ch : ℕ) → ((popping (front ++ ch ∷ [])).answer ≡ Some ch) × ((popping (front ++ ch ∷ [])).after ≡ front) }
     ensures empty { ((popping []).answer ≡ None) × ((popping []).after ≡ []) }
@@ -58,7 +59,8 @@ pub fn white_space()
     ensures { (c : ℕ) → is_white_space c ≡ is_whitespace c }
 {}
 
-/// Where a split is not refused, the text that it keeps followed by its answer is the text before.
+/// Where a split is not refused, the text that it keeps, followed by the part that it returns, is
+/// the text before.
 pub fn split_back()
     ensures { (t : List ℕ) (i : ℕ) → first_cause (split t i).tests ≡ None → (split t i).after ++ (split t i).answer ≡ t }
 {}

@@ -1,4 +1,4 @@
-//! Bytes that stand at a place of an array.
+//! Bytes at an offset of an array.
 ghost use Rattle.std.specs.Prelude.{◌≡◌, ◌≢◌, ◌+◌, ◌-◌, ◌^◌, ◌<◌, ◌≤◌, ◌++◌, ℕ, List, if◌then◌else◌, ◌==◌, min, length, take, drop, chars, IsUtf8};
 ghost use Rattle.std.specs.List.Retain.{IsFiltered};
 ghost use Rattle.arraystring_base.specs.Text.{cap, utf8, width};
@@ -7,10 +7,10 @@ ghost use Rattle.arraystring_core.specs.Retain.{MayBeAsked};
 use arraystring_base::utils::{Steps, shift};
 use std::str;
 
-/// Opens a gap of `len` bytes in place of the bytes from `start` to `end` of the `size` bytes that
-/// stand from `place` on, and answers where they stand afterwards. They stay where they are if
-/// there is room behind them, and then the bytes behind the gap move alone; else they move to the
-/// start of the array. Each byte moves at most once.
+/// Opens a gap of `len` bytes in place of the bytes from `start` to `end` of a text, which is the
+/// `size` bytes of the array from the offset `place` on. Returns the text's offset afterwards. If
+/// there is room after the text, it keeps its offset, and only the bytes after the gap move. Else
+/// it moves to the start of the array. Each byte moves at most once.
 pub(crate) fn open_gap<const N: usize>(
     array: &mut [u8; N],
     place: usize,
@@ -74,9 +74,10 @@ fn open_gap_at_start<const N: usize>(
     shift(array, place + end, start + len, tail, steps);
 }
 
-/// Asks `f` once for each character of the text in the `size` bytes that stand from `place` on, in
-/// order, and moves those for which it answers true together at `place`; answers how many bytes
-/// they take. A run of kept characters is moved as one piece, and to the left at most.
+/// Calls `f` once with each character of a text, in order, and moves those for which it returns
+/// true together. The text is the `size` bytes of the array from the offset `place` on, and keeps
+/// its offset. Returns how many bytes are kept. A run of kept characters is moved as one piece, and
+/// only to the left.
 pub(crate) fn retain_at<const N: usize, F: FnMut(char) -> bool + Drop>(
     array: &mut [u8; N],
     place: usize,

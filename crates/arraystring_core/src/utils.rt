@@ -1,4 +1,4 @@
-//! Boundaries of an `ArrayString`. Places count bytes of UTF-8.
+//! Boundaries of an `ArrayString`. Indices count bytes of UTF-8.
 ghost use Rattle.std.specs.Prelude.{◌↔◌, IsOk, IsTrue};
 ghost use Rattle.arraystring_base.specs.Text.{boundary};
 

@@ -4,7 +4,7 @@ use Rattle.arraystring.specs.Text.{utf8, IsScalarValue, IsWellFormed}
 use Rattle.arraystring_run.specs.declared.commands.Command.{Command}
 use Rattle.arraystring_run.specs.declared.commands.Command.TheVariants.{TryPush, TryPushStr, PushStr, Pop, Truncate, Trim, Remove, RetainNot, TryInsert, TryInsertStr, InsertStr, SplitOff, Clear, Drain, DrainThrough, DrainBack, ReplaceRange, Upper, Lower, Get, Len, Capacity, AsStr}
 
--- an argument: a number, a character, or a text, told by its bytes
+-- an argument: a number, a character, or a text, given by its bytes
 pub data Argument : Type 0 where
   Number : ℕ → Argument
   Character : ℕ → Argument
@@ -35,7 +35,7 @@ word Len = codes "len"
 word Capacity = codes "capacity"
 word AsStr = codes "as_str"
 
--- a character or a text stands last, and is the whole rest of the line
+-- a character or a text comes last, and is the whole rest of the line
 abbrev pub arguments : Command → List Argument
 arguments (TryPush c) = Character c ∷ []
 arguments (TryPushStr given) = Text given.now ∷ []
@@ -59,7 +59,7 @@ abbrev pub AreDigits : List ℕ → Type 0
 AreDigits [] = ⊤
 AreDigits (b ∷ bs) = (0x30 ≤ b) × (b ≤ 0x39) × AreDigits bs
 
--- the number that the digits write behind those of n
+-- the number that the digits write after those of n
 abbrev pub value_after : ℕ → List ℕ → ℕ
 value_after n [] = n
 value_after n (b ∷ bs) = value_after (n * 10 + (b - 0x30)) bs

@@ -1,4 +1,4 @@
--- What commands do to a text: each edits a list of characters and is answered.
+-- What commands do to a text: each edits a list of characters and gets a reply.
 use Rattle.std.specs.Prelude.{◌≡◌, ℕ, ◌+◌, ◌-◌, ◌==◌, ◌&&◌, List, [], ◌∷◌, ◌++◌, length, Bool, true, false, not, Option, Some, None, is_none, Result, Ok, Err, if◌then◌else◌, nat_lt, min, chars, reverse}
 use Rattle.std.specs.List.{filter}
 use Rattle.arraystring.specs.Text.{size, cut}
@@ -36,7 +36,7 @@ pub record Edited : Type 0 where
 abbrev pub leaves : Said → List ℕ → Edited
 leaves r t = record { reply = r; text = t }
 
--- an answer as a reply
+-- a result as a reply
 abbrev pub said_of : {A : Type 0} → (A → Said) → Result A Error → Said
 said_of say (Ok answer) = say answer
 said_of say (Err e) = Refused e
@@ -45,7 +45,7 @@ said_of say (Err e) = Refused e
 abbrev pub made : {A : Type 0} → (A → Said) → Edit A → List ℕ → Edited
 made say row t = leaves (said_of say (answer_of row)) (text_of row t)
 
--- a row that is answered Done
+-- a row with the reply Done
 abbrev pub done : Edit (Unit {0}) → List ℕ → Edited
 done row t = made (λ _. Done) row t
 
@@ -91,12 +91,12 @@ edit Len t n = leaves (Number (size t)) t
 edit Capacity t n = leaves (Number n) t
 edit AsStr t n = leaves (Text t) t
 
--- whether an answer is the refusal of a place past the text, or of want of room
+-- whether a result is the refusal of an index past the text, or of a result that does not fit
 abbrev pub is_out_of_bounds : {A : Type 0} → Result A Error → Bool
 is_out_of_bounds (Err OutOfBounds) = true
 is_out_of_bounds _ = false
 
--- whether the first cause that holds is want of room
+-- whether the first cause that holds is `Room`
 abbrev pub is_room : Option Cause → Bool
 is_room (Some Room) = true
 is_room _ = false
@@ -107,11 +107,11 @@ lacks_room row = is_room (first_cause row.tests)
 abbrev pub is_made : {A : Type 0} → Edit A → Bool
 is_made row = is_none (first_cause row.tests)
 
--- whether less than all of `given` fits behind t at the capacity n
+-- whether less than all of `given` fits after t at the capacity n
 abbrev pub adds_less : List ℕ → List ℕ → ℕ → Bool
 adds_less t given n = nat_lt (size (cut given (n - size t))) (size given)
 
--- whether a command is refused for want of room, or adds less than all of what it is given
+-- whether a command is refused for `Room`, or adds less than all of what it is given
 abbrev pub tight : Command → List ℕ → ℕ → Bool
 tight (TryPush c) t n = lacks_room (addition t (c ∷ []) n)
 tight (TryPushStr given) t n = lacks_room (addition t (chars given.now) n)
@@ -132,7 +132,7 @@ after [] t n = record { replies = []; text = t }
 after (c ∷ cs) t n =
     let rest = after cs (edit c t n).text n in record { replies = (edit c t n).reply ∷ rest.replies; text = rest.text }
 
--- the position of the first tight command, where the first command stands at k
+-- the position of the first tight command, where the first command is at k
 abbrev pub first_tight_from : ℕ → List Command → List ℕ → ℕ → Option ℕ
 first_tight_from k [] t n = None
 first_tight_from k (c ∷ cs) t n = if tight c t n then Some k else first_tight_from (k + 1) cs (edit c t n).text n

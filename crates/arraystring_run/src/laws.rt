@@ -28,7 +28,7 @@ pub fn each_command_has_a_line()
     ensures { (c : Edit) → AreArguments (arguments c) → IsLineOf (line_of c) c }
 {}
 
-/// A script has one reading: whatever commands its lines are taken for, they are answered alike
+/// A script has one reading: whatever commands its lines are taken for, they get the same replies
 /// and leave the same text.
 pub fn one_reading()
     ensures { (all : List (List ℕ)) (cs ds : List Edit) (t : List ℕ) (n : ℕ)

@@ -19,7 +19,7 @@ pub(crate) fn command(line: &[u8]) -> Option<Command<'_>>
     }
 }
 
-/// What stands before the first space, and what stands behind it.
+/// What is before the first space, and what is after it.
 fn split_at_space(text: &str) -> Option<(&str, &str)>
     ensures some { IfSome result (λ parts. (text.now ≡ parts.0.now ++ space ∷ parts.1.now) × IsOneWord parts.0.now) }
     ensures none { IfNone result (IsOneWord text.now) }
@@ -27,7 +27,7 @@ fn split_at_space(text: &str) -> Option<(&str, &str)>
     text.split_once(' ')
 }
 
-/// The command of a word that stands alone.
+/// The command of a line that is one word.
 fn command_alone(word: &str) -> Option<Command<'static>>
     requires { IsOneWord word.now }
     ensures some { IfSome result (λ c. IsLineOf word.now c) }
@@ -46,7 +46,7 @@ fn command_alone(word: &str) -> Option<Command<'static>>
     }
 }
 
-/// The command of a word that is given `rest`, behind one space.
+/// The command of a word that is followed by one space and `rest`.
 fn command_given<'a>(word: &str, rest: &'a str) -> Option<Command<'a>>
     requires { IsOneWord word.now }
     ensures some { IfSome result (λ c. IsLineOf (word.now ++ space ∷ rest.now) c) }
@@ -109,7 +109,7 @@ fn number(text: &str) -> Option<u8>
     text.parse().ok()
 }
 
-/// The number before the first space, and what stands behind that.
+/// The number before the first space, and what is after that space.
 fn number_before(text: &str) -> Option<(u8, &str)>
     ensures some { IfSome result (λ parts. IsNumberBefore text.now parts.0 parts.1.now) }
     ensures none { IfNone result ((n : ℕ) (rest : List ℕ) → IsNumberBefore text.now n rest → ⊥) }

@@ -16,19 +16,19 @@ use std::io::{ErrorKind, Read, Write};
 pub enum PlayFault {
     /// The first line, counted from 1, that is not a command.
     BadLine(usize),
-    /// Want of memory.
+    /// There is not enough memory.
     Memory,
     /// A read failed.
     Read,
-    /// A write failed, or the flush behind the last; a leading part of the output was written.
+    /// A write failed, or the flush after the last one. A leading part of the output was written.
     Write,
 }
 
 /// How many bytes are asked for at a time.
 const CHUNK: usize = 8192;
 
-/// An array of more bytes fits into no memory. For each `N` that a program can name the test
-/// against it is decided when the program is built.
+/// An array of more bytes fits into no memory. The compiler decides this test for each `N` that a
+/// program names.
 const LARGEST: usize = usize::MAX / 4;
 
 /// Plays a script from the empty text: reads it to its end, judges each line, makes the commands,
@@ -36,10 +36,10 @@ const LARGEST: usize = usize::MAX / 4;
 ///
 /// Nothing is written before the whole script was read and accepted and the run was made, and no
 /// memory is taken after that. The faults come in this order: `Read` or `Memory` while the input is
-/// read, `BadLine` or `Memory` by whichever line or growth is met first, `Memory` of the run, and
-/// then `Write`, after which a leading part of the output has gone out, which may be none or all. A
-/// read that was interrupted is tried again. An `N` for which no memory has an array is want of
-/// memory.
+/// read; `BadLine` or `Memory` while the lines are judged, whichever comes first; `Memory` of the
+/// run; and then `Write`. After a `Write` a leading part of the output has gone out, which may be
+/// none or all. A read that was interrupted is tried again. An `N` whose array fits into no memory
+/// is `Memory`.
 pub fn play<const N: usize, I: Read, O: Write>(
     alloc: Global,
     input: &mut I,
@@ -69,11 +69,11 @@ pub fn play<const N: usize, I: Read, O: Write>(
 }
 
 /// The program: plays a script at the capacity of a word, `small` (23), `cache` (63) or `max`
-/// (255), and answers its exit status. The word is judged before anything is read.
+/// (255), and returns its exit status. The word is judged before anything is read.
 ///
-/// Where the status is not 0, one line on `errors` says why: 2 for another word, or none, and for
-/// a bad line; 3 for want of memory; 4 for a read or a write that failed. A fault of `errors`
-/// changes nothing but how much of the line has gone out.
+/// Where the status is not 0, one line on `errors` says why: 2 for another word, or none, and for a
+/// bad line; 3 if memory ran out; 4 for a read or a write that failed. A fault of `errors` changes
+/// nothing but how much of the line has gone out.
 pub fn serve<I: Read, O: Write, E: Write>(
     alloc: Global,
     word: Option<&str>,
@@ -115,7 +115,7 @@ pub fn names_capacity(word: Option<&str>) -> bool
     matches!(word, Some("small" | "cache" | "max"))
 }
 
-/// Writes the line of a fault, and answers the status.
+/// Writes the line of a fault, and returns the status.
 fn told<E: Write>(played: Result<(), PlayFault>, errors: &mut E) -> u8
     ensures status { result ≡ status_of played }
     ensures line { AppendsFront (E.contents errors.old) (E.contents errors.new) (told_of played) }

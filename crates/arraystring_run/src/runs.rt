@@ -10,20 +10,20 @@ use crate::{Command, Reply};
 use arraystring::ArrayString;
 use std::alloc::{AllocError, Global};
 
-/// What a run of commands is answered.
+/// What a run of commands returns.
 #[derive(Drop)]
 pub struct Outcome<const N: usize> {
     /// One reply a command, in order.
     pub replies: Vec<Reply<N>>,
-    /// The position from 0 of the first command that was refused for want of room, or added less
-    /// than all it was given.
+    /// The position from 0 of the first tight command: one that was refused because its result did
+    /// not fit, or that added less than all it was given.
     pub first_tight: Option<usize>,
 }
 
 /// Makes each command in turn, each on the text that the one before left.
 ///
-/// Memory is taken for the list of replies alone, before the first command; where it is refused,
-/// the run is, with `AllocError`, and the text is as it was. An empty list of commands takes none.
+/// Memory is taken for the list of replies alone, before the first command. If it is refused, so is
+/// the run, with `AllocError`, and the text is as it was. An empty list of commands takes none.
 pub fn run<const N: usize>(
     alloc: Global,
     text: &mut ArrayString<N>,
@@ -40,7 +40,7 @@ pub fn run<const N: usize>(
     // `len` says that the text fits, also where the run is refused
     let _fits = text.len();
     let mut replies = Vec::with_capacity(alloc, commands.len())?;
-    // only a list with room for a reply tells the size of one, which `fill` asks for
+    // the proof knows the size of a reply only from a list with room for one, and `fill` needs it
     let mut first_tight = None;
     if !commands.is_empty() {
         first_tight = fill(text, commands, &mut replies);
@@ -52,8 +52,8 @@ pub fn run<const N: usize>(
     })
 }
 
-/// Makes each command in turn, and adds its reply to a list that has room for all replies and
-/// stays where it is.
+/// Makes each command in turn, and adds its reply to a list that has room for all replies and is
+/// not moved.
 fn fill<const N: usize>(
     text: &mut ArrayString<N>,
     commands: &[Command<'_>],
@@ -78,13 +78,13 @@ fn fill<const N: usize>(
 
 /// Makes the same commands on two strings, as `run` does on each.
 ///
-/// Memory is taken for the two lists of replies alone, before the first command; where it is
-/// refused, the run is, with `AllocError`, and both texts are as they were. An empty list of
-/// commands takes none.
+/// Memory is taken for the two lists of replies alone, before the first command. If it is refused,
+/// so is the run, with `AllocError`, and both texts are as they were. An empty list of commands
+/// takes none.
 ///
 /// From equal texts, where the capacity of `first` is not greater than that of `second`: the
-/// replies to the commands before the one that `first` finds tight first agree, those to `Capacity`
-/// set aside, and `second` finds none of these commands tight. Where `first` finds none tight,
+/// replies to the commands before the one that `first` finds tight first agree, except those to
+/// `Capacity`, and `second` finds none of these commands tight. Where `first` finds none tight,
 /// neither does `second`, and the last texts are equal.
 pub fn run_both<const N: usize, const M: usize>(
     alloc: Global,
@@ -112,7 +112,7 @@ pub fn run_both<const N: usize, const M: usize>(
     let _fits = (first.len(), second.len());
     let mut second_replies = Vec::with_capacity(alloc, commands.len())?;
     let first_outcome = run(alloc, first, commands)?;
-    // only a list with room for a reply tells the size of one, which `fill` asks for
+    // the proof knows the size of a reply only from a list with room for one, and `fill` needs it
     let mut first_tight = None;
     if !commands.is_empty() {
         first_tight = fill(second, commands, &mut second_replies);

@@ -9,8 +9,8 @@ use crate::{Command, Reply};
 use arraystring::error::{Error, OutOfBounds, Utf8};
 use arraystring::{ArrayString, Drain};
 
-/// Makes one command, and says whether it is tight: refused for want of room, or adding less than
-/// all it is given.
+/// Makes one command, and says whether it is tight: refused because its result does not fit, or
+/// adding less than all it is given.
 pub(crate) fn step<const N: usize>(
     text: &mut ArrayString<N>,
     command: Command<'_>,
@@ -61,7 +61,8 @@ pub(crate) fn step<const N: usize>(
     }
 }
 
-/// The reply to an addition; one that is refused is tight, since only room refuses it.
+/// The reply to an addition. One that is refused is tight, since it is refused only where it does
+/// not fit.
 fn added<const N: usize>(answer: Result<(), OutOfBounds>) -> (Reply<N>, bool)
     ensures reply { said result.0 ≡ said_of (λ _. Done) (from_out_of_bounds answer) }
     ensures tight { result.1 ≡ is_err answer }
@@ -175,8 +176,8 @@ fn replace<const N: usize>(
     put(text.replace_range(start..end, given), is_within)
 }
 
-/// The reply to what is put at a place; where that is within the text, `OutOfBounds` is want of
-/// room.
+/// The reply to what is put at an index. Where that is within the text, `OutOfBounds` says that it
+/// does not fit.
 fn put<const N: usize>(answer: Result<(), Error>, is_within: bool) -> (Reply<N>, bool)
     ensures reply { said result.0 ≡ said_of (λ _. Done) answer }
     ensures tight { result.1 ≡ (is_within && is_out_of_bounds answer) }

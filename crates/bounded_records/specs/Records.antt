@@ -1,15 +1,15 @@
--- A user as a record of 27 bytes. A field of N places is a byte that counts and N bytes behind it.
+-- A user as a record of 27 bytes. A field for N bytes is a byte that counts and N bytes after it.
 use Rattle.std.specs.Prelude.{◌≡◌, ℕ, ◌+◌, ◌-◌, ◌≤◌, List, ◌∷◌, ◌++◌, length, take, drop, replicate, slice_index}
 use Rattle.std.specs.List.{All}
 use Rattle.arraystring.specs.Text.{size, bytes, IsText, IsWellFormed}
 use Rattle.bounded_records.specs.declared.record.RecordFault.{RecordFault}
 use Rattle.bounded_records.specs.declared.record.RecordFault.TheVariants.{Length, Count, Utf8, Padding}
 
--- a text in a field of so many places: the number of its bytes, its UTF-8, and zero bytes
+-- a text in a field for so many bytes: the number of its bytes, its UTF-8, and zero bytes
 abbrev pub field_of : ℕ → List ℕ → List ℕ
 field_of places text = size text ∷ (bytes text ++ replicate (places - size text) 0)
 
--- the record of a user: the username in a field of 20 places, the role in one of 5
+-- the record of a user: the username in a field for 20 bytes, the role in one for 5
 abbrev pub record_of : List ℕ → List ℕ → List ℕ
 record_of username role = field_of 20 username ++ field_of 5 role
 
@@ -28,7 +28,7 @@ username_field bs = take 21 bs
 abbrev pub role_field : List ℕ → List ℕ
 role_field bs = drop 21 bs
 
--- the count of a field, the bytes that it counts, and the bytes behind those
+-- the count of a field, the bytes that it counts, and the bytes after those
 abbrev pub count : List ℕ → ℕ
 count field = slice_index field 0
 

@@ -49,9 +49,9 @@ impl Directory {
         }
     }
 
-    /// Puts `user` under its username and answers the user that stood there; all other users stay.
-    /// Refused only for want of memory, and only where no user stands there; the directory is then
-    /// as it was.
+    /// Puts `user` under its username and returns the user that was there; all other users stay.
+    /// Refused only if there is not enough memory, and only where no user was there. The directory
+    /// is then as it was.
     #[tactic(auto, using(crate::proofs::MapLemmas::get_users, crate::proofs::MapLemmas::insert_users, crate::proofs::MapLemmas::get_inserted))]
     pub fn insert(&mut self, user: User) -> Result<Option<User>, AllocError>
         ensures old { IfOk result (λ old. option_map texts old ≡ map.get self.old user.username.text) }

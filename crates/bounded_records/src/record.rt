@@ -19,8 +19,8 @@ use arraystring::ArrayString;
 use std::error::Error;
 use std::fmt;
 
-/// Why bytes are no record. The cases stand in the order of the tests, each of which judges the
-/// whole record.
+/// Why bytes are no record. The cases are in the order of the tests, each of which judges the whole
+/// record.
 #[derive(Clone, Copy, PartialEq, Eq, Debug)]
 pub enum RecordFault {
     /// The bytes are not 27.
@@ -29,7 +29,7 @@ pub enum RecordFault {
     Count,
     /// The counted bytes of a text are not well-formed UTF-8 (the Unicode Standard, section 3.9).
     Utf8,
-    /// A byte behind the counted ones of a text is not zero.
+    /// A byte after the counted ones of a text is not zero.
     Padding,
 }
 
@@ -47,7 +47,7 @@ impl RecordFault {
     }
 }
 
-/// The name alone, which does not pad to a width that is asked for.
+/// The name alone, which is not padded to a width that is asked for.
 impl fmt::Display for RecordFault {
     ghost output = { λ fault. Some (fault_name fault) };
 
@@ -73,7 +73,7 @@ pub fn encode(user: &User) -> [u8; 27]
 
 /// The user whose record `given` is, which is one alone. Refused with `Length` where there are not
 /// 27 bytes, else with `Count` where a count is above the capacity of its text, else with `Utf8`
-/// where counted bytes are not well-formed UTF-8, else with `Padding` where a byte behind them is
+/// where counted bytes are not well-formed UTF-8, else with `Padding` where a byte after them is
 /// not zero. It takes no memory.
 pub fn decode(given: &[u8]) -> Result<User, RecordFault>
     ensures user { (username role : List ℕ) → IsOkAnd result (λ user. texts user ≡ (username, role)) ↔ IsRecord given.now username role }
@@ -118,7 +118,7 @@ fn has_length(given: &[u8]) -> bool
     given.len() == 27
 }
 
-/// Whether both fields count no more bytes than they have places.
+/// Whether both fields count no more bytes than they have room for.
 fn counts_fit(username: &[u8], role: &[u8]) -> bool
     requires username { 0 < length username.now }
     requires role { 0 < length role.now }
@@ -140,7 +140,7 @@ fn text_of<const N: usize>(field: &[u8]) -> Result<ArrayString<N>, RecordFault>
     ArrayString::try_from_utf8(&field[1..end]).map_err(|_| RecordFault::Utf8)
 }
 
-/// Whether all bytes behind the counted ones are zero, in both fields.
+/// Whether all bytes after the counted ones are zero, in both fields.
 fn are_padded(username: &[u8], role: &[u8]) -> bool
     requires username { count username.now < length username.now }
     requires role { count role.now < length role.now }
@@ -149,7 +149,7 @@ fn are_padded(username: &[u8], role: &[u8]) -> bool
     is_padded(username) && is_padded(role)
 }
 
-/// Whether all bytes behind the counted ones are zero.
+/// Whether all bytes after the counted ones are zero.
 fn is_padded(field: &[u8]) -> bool
     requires { count field.now < length field.now }
     ensures { IsTrue result ↔ All (λ b. b ≡ 0) (padding field.now) }

@@ -1,5 +1,6 @@
-//! How two `CacheString`s are compared and hashed: by their texts, as the strings inside. It is
-//! written out, so that a caller's proof can cite what each call answers.
+//! How two `CacheString`s are compared and hashed: by their texts, as the strings inside are. The
+//! comparisons are written out and not derived, so that a caller's proof can cite what each call
+//! returns.
 ghost use Rattle.std.specs.Prelude.{◌≡◌, Some, nat_eq, refl};
 ghost use Rattle.std.specs.Cmp.{on_equiv, on_per, on_total, on_po, partial_equiv_from_equiv};
 ghost use Rattle.std.specs.Cmp.Lexicographic.{pointwise, slice_cmp, nat_list_eq_equiv, nat_list_cmp_total, texts_po, texts_ties, bytes_decides};
@@ -26,7 +27,7 @@ impl Eq for CacheString {
     ghost laws = { on_equiv (λ s. s.0.text) nat_list_eq_equiv };
 }
 
-/// Always `Some` of what `cmp` answers.
+/// Always `Some` of what `cmp` returns.
 impl PartialOrd for CacheString {
     ghost partial_cmp = { λ s t. Some (slice_cmp nat_cmp s.0.text t.0.text) };
 
@@ -57,7 +58,7 @@ impl Ord for CacheString {
     }
 }
 
-/// A hasher is written what the text writes.
+/// Writes to the hasher what the text writes.
 impl Hash for CacheString {
     ghost hash_input = { λ s. fed.str (bytes s.0.text) };
 

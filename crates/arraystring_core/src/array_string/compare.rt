@@ -13,7 +13,7 @@ use std::fmt;
 use std::hash::{Hash, Hasher};
 use std::ops::Add;
 
-/// Always `Some` of what `cmp` answers.
+/// Always `Some` of what `cmp` returns.
 impl<const N: usize> PartialOrd for ArrayString<N> {
     ghost partial_cmp = { λ s t. Some (slice_cmp nat_cmp s.text t.text) };
 
@@ -44,7 +44,7 @@ impl<const N: usize> Ord for ArrayString<N> {
     }
 }
 
-/// A hasher is written what the text writes.
+/// Writes to the hasher what the text writes.
 impl<const N: usize> Hash for ArrayString<N> {
     ghost hash_input = { λ s. fed.str (bytes s.text) };
 
@@ -55,7 +55,7 @@ impl<const N: usize> Hash for ArrayString<N> {
     }
 }
 
-/// The text. It does not pad to a width that is asked for.
+/// The text. A width that is asked for is ignored: nothing is padded.
 impl<const N: usize> fmt::Display for ArrayString<N> {
     ghost output = { λ s. Some (bytes s.text) };
 
@@ -66,7 +66,7 @@ impl<const N: usize> fmt::Display for ArrayString<N> {
     }
 }
 
-/// The string with the longest leading run of whole characters of the text that fits behind it.
+/// The string with the given text added at its end: as many of its leading whole characters as fit.
 impl<'a, const N: usize> Add<&'a str> for ArrayString<N> {
     type Output = Self;
 
@@ -81,7 +81,7 @@ impl<'a, const N: usize> Add<&'a str> for ArrayString<N> {
 impl<const N: usize> fmt::Write for ArrayString<N> {
     ghost write_str_gives = { λ s given t. bytes t.text ≡ bytes s.text ++ given };
 
-    /// Adds `string` at the end. Refused where not all of it fits; the text is then as it was. A
+    /// Adds `string` at the end. Refused where not all of it fits. The text is then as it was. A
     /// `write!` of several pieces leaves those before the one that is refused.
     fn write_str(&mut self, string: &str) -> fmt::Result
         ensures ok { IsOk result → bytes self.new.text ≡ bytes self.old.text ++ string.now }

@@ -1,4 +1,4 @@
-//! Texts and characters that are put into a string before an index.
+//! Texts and characters that are inserted at an index.
 ghost use Rattle.std.specs.Prelude.{◌≡◌, ◌≢◌, ◌+◌, ◌-◌, ◌^◌, ◌≤◌, [], ◌∷◌, ◌++◌, min, IsTrue, OnOk, OnErr, chars};
 ghost use Rattle.arraystring_base.specs.Text.{size, width, cap, front, back, boundary};
 ghost use Rattle.arraystring_core.specs.Edits.{Makes, insertion, insertion_of_cut};
@@ -8,9 +8,9 @@ use arraystring_base::error::Error;
 use arraystring_base::utils::{Steps, truncate_str};
 
 impl<const N: usize> ArrayString<N> {
-    /// Inserts `ch` before the byte `index`. Refused with `OutOfBounds` where the index is past the
-    /// text, then with `OutOfBounds` where `ch` does not fit, then with `Utf8` where the index is
-    /// inside a character; the text is then as it was.
+    /// Inserts `ch` at the byte index `index`. Refused with `OutOfBounds` where the index is past
+    /// the text, then with `OutOfBounds` where `ch` does not fit, then with `Utf8` where the index
+    /// is inside a character. The text is then as it was.
     pub fn try_insert(&mut self, index: u8, ch: char) -> Result<(), Error>
         ensures { Makes (insertion self.old.text index (ch ∷ []) (cap N)) self.old.text result self.new.text }
     {
@@ -27,7 +27,7 @@ impl<const N: usize> ArrayString<N> {
         Ok(())
     }
 
-    /// Inserts `ch` before the byte `index`. The index must be a boundary, and `ch` must fit.
+    /// Inserts `ch` at the byte index `index`. The index must be a boundary, and `ch` must fit.
     pub fn insert_unchecked(&mut self, index: u8, ch: char)
         requires boundary { IsTrue (boundary self.old.text index) }
         requires room { size self.old.text + width ch ≤ cap N }
@@ -36,18 +36,18 @@ impl<const N: usize> ArrayString<N> {
         self.put_char(index as usize, ch);
     }
 
-    /// Inserts `string` before the byte `index`. Refused with `OutOfBounds` where the index is past
-    /// the text, then with `OutOfBounds` where not all of `string` fits, then with `Utf8` where the
-    /// index is inside a character; the text is then as it was.
+    /// Inserts `string` at the byte index `index`. Refused with `OutOfBounds` where the index is
+    /// past the text, then with `OutOfBounds` where not all of `string` fits, then with `Utf8`
+    /// where the index is inside a character. The text is then as it was.
     pub fn try_insert_str(&mut self, index: u8, string: &str) -> Result<(), Error>
         ensures { Makes (insertion self.old.text index (chars string.now) (cap N)) self.old.text result self.new.text }
     {
         self.try_insert_str_counted(index, string, &mut Steps::new())
     }
 
-    /// The same as `try_insert_str`. It moves no more bytes than the text had; an insertion that is
-    /// made and is not empty moves at least the lesser of the bytes before and behind the index, and
-    /// a refused one moves none. Both counts must be at most 2^63.
+    /// The same as `try_insert_str`. It moves no more bytes than the text had. An insertion of at
+    /// least one character moves at least as many bytes as the shorter of the parts before and
+    /// after the index has. A refused one moves none. Both counts must be at most 2^63.
     pub fn try_insert_str_counted(
         &mut self,
         index: u8,
@@ -77,9 +77,9 @@ impl<const N: usize> ArrayString<N> {
         Ok(())
     }
 
-    /// Inserts the longest leading run of whole characters of `string` that fits before the byte
+    /// Inserts the longest leading run of whole characters of `string` that fits, at the byte index
     /// `index`. Refused with `OutOfBounds` where the index is past the text, then with `Utf8` where
-    /// it is inside a character; the text is then as it was.
+    /// it is inside a character. The text is then as it was.
     pub fn insert_str(&mut self, index: u8, string: &str) -> Result<(), Error>
         ensures { Makes (insertion_of_cut self.old.text index (chars string.now) (cap N)) self.old.text result self.new.text }
     {
@@ -94,8 +94,8 @@ impl<const N: usize> ArrayString<N> {
         Ok(())
     }
 
-    /// Inserts `string` before the byte `index`. The index must be a boundary, and all of `string`
-    /// must fit.
+    /// Inserts `string` at the byte index `index`. The index must be a boundary, and all of
+    /// `string` must fit.
     pub fn insert_str_unchecked(&mut self, index: u8, string: &str)
         requires boundary { IsTrue (boundary self.old.text index) }
         requires room { size self.old.text + size (chars string.now) ≤ cap N }

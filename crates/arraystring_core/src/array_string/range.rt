@@ -1,6 +1,7 @@
-//! Parts of a string by a range of bytes. Any `RangeBounds<u8>` serves. The contracts speak of the
-//! bounds that the range tells. These are its own where it is one that has them, as each of Rust's
-//! is but an inclusive one that was walked to its end; of other ranges no contract says which.
+//! Parts of a string by a range of bytes. Any `RangeBounds<u8>` is accepted. The contracts speak of
+//! the bounds that the range's methods return. Where the range has bounds (`has_bounds`), they are
+//! its own. Each range of Rust has them, except an inclusive one that was iterated to its end. For
+//! other ranges no contract says which bounds they are.
 ghost use Rattle.std.specs.Prelude.{◌≡◌, ◌≢◌, ◌+◌, ◌-◌, ◌^◌, ◌≤◌, ◌++◌, min, IsTrue, MatchOption, OnOk, OnErr, Some, None, chars, map};
 ghost use Rattle.std.specs.Char.{to_ascii_uppercase, to_ascii_lowercase};
 ghost use Rattle.std.specs.Range.Bound.{start_index, end_index};
@@ -16,9 +17,10 @@ use arraystring_base::utils::Steps;
 use std::ops::RangeBounds;
 
 impl<const N: usize> ArrayString<N> {
-    /// The part in the range, lent without a copy. The range must be one that has its bounds, end
-    /// no earlier than it starts, and have boundaries as both ends; they are plain numbers, so
-    /// `..=255` ends at 256. Of a range that has its bounds, a `get` that was `Some` shows the rest.
+    /// The part in the range, borrowed without a copy. The range must have its bounds
+    /// (`has_bounds`), it must not end before it starts, and both ends must be boundaries. The ends
+    /// are plain numbers, so `..=255` ends at 256. For a range that has its bounds, a `get` that
+    /// was `Some` proves the rest.
     pub fn slice<R: RangeBounds<u8> + Drop>(&self, range: R) -> &str
         requires known { R.has_bounds range }
         requires order { start_index (R.start_bound range) ≤ end_index (R.end_bound range) (size self.now.text) }
@@ -31,8 +33,8 @@ impl<const N: usize> ArrayString<N> {
         self.between(start, end)
     }
 
-    /// The part in the range, lent without a copy; `None` where the range ends before it starts,
-    /// or an end is not a boundary. The ends are plain numbers, so `..=255` ends at 256.
+    /// The part in the range, borrowed without a copy. It is `None` where the range ends before it
+    /// starts, or an end is not a boundary. The ends are plain numbers, so `..=255` ends at 256.
     pub fn get<R: RangeBounds<u8> + Drop>(&self, range: R) -> Option<&str>
         ensures { OfToldBounds R.has_bounds R.start_bound R.end_bound range (λ start end.
             let found = part_in self.now.text (start_index start) (end_index end (size self.now.text)) in
@@ -47,8 +49,8 @@ impl<const N: usize> ArrayString<N> {
 
     /// Takes the part in the range out of the string, at once, and gives its characters. An
     /// excluded start and an included end add 1, and stop at 255. Refused with `OutOfBounds` where
-    /// the range ends before it starts, then where it ends past the text, then with `Utf8` where its
-    /// start is inside a character, then where its end is; the text is then as it was.
+    /// the range ends before it starts, then where it ends past the text, then with `Utf8` where
+    /// its start is inside a character, then where its end is. The text is then as it was.
     pub fn drain<R: RangeBounds<u8> + Drop>(&mut self, range: R) -> Result<Drain<N>, Error>
         ensures { OfToldBounds R.has_bounds R.start_bound R.end_bound range (λ start end. let t = self.old.text in
             Makes (draining t (lo start) (hi end (size t))) t (with_left result) self.new.text) }
@@ -56,10 +58,10 @@ impl<const N: usize> ArrayString<N> {
         self.drain_counted(range, &mut Steps::new())
     }
 
-    /// The same as `drain`. It moves no more bytes than stand behind the range, and at least the
-    /// lesser of the bytes before and behind it where the range is not empty; it moves none where
-    /// the range begins at the start, and none where it is refused. Both counts must be at most
-    /// 2^63.
+    /// The same as `drain`. It moves no more bytes than the part after the range has. Where the
+    /// range is not empty, it moves at least as many as the shorter of the parts before and after
+    /// it has. It moves none where the range begins at index 0, and none where it is refused. Both
+    /// counts must be at most 2^63.
     pub fn drain_counted<R: RangeBounds<u8> + Drop>(
         &mut self,
         range: R,
@@ -84,9 +86,9 @@ impl<const N: usize> ArrayString<N> {
     }
 
     /// Puts `with` in place of the part in the range. An excluded start and an included end add 1,
-    /// and stop at 255. Refused with `OutOfBounds` where the range ends before it starts, then where
-    /// it ends past the text, then where the result does not fit, then with `Utf8` where its start
-    /// is inside a character, then where its end is; the text is then as it was.
+    /// and stop at 255. Refused with `OutOfBounds` where the range ends before it starts, then
+    /// where it ends past the text, then where the result does not fit, then with `Utf8` where its
+    /// start is inside a character, then where its end is. The text is then as it was.
     pub fn replace_range<R: RangeBounds<u8> + Drop>(
         &mut self,
         range: R,
@@ -98,10 +100,10 @@ impl<const N: usize> ArrayString<N> {
         self.replace_range_counted(range, with, &mut Steps::new())
     }
 
-    /// The same as `replace_range`. It moves no more bytes than the text had, and no more than
-    /// stand behind the range where `with` is no larger than it; a replacement that changes the
-    /// length moves at least the lesser of the bytes before and behind the range, and a refused one
-    /// moves none. Both counts must be at most 2^63.
+    /// The same as `replace_range`. It moves no more bytes than the text had. Where `with` is no
+    /// larger than the range, it moves no more than the part after the range has. A replacement
+    /// that changes the length moves at least as many bytes as the shorter of the parts before and
+    /// after the range has. A refused one moves none. Both counts must be at most 2^63.
     pub fn replace_range_counted<R: RangeBounds<u8> + Drop>(
         &mut self,
         range: R,
@@ -161,7 +163,7 @@ impl<const N: usize> ArrayString<N> {
         &self.as_str()[start..end]
     }
 
-    /// Takes the bytes from `start` to `end` out of the string and answers them.
+    /// Takes the bytes from `start` to `end` out of the string and returns them.
     fn take_between(&mut self, start: u8, end: u8, steps: &mut Steps) -> Result<Self, Error>
         requires { steps.old.moved ≤ 2 ^ 63 }
         ensures edit { Makes (draining self.old.text start end) self.old.text (with_text result) self.new.text }

@@ -11,8 +11,8 @@ use arraystring_base::error::{Error, Utf8};
 use arraystring_base::utils::Steps;
 
 impl<const N: usize> ArrayString<N> {
-    /// Keeps the part before the byte `size`; a size past the text changes nothing. Refused with
-    /// `Utf8` where the size is inside a character; the text is then as it was.
+    /// Keeps the part before the byte index `size`; one past the text changes nothing. Refused with
+    /// `Utf8` where `size` is inside a character. The text is then as it was.
     pub fn truncate(&mut self, size: u8) -> Result<(), Utf8>
         ensures { Makes (truncation self.old.text size) self.old.text (from_utf8_error result) self.new.text }
     {
@@ -26,18 +26,18 @@ impl<const N: usize> ArrayString<N> {
         Ok(())
     }
 
-    /// Takes the character that begins at the byte `index`. Refused with `OutOfBounds` where the
-    /// index is not below the length, then with `Utf8` where it is inside a character; the text is
-    /// then as it was.
+    /// Takes the character that begins at the byte index `index`. Refused with `OutOfBounds` where
+    /// the index is not below the length, then with `Utf8` where it is inside a character. The text
+    /// is then as it was.
     pub fn remove(&mut self, index: u8) -> Result<char, Error>
         ensures { Makes (removal self.old.text index) self.old.text result self.new.text }
     {
         self.remove_counted(index, &mut Steps::new())
     }
 
-    /// The same as `remove`. It moves no more bytes than stand behind the character, and at least
-    /// the lesser of the bytes before and behind it; it moves none at the start, and none where it
-    /// is refused. Both counts must be at most 2^63.
+    /// The same as `remove`. It moves no more bytes than the part after the character has, and at
+    /// least as many as the shorter of the parts before and after it has. It moves none at index 0,
+    /// and none where it is refused. Both counts must be at most 2^63.
     pub fn remove_counted(&mut self, index: u8, steps: &mut Steps) -> Result<char, Error>
         requires looks { steps.old.looked ≤ 2 ^ 63 }
         requires moves { steps.old.moved ≤ 2 ^ 63 }
@@ -61,8 +61,9 @@ impl<const N: usize> ArrayString<N> {
         Ok(ch)
     }
 
-    /// Asks `f` once for each character, in order, and keeps those for which it answers true. It
-    /// must accept to be asked about each of them, in each state that its answers leave.
+    /// Calls `f` once with each character, in order, and keeps those for which it returns true. The
+    /// precondition is that `f` may be called with each of them, in each state that its earlier
+    /// calls leave.
     pub fn retain<F: FnMut(char) -> bool + Drop>(&mut self, f: F)
         requires { MayBeAsked F.pre F.step f self.old.text }
         ensures { IsFiltered F.step f self.old.text self.new.text }
@@ -78,9 +79,9 @@ impl<const N: usize> ArrayString<N> {
         self.keep(0);
     }
 
-    /// Answers the part from the byte `at` on and keeps the part before it; the length itself is
-    /// allowed. Refused with `OutOfBounds` where `at` is past the text, then with `Utf8` where it is
-    /// inside a character; the text is then as it was.
+    /// Returns the part from the byte index `at` on and keeps the part before it. `at` may be the
+    /// length. Refused with `OutOfBounds` where `at` is past the text, then with `Utf8` where it is
+    /// inside a character. The text is then as it was.
     pub fn split_off(&mut self, at: u8) -> Result<Self, Error>
         ensures { Makes (split self.old.text at) self.old.text (with_text result) self.new.text }
     {

@@ -37,8 +37,8 @@ impl<const N: usize> ArrayString<N> {
         self.drop_leading(is_space);
     }
 
-    /// Drops the characters at the end for which `drops` answers true, up to the last for which it
-    /// does not. It moves no byte, and looks at least at each character that it drops and at the
+    /// Drops the characters at the end for which `drops` returns true, back to the last for which
+    /// it does not. It moves no byte. It looks at least at each character that it drops and at the
     /// one before them.
     fn drop_trailing<F: Fn(char) -> bool + Drop>(&mut self, drops: F, steps: &mut Steps)
         requires asked { F.IsAlwaysCallable drops }
@@ -58,7 +58,7 @@ impl<const N: usize> ArrayString<N> {
         }
     }
 
-    /// Drops the characters at the start for which `drops` answers true, up to the first for which
+    /// Drops the characters at the start for which `drops` returns true, up to the first for which
     /// it does not. It moves no byte.
     fn drop_leading<F: Fn(char) -> bool + Drop>(&mut self, drops: F)
         requires asked { F.IsAlwaysCallable drops }

@@ -26,7 +26,7 @@ impl<const N: usize> ArrayString<N> {
     }
 
     /// The longest leading run of characters of `units` that fits. Refused with `Utf16` where a
-    /// lone surrogate stands right behind it, also where the string is full; what stands behind a
+    /// lone surrogate comes right after that run, also if the string is full. What comes after a
     /// character that does not fit is not looked at.
     pub fn from_utf16(units: &[u16]) -> Result<Self, Utf16>
         ensures { (items : List Unit16) → IsReading units.now items → GivesRun (first_stop items (cap N)) result }
@@ -55,7 +55,7 @@ impl<const N: usize> ArrayString<N> {
     }
 }
 
-/// The longest leading run of characters of `units` that fits, and the item right behind it.
+/// The longest leading run of characters of `units` that fits, and the item right after it.
 fn leading_run<const N: usize>(units: &[u16]) -> (ArrayString<N>, Option<Unit16>)
     ensures { (items : List Unit16) → IsReading units.now items → first_stop items (cap N) ≡ stop_at result.1 result.0.text }
 {

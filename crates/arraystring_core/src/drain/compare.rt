@@ -26,7 +26,7 @@ impl<const N: usize> Eq for Drain<N> {
     ghost laws = { on_equiv (λ s. s.left) nat_list_eq_equiv };
 }
 
-/// Always `Some` of what `cmp` answers.
+/// Always `Some` of what `cmp` returns.
 impl<const N: usize> PartialOrd for Drain<N> {
     ghost partial_cmp = { λ s t. Some (slice_cmp nat_cmp s.left t.left) };
 
@@ -57,7 +57,7 @@ impl<const N: usize> Ord for Drain<N> {
     }
 }
 
-/// A hasher is written what the text of the characters that are left writes.
+/// Writes to the hasher what the text of the characters that are left writes.
 impl<const N: usize> Hash for Drain<N> {
     ghost hash_input = { λ s. fed.str (bytes s.left) };
 

@@ -6,8 +6,8 @@ ghost use Rattle.arraystring_core.specs.Drained.{Front, Back, walked};
 use super::*;
 use crate::tests::{SmallString, string};
 
-/// Walks by one end after the other, the front where true, and answers what came from the front
-/// and what came from the back.
+/// Walks by one end after the other, the front where true, and returns what came from the front and
+/// what came from the back.
 fn walk<const N: usize>(drain: &mut Drain<N>, ends: &[bool]) -> (ArrayString<N>, ArrayString<N>)
     requires { size drain.old.left ≤ cap N }
     ensures fronts { result.0.text ≡ (walked (map (λ front. if front then Front else Back) ends.now) drain.old.left).fronts }

@@ -1,13 +1,13 @@
-//! Strings whose texts do not begin at the first place of the array, beside strings that were built
-//! anew from the same texts: each call gives the same, worked out by hand.
+//! Strings whose texts do not begin at offset 0 of the array, beside strings that were built anew
+//! from the same texts: each call gives the same, worked out by hand.
 use super::*;
 use crate::tests::{letters, string};
 use crate::utils::is_char_boundary;
 use crate::{ArrayString, Drain};
 use arraystring_base::error::{Error, OutOfBounds, Utf8};
 
-/// The string of a text that begins at the third place, and the one that was built anew. At 8 a
-/// text of six bytes fills the array up to its end, and one of four leaves two places behind it.
+/// The string of a text that begins at offset 2, and the one that was built anew. At capacity 8 a
+/// text of six bytes fills the array up to its end, and one of four leaves two bytes after it.
 fn both(text: &str) -> [ArrayString<8>; 2] {
     let mut behind: ArrayString<8> = string("..");
     behind.push_str(text);
@@ -55,7 +55,7 @@ fn with_front_str(text: ArrayString<8>, given: &str) -> Option<ArrayString<8>> {
     Some(text)
 }
 
-/// What `slice` lends, where `get` finds it.
+/// What `slice` returns, where `get` finds it.
 fn sliced(text: &ArrayString<8>, start: u8, end: u8) -> Option<&str> {
     if text.get(start..end).is_none() {
         return None;
@@ -75,7 +75,7 @@ fn cased(text: &ArrayString<8>, start: u8, end: u8) -> Option<[ArrayString<8>; 2
     Some([upper, lower])
 }
 
-/// What `drain` answered, as a string.
+/// What `drain` returned, as a string.
 fn left_of(answer: Result<Drain<8>, Error>) -> Result<ArrayString<8>, Error> {
     Ok(string(answer?.as_str()))
 }

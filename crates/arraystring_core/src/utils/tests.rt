@@ -1,4 +1,4 @@
-//! Each place of a text, and the place past its end.
+//! Each index of a text, and the one past its end.
 use super::*;
 
 #[test]

@@ -5,7 +5,8 @@ use std::io;
 use std::process::Abort;
 use std::test::Fail;
 
-/// Gives at most `step` bytes a read; behind the first `reads`, so many as `faults` fail with `kind`.
+/// Gives at most `step` bytes a read. After the first `reads` reads, as many as `faults` says fail
+/// with `kind`.
 #[derive(Drop)]
 struct FakeReader<'a> {
     bytes: &'a [u8],
@@ -29,8 +30,8 @@ impl Read for FakeReader<'_> {
     }
 }
 
-/// Takes at most `step` bytes a write; behind the first `room` bytes, so many writes as `faults`
-/// fail with `kind`, or take nothing where there is none.
+/// Takes at most `step` bytes a write. After the first `room` bytes, as many writes as `faults`
+/// says fail with `kind`, or take nothing where there is no `kind`.
 #[derive(Drop)]
 struct FakeWriter {
     taken: Vec<u8>,
@@ -85,7 +86,7 @@ const SCRIPT: &str = "try_push_str ABCD\ntry_push 🤔\nlen\npop\nas_str\n";
 
 const OUTPUT: &str = "done\ndone\nnumber 8\nchar 🤔\ntext ABCD\nfinal ABCD\n";
 
-/// Plays `script` at 23 bytes, and compares what is answered and what is written.
+/// Plays `script` at 23 bytes, and compares what is returned and what is written.
 fn plays(
     rt: &impl Abort,
     alloc: Global,
@@ -176,7 +177,7 @@ fn long_scripts_are_played(rt: HostRuntime) -> Result<(), Fail> {
     Ok(())
 }
 
-/// Each line stands behind a line `len`, and before another.
+/// Each line comes after a line `len`, and before another.
 fn second_line(alloc: Global, line: &[u8]) -> Result<Vec<u8>, Fail> {
     let mut script = Vec::new(alloc);
     script.extend_from_slice(b"len\n")?;
@@ -382,7 +383,7 @@ fn the_example_cut_at_each_byte(rt: HostRuntime) {
     assert_eq!(rt; next, CUTS.len());
 }
 
-/// A read that fails is told, also where a bad line was read before it.
+/// A read that fails is reported, also where a bad line was read before it.
 #[test]
 fn a_failed_read_is_told(rt: HostRuntime) {
     for reads in 0..8usize {
@@ -424,7 +425,7 @@ fn short_and_interrupted_reads_are_joined(rt: HostRuntime) {
     }
 }
 
-/// Plays the script to a writer, and compares what is answered and what the writer took.
+/// Plays the script to a writer, and compares what is returned and what the writer took.
 fn writes(
     rt: &impl Abort,
     alloc: Global,
@@ -466,7 +467,7 @@ fn short_and_interrupted_writes_are_gone_on_with(rt: HostRuntime) {
     }
 }
 
-/// Serves `script`, and compares the status, what is written and what is told of the fault.
+/// Serves `script`, and compares the status, the output and the line of the fault.
 fn serves(
     rt: &impl Abort,
     alloc: Global,
@@ -609,7 +610,7 @@ fn a_failed_line_is_let_go(rt: HostRuntime) {
     }
 }
 
-/// Where ever more memory is left, from none up, `serve` tells each growth that is refused.
+/// Where ever more memory is left, from none up, `serve` reports each growth that is refused.
 #[test]
 fn want_of_memory_is_served(rt: HostRuntime) -> Result<(), Fail> {
     let mut output = Vec::with_capacity(rt.alloc(), 1000)?;
@@ -639,7 +640,7 @@ fn want_of_memory_is_served(rt: HostRuntime) -> Result<(), Fail> {
     Ok(())
 }
 
-/// Where ever more memory is left, from none up, `play` tells each growth that is refused.
+/// Where ever more memory is left, from none up, `play` reports each growth that is refused.
 #[test]
 fn want_of_memory_is_told(rt: HostRuntime) -> Result<(), Fail> {
     let mut output = Vec::with_capacity(rt.alloc(), 1000)?;

@@ -404,7 +404,8 @@ fn whole_texts_are_changed(rt: HostRuntime) -> Result<(), Fail> {
     answers(&rt, text_of("  aB cé "), rt.alloc(), &rows)
 }
 
-/// Want of room is tight, and so is a text that was cut; a refusal for a place is not.
+/// A refusal because of the capacity is tight, and so is a text that was cut. A refusal of an index
+/// is not.
 #[test]
 fn room_is_judged(rt: HostRuntime) -> Result<(), Fail> {
     let before = "abcd🤔";
@@ -559,7 +560,7 @@ fn each_on_what_the_one_before_left(rt: HostRuntime) -> Result<(), Fail> {
 }
 
 /// Runs the commands on a text at two capacities, and says whether the replies are the wanted ones.
-/// Answers the two first tight positions and the two last texts.
+/// Returns the two first tight positions and the two last texts.
 fn at_two_capacities<const N: usize, const M: usize>(
     rt: &impl Abort,
     alloc: Global,
@@ -704,7 +705,7 @@ fn want_of_memory_leaves_the_text(rt: HostRuntime) -> Result<(), Fail> {
     Ok(())
 }
 
-/// The second list is wanted before the first command is made: where there is room for one list
+/// The second list is reserved before the first command is made. Where there is memory for one list
 /// alone, both texts are as they were.
 #[test]
 fn want_of_memory_leaves_both_texts(rt: HostRuntime) -> Result<(), Fail> {

@@ -11,7 +11,7 @@ const ZEROS_23: &str = "00000000000000000000000";
 
 const ZEROS_24: &str = "000000000000000000000000";
 
-/// What a caller knows of pieces that stand in a slice.
+/// What a caller knows of the pieces of a slice.
 fn of_pieces<const N: usize>(pieces: &[&str]) -> ArrayString<N>
     ensures { result.text ≡ cut (joined_pieces pieces.now) (cap N) }
 {
@@ -171,7 +171,7 @@ fn of_lent_pieces<'a, const N: usize>(
     (ArrayString::try_from_iterator(lent.by_ref()), lent.next())
 }
 
-/// The text with characters behind it, and the next of them that was not taken.
+/// The text with characters added, and the next of them that was not taken.
 fn with_lent_chars<const N: usize>(text: &str, given: &str) -> (ArrayString<N>, Option<char>) {
     let mut made = ArrayString::from(text);
     let mut lent = given.chars();
@@ -179,7 +179,7 @@ fn with_lent_chars<const N: usize>(text: &str, given: &str) -> (ArrayString<N>, 
     (made, lent.next())
 }
 
-/// The text with pieces behind it, and the next of them that was not taken.
+/// The text with pieces added, and the next of them that was not taken.
 fn with_lent_pieces<'a, const N: usize>(
     text: &str,
     given: &[&'a str],

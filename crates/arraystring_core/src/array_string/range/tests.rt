@@ -134,7 +134,7 @@ fn parts_are_drained_by_each_kind_of_range(rt: HostRuntime) {
     assert_eq!(rt; (drained, text), (Ok(full), string("")));
 }
 
-/// What `drain` answered, as a string.
+/// What `drain` returned, as a string.
 fn left_of<const N: usize>(answer: Result<Drain<N>, Error>) -> Result<ArrayString<N>, Error> {
     Ok(string(answer?.as_str()))
 }
@@ -305,7 +305,7 @@ fn no_capacity(rt: HostRuntime) {
     assert_eq!(rt; left_of(none.drain(..=0)), Err(Error::OutOfBounds));
 }
 
-/// A range type that does not tell contracts which bounds it has.
+/// A range type whose bounds no contract knows.
 #[derive(Clone, Copy)]
 struct Silent {
     start: Bound<u8>,
@@ -395,7 +395,7 @@ fn a_range_that_tells_no_bounds_is_counted(rt: HostRuntime) {
     assert_eq!(rt; steps.moved(), 5);
 }
 
-/// `1..=3` after all three numbers were taken from it: it is empty and stands at 3.
+/// `1..=3` after all three numbers were taken from it: it is empty and at 3.
 fn walked() -> RangeInclusive<u8> {
     let mut range = 1..=3;
     for _ in 0..3 {

@@ -24,7 +24,7 @@ fn trims<const N: usize>(text: ArrayString<N>) -> [ArrayString<N>; 2] {
     [trimmed, without_spaces]
 }
 
-/// `a` behind a text, before it, and between it and itself.
+/// `a` after a text, before it, and between it and itself.
 fn beside(end: &str) -> [MaxString; 3] {
     let mut behind: MaxString = string(end);
     behind.push_str("a");
@@ -35,7 +35,7 @@ fn beside(end: &str) -> [MaxString; 3] {
     [behind, before, between]
 }
 
-/// A text that begins at the third place of the array.
+/// A text that begins at offset 2 of the array.
 fn from_third_place(text: &str) -> ArrayString<8> {
     let mut behind: ArrayString<8> = string("..");
     behind.push_str(text);
