@@ -3,6 +3,7 @@ ghost use Rattle.std.specs.Prelude.{◌≡◌, ◌+◌, ◌-◌, ◌^◌, ◌==�
 ghost use Rattle.arraystring_base.specs.Text.{bytes, cut, utf8, width, size, boundary};
 
 use crate::error::OutOfBounds;
+use crate::moves::move_run;
 pub use crate::steps::{Steps, look};
 use std::char;
 
@@ -72,6 +73,7 @@ pub fn last_char(text: &str, steps: &mut Steps) -> Option<(usize, char)>
 
 /// Writes the UTF-8 of `ch` from `at` on and answers how many bytes it takes. It must fit into the
 /// array from there; no other byte changes.
+#[inline(always)]
 #[tactic(auto, unfolding(crate::specs::Text::width, crate::specs::Text::utf8))]
 pub fn encode<const N: usize>(ch: char, array: &mut [u8; N], at: usize) -> usize
     requires { at + width ch ≤ N }
@@ -106,7 +108,9 @@ pub fn encode<const N: usize>(ch: char, array: &mut [u8; N], at: usize) -> usize
 
 /// Takes the `len` bytes that stand from `from` on to `to`, overlapping or not, and counts them as
 /// moves, none where they stay. Both runs must lie in the array, and the count of moves plus `len`
-/// must be below 2^64; no byte outside the target changes.
+/// must be below 2^64; no byte outside the target changes. Each byte of the run is given one new
+/// place and counts once, also where it is written with its neighbours twice (see `moves`).
+#[inline(always)]
 pub fn shift<const N: usize>(
     array: &mut [u8; N],
     from: usize,
@@ -122,8 +126,7 @@ pub fn shift<const N: usize>(
     ensures looked { steps.new.looked ≡ steps.old.looked }
 {
     if from != to {
-        let all = &mut array[..];
-        all.copy_within(from..from + len, to);
+        move_run(array, from, to, len);
         steps.count_moves(len);
     }
 }
