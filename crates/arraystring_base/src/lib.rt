@@ -4,6 +4,7 @@
 
 pub mod error;
 pub mod laws;
+mod moves;
 mod steps;
 pub mod utf16;
 pub mod utils;

@@ -55,6 +55,10 @@ impl<'a> Iterator for Units<'a> {
     fn next(&mut self) -> Option<Unit16> {
         let (first, rest) = self.rest.split_first()?;
         let unit = *first;
+        if unit < 0xD800 {
+            self.rest = rest;
+            return Some(single_item(unit));
+        }
         if let Some((ch, rest)) = pair(unit, rest) {
             self.rest = rest;
             return Some(Unit16::Char(ch));

@@ -3,6 +3,7 @@ ghost use Rattle.std.specs.Prelude.{◌≡◌, ◌+◌, ◌-◌, ◌^◌, ◌==�
 ghost use Rattle.arraystring_base.specs.Text.{bytes, cut, utf8, width, size, boundary};
 
 use crate::error::OutOfBounds;
+use crate::moves::move_run;
 pub use crate::steps::{Steps, look};
 use std::char;
 
@@ -72,6 +73,7 @@ pub fn last_char(text: &str, steps: &mut Steps) -> Option<(usize, char)>
 
 /// Writes the UTF-8 of `ch` into the array, from the offset `at` on, and returns how many bytes it
 /// takes. It must fit into the array from there. No other byte changes.
+#[inline(always)]
 #[tactic(auto, unfolding(crate::specs::Text::width, crate::specs::Text::utf8))]
 pub fn encode<const N: usize>(ch: char, array: &mut [u8; N], at: usize) -> usize
     requires { at + width ch ≤ N }
@@ -105,8 +107,10 @@ pub fn encode<const N: usize>(ch: char, array: &mut [u8; N], at: usize) -> usize
 }
 
 /// Moves `len` bytes of the array from the offset `from` to the offset `to`; the two runs may
-/// overlap. Each byte counts as a move, and none where `from` is `to`. Both runs must lie in the
-/// array, and the count of moves plus `len` must be below 2^64. No byte outside the target changes.
+/// overlap. Each byte counts as one move, also where it is written twice on the way (see `moves`),
+/// and none counts where `from` is `to`. Both runs must lie in the array, and the count of moves
+/// plus `len` must be below 2^64. No byte outside the target changes.
+#[inline(always)]
 pub fn shift<const N: usize>(
     array: &mut [u8; N],
     from: usize,
@@ -122,8 +126,7 @@ pub fn shift<const N: usize>(
     ensures looked { steps.new.looked ≡ steps.old.looked }
 {
     if from != to {
-        let all = &mut array[..];
-        all.copy_within(from..from + len, to);
+        move_run(array, from, to, len);
         steps.count_moves(len);
     }
 }

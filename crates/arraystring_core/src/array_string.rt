@@ -119,7 +119,7 @@ impl<const N: usize> ArrayString<N> {
 
     /// Adds `ch` at the end. Refused with `OutOfBounds` where it does not fit. The text is then as
     /// it was.
-    #[inline]
+    #[inline(always)]
     pub fn try_push(&mut self, ch: char) -> Result<(), OutOfBounds>
         ensures { Makes (addition self.old.text (ch ∷ []) (cap N)) self.old.text (from_out_of_bounds result) self.new.text }
     {
@@ -131,7 +131,7 @@ impl<const N: usize> ArrayString<N> {
     }
 
     /// Adds `ch` at the end. It must fit.
-    #[inline]
+    #[inline(always)]
     pub fn push_unchecked(&mut self, ch: char)
         requires { size self.old.text + width ch ≤ cap N }
         ensures { self.new.text ≡ self.old.text ++ ch ∷ [] }
@@ -211,7 +211,7 @@ impl<const N: usize> ArrayString<N> {
 
     /// Whether there is room for `ch` after `len` bytes. Where there is room for four more, its
     /// width is not asked.
-    #[inline]
+    #[inline(always)]
     fn has_room(len: usize, ch: char) -> bool
         requires { len ≤ 255 }
         ensures { IsTrue result ↔ (len + width ch ≤ cap N) }

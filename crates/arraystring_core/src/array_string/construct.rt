@@ -8,7 +8,9 @@ ghost use Rattle.arraystring_core.specs.Construct.{IsWholeOrRefused};
 ghost use Rattle.arraystring_core.specs.Taken.{Takes, TakesAll, Fits, Gives, joined, joined_pieces, piece_text};
 
 use super::ArrayString;
+use crate::place::copy_in;
 use arraystring_base::error::{Error, OutOfBounds, Utf8};
+use arraystring_base::utils::truncate_str;
 use std::str::{self, FromStr};
 
 impl<const N: usize> ArrayString<N> {
@@ -16,28 +18,32 @@ impl<const N: usize> ArrayString<N> {
     pub fn try_from_str(string: &str) -> Result<Self, OutOfBounds>
         ensures { IsWholeOrRefused (chars string.now) (cap N) (from_out_of_bounds result) }
     {
-        let mut made = Self::new();
-        made.try_push_str(string)?;
-        Ok(made)
+        if string.len() > Self::capacity() as usize {
+            return Err(OutOfBounds);
+        }
+        Ok(Self::from_str_unchecked(string))
     }
 
     /// The longest leading run of whole characters of `string` that fits.
     pub fn from_str_truncate(string: &str) -> Self
         ensures { result.text ≡ cut (chars string.now) (cap N) }
     {
-        let mut made = Self::new();
-        made.push_str(string);
-        made
+        Self::from_str_unchecked(truncate_str(string, Self::capacity()))
     }
 
     /// The text `string`. All of it must fit.
+    #[inline]
     pub fn from_str_unchecked(string: &str) -> Self
         requires { size (chars string.now) ≤ cap N }
         ensures { result.text ≡ chars string.now }
     {
-        let mut made = Self::new();
-        made.push_str_unchecked(string);
-        made
+        let mut array = [0; N];
+        copy_in(&mut array, 0, string.as_bytes());
+        ArrayString {
+            array,
+            start: 0,
+            size: string.len() as u8,
+        }
     }
 
     /// The pieces joined. Refused with `OutOfBounds` where they are larger than the capacity. It

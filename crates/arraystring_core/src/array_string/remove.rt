@@ -56,8 +56,8 @@ impl<const N: usize> ArrayString<N> {
         if !self.is_boundary(start) {
             return Err(Error::Utf8);
         }
-        let ch = self.char_at(start);
-        self.take_out(start, start + ch.len_utf8(), steps);
+        let (ch, width) = self.char_at(start);
+        self.take_out(start, start + width, steps);
         Ok(ch)
     }
 
@@ -91,24 +91,26 @@ impl<const N: usize> ArrayString<N> {
         if !self.is_boundary(at as usize) {
             return Err(Error::Utf8);
         }
-        let mut rest = Self::new();
-        rest.push_str_unchecked(&self.as_str()[at as usize..]);
+        let rest = Self::from_str_unchecked(&self.as_str()[at as usize..]);
         self.keep(at);
         Ok(rest)
     }
 
-    /// The character that begins at a boundary before the end.
-    fn char_at(&self, at: usize) -> char
+    /// The character that begins at a boundary before the end, and how many bytes it takes.
+    fn char_at(&self, at: usize) -> (char, usize)
         requires boundary { IsTrue (boundary self.now.text at) }
         requires before_end { at < size self.now.text }
-        ensures first { result ≡ slice_index (back self.now.text at) 0 }
-        ensures next { IsTrue (boundary self.now.text (at + width result)) }
-        ensures rest { back self.now.text (at + width result) ≡ drop 1 (back self.now.text at) }
+        ensures first { result.0 ≡ slice_index (back self.now.text at) 0 }
+        ensures width { result.1 ≡ width result.0 }
+        ensures next { IsTrue (boundary self.now.text (at + width result.0)) }
+        ensures rest { back self.now.text (at + width result.0) ≡ drop 1 (back self.now.text at) }
     {
-        let Some(ch) = self.as_str()[at..].chars().next() else {
+        let text = &self.as_str()[at..];
+        let mut rest = text.chars();
+        let Some(ch) = rest.next() else {
             unreachable!();
         };
-        ch
+        (ch, text.len() - rest.as_str().len())
     }
 }
 

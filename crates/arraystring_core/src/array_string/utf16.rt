@@ -1,5 +1,5 @@
 //! Strings from UTF-16.
-ghost use Rattle.std.specs.Prelude.{◌≡◌, List};
+ghost use Rattle.std.specs.Prelude.{◌≡◌, [], List};
 ghost use Rattle.arraystring_base.specs.declared.utf16.Unit16.{Unit16};
 ghost use Rattle.arraystring_base.specs.Text.{cap, cut};
 ghost use Rattle.arraystring_base.specs.Utf16.{IsReading, first_stop, shown, lossy_text};
@@ -17,8 +17,8 @@ impl<const N: usize> ArrayString<N> {
     pub fn try_from_utf16(units: &[u16]) -> Result<Self, Error>
         ensures { (items : List Unit16) → IsReading units.now items → GivesWhole (first_stop items (cap N)) result }
     {
-        let (run, behind) = leading_run(units);
-        match behind {
+        let mut run = Self::new();
+        match leading_run(&mut run, units) {
             None => Ok(run),
             Some(Unit16::Lone(_)) => Err(Error::Utf16),
             Some(Unit16::Char(_)) => Err(Error::OutOfBounds),
@@ -31,8 +31,8 @@ impl<const N: usize> ArrayString<N> {
     pub fn from_utf16(units: &[u16]) -> Result<Self, Utf16>
         ensures { (items : List Unit16) → IsReading units.now items → GivesRun (first_stop items (cap N)) result }
     {
-        let (run, behind) = leading_run(units);
-        match behind {
+        let mut run = Self::new();
+        match leading_run(&mut run, units) {
             Some(Unit16::Lone(_)) => Err(Utf16),
             _ => Ok(run),
         }
@@ -55,22 +55,23 @@ impl<const N: usize> ArrayString<N> {
     }
 }
 
-/// The longest leading run of characters of `units` that fits, and the item right after it.
-fn leading_run<const N: usize>(units: &[u16]) -> (ArrayString<N>, Option<Unit16>)
-    ensures { (items : List Unit16) → IsReading units.now items → first_stop items (cap N) ≡ stop_at result.1 result.0.text }
+/// Adds to an empty string the longest leading run of characters of `units` that fits, and returns
+/// the item right after it.
+fn leading_run<const N: usize>(run: &mut ArrayString<N>, units: &[u16]) -> Option<Unit16>
+    requires { run.old.text ≡ [] }
+    ensures { (items : List Unit16) → IsReading units.now items → first_stop items (cap N) ≡ stop_at result run.new.text }
 {
     only_reading(units);
-    let mut run = ArrayString::new();
     for item in Units::new(units) {
         match item {
             Unit16::Char(ch) => match run.try_push(ch) {
                 Ok(()) => {}
-                Err(_) => return (run, Some(item)),
+                Err(_) => return Some(item),
             },
-            Unit16::Lone(_) => return (run, Some(item)),
+            Unit16::Lone(_) => return Some(item),
         }
     }
-    (run, None)
+    None
 }
 
 /// An item as a character, where a lone surrogate is U+FFFD.

@@ -4,6 +4,19 @@ use Rattle.arraystring_base.specs.Reading.{reading}
 use Rattle.arraystring_base.specs.ReadingLaws.{reading-pair, reading-single}
 use Rattle.arraystring_base.proofs.utf16.UnitsIterator.next.Goals as goal
 
+pub returns-then-unit-lt55296-clause-steps : goal.returns-then-unit-lt55296-clause-steps
+returns-then-unit-lt55296-clause-steps c =
+    let first = c.in_ok-first.first.now in
+    let left = c.in_ok-first.rest.now in
+    sym c.self.view_is ∙ ap reading c.in_ok-first.ensures.cases.0
+    ∙ reading-single first left (λ low more e high lower. omega (arith, high.0, c.if-unit-lt55296.true))
+    ∙ ap (λ item. item ∷ reading left) (sym c.single_item.ensures)
+
+pub returns-then-unit-lt55296-clause-goes : goal.returns-then-unit-lt55296-clause-goes
+returns-then-unit-lt55296-clause-goes c =
+    let fewer = ap length (returns-then-unit-lt55296-clause-steps c) in
+    record { on = λ _. (tt, tt, omega (arith, fewer)); keeps = tt; rests = λ _. tt }
+
 pub returns-in-Some-clause-steps : goal.returns-in-Some-clause-steps
 returns-in-Some-clause-steps c =
     let first = c.in_ok-first.first.now in
@@ -23,7 +36,7 @@ returns-clause-steps c =
     let first = c.in_ok-first.first.now in
     let left = c.in_ok-first.rest.now in
     sym c.self.view_is ∙ ap reading c.in_ok-first.ensures.cases.0 ∙ reading-single first left c.in_default.ensures.none
-    ∙ ap (λ item. item ∷ reading left) (sym c.single_item.ensures)
+    ∙ ap (λ item. item ∷ reading left) (sym c.single_item-2.ensures)
 
 pub returns-clause-goes : goal.returns-clause-goes
 returns-clause-goes c =

@@ -1,4 +1,4 @@
-use Rattle.std.proofs.Common.{◌≡◌, ◌+◌, ◌≤◌, ◌++◌, length, drop, sym, arith, ◌∙◌, ap, chars, rules}
+use Rattle.std.proofs.Common.{◌≡◌, ◌≤◌, length, drop, sym, arith, ◌∙◌, ap, rules}
 use Rattle.std.proofs.lemmas.Bool.{le-ltb}
 use Rattle.arraystring_base.specs.Text.{cap, size, bytes, back}
 use Rattle.arraystring_core.specs.Edits.{Inside}
@@ -18,16 +18,13 @@ pub range_from-requires : goal.range_from-requires
 range_from-requires g c _ =
     boundary-to_bytes c.args.self.now.text c.as_str.result.now c.args.at c.as_str.utf8 (sym c.as_str.ensures.bytes) (sym c.is_boundary.ensures ∙ c.if-not-is_boundary.false)
 
-pub push_str_unchecked-requires : goal.push_str_unchecked-requires
-push_str_unchecked-requires g c =
+pub from_str_unchecked-rest-requires : goal.from_str_unchecked-rest-requires
+from_str_unchecked-rest-requires g c =
     let long = size-is c.args.self.now.text in
     let whole = ap length c.as_str.ensures.bytes in
-    let empty = ap size c.new-rest.ensures in
     let filled : size c.args.self.now.text ≤ cap g.row.N = rw (← c.len.ensures.value) c.len.ensures.fits in
     let lent = size-lent c.range_from.result.now c.range_from.utf8 in
-    let fits : size c.new-rest.result.text + size (chars c.range_from.result.now) ≤ cap g.row.N =
-    omega (arith, long, whole, empty, filled, c.range_from.ensures.len, lent) in
-    (search rules, fits)
+    (search rules, omega (arith, long, whole, filled, c.range_from.ensures.len, lent))
 
 pub returns : goal.returns
 returns g c =
@@ -38,4 +35,4 @@ returns g c =
     c.range_from.ensures.value ∙ ap (drop c.args.at) c.as_str.ensures.bytes ∙ bytes-back t c.args.at at in
     let rest = chars-bytes _ (back t c.args.at) c.range_from.utf8 spelled in
     makes _ _ _ _ (rw (le-ltb _ _ reached, inside-not t c.args.at at))
-    (c.push_str_unchecked.ensures ∙ ap (λ l. l ++ chars c.range_from.result.now) c.new-rest.ensures ∙ rest) c.keep.ensures
+    (c.from_str_unchecked-rest.ensures ∙ rest) c.keep.ensures
