@@ -47,6 +47,8 @@ pub mod prelude {
 #[cfg(test)]
 mod parity;
 #[cfg(test)]
+mod printed;
+#[cfg(test)]
 mod surface;
 #[cfg(test)]
 mod tests;

@@ -148,10 +148,12 @@ fn the_laws_are_at_hand(_rt: HostRuntime) {
     laws::pieces_make_one_text("a");
     laws::popped();
     laws::replaced_back();
+    laws::size_is_length();
     laws::split_back();
     laws::text_reading();
     laws::trimmed();
     laws::units_read_back();
     laws::walks();
     laws::what_comes_past_the_room();
+    laws::white_space();
 }

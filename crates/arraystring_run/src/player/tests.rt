@@ -137,6 +137,15 @@ fn scripts_are_played(rt: HostRuntime) {
     plays(&rt, rt.alloc(), inside, Ok(()), wanted);
 }
 
+/// A character past the first plane and U+FFFD, by the bytes of their UTF-8.
+#[test]
+fn characters_are_printed_in_utf8(rt: HostRuntime) {
+    let script = "push_str \u{1D11E}\u{FFFD}\nas_str\npop\npop\ntry_push \u{1D11E}\n";
+    let wanted = b"done\ntext \xF0\x9D\x84\x9E\xEF\xBF\xBD\nchar \xEF\xBF\xBD\n\
+        char \xF0\x9D\x84\x9E\ndone\nfinal \xF0\x9D\x84\x9E\n";
+    plays(&rt, rt.alloc(), script.as_bytes(), Ok(()), wanted);
+}
+
 #[test]
 fn names_of_capacities(rt: HostRuntime) {
     for word in ["small", "cache", "max"] {
