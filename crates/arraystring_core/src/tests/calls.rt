@@ -2,7 +2,9 @@
 //!
 //!     text before | call | place or range | what is given | answer | text after | bytes that moved
 //!
-//! where the last stands behind a call that counts. Where no text stands before, the call goes on with the
+//! where the last stands behind a call that counts. A range stands as in Rust, or as two bounds in
+//! brackets: `(` and `)` leave a place out, `[` and `]` take it in. Behind `untold` it is of a type that
+//! does not tell its bounds, and `walked` is an inclusive range that was walked to its end. Where no text stands before, the call goes on with the
 //! string that the row above left.
 ghost use Rattle.std.specs.Prelude.{◌≤◌};
 
@@ -13,7 +15,7 @@ use super::{MaxString, string};
 use crate::{ArrayString, Drain};
 use arraystring_base::error::{Error, Utf8};
 use arraystring_base::utils::Steps;
-use std::ops::{Bound, RangeBounds};
+use std::ops::{Bound, RangeBounds, RangeInclusive};
 use std::process::Abort;
 
 /// Makes the calls of a table on strings of the capacity of `text`, the first of them on `text` itself
@@ -170,12 +172,29 @@ fn split<const N: usize>(text: &mut ArrayString<N>, at: u8) -> MaxString
     }
 }
 
-/// The calls on a range, which stands as in Rust, or as two bounds in brackets: `(` and `)` leave the
-/// place out, `[` and `]` take it in.
+/// The calls on a range.
 fn in_range<R: Abort, const N: usize>(rt: &R, text: &mut ArrayString<N>, row: &str) -> MaxString
     requires { N ≤ 300 }
 {
-    match bounds(rt, row) {
+    let range = range_of(rt, row);
+    match column(row, 1) {
+        "slice" => told_text(sliced(text, range)),
+        "make_ascii_uppercase_in" => raised(text, range),
+        "make_ascii_lowercase_in" => lowered(text, range),
+        _ => by_type(rt, text, row, range),
+    }
+}
+
+/// Makes the call of a row on a value of the range's own type.
+fn by_type<R: Abort, const N: usize>(
+    rt: &R,
+    text: &mut ArrayString<N>,
+    row: &str,
+    range: Range,
+) -> MaxString
+    requires { N ≤ 300 }
+{
+    match range {
         Range::Full => of_range(rt, text, row, ..),
         Range::From(start) => of_range(rt, text, row, start..),
         Range::To(end) => of_range(rt, text, row, ..end),
@@ -183,7 +202,69 @@ fn in_range<R: Abort, const N: usize>(rt: &R, text: &mut ArrayString<N>, row: &s
         Range::Between(start, end) => of_range(rt, text, row, start..end),
         Range::FromThrough(start, last) => of_range(rt, text, row, start..=last),
         Range::Bounds(start, end) => of_range(rt, text, row, (start, end)),
+        Range::Untold(start, end) => of_range(rt, text, row, Untold { start, end }),
+        Range::Walked => of_range(rt, text, row, walked()),
     }
+}
+
+/// The part by `slice`, where `get` finds it.
+fn sliced<const N: usize>(text: &ArrayString<N>, range: Range) -> Option<&str> {
+    match range {
+        Range::Full => Some(text.slice(..)),
+        Range::Between(start, end) => {
+            if text.get(start..end).is_none() {
+                return None;
+            }
+            Some(text.slice(start..end))
+        }
+        Range::Bounds(start, end) => {
+            if text.get((start, end)).is_none() {
+                return None;
+            }
+            Some(text.slice((start, end)))
+        }
+        _ => Some("no such range"),
+    }
+}
+
+/// Turns the letters of a part to upper case, where `get` finds it.
+fn raised<const N: usize>(text: &mut ArrayString<N>, range: Range) -> MaxString {
+    match range {
+        Range::Between(start, end) => {
+            if text.get(start..end).is_none() {
+                return string("None");
+            }
+            text.make_ascii_uppercase_in(start..end);
+        }
+        Range::FromThrough(start, last) => {
+            if text.get(start..=last).is_none() {
+                return string("None");
+            }
+            text.make_ascii_uppercase_in(start..=last);
+        }
+        _ => return string("no such range"),
+    }
+    string("ok")
+}
+
+/// Turns the letters of a part to lower case, where `get` finds it.
+fn lowered<const N: usize>(text: &mut ArrayString<N>, range: Range) -> MaxString {
+    match range {
+        Range::Between(start, end) => {
+            if text.get(start..end).is_none() {
+                return string("None");
+            }
+            text.make_ascii_lowercase_in(start..end);
+        }
+        Range::FromThrough(start, last) => {
+            if text.get(start..=last).is_none() {
+                return string("None");
+            }
+            text.make_ascii_lowercase_in(start..=last);
+        }
+        _ => return string("no such range"),
+    }
+    string("ok")
 }
 
 /// A range of a table.
@@ -196,13 +277,46 @@ enum Range {
     Between(u8, u8),
     FromThrough(u8, u8),
     Bounds(Bound<u8>, Bound<u8>),
+    Untold(Bound<u8>, Bound<u8>),
+    Walked,
+}
+
+/// A range type that does not tell contracts which bounds it has.
+#[derive(Clone, Copy)]
+struct Untold {
+    start: Bound<u8>,
+    end: Bound<u8>,
+}
+
+impl RangeBounds<u8> for Untold {
+    fn start_bound(&self) -> Bound<&u8> {
+        self.start.as_ref()
+    }
+
+    fn end_bound(&self) -> Bound<&u8> {
+        self.end.as_ref()
+    }
+}
+
+/// `1..=3` after all three numbers were taken from it: it is empty and stands at 3.
+fn walked() -> RangeInclusive<u8> {
+    let mut range = 1..=3;
+    for _ in 0..3 {
+        let _ = range.next();
+    }
+    range
 }
 
 /// The range of a row.
-fn bounds(rt: &impl Abort, row: &str) -> Range {
-    let (start, end) = column(row, 2)
-        .split_once("..")
-        .expect(rt, "a range in the column");
+fn range_of(rt: &impl Abort, row: &str) -> Range {
+    let given = column(row, 2);
+    if given == "walked" {
+        return Range::Walked;
+    }
+    let (start, end) = given.split_once("..").expect(rt, "a range in the column");
+    if let Some(end) = end.strip_suffix(" untold") {
+        return Range::Untold(lower(rt, start), upper(rt, end));
+    }
     if start.starts_with('(') || start.starts_with('[') {
         return Range::Bounds(lower(rt, start), upper(rt, end));
     }
@@ -246,7 +360,7 @@ fn upper(rt: &impl Abort, end: &str) -> Bound<u8> {
 }
 
 /// Makes the call of a row on a range.
-pub(crate) fn of_range<R: Abort, B: RangeBounds<u8> + Drop, const N: usize>(
+fn of_range<R: Abort, B: RangeBounds<u8> + Drop, const N: usize>(
     rt: &R,
     text: &mut ArrayString<N>,
     row: &str,
