@@ -4,7 +4,9 @@ ghost use Rattle.arraystring_base.specs.Text.{cap, cut};
 
 use super::*;
 
+pub(crate) mod calls;
 mod edges;
+pub(crate) mod table;
 
 pub(crate) type SmallString = ArrayString<23>;
 

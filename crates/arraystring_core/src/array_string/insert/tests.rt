@@ -1,9 +1,9 @@
 //! What is put into a string, on values worked out by hand.
 use super::*;
+use crate::tests::calls::hold;
+use crate::tests::table::agree;
 use crate::tests::{MaxString, SmallString, letters, string};
 use std::str;
-
-const ZEROS_23: &str = "00000000000000000000000";
 
 /// The string with `ch` before the index by `insert_unchecked`, where its conditions hold.
 fn with_char<const N: usize>(text: ArrayString<N>, index: u8, ch: char) -> Option<ArrayString<N>> {
@@ -33,173 +33,232 @@ fn with_str<const N: usize>(
 
 #[test]
 fn characters_are_inserted(rt: HostRuntime) {
-    let mut text: SmallString = string("ABCD🤔");
-    assert_eq!(rt; text.try_insert(1, 'A'), Ok(()));
-    assert_eq!(rt; text.try_insert(2, 'B'), Ok(()));
-    assert_eq!(rt; text.as_str(), "AABBCD🤔");
-    assert_eq!(rt; text.try_insert(20, 'C'), Err(Error::OutOfBounds));
-    assert_eq!(rt; text.try_insert(8, 'D'), Err(Error::Utf8));
-    assert_eq!(rt; text.as_str(), "AABBCD🤔");
-    assert_eq!(rt; text.try_insert(0, 'é'), Ok(()));
-    assert_eq!(rt; text.try_insert(12, '€'), Ok(()));
-    assert_eq!(rt; text.as_str(), "éAABBCD🤔€");
-
-    let text: SmallString = string("ABCD🤔");
-    let Some(text) = with_char(text, 1, 'A') else {
-        return assert!(rt; false, "there is room at a boundary");
-    };
-    assert_eq!(rt; with_char(text, 1, 'B'), Some(string("ABABCD🤔")));
+    hold(
+        &rt,
+        SmallString::new(),
+        "
+        ABCD🤔 | try_insert | 1  | A | ok          | AABCD🤔
+               | try_insert | 2  | B | ok          | AABBCD🤔
+               | try_insert | 20 | C | OutOfBounds | AABBCD🤔
+               | try_insert | 8  | D | Utf8        | AABBCD🤔
+               | try_insert | 0  | é | ok          | éAABBCD🤔
+               | try_insert | 12 | € | ok          | éAABBCD🤔€
+        ",
+    );
 }
 
 #[test]
 fn texts_are_inserted(rt: HostRuntime) {
-    let mut cut: SmallString = string("ABCD🤔");
-    let mut whole = cut;
-    for given in ["AB", "BC"] {
-        let Some(unchecked) = with_str(whole, 1, given) else {
-            return assert!(rt; false, "there is room at a boundary");
-        };
-        assert_eq!(rt; cut.insert_str(1, given), Ok(()));
-        assert_eq!(rt; whole.try_insert_str(1, given), Ok(()));
-        assert_eq!(rt; unchecked, whole);
-    }
-    assert_eq!(rt; cut.as_str(), "ABCABBCD🤔");
-    assert_eq!(rt; whole, cut);
-    assert_eq!(rt; cut.insert_str(20, "C"), Err(Error::OutOfBounds));
-    assert_eq!(rt; cut.insert_str(10, "D"), Err(Error::Utf8));
-    assert_eq!(rt; cut, whole);
-    assert_eq!(rt; whole.try_insert_str(20, "C"), Err(Error::OutOfBounds));
-    assert_eq!(rt; whole.try_insert_str(10, "D"), Err(Error::Utf8));
-    assert_eq!(rt; whole.try_insert_str(1, ZEROS_23), Err(Error::OutOfBounds));
-    assert_eq!(rt; whole, cut);
+    hold(
+        &rt,
+        SmallString::new(),
+        "
+        ABCD🤔 | insert_str     | 1  | AB                      | ok          | AABBCD🤔
+               | insert_str     | 1  | BC                      | ok          | ABCABBCD🤔
+               | insert_str     | 20 | C                       | OutOfBounds | ABCABBCD🤔
+               | insert_str     | 10 | D                       | Utf8        | ABCABBCD🤔
+        ABCD🤔 | try_insert_str | 1  | AB                      | ok          | AABBCD🤔
+               | try_insert_str | 1  | BC                      | ok          | ABCABBCD🤔
+               | try_insert_str | 20 | C                       | OutOfBounds | ABCABBCD🤔
+               | try_insert_str | 10 | D                       | Utf8        | ABCABBCD🤔
+               | try_insert_str | 1  | 00000000000000000000000 | OutOfBounds | ABCABBCD🤔
+        ",
+    );
+}
+
+#[test]
+fn what_is_known_to_fit_is_inserted(rt: HostRuntime) {
+    let text: SmallString = string("ABCD🤔");
+    let one = string("AABCD🤔");
+    agree(&rt, "A before B", with_char(text, 1, 'A'), Some(one));
+    let other = string("ABABCD🤔");
+    agree(&rt, "B before A", with_char(one, 1, 'B'), Some(other));
+    let one = string("AABBCD🤔");
+    agree(&rt, "AB before B", with_str(text, 1, "AB"), Some(one));
+    let other = string("ABCABBCD🤔");
+    agree(&rt, "BC before A", with_str(one, 1, "BC"), Some(other));
 }
 
 #[test]
 fn what_does_not_fit_is_cut(rt: HostRuntime) {
-    let mut text: ArrayString<10> = string("AB");
-    assert_eq!(rt; text.insert_str(1, "🤔🤔🤔"), Ok(()));
-    assert_eq!(rt; text.as_str(), "A🤔🤔B");
-    let mut text: ArrayString<9> = string("AB");
-    assert_eq!(rt; text.insert_str(1, "🤔🤔🤔"), Ok(()));
-    assert_eq!(rt; text.as_str(), "A🤔B");
-    let mut text = SmallString::new();
-    assert_eq!(rt;
-        text.insert_str(0, "000000000000000000000000000000000"),
-        Ok(())
+    hold(
+        &rt,
+        ArrayString::<10>::new(),
+        "AB | insert_str | 1 | 🤔🤔🤔 | ok | A🤔🤔B",
     );
-    assert_eq!(rt; text.as_str(), ZEROS_23);
+    hold(
+        &rt,
+        ArrayString::<9>::new(),
+        "AB | insert_str | 1 | 🤔🤔🤔 | ok | A🤔B",
+    );
+    hold(
+        &rt,
+        SmallString::new(),
+        "new | insert_str | 0 | 000000000000000000000000000000000 | ok | 00000000000000000000000",
+    );
 }
 
 #[test]
 fn moves_of_insertions(rt: HostRuntime) {
-    for (index, given, result, after, moved) in [
-        (1, "xy", Ok(()), "AxyBCD", 3),
-        (0, "xy", Ok(()), "xyABCD", 4),
-        (4, "xy", Ok(()), "ABCDxy", 0),
-        (2, "", Ok(()), "ABCD", 0),
-        (5, "xy", Err(Error::OutOfBounds), "ABCD", 0),
-        (1, ZEROS_23, Err(Error::OutOfBounds), "ABCD", 0),
-    ] {
-        let mut text: SmallString = string("ABCD");
-        let mut steps = Steps::new();
-        assert_eq!(rt;
-            text.try_insert_str_counted(index, given, &mut steps),
-            result
-        );
-        assert_eq!(rt; text.as_str(), after);
-        assert_eq!(rt; steps.moved(), moved);
-    }
-    let mut text: SmallString = string("🤔");
-    let mut steps = Steps::new();
-    assert_eq!(rt;
-        text.try_insert_str_counted(2, "xy", &mut steps),
-        Err(Error::Utf8)
+    hold(
+        &rt,
+        SmallString::new(),
+        "
+        ABCD | try_insert_str_counted | 1 | xy                      | ok          | AxyBCD | 3
+        ABCD | try_insert_str_counted | 0 | xy                      | ok          | xyABCD | 4
+        ABCD | try_insert_str_counted | 4 | xy                      | ok          | ABCDxy | 0
+        ABCD | try_insert_str_counted | 2 |                         | ok          | ABCD   | 0
+        ABCD | try_insert_str_counted | 5 | xy                      | OutOfBounds | ABCD   | 0
+        ABCD | try_insert_str_counted | 1 | 00000000000000000000000 | OutOfBounds | ABCD   | 0
+        🤔   | try_insert_str_counted | 2 | xy                      | Utf8        | 🤔     | 0
+        ",
     );
-    assert_eq!(rt; steps.moved(), 0);
-}
-
-#[test]
-fn a_full_string_refuses_a_character(rt: HostRuntime) {
-    let mut text: SmallString = string(ZEROS_23);
-    assert_eq!(rt; text.try_insert(0, 'C'), Err(Error::OutOfBounds));
-
-    let mut text: ArrayString<4> = string("abcd");
-    for index in 0..5 {
-        assert_eq!(rt; text.try_insert(index, 'x'), Err(Error::OutOfBounds));
-        assert_eq!(rt; with_char(text, index, 'x'), None);
-    }
-    assert_eq!(rt; text.as_str(), "abcd");
 }
 
 #[test]
 fn a_full_string_takes_the_empty_text_alone(rt: HostRuntime) {
-    let mut text: ArrayString<4> = string("abcd");
+    hold(
+        &rt,
+        ArrayString::<4>::new(),
+        "
+        abcd | try_insert     | 0 | x | OutOfBounds | abcd
+             | try_insert     | 1 | x | OutOfBounds | abcd
+             | try_insert     | 2 | x | OutOfBounds | abcd
+             | try_insert     | 3 | x | OutOfBounds | abcd
+             | try_insert     | 4 | x | OutOfBounds | abcd
+        abcd | try_insert_str | 0 | x | OutOfBounds | abcd
+             | try_insert_str | 0 |   | ok          | abcd
+             | try_insert_str | 1 | x | OutOfBounds | abcd
+             | try_insert_str | 1 |   | ok          | abcd
+             | try_insert_str | 2 | x | OutOfBounds | abcd
+             | try_insert_str | 2 |   | ok          | abcd
+             | try_insert_str | 3 | x | OutOfBounds | abcd
+             | try_insert_str | 3 |   | ok          | abcd
+             | try_insert_str | 4 | x | OutOfBounds | abcd
+             | try_insert_str | 4 |   | ok          | abcd
+        abcd | insert_str     | 0 | x | ok          | abcd
+             | insert_str     | 1 | x | ok          | abcd
+             | insert_str     | 2 | x | ok          | abcd
+             | insert_str     | 3 | x | ok          | abcd
+             | insert_str     | 4 | x | ok          | abcd
+             | insert_str     | 5 |   | OutOfBounds | abcd
+        ",
+    );
+    let full: ArrayString<4> = string("abcd");
     for index in 0..5 {
-        assert_eq!(rt; text.try_insert_str(index, "x"), Err(Error::OutOfBounds));
-        assert_eq!(rt; text.try_insert_str(index, ""), Ok(()));
-        assert_eq!(rt; with_str(text, index, ""), Some(text));
+        agree(
+            &rt,
+            "a letter, unchecked",
+            with_char(full, index, 'x'),
+            None,
+        );
+        agree(
+            &rt,
+            "the empty text, unchecked",
+            with_str(full, index, ""),
+            Some(full),
+        );
     }
-    assert_eq!(rt; text.as_str(), "abcd");
-}
-
-#[test]
-fn a_full_string_takes_nothing_of_a_text(rt: HostRuntime) {
-    let mut text: ArrayString<4> = string("abcd");
-    for index in 0..5 {
-        assert_eq!(rt; text.insert_str(index, "x"), Ok(()));
-    }
-    assert_eq!(rt; text.insert_str(5, ""), Err(Error::OutOfBounds));
-    assert_eq!(rt; text.as_str(), "abcd");
 }
 
 #[test]
 fn a_full_string_of_letters(rt: HostRuntime) {
-    let mut text: SmallString = string("abcdefghijklmnopqrstuvw");
-    assert_eq!(rt; text.len(), 23);
-    assert_eq!(rt; text.try_insert(0, 'C'), Err(Error::OutOfBounds));
-    assert_eq!(rt; text.as_str(), "abcdefghijklmnopqrstuvw");
+    let letters: SmallString = string("abcdefghijklmnopqrstuvw");
+    agree(&rt, "the letters", letters.len(), 23);
+    hold(
+        &rt,
+        letters,
+        "
+                                | try_insert | 0 | C | OutOfBounds | abcdefghijklmnopqrstuvw
+        00000000000000000000000 | try_insert | 0 | C | OutOfBounds | 00000000000000000000000
+        ",
+    );
 }
 
 #[test]
 fn room_is_asked_before_the_place(rt: HostRuntime) {
-    let mut text: ArrayString<4> = string("🤔");
-    for index in 1..4 {
-        assert_eq!(rt; text.try_insert(index, 'x'), Err(Error::OutOfBounds));
-        assert_eq!(rt; text.try_insert_str(index, "x"), Err(Error::OutOfBounds));
-        assert_eq!(rt; text.try_insert_str(index, ""), Err(Error::Utf8));
-        assert_eq!(rt; text.insert_str(index, "x"), Err(Error::Utf8));
-    }
-    assert_eq!(rt; text.as_str(), "🤔");
+    hold(
+        &rt,
+        ArrayString::<4>::new(),
+        "
+        🤔 | try_insert     | 1 | x | OutOfBounds | 🤔
+           | try_insert_str | 1 | x | OutOfBounds | 🤔
+           | try_insert_str | 1 |   | Utf8        | 🤔
+           | insert_str     | 1 | x | Utf8        | 🤔
+           | try_insert     | 2 | x | OutOfBounds | 🤔
+           | try_insert_str | 2 | x | OutOfBounds | 🤔
+           | try_insert_str | 2 |   | Utf8        | 🤔
+           | insert_str     | 2 | x | Utf8        | 🤔
+           | try_insert     | 3 | x | OutOfBounds | 🤔
+           | try_insert_str | 3 | x | OutOfBounds | 🤔
+           | try_insert_str | 3 |   | Utf8        | 🤔
+           | insert_str     | 3 | x | Utf8        | 🤔
+        ",
+    );
 }
 
 #[test]
 fn capacities(rt: HostRuntime) {
-    let mut none = ArrayString::<0>::new();
-    assert_eq!(rt; none.try_insert(0, 'x'), Err(Error::OutOfBounds));
-    assert_eq!(rt; none.try_insert_str(0, ""), Ok(()));
-    assert_eq!(rt; none.insert_str(0, "x"), Ok(()));
-    assert_eq!(rt; none.insert_str(1, ""), Err(Error::OutOfBounds));
-    assert_eq!(rt; none.as_str(), "");
+    hold(
+        &rt,
+        ArrayString::<0>::new(),
+        "
+        new | try_insert     | 0 | x | OutOfBounds |
+            | try_insert_str | 0 |   | ok          |
+            | insert_str     | 0 | x | ok          |
+            | insert_str     | 1 |   | OutOfBounds |
+        ",
+    );
+    hold(
+        &rt,
+        ArrayString::<1>::new(),
+        "
+        new | insert_str | 0 | éa | ok          |
+            | try_insert | 0 | é  | OutOfBounds |
+            | try_insert | 0 | a  | ok          | a
+        ",
+    );
+}
 
-    let mut one = ArrayString::<1>::new();
-    assert_eq!(rt; one.insert_str(0, "éa"), Ok(()));
-    assert_eq!(rt; one.as_str(), "");
-    assert_eq!(rt; one.try_insert(0, 'é'), Err(Error::OutOfBounds));
-    assert_eq!(rt; one.try_insert(0, 'a'), Ok(()));
-    assert_eq!(rt; one.as_str(), "a");
+#[test]
+fn a_string_of_the_most_letters(rt: HostRuntime) {
+    let full: ArrayString<300> = letters();
+    let mut most = full;
+    agree(
+        &rt,
+        "a letter at the end, cut",
+        most.insert_str(255, "x"),
+        Ok(()),
+    );
+    agree(&rt, "the empty text", most.try_insert_str(255, ""), Ok(()));
+    agree(
+        &rt,
+        "a letter at the end",
+        most.try_insert(255, 'x'),
+        Err(Error::OutOfBounds),
+    );
+    agree(
+        &rt,
+        "a letter at the start",
+        most.try_insert(0, 'x'),
+        Err(Error::OutOfBounds),
+    );
+    agree(&rt, "the text", most, full);
+}
 
-    let mut most: ArrayString<300> = letters();
-    let full = most;
-    assert_eq!(rt; most.insert_str(255, "x"), Ok(()));
-    assert_eq!(rt; most.try_insert_str(255, ""), Ok(()));
-    assert_eq!(rt; most.try_insert(255, 'x'), Err(Error::OutOfBounds));
-    assert_eq!(rt; most.try_insert(0, 'x'), Err(Error::OutOfBounds));
-    assert_eq!(rt; most, full);
-    let Ok(more) = str::from_utf8(&[b'x'; 256]) else {
+#[test]
+fn more_letters_than_fit(rt: HostRuntime) {
+    let letter = [b'x'; 256];
+    let Ok(more) = str::from_utf8(&letter) else {
         return assert!(rt; false, "letters are text");
     };
     let mut empty = MaxString::new();
-    assert_eq!(rt; empty.try_insert_str(0, more), Err(Error::OutOfBounds));
-    assert_eq!(rt; empty.insert_str(0, more), Ok(()));
-    assert_eq!(rt; empty, letters());
+    agree(
+        &rt,
+        "whole",
+        empty.try_insert_str(0, more),
+        Err(Error::OutOfBounds),
+    );
+    agree(&rt, "cut", empty.insert_str(0, more), Ok(()));
+    agree(&rt, "the text", empty, letters());
 }

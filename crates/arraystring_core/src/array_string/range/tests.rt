@@ -1,431 +1,334 @@
 //! Parts of a string, on values worked out by hand.
 use super::*;
+use crate::tests::calls::hold;
+use crate::tests::table::agree;
 use crate::tests::{MaxString, SmallString, letters, string};
-use std::ops::{Bound, RangeBounds, RangeInclusive};
+use std::ops::Bound;
 use std::str;
-
-/// The part from one bound to the other by `slice`, where `get` finds it.
-fn sliced<const N: usize>(text: &ArrayString<N>, start: Bound<u8>, end: Bound<u8>) -> Option<&str> {
-    if text.get((start, end)).is_none() {
-        return None;
-    }
-    Some(text.slice((start, end)))
-}
-
-/// The string with the part in upper case and with it in lower case, where `get` finds the part.
-fn cased<const N: usize>(
-    text: &ArrayString<N>,
-    start: u8,
-    last: u8,
-) -> Option<[ArrayString<N>; 2]> {
-    if text.get(start..=last).is_none() {
-        return None;
-    }
-    let mut upper = *text;
-    upper.make_ascii_uppercase_in(start..=last);
-    let mut lower = *text;
-    lower.make_ascii_lowercase_in(start..=last);
-    Some([upper, lower])
-}
 
 #[test]
 fn parts_are_lent(rt: HostRuntime) {
-    let text: SmallString = string("ABCD🤔");
-    assert_eq!(rt; text.get(..), Some("ABCD🤔"));
-    assert_eq!(rt; text.get(3..), Some("D🤔"));
-    assert_eq!(rt; text.get(..3), Some("ABC"));
-    assert_eq!(rt; text.get(1..3), Some("BC"));
-    assert_eq!(rt; text.get(1..=3), Some("BCD"));
-    assert_eq!(rt; text.get(..=3), Some("ABCD"));
-    assert_eq!(rt; text.get(8..), Some(""));
-    assert_eq!(rt; text.get(5..), None);
-    assert_eq!(rt; text.get(..7), None);
-    assert_eq!(rt; text.get(9..), None);
-    assert_eq!(rt; text.get(4..9), None);
-    assert_eq!(rt; text.get(3..2), None);
-    for (start, end, wanted) in [
-        (Bound::Unbounded, Bound::Unbounded, Some("ABCD🤔")),
-        (Bound::Included(3), Bound::Unbounded, Some("D🤔")),
-        (Bound::Excluded(3), Bound::Excluded(8), Some("🤔")),
-        (Bound::Excluded(0), Bound::Included(2), Some("BC")),
-        (Bound::Excluded(2), Bound::Included(2), Some("")),
-        (Bound::Excluded(4), Bound::Unbounded, None),
-        (Bound::Unbounded, Bound::Included(4), None),
-        (Bound::Excluded(8), Bound::Unbounded, None),
-        (Bound::Included(4), Bound::Excluded(3), None),
-    ] {
-        assert_eq!(rt; text.get((start, end)), wanted);
-        assert_eq!(rt; sliced(&text, start, end), wanted);
-    }
-    assert_eq!(rt; text.slice(..), "ABCD🤔");
+    hold(
+        &rt,
+        SmallString::new(),
+        "
+        ABCD🤔 | get   | ..     | | ABCD🤔 | ABCD🤔
+               | get   | 3..    | | D🤔    | ABCD🤔
+               | get   | ..3    | | ABC    | ABCD🤔
+               | get   | 1..3   | | BC     | ABCD🤔
+               | get   | 1..=3  | | BCD    | ABCD🤔
+               | get   | ..=3   | | ABCD   | ABCD🤔
+               | get   | 8..    | |        | ABCD🤔
+               | get   | 5..    | | None   | ABCD🤔
+               | get   | ..7    | | None   | ABCD🤔
+               | get   | 9..    | | None   | ABCD🤔
+               | get   | 4..9   | | None   | ABCD🤔
+               | get   | 3..2   | | None   | ABCD🤔
+               | slice | ..     | | ABCD🤔 | ABCD🤔
+        ABCD🤔 | get   | (..)   | | ABCD🤔 | ABCD🤔
+               | slice | (..)   | | ABCD🤔 | ABCD🤔
+               | get   | [3..)  | | D🤔    | ABCD🤔
+               | slice | [3..)  | | D🤔    | ABCD🤔
+               | get   | (3..8) | | 🤔     | ABCD🤔
+               | slice | (3..8) | | 🤔     | ABCD🤔
+               | get   | (0..2] | | BC     | ABCD🤔
+               | slice | (0..2] | | BC     | ABCD🤔
+               | get   | (2..2] | |        | ABCD🤔
+               | slice | (2..2] | |        | ABCD🤔
+               | get   | (4..)  | | None   | ABCD🤔
+               | slice | (4..)  | | None   | ABCD🤔
+               | get   | (..4]  | | None   | ABCD🤔
+               | slice | (..4]  | | None   | ABCD🤔
+               | get   | (8..)  | | None   | ABCD🤔
+               | slice | (8..)  | | None   | ABCD🤔
+               | get   | [4..3) | | None   | ABCD🤔
+               | slice | [4..3) | | None   | ABCD🤔
+        ",
+    );
 }
 
 #[test]
 fn letters_change_case_in_a_range(rt: HostRuntime) {
-    let text: ArrayString<4> = string("abcd");
-    assert_eq!(rt; cased(&text, 1, 2), Some([string("aBCd"), text]));
-    assert_eq!(rt; cased(&text, 0, 3), Some([string("ABCD"), text]));
-    assert_eq!(rt; cased(&text, 0, 4), None);
-    let text: SmallString = string("aZéZaé");
-    assert_eq!(rt;
-        cased(&text, 1, 4),
-        Some([string("aZéZaé"), string("azézaé")])
+    hold(
+        &rt,
+        ArrayString::<4>::new(),
+        "
+        abcd | make_ascii_uppercase_in | 1..=2 | | ok   | aBCd
+        abcd | make_ascii_lowercase_in | 1..=2 | | ok   | abcd
+        abcd | make_ascii_uppercase_in | 0..=3 | | ok   | ABCD
+        abcd | make_ascii_lowercase_in | 0..=3 | | ok   | abcd
+        abcd | make_ascii_uppercase_in | 0..=4 | | None | abcd
+        abcd | make_ascii_lowercase_in | 0..=4 | | None | abcd
+        ",
     );
-    assert_eq!(rt; cased(&text, 1, 3), Some([text, string("azéZaé")]));
-    assert_eq!(rt;
-        cased(&text, 4, 5),
-        Some([string("aZéZAé"), string("aZézaé")])
+    hold(
+        &rt,
+        SmallString::new(),
+        "
+        aZéZaé | make_ascii_uppercase_in | 1..=4 | | ok   | aZéZaé
+        aZéZaé | make_ascii_lowercase_in | 1..=4 | | ok   | azézaé
+        aZéZaé | make_ascii_uppercase_in | 1..=3 | | ok   | aZéZaé
+        aZéZaé | make_ascii_lowercase_in | 1..=3 | | ok   | azéZaé
+        aZéZaé | make_ascii_uppercase_in | 4..=5 | | ok   | aZéZAé
+        aZéZaé | make_ascii_lowercase_in | 4..=5 | | ok   | aZézaé
+        aZéZaé | make_ascii_uppercase_in | 1..=2 | | None | aZéZaé
+        aZéZaé | make_ascii_lowercase_in | 1..=2 | | None | aZéZaé
+        ",
     );
-    assert_eq!(rt; cased(&text, 1, 2), None);
 }
 
 #[test]
 fn parts_are_drained(rt: HostRuntime) {
+    hold(
+        &rt,
+        SmallString::new(),
+        "
+        ABCD🤔 | drain | ..3  | | ABC         | D🤔
+               | drain | 3..  | | Utf8        | D🤔
+               | drain | ..3  | | Utf8        | D🤔
+               | drain | 10.. | | OutOfBounds | D🤔
+               | drain | ..6  | | OutOfBounds | D🤔
+               | drain | 3..2 | | OutOfBounds | D🤔
+        ",
+    );
+    hold(
+        &rt,
+        ArrayString::<4>::new(),
+        "
+        abcd | drain | [1..3) | | bc   | ad
+        abcd | drain | [1..1] | | b    | acd
+        abcd | drain | (..2]  | | abc  | d
+        abcd | drain | [2..)  | | cd   | ab
+        abcd | drain | (0..2] | | bc   | ad
+        abcd | drain | (..)   | | abcd |
+        abcd | drain | 1..3   | | bc   | ad
+        abcd | drain | 1..=1  | | b    | acd
+        abcd | drain | ..=2   | | abc  | d
+        abcd | drain | 2..    | | cd   | ab
+        abcd | drain | ..     | | abcd |
+        ",
+    );
+}
+
+#[test]
+fn what_was_drained_is_walked(rt: HostRuntime) {
     let mut text: SmallString = string("ABCD🤔");
-    let Ok(mut drain) = text.drain(..3) else {
-        return assert!(rt; false, "the range has boundaries");
-    };
-    assert_eq!(rt; text.as_str(), "D🤔");
-    assert_eq!(rt; drain.next(), Some('A'));
-    assert_eq!(rt; drain.next(), Some('B'));
-    assert_eq!(rt; drain.next(), Some('C'));
-    assert_eq!(rt; drain.next(), None);
-    assert_eq!(rt; left_of(text.drain(3..)), Err(Error::Utf8));
-    assert_eq!(rt; left_of(text.drain(..3)), Err(Error::Utf8));
-    assert_eq!(rt; left_of(text.drain(10..)), Err(Error::OutOfBounds));
-    assert_eq!(rt; left_of(text.drain(..6)), Err(Error::OutOfBounds));
-    assert_eq!(rt; left_of(text.drain(3..2)), Err(Error::OutOfBounds));
-    assert_eq!(rt; text.as_str(), "D🤔");
+    let mut drain = text.drain(..3).unwrap_or_default();
+    agree(&rt, "first", drain.next(), Some('A'));
+    agree(&rt, "second", drain.next(), Some('B'));
+    agree(&rt, "third", drain.next(), Some('C'));
+    agree(&rt, "the end", drain.next(), None);
+    agree(&rt, "the text", text.as_str(), "D🤔");
 }
 
-#[test]
-fn parts_are_drained_by_each_kind_of_bound(rt: HostRuntime) {
-    for (start, end, part, after) in [
-        (Bound::Included(1), Bound::Excluded(3), "bc", "ad"),
-        (Bound::Included(1), Bound::Included(1), "b", "acd"),
-        (Bound::Unbounded, Bound::Included(2), "abc", "d"),
-        (Bound::Included(2), Bound::Unbounded, "cd", "ab"),
-        (Bound::Excluded(0), Bound::Included(2), "bc", "ad"),
-        (Bound::Unbounded, Bound::Unbounded, "abcd", ""),
-    ] {
-        let mut text: ArrayString<4> = string("abcd");
-        let drained = left_of(text.drain((start, end)));
-        assert_eq!(rt; (drained, text), (Ok(string(part)), string(after)));
-    }
-}
-
-#[test]
-fn parts_are_drained_by_each_kind_of_range(rt: HostRuntime) {
-    let full: ArrayString<4> = string("abcd");
-    let mut text = full;
-    let drained = left_of(text.drain(1..3));
-    assert_eq!(rt; (drained, text), (Ok(string("bc")), string("ad")));
-    let mut text = full;
-    let drained = left_of(text.drain(1..=1));
-    assert_eq!(rt; (drained, text), (Ok(string("b")), string("acd")));
-    let mut text = full;
-    let drained = left_of(text.drain(..=2));
-    assert_eq!(rt; (drained, text), (Ok(string("abc")), string("d")));
-    let mut text = full;
-    let drained = left_of(text.drain(2..));
-    assert_eq!(rt; (drained, text), (Ok(string("cd")), string("ab")));
-    let mut text = full;
-    let drained = left_of(text.drain(..));
-    assert_eq!(rt; (drained, text), (Ok(full), string("")));
-}
-
-/// What `drain` returned, as a string.
+/// What `drain` answered, as a string.
 fn left_of<const N: usize>(answer: Result<Drain<N>, Error>) -> Result<ArrayString<N>, Error> {
     Ok(string(answer?.as_str()))
 }
 
 #[test]
 fn parts_are_replaced(rt: HostRuntime) {
-    let mut text: SmallString = string("ABCD🤔");
-    assert_eq!(rt; text.replace_range(2..4, "EFGHI"), Ok(()));
-    assert_eq!(rt; text.as_str(), "ABEFGHI🤔");
-    assert_eq!(rt; text.replace_range(9.., "J"), Err(Error::Utf8));
-    assert_eq!(rt; text.replace_range(..9, "J"), Err(Error::Utf8));
-    assert_eq!(rt; text.replace_range(..90, "K"), Err(Error::OutOfBounds));
-    assert_eq!(rt; text.replace_range(12.., "K"), Err(Error::OutOfBounds));
-    assert_eq!(rt;
-        text.replace_range(0..1, "00000000000000000000000"),
-        Err(Error::OutOfBounds)
+    hold(
+        &rt,
+        SmallString::new(),
+        "
+        ABCD🤔 | replace_range | 2..4   | EFGHI                   | ok          | ABEFGHI🤔
+               | replace_range | 9..    | J                       | Utf8        | ABEFGHI🤔
+               | replace_range | ..9    | J                       | Utf8        | ABEFGHI🤔
+               | replace_range | ..90   | K                       | OutOfBounds | ABEFGHI🤔
+               | replace_range | 12..   | K                       | OutOfBounds | ABEFGHI🤔
+               | replace_range | 0..1   | 00000000000000000000000 | OutOfBounds | ABEFGHI🤔
+        ABCD🤔 | replace_range | 2..4   |                         | ok          | AB🤔
+        ABCD   | replace_range | (0..2] | x                       | ok          | AxD
+               | replace_range | 1..=1  | é                       | ok          | AéD
+               | replace_range | ..=0   |                         | ok          | éD
+               | replace_range | ..     | y                       | ok          | y
+        ABCD🤔 | replace_range | 1..4   | é€                      | ok          | Aé€🤔
+               | replace_range | 1..6   | BCD                     | ok          | ABCD🤔
+        ",
     );
-    assert_eq!(rt; text.as_str(), "ABEFGHI🤔");
-
-    let mut text: SmallString = string("ABCD🤔");
-    assert_eq!(rt; text.replace_range(2..4, ""), Ok(()));
-    assert_eq!(rt; text.as_str(), "AB🤔");
-    assert_eq!(rt; text.len(), 6);
-
-    let mut text: SmallString = string("ABCD");
-    let ends = (Bound::Excluded(0), Bound::Included(2));
-    assert_eq!(rt; text.replace_range(ends, "x"), Ok(()));
-    assert_eq!(rt; text.as_str(), "AxD");
-    assert_eq!(rt; text.replace_range(1..=1, "é"), Ok(()));
-    assert_eq!(rt; text.replace_range(..=0, ""), Ok(()));
-    assert_eq!(rt; text.as_str(), "éD");
-    assert_eq!(rt; text.replace_range(.., "y"), Ok(()));
-    assert_eq!(rt; text.as_str(), "y");
 }
 
 #[test]
 fn moves_of_drains(rt: HostRuntime) {
-    for (start, end, result, after, moved) in [
-        (0, 2, Ok(string("AB")), "CD🤔", 0),
-        (1, 3, Ok(string("BC")), "AD🤔", 5),
-        (3, 8, Ok(string("D🤔")), "ABC", 0),
-        (2, 2, Ok(string("")), "ABCD🤔", 0),
-        (2, 6, Err(Error::Utf8), "ABCD🤔", 0),
-        (2, 9, Err(Error::OutOfBounds), "ABCD🤔", 0),
-        (3, 2, Err(Error::OutOfBounds), "ABCD🤔", 0),
-    ] {
-        let mut text: SmallString = string("ABCD🤔");
-        let mut steps = Steps::new();
-        assert_eq!(rt; left_of(text.drain_counted(start..end, &mut steps)), result);
-        assert_eq!(rt; text.as_str(), after);
-        assert_eq!(rt; steps.moved(), moved);
-    }
+    hold(
+        &rt,
+        SmallString::new(),
+        "
+        ABCD🤔 | drain_counted | 0..2 | | AB          | CD🤔   | 0
+        ABCD🤔 | drain_counted | 1..3 | | BC          | AD🤔   | 5
+        ABCD🤔 | drain_counted | 3..8 | | D🤔         | ABC    | 0
+        ABCD🤔 | drain_counted | 2..2 | |             | ABCD🤔 | 0
+        ABCD🤔 | drain_counted | 2..6 | | Utf8        | ABCD🤔 | 0
+        ABCD🤔 | drain_counted | 2..9 | | OutOfBounds | ABCD🤔 | 0
+        ABCD🤔 | drain_counted | 3..2 | | OutOfBounds | ABCD🤔 | 0
+        ",
+    );
 }
 
 #[test]
 fn moves_of_replacements(rt: HostRuntime) {
-    for (start, end, with, result, after, moved) in [
-        (2, 4, "", Ok(()), "AB🤔", 4),
-        (2, 4, "xyz", Ok(()), "ABxyz🤔", 4),
-        (2, 4, "xy", Ok(()), "ABxy🤔", 0),
-        (0, 1, "é", Ok(()), "éBCD🤔", 7),
-        (2, 5, "", Err(Error::Utf8), "ABCD🤔", 0),
-        (2, 9, "", Err(Error::OutOfBounds), "ABCD🤔", 0),
-        (
-            2,
-            4,
-            "0000000000000000000000",
-            Err(Error::OutOfBounds),
-            "ABCD🤔",
-            0,
-        ),
-    ] {
-        let mut text: SmallString = string("ABCD🤔");
-        let mut steps = Steps::new();
-        assert_eq!(rt;
-            text.replace_range_counted(start..end, with, &mut steps),
-            result
-        );
-        assert_eq!(rt; text.as_str(), after);
-        assert_eq!(rt; steps.moved(), moved);
-    }
+    hold(
+        &rt,
+        SmallString::new(),
+        "
+        ABCD🤔 | replace_range_counted | 2..4 |                        | ok          | AB🤔    | 4
+        ABCD🤔 | replace_range_counted | 2..4 | xyz                    | ok          | ABxyz🤔 | 4
+        ABCD🤔 | replace_range_counted | 2..4 | xy                     | ok          | ABxy🤔  | 0
+        ABCD🤔 | replace_range_counted | 0..1 | é                      | ok          | éBCD🤔  | 7
+        ABCD🤔 | replace_range_counted | 2..5 |                        | Utf8        | ABCD🤔  | 0
+        ABCD🤔 | replace_range_counted | 2..9 |                        | OutOfBounds | ABCD🤔  | 0
+        ABCD🤔 | replace_range_counted | 2..4 | 0000000000000000000000 | OutOfBounds | ABCD🤔  | 0
+        ",
+    );
 }
 
 #[test]
 fn the_size_of_the_result_decides(rt: HostRuntime) {
-    let full: ArrayString<4> = string("abcd");
-    let mut text = full;
-    assert_eq!(rt; text.replace_range(0..0, "xy"), Err(Error::OutOfBounds));
-    assert_eq!(rt; text.replace_range(1..2, "xy"), Err(Error::OutOfBounds));
-    assert_eq!(rt; text, full);
-    assert_eq!(rt; text.replace_range(1..3, "xy"), Ok(()));
-    assert_eq!(rt; text.as_str(), "axyd");
-    assert_eq!(rt; text.replace_range(0..4, "x"), Ok(()));
-    assert_eq!(rt; text.as_str(), "x");
+    hold(
+        &rt,
+        ArrayString::<4>::new(),
+        "
+        abcd | replace_range | 0..0 | xy     | OutOfBounds | abcd
+             | replace_range | 1..2 | xy     | OutOfBounds | abcd
+             | replace_range | 1..3 | xy     | ok          | axyd
+             | replace_range | 0..4 | x      | ok          | x
+        abcd | replace_range | 0..4 | x      | ok          | x
+        🤔   | replace_range | 1..1 | x      | OutOfBounds | 🤔
+             | replace_range | 1..4 | xy     | Utf8        | 🤔
+             | replace_range | 0..3 | xy     | Utf8        | 🤔
+             | replace_range | 3..2 |        | OutOfBounds | 🤔
+             | replace_range | 3..2 | xyzxyz | OutOfBounds | 🤔
+        ",
+    );
+}
 
-    let mut text: ArrayString<4> = string("🤔");
-    assert_eq!(rt; text.replace_range(1..1, "x"), Err(Error::OutOfBounds));
-    assert_eq!(rt; text.replace_range(1..4, "xy"), Err(Error::Utf8));
-    assert_eq!(rt; text.replace_range(0..3, "xy"), Err(Error::Utf8));
-    assert_eq!(rt; text.replace_range(3..2, ""), Err(Error::OutOfBounds));
-    assert_eq!(rt; text.replace_range(3..2, "xyzxyz"), Err(Error::OutOfBounds));
-    assert_eq!(rt; text.as_str(), "🤔");
-
-    let Ok(more) = str::from_utf8(&[b'x'; 256]) else {
+#[test]
+fn more_letters_than_fit(rt: HostRuntime) {
+    let letter = [b'x'; 256];
+    let Ok(more) = str::from_utf8(&letter) else {
         return assert!(rt; false, "letters are text");
     };
     let mut text = MaxString::new();
-    assert_eq!(rt; text.replace_range(0..0, more), Err(Error::OutOfBounds));
-    assert_eq!(rt; text.as_str(), "");
+    agree(
+        &rt,
+        "256 letters",
+        text.replace_range(0..0, more),
+        Err(Error::OutOfBounds),
+    );
+    agree(&rt, "the text", text.as_str(), "");
 }
 
-#[test]
-fn a_whole_text_is_replaced(rt: HostRuntime) {
-    let mut text: ArrayString<4> = string("abcd");
-    assert_eq!(rt; text.replace_range(0..4, "x"), Ok(()));
-    assert_eq!(rt; text.as_str(), "x");
-}
+/// The bounds of what is behind the last place.
+const PAST: (Bound<u8>, Bound<u8>) = (Bound::Excluded(255), Bound::Unbounded);
 
 #[test]
-fn what_is_replaced_can_be_put_back(rt: HostRuntime) {
-    let before: SmallString = string("ABCD🤔");
-    let mut text = before;
-    assert_eq!(rt; text.replace_range(1..4, "é€"), Ok(()));
-    assert_eq!(rt; text.as_str(), "Aé€🤔");
-    assert_eq!(rt; text.replace_range(1..6, "BCD"), Ok(()));
-    assert_eq!(rt; text, before);
-}
-
-#[test]
-fn the_last_places(rt: HostRuntime) {
+fn the_last_places_are_lent(rt: HostRuntime) {
     let full: MaxString = letters();
-    assert_eq!(rt; full.get(0..=255), None);
-    assert_eq!(rt; full.get(0..=254), Some(full.as_str()));
-    assert_eq!(rt; full.get(255..255), Some(""));
-    assert_eq!(rt; full.get(255..=255), None);
-    let past = (Bound::Excluded(255), Bound::Unbounded);
-    assert_eq!(rt; full.get(past), None);
+    agree(&rt, "through 255", full.get(0..=255), None);
+    agree(&rt, "through 254", full.get(0..=254), Some(full.as_str()));
+    agree(&rt, "from 255 to 255", full.get(255..255), Some(""));
+    agree(&rt, "from 255 through 255", full.get(255..=255), None);
+    agree(&rt, "behind 255", full.get(PAST), None);
+}
 
+#[test]
+fn the_last_places_are_drained(rt: HostRuntime) {
+    let full: MaxString = letters();
     let mut text = full;
-    assert_eq!(rt; left_of(text.drain(past)), Ok(string("")));
-    assert_eq!(rt; left_of(text.drain(255..=255)), Ok(string("")));
-    assert_eq!(rt; text.replace_range(past, ""), Ok(()));
-    assert_eq!(rt; text, full);
-    assert_eq!(rt; left_of(text.drain(0..=255)), Ok(full));
-    assert_eq!(rt; text.as_str(), "");
-    let mut text = full;
-    assert_eq!(rt; text.replace_range(0..=255, "x"), Ok(()));
-    assert_eq!(rt; text.as_str(), "x");
+    agree(&rt, "behind 255", left_of(text.drain(PAST)), Ok(string("")));
+    agree(
+        &rt,
+        "at 255",
+        left_of(text.drain(255..=255)),
+        Ok(string("")),
+    );
+    agree(&rt, "nothing", text.replace_range(PAST, ""), Ok(()));
+    agree(&rt, "the text", text, full);
+    agree(&rt, "through 255", left_of(text.drain(0..=255)), Ok(full));
+    agree(&rt, "the rest", text.as_str(), "");
+}
+
+#[test]
+fn the_last_places_are_replaced(rt: HostRuntime) {
+    let mut text: MaxString = letters();
+    agree(&rt, "through 255", text.replace_range(0..=255, "x"), Ok(()));
+    agree(&rt, "the text", text.as_str(), "x");
     let mut most: ArrayString<300> = letters();
-    assert_eq!(rt; most.replace_range(255.., "x"), Err(Error::OutOfBounds));
-    assert_eq!(rt; most.replace_range(254.., "y"), Ok(()));
-    assert_eq!(rt; most.get(254..), Some("y"));
+    agree(
+        &rt,
+        "at 255",
+        most.replace_range(255.., "x"),
+        Err(Error::OutOfBounds),
+    );
+    agree(&rt, "from 254", most.replace_range(254.., "y"), Ok(()));
+    agree(&rt, "the last", most.get(254..), Some("y"));
 }
 
 #[test]
 fn no_capacity(rt: HostRuntime) {
-    let mut none = ArrayString::<0>::new();
-    assert_eq!(rt; none.replace_range(0..0, ""), Ok(()));
-    assert_eq!(rt; none.replace_range(.., "x"), Err(Error::OutOfBounds));
-    assert_eq!(rt; none.get(..), Some(""));
-    assert_eq!(rt; none.get(..=0), None);
-    assert_eq!(rt; cased(&none, 0, 0), None);
-    let Ok(mut drain) = none.drain(..) else {
-        return assert!(rt; false, "the range has boundaries");
-    };
-    assert_eq!(rt; drain.next(), None);
-    assert_eq!(rt; drain.next_back(), None);
-    assert_eq!(rt; left_of(none.drain(..=0)), Err(Error::OutOfBounds));
-}
-
-/// A range type whose bounds no contract knows.
-#[derive(Clone, Copy)]
-struct Silent {
-    start: Bound<u8>,
-    end: Bound<u8>,
-}
-
-impl RangeBounds<u8> for Silent {
-    fn start_bound(&self) -> Bound<&u8> {
-        self.start.as_ref()
-    }
-
-    fn end_bound(&self) -> Bound<&u8> {
-        self.end.as_ref()
-    }
+    hold(
+        &rt,
+        ArrayString::<0>::new(),
+        "
+        new | replace_range           | 0..0  |   | ok          |
+            | replace_range           | ..    | x | OutOfBounds |
+            | get                     | ..    |   |             |
+            | get                     | ..=0  |   | None        |
+            | make_ascii_uppercase_in | 0..=0 |   | None        |
+            | make_ascii_lowercase_in | 0..=0 |   | None        |
+            | drain                   | ..    |   |             |
+            | drain                   | ..=0  |   | OutOfBounds |
+        ",
+    );
+    let mut drain = ArrayString::<0>::new().drain(..).unwrap_or_default();
+    agree(&rt, "the front", drain.next(), None);
+    agree(&rt, "the back", drain.next_back(), None);
 }
 
 #[test]
 fn a_range_type_that_tells_no_bounds(rt: HostRuntime) {
-    for (start, end, taken, left, replaced) in [
-        (
-            Bound::Included(1),
-            Bound::Excluded(3),
-            Some("BC"),
-            "AD🤔",
-            "AxD🤔",
-        ),
-        (
-            Bound::Excluded(0),
-            Bound::Included(2),
-            Some("BC"),
-            "AD🤔",
-            "AxD🤔",
-        ),
-        (
-            Bound::Included(4),
-            Bound::Unbounded,
-            Some("🤔"),
-            "ABCD",
-            "ABCDx",
-        ),
-        (
-            Bound::Unbounded,
-            Bound::Included(0),
-            Some("A"),
-            "BCD🤔",
-            "xBCD🤔",
-        ),
-        (Bound::Included(5), Bound::Unbounded, None, "ABCD🤔", "ABCD🤔"),
-        (
-            Bound::Included(3),
-            Bound::Excluded(2),
-            None,
-            "ABCD🤔",
-            "ABCD🤔",
-        ),
-    ] {
-        let range = Silent { start, end };
-        let text: SmallString = string("ABCD🤔");
-        assert_eq!(rt; text.get(range), taken);
-        let mut drained = text;
-        assert_eq!(rt; left_of(drained.drain(range)).ok(), taken.map(string));
-        assert_eq!(rt; drained.as_str(), left);
-        let mut other = text;
-        assert_eq!(rt; other.replace_range(range, "x").is_ok(), taken.is_some());
-        assert_eq!(rt; other.as_str(), replaced);
-    }
-}
-
-#[test]
-fn a_range_that_tells_no_bounds_is_counted(rt: HostRuntime) {
-    let range = Silent {
-        start: Bound::Included(1),
-        end: Bound::Included(2),
-    };
-    let mut text: SmallString = string("ABCD🤔");
-    let mut steps = Steps::new();
-    assert_eq!(rt;
-        left_of(text.drain_counted(range, &mut steps)),
-        Ok(string("BC"))
+    hold(
+        &rt,
+        SmallString::new(),
+        "
+        ABCD🤔 | get                   | [1..3) untold |   | BC          | ABCD🤔
+               | drain                 | [1..3) untold |   | BC          | AD🤔
+        ABCD🤔 | replace_range         | [1..3) untold | x | ok          | AxD🤔
+        ABCD🤔 | get                   | (0..2] untold |   | BC          | ABCD🤔
+               | drain                 | (0..2] untold |   | BC          | AD🤔
+        ABCD🤔 | replace_range         | (0..2] untold | x | ok          | AxD🤔
+        ABCD🤔 | get                   | [4..) untold  |   | 🤔          | ABCD🤔
+               | drain                 | [4..) untold  |   | 🤔          | ABCD
+        ABCD🤔 | replace_range         | [4..) untold  | x | ok          | ABCDx
+        ABCD🤔 | get                   | (..0] untold  |   | A           | ABCD🤔
+               | drain                 | (..0] untold  |   | A           | BCD🤔
+        ABCD🤔 | replace_range         | (..0] untold  | x | ok          | xBCD🤔
+        ABCD🤔 | get                   | [5..) untold  |   | None        | ABCD🤔
+               | drain                 | [5..) untold  |   | Utf8        | ABCD🤔
+               | replace_range         | [5..) untold  | x | Utf8        | ABCD🤔
+        ABCD🤔 | get                   | [3..2) untold |   | None        | ABCD🤔
+               | drain                 | [3..2) untold |   | OutOfBounds | ABCD🤔
+               | replace_range         | [3..2) untold | x | OutOfBounds | ABCD🤔
+        ABCD🤔 | drain_counted         | [1..2] untold |   | BC          | AD🤔   | 5
+               | replace_range_counted | [1..2] untold |   | Utf8        | AD🤔   | 0
+        ",
     );
-    assert_eq!(rt; steps.moved(), 5);
-    assert_eq!(rt;
-        text.replace_range_counted(range, "", &mut steps),
-        Err(Error::Utf8)
-    );
-    assert_eq!(rt; text.as_str(), "AD🤔");
-    assert_eq!(rt; steps.moved(), 5);
-}
-
-/// `1..=3` after all three numbers were taken from it: it is empty and at 3.
-fn walked() -> RangeInclusive<u8> {
-    let mut range = 1..=3;
-    for _ in 0..3 {
-        let _ = range.next();
-    }
-    range
 }
 
 #[test]
 fn an_inclusive_range_that_was_walked_to_its_end(rt: HostRuntime) {
-    let text: SmallString = string("ABCD🤔");
-    assert_eq!(rt; text.get(walked()), Some(""));
-    let mut drained = text;
-    assert_eq!(rt; left_of(drained.drain(walked())), Ok(string("")));
-    assert_eq!(rt; drained, text);
-    let mut steps = Steps::new();
-    assert_eq!(rt;
-        left_of(drained.drain_counted(walked(), &mut steps)),
-        Ok(string(""))
+    hold(
+        &rt,
+        SmallString::new(),
+        "
+        ABCD🤔 | get                   | walked |    |             | ABCD🤔
+               | drain                 | walked |    |             | ABCD🤔
+               | drain_counted         | walked |    |             | ABCD🤔    | 0
+               | replace_range         | walked | xy | ok          | ABCxyD🤔
+               | replace_range_counted | walked | z  | ok          | ABCzxyD🤔 | 7
+        é      | get                   | walked |    | None        | é
+               | drain                 | walked |    | OutOfBounds | é
+        ",
     );
-    assert_eq!(rt; steps.moved(), 0);
-    assert_eq!(rt; drained.replace_range(walked(), "xy"), Ok(()));
-    assert_eq!(rt; drained.as_str(), "ABCxyD🤔");
-    assert_eq!(rt;
-        drained.replace_range_counted(walked(), "z", &mut steps),
-        Ok(())
-    );
-    assert_eq!(rt; drained.as_str(), "ABCzxyD🤔");
-    assert_eq!(rt; steps.moved(), 7);
-    let mut short: SmallString = string("é");
-    assert_eq!(rt; short.get(walked()), None);
-    assert_eq!(rt; left_of(short.drain(walked())), Err(Error::OutOfBounds));
 }

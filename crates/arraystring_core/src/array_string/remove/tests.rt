@@ -1,70 +1,75 @@
 //! What is taken out of a string, on values worked out by hand.
 use super::*;
+use crate::tests::calls::hold;
+use crate::tests::table::agree;
 use crate::tests::{MaxString, SmallString, letters, string};
 
 #[test]
 fn characters_are_removed(rt: HostRuntime) {
-    let mut text: SmallString = string("ABCD🤔");
-    for (index, wanted) in [
-        (8, Err(Error::OutOfBounds)),
-        (10, Err(Error::OutOfBounds)),
-        (6, Err(Error::Utf8)),
-        (0, Ok('A')),
-        (2, Ok('D')),
-    ] {
-        assert_eq!(rt; text.remove(index), wanted, "at {index}");
-    }
-    assert_eq!(rt; text.as_str(), "BC🤔");
-    assert_eq!(rt; text.remove(2), Ok('🤔'));
-    assert_eq!(rt; text.as_str(), "BC");
-
-    let mut full: ArrayString<4> = string("abcd");
-    assert_eq!(rt; full.remove(4), Err(Error::OutOfBounds));
-    assert_eq!(rt; full.remove(0), Ok('a'));
-    assert_eq!(rt; full.as_str(), "bcd");
-    let mut full: ArrayString<4> = string("abcd");
-    assert_eq!(rt; full.remove(3), Ok('d'));
-    assert_eq!(rt; full.as_str(), "abc");
+    hold(
+        &rt,
+        SmallString::new(),
+        "
+        ABCD🤔 | remove | 8  | | OutOfBounds | ABCD🤔
+               | remove | 10 | | OutOfBounds | ABCD🤔
+               | remove | 6  | | Utf8        | ABCD🤔
+               | remove | 0  | | A           | BCD🤔
+               | remove | 2  | | D           | BC🤔
+               | remove | 2  | | 🤔          | BC
+        ",
+    );
+    hold(
+        &rt,
+        ArrayString::<4>::new(),
+        "
+        abcd | remove | 4 | | OutOfBounds | abcd
+             | remove | 0 | | a           | bcd
+        abcd | remove | 3 | | d           | abc
+        ",
+    );
 }
 
 #[test]
 fn a_text_is_truncated(rt: HostRuntime) {
-    let mut text: SmallString = string("My String");
-    assert_eq!(rt; text.truncate(5), Ok(()));
-    assert_eq!(rt; text.as_str(), "My St");
-    assert_eq!(rt; text.truncate(6), Ok(()));
-    assert_eq!(rt; text.truncate(5), Ok(()));
-    assert_eq!(rt; text.as_str(), "My St");
-
-    let mut full: ArrayString<4> = string("🤔");
-    assert_eq!(rt; full.truncate(1), Err(Utf8));
-    assert_eq!(rt; full.truncate(3), Err(Utf8));
-    assert_eq!(rt; full.truncate(4), Ok(()));
-    assert_eq!(rt; full.as_str(), "🤔");
-    assert_eq!(rt; full.truncate(0), Ok(()));
-    assert!(rt; full.is_empty());
+    hold(
+        &rt,
+        SmallString::new(),
+        "
+        My String | truncate | 5 | | ok | My St
+                  | truncate | 6 | | ok | My St
+                  | truncate | 5 | | ok | My St
+        ",
+    );
+    hold(
+        &rt,
+        ArrayString::<4>::new(),
+        "
+        🤔 | truncate | 1 | | Utf8 | 🤔
+           | truncate | 3 | | Utf8 | 🤔
+           | truncate | 4 | | ok   | 🤔
+           | truncate | 0 | | ok   |
+        ",
+    );
 }
 
 #[test]
 fn moves_of_removals(rt: HostRuntime) {
-    for (index, result, after, moved) in [
-        (0, Ok('A'), "BCD🤔", 0),
-        (3, Ok('D'), "ABC🤔", 4),
-        (1, Ok('B'), "ACD🤔", 6),
-        (4, Ok('🤔'), "ABCD", 0),
-        (5, Err(Error::Utf8), "ABCD🤔", 0),
-        (20, Err(Error::OutOfBounds), "ABCD🤔", 0),
-    ] {
-        let mut text: SmallString = string("ABCD🤔");
-        let mut steps = Steps::new();
-        assert_eq!(rt; text.remove_counted(index, &mut steps), result);
-        assert_eq!(rt; text.as_str(), after);
-        assert_eq!(rt; steps.moved(), moved);
-    }
+    hold(
+        &rt,
+        SmallString::new(),
+        "
+        ABCD🤔 | remove_counted | 0  | | A           | BCD🤔  | 0
+        ABCD🤔 | remove_counted | 3  | | D           | ABC🤔  | 4
+        ABCD🤔 | remove_counted | 1  | | B           | ACD🤔  | 6
+        ABCD🤔 | remove_counted | 4  | | 🤔          | ABCD   | 0
+        ABCD🤔 | remove_counted | 5  | | Utf8        | ABCD🤔 | 0
+        ABCD🤔 | remove_counted | 20 | | OutOfBounds | ABCD🤔 | 0
+        ",
+    );
 }
 
 #[test]
-fn characters_are_retained(rt: HostRuntime) {
+fn each_character_is_asked_in_turn(rt: HostRuntime) {
     let mut text: SmallString = string("a🤔bc");
     let mut asked = SmallString::new();
     let mut keeps = false;
@@ -73,17 +78,27 @@ fn characters_are_retained(rt: HostRuntime) {
         keeps = !keeps;
         keeps
     });
-    assert_eq!(rt; text.as_str(), "ab");
-    assert_eq!(rt; asked.as_str(), "a🤔bc");
+    agree(
+        &rt,
+        "every other one",
+        (text.as_str(), asked.as_str()),
+        ("ab", "a🤔bc"),
+    );
+}
 
-    let mut text: SmallString = string("ABCD🤔");
+#[test]
+fn characters_are_retained(rt: HostRuntime) {
+    let full: SmallString = string("ABCD🤔");
+    let mut text = full;
     text.retain(|ch| ch != '🤔');
-    assert_eq!(rt; text.as_str(), "ABCD");
-
-    let mut text: SmallString = string("ABCD🤔");
+    agree(&rt, "letters", text.as_str(), "ABCD");
+    let mut text = full;
     text.retain(|_| false);
-    assert_eq!(rt; text.as_str(), "");
+    agree(&rt, "none", text.as_str(), "");
+}
 
+#[test]
+fn all_but_the_first_are_retained(rt: HostRuntime) {
     let mut text: SmallString = string("ABCD🤔");
     let mut was_asked = false;
     text.retain(|_| {
@@ -91,70 +106,100 @@ fn characters_are_retained(rt: HostRuntime) {
         was_asked = true;
         keep
     });
-    assert_eq!(rt; text.as_str(), "BCD🤔");
+    agree(&rt, "all but the first", text.as_str(), "BCD🤔");
+}
 
+#[test]
+fn all_are_retained(rt: HostRuntime) {
     let mut full: ArrayString<4> = string("abcd");
     let mut count = 0u8;
     full.retain(|_| {
         count = count.wrapping_add(1);
         true
     });
-    assert_eq!(rt; full.as_str(), "abcd");
-    assert_eq!(rt; count, 4);
+    agree(&rt, "all", (full.as_str(), count), ("abcd", 4));
 }
 
 #[test]
 fn a_text_is_split(rt: HostRuntime) {
-    let mut text: SmallString = string("AB🤔CD");
-    assert_eq!(rt; text.split_off(6), Ok(string("CD")));
-    assert_eq!(rt; text.as_str(), "AB🤔");
-    assert_eq!(rt; text.split_off(20), Err(Error::OutOfBounds));
-    assert_eq!(rt; text.split_off(7), Err(Error::OutOfBounds));
-    assert_eq!(rt; text.split_off(4), Err(Error::Utf8));
-    assert_eq!(rt; text.split_off(6), Ok(string("")));
-    assert_eq!(rt; text.as_str(), "AB🤔");
-
-    let mut full: ArrayString<4> = string("abcd");
-    assert_eq!(rt; full.split_off(4), Ok(string("")));
-    assert_eq!(rt; full.split_off(2), Ok(string("cd")));
-    assert_eq!(rt; full.split_off(0), Ok(string("ab")));
-    assert_eq!(rt; full.as_str(), "");
+    hold(
+        &rt,
+        SmallString::new(),
+        "
+        AB🤔CD | split_off | 6  | | CD          | AB🤔
+               | split_off | 20 | | OutOfBounds | AB🤔
+               | split_off | 7  | | OutOfBounds | AB🤔
+               | split_off | 4  | | Utf8        | AB🤔
+               | split_off | 6  | |             | AB🤔
+        ",
+    );
+    hold(
+        &rt,
+        ArrayString::<4>::new(),
+        "
+        abcd | split_off | 4 | |    | abcd
+             | split_off | 2 | | cd | ab
+             | split_off | 0 | | ab |
+        ",
+    );
 }
 
 #[test]
 fn a_text_is_cleared(rt: HostRuntime) {
     let mut full: ArrayString<4> = string("abcd");
     full.clear();
-    assert_eq!(rt; full, ArrayString::new());
+    agree(&rt, "the text", full, ArrayString::new());
 }
 
 #[test]
 fn capacities(rt: HostRuntime) {
+    hold(
+        &rt,
+        ArrayString::<0>::new(),
+        "
+        new | remove    | 0 | | OutOfBounds |
+            | truncate  | 0 | | ok          |
+            | truncate  | 1 | | ok          |
+            | split_off | 0 | |             |
+            | split_off | 1 | | OutOfBounds |
+            | trim      |   | | ok          |
+            | clear     |   | | ok          |
+        ",
+    );
+    hold(
+        &rt,
+        ArrayString::<1>::new(),
+        "
+        a | remove | 1 | | OutOfBounds | a
+          | remove | 0 | | a           |
+        ",
+    );
     let mut none = ArrayString::<0>::new();
-    assert_eq!(rt; none.remove(0), Err(Error::OutOfBounds));
-    assert_eq!(rt; none.truncate(0), Ok(()));
-    assert_eq!(rt; none.truncate(1), Ok(()));
-    assert_eq!(rt; none.split_off(0), Ok(string("")));
-    assert_eq!(rt; none.split_off(1), Err(Error::OutOfBounds));
-    none.trim();
-    none.clear();
     none.retain(|_| true);
-    assert_eq!(rt; none.as_str(), "");
+    agree(&rt, "no characters", none.as_str(), "");
+}
 
-    let mut one: ArrayString<1> = string("a");
-    assert_eq!(rt; one.remove(1), Err(Error::OutOfBounds));
-    assert_eq!(rt; one.remove(0), Ok('a'));
-    assert_eq!(rt; one.as_str(), "");
-
-    let mut most: ArrayString<300> = letters();
-    let full = most;
-    assert_eq!(rt; most.remove(255), Err(Error::OutOfBounds));
-    assert_eq!(rt; most.truncate(255), Ok(()));
-    assert_eq!(rt; most.split_off(255), Ok(string("")));
+#[test]
+fn a_string_of_the_most_letters(rt: HostRuntime) {
+    let full: ArrayString<300> = letters();
+    let mut most = full;
+    agree(
+        &rt,
+        "past the end",
+        most.remove(255),
+        Err(Error::OutOfBounds),
+    );
+    agree(&rt, "all kept", most.truncate(255), Ok(()));
+    agree(
+        &rt,
+        "nothing split off",
+        most.split_off(255),
+        Ok(string("")),
+    );
     most.trim();
     most.retain(|_| true);
-    assert_eq!(rt; most, full);
-    assert_eq!(rt; most.remove(254), Ok('x'));
-    assert_eq!(rt; most.remove(0), Ok('x'));
-    assert_eq!(rt; most.len(), 253);
+    agree(&rt, "the text", most, full);
+    agree(&rt, "the last", most.remove(254), Ok('x'));
+    agree(&rt, "the first", most.remove(0), Ok('x'));
+    agree(&rt, "the size", most.len(), 253);
 }

@@ -1,0 +1,82 @@
+//! Tables of cases: a line of a text is a case, and `|` stands between its columns. However many lines a
+//! table has, the test that walks over it is proved once.
+use super::{MaxString, string};
+use arraystring_base::error::{Error, OutOfBounds};
+use std::fmt::Debug;
+use std::process::Abort;
+use std::str::Lines;
+
+/// The rows of a table.
+pub(crate) fn rows(table: &str) -> Lines {
+    table.trim().lines()
+}
+
+/// A column of a row, without the spaces round it and without the quotes in which a text may stand.
+pub(crate) fn column(row: &str, at: usize) -> &str {
+    let column = row
+        .split('|')
+        .nth(at)
+        .unwrap_or("no column")
+        .trim_matches(' ');
+    match column.strip_prefix('\'') {
+        Some(rest) => rest.strip_suffix('\'').unwrap_or(column),
+        None => column,
+    }
+}
+
+/// The number in a column.
+pub(crate) fn number(rt: &impl Abort, row: &str, at: usize) -> u8 {
+    column(row, at).parse().expect(rt, "a number in the column")
+}
+
+/// The character in a column.
+pub(crate) fn character(rt: &impl Abort, row: &str, at: usize) -> char {
+    column(row, at)
+        .parse()
+        .expect(rt, "a character in the column")
+}
+
+/// Asserts that a case gave what it wants. An `assert_eq!` costs the proof of a test three times as
+/// much as a call.
+pub(crate) fn agree<T: PartialEq + Debug + Drop>(rt: &impl Abort, case: &str, gave: T, wanted: T) {
+    assert_eq!(rt; gave, wanted, "{case}");
+}
+
+/// What was answered as it stands in a table: a text itself, a refusal by its name.
+pub(crate) fn told(answer: Result<&str, Error>) -> MaxString {
+    match answer {
+        Ok(text) => string(text),
+        Err(Error::Utf8) => string("Utf8"),
+        Err(Error::Utf16) => string("Utf16"),
+        Err(Error::OutOfBounds) => string("OutOfBounds"),
+    }
+}
+
+/// The same of a call that gives nothing back.
+pub(crate) fn told_done(answer: Result<(), Error>) -> MaxString {
+    match answer {
+        Ok(()) => string("ok"),
+        Err(why) => told(Err(why)),
+    }
+}
+
+/// The same of a call that can only want room.
+pub(crate) fn told_room(answer: Result<(), OutOfBounds>) -> MaxString {
+    match answer {
+        Ok(()) => string("ok"),
+        Err(OutOfBounds) => string("OutOfBounds"),
+    }
+}
+
+/// The same of a character.
+pub(crate) fn told_character(answer: Result<char, Error>) -> MaxString {
+    match answer {
+        Ok(ch) => string(ch.encode_utf8(&mut [0; 4])),
+        Err(why) => told(Err(why)),
+    }
+}
+
+/// The same of what may not be there.
+pub(crate) fn told_text(answer: Option<&str>) -> MaxString {
+    string(answer.unwrap_or("None"))
+}
