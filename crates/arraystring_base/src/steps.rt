@@ -57,7 +57,7 @@ impl Steps {
     }
 }
 
-/// The byte at the offset `at`, counted as one look. The offset must be below the length, and the
+/// The byte at the index `at`, counted as one look. The index must be below the length, and the
 /// count of looks must be below 2^64 - 1.
 pub fn look(bytes: &[u8], at: usize, steps: &mut Steps) -> u8
     requires in_bounds { at < length bytes.now }
