@@ -1,12 +1,13 @@
 -- Laws of iterators that are handed in: what all their items are.
-use Rattle.std.proofs.Common.{◌≡◌, ℕ, List, map, Iter, IsUtf8, chars}
+use Rattle.std.proofs.Common.{◌≡◌, ℕ, ◌≤◌, List, ◌++◌, Option, map, Iter, IsUtf8, chars}
 use Rattle.std.specs.Iterator.{AlwaysYields}
 use Rattle.std.specs.declared.iter.Copied.{Copied}
 use Rattle.std.specs.declared.str.Chars.{Chars}
 use Rattle.std.specs.Borrow.{Bor}
 use Rattle.std.proofs.iter.Yields.{copies, fronts}
 use Rattle.std.proofs.iter.TextItems.{spells}
-use Rattle.arraystring_core.specs.Taken.{piece_text}
+use Rattle.arraystring_base.specs.Text.{size, bytes}
+use Rattle.arraystring_core.specs.Taken.{Fits, Gives, joined, joined_pieces, piece_text}
 use Rattle.arraystring_core.specs.TakenLaws as law
 
 -- `chars` of a `&str` gives its characters
@@ -17,3 +18,22 @@ text-gives = law.text-gives
 pub slice-gives : (s it : Copied (Iter (Bor (List ℕ)))) (pieces : List (Bor (List ℕ))) → s.iter.rest.now ≡ pieces → it ≡ s
     → AlwaysYields (copies fronts) piece_text it (map piece_text pieces)
 slice-gives = law.slice-gives
+
+-- texts joined, of two lists of them
+pub joined-append : (a b : List (List ℕ)) → joined (a ++ b) ≡ joined a ++ joined b
+joined-append = law.joined-append
+
+-- the bytes of joined texts are their bytes joined
+pub bytes-joined : (texts : List (List ℕ)) → bytes (joined texts) ≡ joined (map bytes texts)
+bytes-joined = law.bytes-joined
+
+-- where all characters that an iterator gives fit, whatever comes of it fits
+pub chars-fit : {U T : Type 0} (becomes : U → T → Type 0) (steps : T → Option ℕ → T → Type 0) (iter : U) (all : List ℕ)
+    → Gives becomes steps (λ c. c) iter all → (room : ℕ) → size all ≤ room → Fits becomes steps (λ cs. cs) iter room
+chars-fit = law.chars-fit
+
+-- the same of pieces
+pub pieces-fit : {U T : Type 0} (becomes : U → T → Type 0) (steps : T → Option (Bor (List ℕ)) → T → Type 0) (iter : U)
+    (all : List (List ℕ)) → Gives becomes steps piece_text iter all → (room : ℕ) → size (joined all) ≤ room
+    → Fits becomes steps joined_pieces iter room
+pieces-fit = law.pieces-fit

@@ -3,6 +3,7 @@
 
 mod cache_string;
 pub mod integration;
+pub mod laws;
 
 pub use arraystring_base::error::Error;
 pub use arraystring_base::{error, utf16};
@@ -22,19 +23,6 @@ pub mod utils {
         truncate_str_counted,
     };
     pub use arraystring_core::utils::is_char_boundary;
-}
-
-/// Laws, which callers may rely on. Each does nothing when it is called and carries its fact in its
-/// contract.
-pub mod laws {
-    pub use arraystring_base::laws::{
-        boundaries, cut_of_cut, lent_text, longest_cut, one_stop, one_text, only_reading,
-        order_of_bytes, order_of_texts, parts, size_is_length, text_reading,
-    };
-    pub use arraystring_core::laws::{
-        equal_texts, json_reads_back, pieces_make_one_text, popped, replaced_back, split_back,
-        trimmed, units_read_back, walks, what_comes_past_the_room, white_space,
-    };
 }
 
 /// What most callers take.

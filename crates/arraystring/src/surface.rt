@@ -137,6 +137,11 @@ fn the_laws_are_at_hand(_rt: HostRuntime) {
     laws::cut_of_cut();
     laws::equal_texts();
     laws::json_reads_back();
+    let mut text = ArrayString::<5>::from("é");
+    laws::text_fits(&text);
+    if let Ok(drained) = text.drain(..) {
+        laws::left_fits(&drained);
+    }
     laws::lent_text("a");
     laws::longest_cut();
     laws::one_stop();

@@ -10,9 +10,10 @@ ghost use Rattle.arraystring_base.specs.declared.utf16.Unit16.{Unit16};
 ghost use Rattle.arraystring_base.specs.declared.utf16.Unit16.TheVariants.{Char};
 
 /// The cut of a text to `n` bytes is a leading part of it that fits, and no leading part that fits
-/// is longer; no other text is so.
+/// is longer; no other text is so. The cut of a text that fits is the text.
 pub fn longest_cut()
-    ensures { (t p : List ℕ) (n : ℕ) → (p ≡ cut t n) ↔ IsLongestFitting p t n }
+    ensures longest { (t p : List ℕ) (n : ℕ) → (p ≡ cut t n) ↔ IsLongestFitting p t n }
+    ensures whole { (t : List ℕ) (n : ℕ) → size t ≤ n → cut t n ≡ t }
 {}
 
 /// The cut of a longer cut is the cut.

@@ -8,6 +8,7 @@ ghost use Rattle.arraystring_run.specs.Agreement.{untight, AllAgree, IsNoSooner}
 use crate::steps::step;
 use crate::{Command, Reply};
 use arraystring::ArrayString;
+use arraystring::laws::text_fits;
 use std::alloc::{AllocError, Global};
 
 /// What a run of commands returns.
@@ -37,15 +38,14 @@ pub fn run<const N: usize>(
     ensures unchanged { OnErr result (text.new.text ≡ text.old.text) }
     ensures empty { commands.now ≡ [] → IsOk result }
 {
-    // `len` says that the text fits, also where the run is refused
-    let _fits = text.len();
+    text_fits(text);
     let mut replies = Vec::with_capacity(alloc, commands.len())?;
     // the proof knows the size of a reply only from a list with room for one, and `fill` needs it
     let mut first_tight = None;
     if !commands.is_empty() {
         first_tight = fill(text, commands, &mut replies);
     }
-    let _fits = text.len();
+    text_fits(text);
     Ok(Outcome {
         replies,
         first_tight,
@@ -109,7 +109,8 @@ pub fn run_both<const N: usize, const M: usize>(
     ensures unchanged { OnErr result ((first.new.text ≡ first.old.text) × (second.new.text ≡ second.old.text)) }
     ensures empty { commands.now ≡ [] → IsOk result }
 {
-    let _fits = (first.len(), second.len());
+    text_fits(first);
+    text_fits(second);
     let mut second_replies = Vec::with_capacity(alloc, commands.len())?;
     let first_outcome = run(alloc, first, commands)?;
     // the proof knows the size of a reply only from a list with room for one, and `fill` needs it
@@ -117,7 +118,7 @@ pub fn run_both<const N: usize, const M: usize>(
     if !commands.is_empty() {
         first_tight = fill(second, commands, &mut second_replies);
     }
-    let _fits = second.len();
+    text_fits(second);
     Ok((
         first_outcome,
         Outcome {

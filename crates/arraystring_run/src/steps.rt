@@ -7,6 +7,7 @@ ghost use Rattle.arraystring_run.specs.Runs.{said, said_of, char_or_none, text_o
 
 use crate::{Command, Reply};
 use arraystring::error::{Error, OutOfBounds, Utf8};
+use arraystring::laws::{left_fits, text_fits};
 use arraystring::{ArrayString, Drain};
 
 /// Makes one command, and says whether it is tight: refused because its result does not fit, or
@@ -226,8 +227,7 @@ fn drained_back<const N: usize>(answer: Result<Drain<N>, Error>) -> Reply<N>
 fn walked_back<const N: usize>(mut removed: Drain<N>) -> ArrayString<N>
     ensures { result.text ≡ reverse removed.entry.left }
 {
-    // `as_str` says that what is left fits.
-    let _fits = removed.as_str();
+    left_fits(&removed);
     let mut text = ArrayString::new();
     while let Some(ch) = removed.next_back() {
         text.push_unchecked(ch);
@@ -239,8 +239,7 @@ fn walked_back<const N: usize>(mut removed: Drain<N>) -> ArrayString<N>
 fn part<const N: usize>(text: &ArrayString<N>, start: u8, end: u8) -> Reply<N>
     ensures { said result ≡ text_or_none (part_in text.now.text start end) }
 {
-    // `len` says that the text fits, and so does each part of it.
-    let _fits = text.len();
+    text_fits(text);
     match text.get(start..end) {
         Some(found) => Reply::Text(ArrayString::from_str_unchecked(found)),
         None => Reply::NoText,

@@ -1,7 +1,10 @@
 use Rattle.std.proofs.Common.{subst, sym}
 use Rattle.arraystring_base.specs.Text.{IsLongestFitting}
-use Rattle.arraystring_base.specs.CutLaws.{cut-is_longest, longest-is_cut}
+use Rattle.arraystring_base.specs.CutLaws.{cut-all, cut-is_longest, longest-is_cut}
 use Rattle.arraystring_base.proofs.laws.longest_cut.Goals as goal
 
 pub returns : goal.returns
-returns c = λ t p n. (λ e. subst (λ q. IsLongestFitting q t n) (sym e) (cut-is_longest t n), longest-is_cut t p n)
+returns c = record {
+  longest = λ t p n. (λ e. subst (λ q. IsLongestFitting q t n) (sym e) (cut-is_longest t n), longest-is_cut t p n);
+  whole = cut-all;
+}
