@@ -210,7 +210,12 @@ fn by_type<R: Abort, const N: usize>(
 /// The part by `slice`, where `get` finds it.
 fn sliced<const N: usize>(text: &ArrayString<N>, range: Range) -> Option<&str> {
     match range {
-        Range::Full => Some(text.slice(..)),
+        Range::Full => {
+            if text.get(..).is_none() {
+                return None;
+            }
+            Some(text.slice(..))
+        }
         Range::Between(start, end) => {
             if text.get(start..end).is_none() {
                 return None;
