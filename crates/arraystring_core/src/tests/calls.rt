@@ -146,6 +146,16 @@ fn removed<R: Abort, const N: usize>(
             text.trim();
             string("ok")
         }
+        "trim_counted" => {
+            let mut steps = Steps::new();
+            text.trim_counted(&mut steps);
+            agree(rt, row, steps.moved(), number(rt, row, 6) as u64);
+            string("ok")
+        }
+        "trim_spaces" => {
+            text.trim_spaces();
+            string("ok")
+        }
         "clear" => {
             text.clear();
             string("ok")
