@@ -1,37 +1,42 @@
 //! Each call once, on values worked out by hand.
 use super::*;
+use crate::tests::calls::hold;
+use crate::tests::table::agree;
+use std::process::Abort;
 use std::test::Fail;
+
+/// Asserts that a character is added behind an `A` in so many bytes, and taken again.
+fn pushed_and_popped(rt: &impl Abort, ch: char, width: u8, name: &str) {
+    let mut text: ArrayString<8> = ArrayString::new();
+    agree(rt, name, text.try_push('A'), Ok(()));
+    agree(rt, name, text.try_push(ch), Ok(()));
+    agree(rt, name, text.len(), 1 + width);
+    agree(rt, name, text.pop(), Some(ch));
+    agree(rt, name, text.pop(), Some('A'));
+    agree(rt, name, text.pop(), None);
+    agree(rt, name, text.is_empty(), true);
+}
 
 #[test]
 fn characters_are_pushed_and_popped(rt: HostRuntime) {
-    for (ch, width) in [
-        ('\u{7F}', 1),
-        ('\u{80}', 2),
-        ('\u{7FF}', 2),
-        ('\u{800}', 3),
-        ('\u{FFFF}', 3),
-        ('\u{10000}', 4),
-        ('\u{10FFFF}', 4),
-    ] {
-        let mut text: ArrayString<8> = ArrayString::new();
-        assert_eq!(rt; text.try_push('A'), Ok(()));
-        assert_eq!(rt; text.try_push(ch), Ok(()));
-        assert_eq!(rt; text.len(), 1 + width);
-        assert_eq!(rt; text.pop(), Some(ch));
-        assert_eq!(rt; text.pop(), Some('A'));
-        assert_eq!(rt; text.pop(), None);
-        assert!(rt; text.is_empty());
-    }
+    pushed_and_popped(&rt, '\u{7F}', 1, "the last of one byte");
+    pushed_and_popped(&rt, '\u{80}', 2, "the first of two bytes");
+    pushed_and_popped(&rt, '\u{7FF}', 2, "the last of two bytes");
+    pushed_and_popped(&rt, '\u{800}', 3, "the first of three bytes");
+    pushed_and_popped(&rt, '\u{FFFF}', 3, "the last of three bytes");
+    pushed_and_popped(&rt, '\u{10000}', 4, "the first of four bytes");
+    pushed_and_popped(&rt, '\u{10FFFF}', 4, "the last of four bytes");
 }
 
 #[test]
 fn a_text_is_popped_from_its_end(rt: HostRuntime) {
     let mut text: ArrayString<5> = ArrayString::new();
     text.push_str("A🤔");
-    assert_eq!(rt; text.as_bytes(), [0x41, 0xF0, 0x9F, 0xA4, 0x94].as_slice());
-    assert_eq!(rt; text.pop(), Some('🤔'));
-    assert_eq!(rt; text.pop(), Some('A'));
-    assert_eq!(rt; text.pop(), None);
+    let wanted = [0x41, 0xF0, 0x9F, 0xA4, 0x94];
+    agree(&rt, "the bytes", text.as_bytes(), wanted.as_slice());
+    agree(&rt, "the last", text.pop(), Some('🤔'));
+    agree(&rt, "the first", text.pop(), Some('A'));
+    agree(&rt, "no more", text.pop(), None);
 }
 
 #[test]
@@ -39,28 +44,38 @@ fn a_pop_looks_at_four_bytes(rt: HostRuntime) {
     let mut text: ArrayString<5> = ArrayString::new();
     text.push_str("A🤔");
     let mut steps = Steps::new();
-    assert_eq!(rt; text.pop_counted(&mut steps), Some('🤔'));
-    assert_eq!(rt; text.as_str(), "A");
-    assert_eq!(rt; steps.looked(), 4);
-    assert_eq!(rt; text.pop_counted(&mut steps), Some('A'));
-    assert_eq!(rt; steps.looked(), 5);
-    assert_eq!(rt; text.pop_counted(&mut steps), None);
-    assert_eq!(rt; steps.looked(), 5);
-    assert_eq!(rt; steps.moved(), 0);
+    agree(&rt, "four bytes", text.pop_counted(&mut steps), Some('🤔'));
+    agree(
+        &rt,
+        "what is left",
+        (text.as_str(), steps.looked()),
+        ("A", 4),
+    );
+    agree(&rt, "one byte", text.pop_counted(&mut steps), Some('A'));
+    agree(&rt, "one look more", steps.looked(), 5);
+    agree(&rt, "no byte", text.pop_counted(&mut steps), None);
+    agree(
+        &rt,
+        "no look, no move",
+        (steps.looked(), steps.moved()),
+        (5, 0),
+    );
 }
 
 #[test]
 fn what_does_not_fit(rt: HostRuntime) {
-    let mut text: ArrayString<5> = ArrayString::new();
-    assert_eq!(rt; text.try_push_str("abc"), Ok(()));
-    assert_eq!(rt; text.try_push_str("def"), Err(OutOfBounds));
-    assert_eq!(rt; text.try_push('🤔'), Err(OutOfBounds));
-    assert_eq!(rt; text.as_str(), "abc");
-    text.push_str("é🤔");
-    assert_eq!(rt; text.as_str(), "abcé");
-    text.push_str("x");
-    assert_eq!(rt; text.as_str(), "abcé");
-    assert_eq!(rt; text.try_push_str(""), Ok(()));
+    hold(
+        &rt,
+        ArrayString::<5>::new(),
+        "
+        new | try_push_str | | abc | ok          | abc
+            | try_push_str | | def | OutOfBounds | abc
+            | try_push     | | 🤔  | OutOfBounds | abc
+            | push_str     | | é🤔 | ok          | abcé
+            | push_str     | | x   | ok          | abcé
+            | try_push_str | |     | ok          | abcé
+        ",
+    );
 }
 
 #[test]
@@ -68,35 +83,45 @@ fn what_fits_is_added_unchecked(rt: HostRuntime) {
     let mut text: ArrayString<23> = ArrayString::new();
     text.push_str_unchecked("My String");
     text.push_unchecked('!');
-    assert_eq!(rt; text.as_str(), "My String!");
+    agree(&rt, "the text", text.as_str(), "My String!");
 }
 
 #[test]
 fn capacities(rt: HostRuntime) {
-    assert_eq!(rt; ArrayString::<0>::capacity(), 0);
-    assert_eq!(rt; ArrayString::<1>::capacity(), 1);
-    assert_eq!(rt; ArrayString::<32>::capacity(), 32);
-    assert_eq!(rt; ArrayString::<255>::capacity(), 255);
-    assert_eq!(rt; ArrayString::<300>::capacity(), 255);
+    agree(&rt, "0", ArrayString::<0>::capacity(), 0);
+    agree(&rt, "1", ArrayString::<1>::capacity(), 1);
+    agree(&rt, "32", ArrayString::<32>::capacity(), 32);
+    agree(&rt, "255", ArrayString::<255>::capacity(), 255);
+    agree(&rt, "300", ArrayString::<300>::capacity(), 255);
+    hold(
+        &rt,
+        ArrayString::<0>::default(),
+        "
+         | try_push | | x | OutOfBounds |
+         | push_str | | x | ok          |
+         | pop      | |   | None        |
+        ",
+    );
+    hold(
+        &rt,
+        ArrayString::<1>::default(),
+        "
+         | try_push | | é | OutOfBounds |
+         | try_push | | x | ok          | x
+         | try_push | | x | OutOfBounds | x
+        ",
+    );
+}
 
-    let mut none: ArrayString<0> = ArrayString::default();
-    assert_eq!(rt; none.try_push('x'), Err(OutOfBounds));
-    none.push_str("x");
-    assert_eq!(rt; none.as_str(), "");
-    assert_eq!(rt; none.pop(), None);
-
-    let mut one: ArrayString<1> = ArrayString::default();
-    assert_eq!(rt; one.try_push('é'), Err(OutOfBounds));
-    assert_eq!(rt; one.try_push('x'), Ok(()));
-    assert_eq!(rt; one.try_push('x'), Err(OutOfBounds));
-
+#[test]
+fn the_most_letters(rt: HostRuntime) {
     let mut most: ArrayString<300> = ArrayString::default();
     for count in 0..255u8 {
-        assert_eq!(rt; most.len(), count);
-        assert_eq!(rt; most.try_push('x'), Ok(()));
+        agree(&rt, "a size", most.len(), count);
+        agree(&rt, "a letter", most.try_push('x'), Ok(()));
     }
-    assert_eq!(rt; most.try_push('x'), Err(OutOfBounds));
-    assert_eq!(rt; most.len(), 255);
+    agree(&rt, "one too many", most.try_push('x'), Err(OutOfBounds));
+    agree(&rt, "the size", most.len(), 255);
 }
 
 #[test]
@@ -108,10 +133,10 @@ fn strings_are_equal_by_their_texts(rt: HostRuntime) -> Result<(), Fail> {
     }
     let mut second: ArrayString<5> = ArrayString::new();
     second.push_str("ab");
-    assert_eq!(rt; first, second);
-    assert_eq!(rt; first.clone()?, second);
+    agree(&rt, "equal texts", first, second);
+    agree(&rt, "a clone", first.clone()?, second);
     second.push_str("c");
-    assert!(rt; first != second);
+    agree(&rt, "other texts", first != second, true);
     Ok(())
 }
 
@@ -120,7 +145,8 @@ fn printed_for_debugging(rt: HostRuntime) -> Result<(), Fail> {
     let mut text: ArrayString<8> = ArrayString::new();
     text.push_str("abc");
     let printed = format!(in rt.alloc(); "{text:?}")?;
-    assert_eq!(rt; printed.as_str(), "ArrayString { array: \"abc\", size: 3 }");
+    let wanted = "ArrayString { array: \"abc\", size: 3 }";
+    agree(&rt, "abc", printed.as_str(), wanted);
     Ok(())
 }
 
@@ -128,9 +154,10 @@ fn printed_for_debugging(rt: HostRuntime) -> Result<(), Fail> {
 fn the_size_that_is_printed_counts_bytes(rt: HostRuntime) -> Result<(), Fail> {
     let mut text: ArrayString<8> = ArrayString::new();
     text.push_str("aé");
-    assert_eq!(rt; text.remove(0).is_ok(), true);
+    agree(&rt, "the first", text.remove(0), Ok('a'));
     let printed = format!(in rt.alloc(); "{text:?}")?;
-    assert_eq!(rt; printed.as_str(), "ArrayString { array: \"é\", size: 2 }");
+    let wanted = "ArrayString { array: \"é\", size: 2 }";
+    agree(&rt, "é", printed.as_str(), wanted);
     Ok(())
 }
 
@@ -139,15 +166,11 @@ fn printed_for_debugging_on_lines_and_in_a_width(rt: HostRuntime) -> Result<(), 
     let mut text: ArrayString<8> = ArrayString::new();
     text.push_str("abc");
     let printed = format!(in rt.alloc(); "{text:#?}")?;
-    assert_eq!(rt;
-        printed.as_str(),
-        "ArrayString {\n    array: \"abc\",\n    size: 3,\n}"
-    );
+    let wanted = "ArrayString {\n    array: \"abc\",\n    size: 3,\n}";
+    agree(&rt, "on lines", printed.as_str(), wanted);
     let printed = format!(in rt.alloc(); "{text:4?}")?;
-    assert_eq!(rt;
-        printed.as_str(),
-        "ArrayString { array: \"abc\", size:    3 }"
-    );
+    let wanted = "ArrayString { array: \"abc\", size:    3 }";
+    agree(&rt, "in a width", printed.as_str(), wanted);
     Ok(())
 }
 
@@ -156,5 +179,5 @@ fn bytes_of_characters(rt: HostRuntime) {
     let mut text: ArrayString<8> = ArrayString::new();
     text.push_str("\u{1D11E}\u{FFFD}");
     let wanted = [0xF0, 0x9D, 0x84, 0x9E, 0xEF, 0xBF, 0xBD];
-    assert_eq!(rt; text.as_bytes(), wanted.as_slice());
+    agree(&rt, "the bytes", text.as_bytes(), wanted.as_slice());
 }

@@ -1,14 +1,21 @@
 //! Strings to JSON values and back, worked out by hand.
 use super::*;
+use crate::tests::table::agree;
 use std::test::Fail;
 
 #[test]
 fn a_string_is_read_back(rt: HostRuntime) -> Result<(), Fail> {
     let string = ArrayString::<8>::from("abcdefg");
     let value = string.to_value(rt.alloc())?;
-    assert_eq!(rt; value.as_str(), Some("abcdefg"));
-    assert_eq!(rt; value.to_string(rt.alloc())?.as_str(), "\"abcdefg\"");
-    assert_eq!(rt; ArrayString::from_value(&value), Ok(string));
+    agree(&rt, "the value", value.as_str(), Some("abcdefg"));
+    let printed = value.to_string(rt.alloc())?;
+    agree(&rt, "its text", printed.as_str(), "\"abcdefg\"");
+    agree(
+        &rt,
+        "read back",
+        ArrayString::from_value(&value),
+        Ok(string),
+    );
     Ok(())
 }
 
@@ -17,8 +24,13 @@ fn a_full_string_is_read_back(rt: HostRuntime) -> Result<(), Fail> {
     let letters = "abcde".repeat(rt.alloc(), 51)?;
     let string = ArrayString::<255>::from(letters.as_str());
     let value = string.to_value(rt.alloc())?;
-    assert_eq!(rt; value.as_str(), Some(letters.as_str()));
-    assert_eq!(rt; ArrayString::from_value(&value), Ok(string));
+    agree(&rt, "the value", value.as_str(), Some(letters.as_str()));
+    agree(
+        &rt,
+        "read back",
+        ArrayString::from_value(&value),
+        Ok(string),
+    );
     Ok(())
 }
 
@@ -28,8 +40,8 @@ fn a_text_is_cut_to_the_capacity(rt: HostRuntime) -> Result<(), Fail> {
     let value = Value::String(letters);
     let string = ArrayString::<63>::from_value(&value)?;
     let sixty = "abcdefghijabcdefghijabcdefghijabcdefghijabcdefghijabcdefghij";
-    assert_eq!(rt; string.as_str().get(..60), Some(sixty));
-    assert_eq!(rt; string.as_str().get(60..), Some("abc"));
+    agree(&rt, "the front", string.as_str().get(..60), Some(sixty));
+    agree(&rt, "the end", string.as_str().get(60..), Some("abc"));
     Ok(())
 }
 
@@ -37,20 +49,20 @@ fn a_text_is_cut_to_the_capacity(rt: HostRuntime) -> Result<(), Fail> {
 fn escapes_are_characters(rt: HostRuntime) -> Result<(), Fail> {
     let value = Value::from_str(rt.alloc(), "\"a\\u00e9\\n\"")?;
     let string = ArrayString::<8>::from_value(&value)?;
-    assert_eq!(rt; string.as_str(), "aé\n");
+    agree(&rt, "the text", string.as_str(), "aé\n");
     Ok(())
 }
 
 #[test]
 fn other_values_are_not_texts(rt: HostRuntime) -> Result<(), Fail> {
-    for text in [
-        "null", "true", "false", "7", "-7", "0.5", "1e300", "[]", "[\"a\"]", "{}",
-    ] {
+    let values = "null true false 7 -7 0.5 1e300 [] [\"a\"] {}";
+    for text in values.split(' ') {
         let value = Value::from_str(rt.alloc(), text)?;
-        assert_eq!(rt;
+        agree(
+            &rt,
+            text,
             ArrayString::<63>::from_value(&value),
             Err(NotText),
-            "{text}"
         );
     }
     Ok(())
@@ -64,6 +76,7 @@ fn as_std_error<E: Error>(error: E) -> E {
 fn the_refusal_prints_its_name(rt: HostRuntime) -> Result<(), Fail> {
     let refusal = as_std_error(NotText);
     let printed = format!(in rt.alloc(); "{refusal}|{refusal:12}|{refusal:?}|{refusal:>12?}")?;
-    assert_eq!(rt; printed.as_str(), "NotText|NotText|NotText|NotText");
+    let wanted = "NotText|NotText|NotText|NotText";
+    agree(&rt, "each form", printed.as_str(), wanted);
     Ok(())
 }

@@ -146,6 +146,16 @@ fn removed<R: Abort, const N: usize>(
             text.trim();
             string("ok")
         }
+        "trim_counted" => {
+            let mut steps = Steps::new();
+            text.trim_counted(&mut steps);
+            agree(rt, row, steps.moved(), number(rt, row, 6) as u64);
+            string("ok")
+        }
+        "trim_spaces" => {
+            text.trim_spaces();
+            string("ok")
+        }
         "clear" => {
             text.clear();
             string("ok")
@@ -210,7 +220,12 @@ fn by_type<R: Abort, const N: usize>(
 /// The part by `slice`, where `get` finds it.
 fn sliced<const N: usize>(text: &ArrayString<N>, range: Range) -> Option<&str> {
     match range {
-        Range::Full => Some(text.slice(..)),
+        Range::Full => {
+            if text.get(..).is_none() {
+                return None;
+            }
+            Some(text.slice(..))
+        }
         Range::Between(start, end) => {
             if text.get(start..end).is_none() {
                 return None;

@@ -1,29 +1,25 @@
 //! ASCII letters in the other case, with their neighbours in the table of ASCII.
-use crate::tests::{SmallString, string};
+use crate::tests::SmallString;
+use crate::tests::calls::hold;
 
 #[test]
 fn letters_change_case(rt: HostRuntime) {
-    for (text, upper, lower) in [
-        ("aBé", "ABé", "abé"),
-        ("`az{@AZ[", "`AZ{@AZ[", "`az{@az["),
-        (
-            "ß\u{17F}\u{212A}🤔z",
-            "ß\u{17F}\u{212A}🤔Z",
-            "ß\u{17F}\u{212A}🤔z",
-        ),
-        ("ÉÿaĀ", "ÉÿAĀ", "ÉÿaĀ"),
-        ("", "", ""),
-        (
-            "mnopqrstuvwxyzABCDEFGHI",
-            "MNOPQRSTUVWXYZABCDEFGHI",
-            "mnopqrstuvwxyzabcdefghi",
-        ),
-    ] {
-        let mut changed: SmallString = string(text);
-        changed.make_ascii_uppercase();
-        assert_eq!(rt; changed.as_str(), upper);
-        let mut changed: SmallString = string(text);
-        changed.make_ascii_lowercase();
-        assert_eq!(rt; changed.as_str(), lower);
-    }
+    hold(
+        &rt,
+        SmallString::new(),
+        "
+        aBé                     | make_ascii_uppercase | | | ok | ABé
+        aBé                     | make_ascii_lowercase | | | ok | abé
+        `az{@AZ[                | make_ascii_uppercase | | | ok | `AZ{@AZ[
+        `az{@AZ[                | make_ascii_lowercase | | | ok | `az{@az[
+        ß\u{17F}\u{212A}🤔z     | make_ascii_uppercase | | | ok | ß\u{17F}\u{212A}🤔Z
+        ß\u{17F}\u{212A}🤔z     | make_ascii_lowercase | | | ok | ß\u{17F}\u{212A}🤔z
+        ÉÿaĀ                    | make_ascii_uppercase | | | ok | ÉÿAĀ
+        ÉÿaĀ                    | make_ascii_lowercase | | | ok | ÉÿaĀ
+        new                     | make_ascii_uppercase | | | ok |
+        new                     | make_ascii_lowercase | | | ok |
+        mnopqrstuvwxyzABCDEFGHI | make_ascii_uppercase | | | ok | MNOPQRSTUVWXYZABCDEFGHI
+        mnopqrstuvwxyzABCDEFGHI | make_ascii_lowercase | | | ok | mnopqrstuvwxyzabcdefghi
+        ",
+    );
 }

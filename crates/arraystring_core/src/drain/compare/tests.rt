@@ -1,6 +1,7 @@
 //! What is left of a drain, compared, hashed and printed.
 use super::*;
 use crate::ArrayString;
+use crate::tests::table::agree;
 use std::hash::DefaultHasher;
 use std::test::Fail;
 
@@ -15,36 +16,50 @@ fn hash_of<T: Hash>(value: &T) -> u64 {
     state.finish()
 }
 
+/// What is left of a drain of `abcd` after a step from each end.
+fn middle() -> Drain<8> {
+    let mut drain = drained("abcd");
+    let _ = drain.next();
+    let _ = drain.next_back();
+    drain
+}
+
 #[test]
 fn what_is_left_is_compared(rt: HostRuntime) {
     let mut one = drained("abcd");
-    assert_eq!(rt; one.next(), Some('a'));
-    assert_eq!(rt; one.next_back(), Some('d'));
+    agree(&rt, "the first", one.next(), Some('a'));
+    agree(&rt, "the last", one.next_back(), Some('d'));
     let mut other = drained("xbc");
-    assert_eq!(rt; other.next(), Some('x'));
-    assert!(rt; one == other);
-    assert_eq!(rt; Ord::cmp(&one, &other), Ordering::Equal);
-    assert_eq!(rt; hash_of(&one), hash_of(&other));
-    assert_eq!(rt; hash_of(&one), hash_of(&"bc"));
+    agree(&rt, "the other's first", other.next(), Some('x'));
+    agree(&rt, "equal", one == other, true);
+    agree(&rt, "of one order", Ord::cmp(&one, &other), Ordering::Equal);
+    agree(&rt, "the hash", hash_of(&one), hash_of(&other));
+    agree(&rt, "the hash of a text", hash_of(&one), hash_of(&"bc"));
+}
 
-    assert!(rt; one != drained("abcd"));
-    assert_eq!(rt; Ord::cmp(&one, &drained("abcd")), Ordering::Greater);
-    assert_eq!(rt;
-        Ord::cmp(&drained("\u{FFFF}"), &drained("\u{10000}")),
-        Ordering::Less
+#[test]
+fn drains_are_ordered_by_what_is_left(rt: HostRuntime) {
+    let whole = drained("abcd");
+    agree(&rt, "not equal", middle() != whole, true);
+    agree(
+        &rt,
+        "greater",
+        Ord::cmp(&middle(), &whole),
+        Ordering::Greater,
     );
-    assert_eq!(rt;
-        PartialOrd::partial_cmp(&drained("a"), &drained("ab")),
-        Some(Ordering::Less)
-    );
+    let (one, other) = (drained("\u{FFFF}"), drained("\u{10000}"));
+    agree(&rt, "by characters", Ord::cmp(&one, &other), Ordering::Less);
+    let (one, other) = (drained("a"), drained("ab"));
+    let order = PartialOrd::partial_cmp(&one, &other);
+    agree(&rt, "shorter", order, Some(Ordering::Less));
 }
 
 #[test]
 fn what_is_left_is_printed(rt: HostRuntime) -> Result<(), Fail> {
     let mut drain = drained("abc");
-    assert_eq!(rt; drain.next(), Some('a'));
+    agree(&rt, "the first", drain.next(), Some('a'));
     let printed = format!(in rt.alloc(); "{drain:?}")?;
-    assert_eq!(rt; printed.as_str(), "Drain(\"bc\")");
+    agree(&rt, "bc", printed.as_str(), "Drain(\"bc\")");
     Ok(())
 }
 
@@ -52,9 +67,7 @@ fn what_is_left_is_printed(rt: HostRuntime) -> Result<(), Fail> {
 fn what_is_left_is_printed_on_lines_and_in_a_width(rt: HostRuntime) -> Result<(), Fail> {
     let drain = drained("bc");
     let printed = format!(in rt.alloc(); "{drain:#?}|{drain:12?}|{drain:>12?}")?;
-    assert_eq!(rt;
-        printed.as_str(),
-        "Drain(\n    \"bc\",\n)|Drain(\"bc\")|Drain(\"bc\")"
-    );
+    let wanted = "Drain(\n    \"bc\",\n)|Drain(\"bc\")|Drain(\"bc\")";
+    agree(&rt, "bc", printed.as_str(), wanted);
     Ok(())
 }
