@@ -5,12 +5,12 @@ use crate::tests::table::agree;
 use std::process::Abort;
 use std::test::Fail;
 
-/// Asserts that a character is added behind an `A` in so many bytes, and taken again.
-fn pushed_and_popped(rt: &impl Abort, ch: char, width: u8, name: &str) {
+/// Asserts that an `A` and a character take so many bytes together, and are taken again.
+fn pushed_and_popped(rt: &impl Abort, ch: char, size: u8, name: &str) {
     let mut text: ArrayString<8> = ArrayString::new();
     agree(rt, name, text.try_push('A'), Ok(()));
     agree(rt, name, text.try_push(ch), Ok(()));
-    agree(rt, name, text.len(), 1 + width);
+    agree(rt, name, text.len(), size);
     agree(rt, name, text.pop(), Some(ch));
     agree(rt, name, text.pop(), Some('A'));
     agree(rt, name, text.pop(), None);
@@ -19,13 +19,13 @@ fn pushed_and_popped(rt: &impl Abort, ch: char, width: u8, name: &str) {
 
 #[test]
 fn characters_are_pushed_and_popped(rt: HostRuntime) {
-    pushed_and_popped(&rt, '\u{7F}', 1, "the last of one byte");
-    pushed_and_popped(&rt, '\u{80}', 2, "the first of two bytes");
-    pushed_and_popped(&rt, '\u{7FF}', 2, "the last of two bytes");
-    pushed_and_popped(&rt, '\u{800}', 3, "the first of three bytes");
-    pushed_and_popped(&rt, '\u{FFFF}', 3, "the last of three bytes");
-    pushed_and_popped(&rt, '\u{10000}', 4, "the first of four bytes");
-    pushed_and_popped(&rt, '\u{10FFFF}', 4, "the last of four bytes");
+    pushed_and_popped(&rt, '\u{7F}', 2, "the last of one byte");
+    pushed_and_popped(&rt, '\u{80}', 3, "the first of two bytes");
+    pushed_and_popped(&rt, '\u{7FF}', 3, "the last of two bytes");
+    pushed_and_popped(&rt, '\u{800}', 4, "the first of three bytes");
+    pushed_and_popped(&rt, '\u{FFFF}', 4, "the last of three bytes");
+    pushed_and_popped(&rt, '\u{10000}', 5, "the first of four bytes");
+    pushed_and_popped(&rt, '\u{10FFFF}', 5, "the last of four bytes");
 }
 
 #[test]

@@ -395,24 +395,16 @@ fn parts_are_drained_and_replaced(rt: HostRuntime) {
     );
 }
 
-/// The string without each `a` and each `d`.
-fn without_a_and_d(text: ArrayString<8>) -> ArrayString<8> {
-    let mut text = text;
-    text.retain(|ch| ch != 'a' && ch != 'd');
-    text
-}
-
 #[test]
 fn characters_are_retained(rt: HostRuntime) {
-    for text in both("abcdef") {
-        agree(&rt, "abcdef", without_a_and_d(text), string("bcef"));
-    }
-    for text in both("aBCé") {
-        agree(&rt, "aBCé", without_a_and_d(text), string("BCé"));
-    }
-    for text in both("aBCd") {
-        agree(&rt, "aBCd", without_a_and_d(text), string("BC"));
-    }
+    hold_wherever_it_begins(
+        &rt,
+        "
+        abcdef | retain_without | | ad | ok | bcef
+        aBCé   | retain_without | | ad | ok | BCé
+        aBCd   | retain_without | | ad | ok | BC
+        ",
+    );
 }
 
 #[test]

@@ -76,6 +76,9 @@ fn called<R: Abort, const N: usize>(rt: &R, text: &mut ArrayString<N>, row: &str
     if let Some(answer) = removed(rt, text, row) {
         return answer;
     }
+    if changed(rt, text, row) {
+        return string("ok");
+    }
     in_range(rt, text, row)
 }
 
@@ -121,7 +124,7 @@ fn inserted<R: Abort, const N: usize>(
     }))
 }
 
-/// The calls that remove or change letters.
+/// The calls that remove at a place.
 fn removed<R: Abort, const N: usize>(
     rt: &R,
     text: &mut ArrayString<N>,
@@ -142,34 +145,32 @@ fn removed<R: Abort, const N: usize>(
             Err(Utf8) => string("Utf8"),
         },
         "split_off" => split(text, number(rt, row, 2)),
-        "trim" => {
-            text.trim();
-            string("ok")
-        }
+        _ => return None,
+    })
+}
+
+/// Makes a call that answers nothing, and tells whether there is such a call.
+fn changed<R: Abort, const N: usize>(rt: &R, text: &mut ArrayString<N>, row: &str) -> bool {
+    match column(row, 1) {
+        "trim" => text.trim(),
+        "trim_spaces" => text.trim_spaces(),
         "trim_counted" => {
             let mut steps = Steps::new();
             text.trim_counted(&mut steps);
             agree(rt, row, steps.moved(), number(rt, row, 6) as u64);
-            string("ok")
         }
-        "trim_spaces" => {
-            text.trim_spaces();
-            string("ok")
-        }
-        "clear" => {
-            text.clear();
-            string("ok")
-        }
-        "make_ascii_uppercase" => {
-            text.make_ascii_uppercase();
-            string("ok")
-        }
-        "make_ascii_lowercase" => {
-            text.make_ascii_lowercase();
-            string("ok")
-        }
-        _ => return None,
-    })
+        "clear" => text.clear(),
+        "retain_without" => retain_without(text, column(row, 3)),
+        "make_ascii_uppercase" => text.make_ascii_uppercase(),
+        "make_ascii_lowercase" => text.make_ascii_lowercase(),
+        _ => return false,
+    }
+    true
+}
+
+/// Keeps the characters that are not among those which are given, by `retain`.
+fn retain_without<const N: usize>(text: &mut ArrayString<N>, dropped: &str) {
+    text.retain(|ch| !dropped.contains(ch));
 }
 
 /// What `split_off` answers.

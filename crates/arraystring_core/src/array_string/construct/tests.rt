@@ -119,19 +119,23 @@ fn a_text_that_is_too_large_is_cut(rt: HostRuntime) {
 
 #[test]
 fn a_text_that_is_too_large_is_refused(rt: HostRuntime) {
-    let refused: Result<SmallString, OutOfBounds> = Err(OutOfBounds);
-    agree(&rt, "a text", SmallString::try_from_str(ZEROS_24), refused);
+    agree(
+        &rt,
+        "a text",
+        SmallString::try_from_str(ZEROS_24),
+        Err(OutOfBounds),
+    );
     agree(
         &rt,
         "characters",
         SmallString::try_from_chars(ZEROS_24.chars()),
-        refused,
+        Err(OutOfBounds),
     );
     agree(
         &rt,
         "pieces",
         SmallString::try_from_iterator(["000"; 100]),
-        refused,
+        Err(OutOfBounds),
     );
     let bytes = SmallString::try_from_utf8(&[b'0'; 1600]);
     agree(&rt, "bytes", bytes, Err(Error::OutOfBounds));
@@ -139,7 +143,7 @@ fn a_text_that_is_too_large_is_refused(rt: HostRuntime) {
         &rt,
         "a text, parsed",
         ZEROS_24.parse::<SmallString>(),
-        refused,
+        Err(OutOfBounds),
     );
     agree(
         &rt,
