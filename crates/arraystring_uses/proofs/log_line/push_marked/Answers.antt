@@ -3,7 +3,7 @@ use Rattle.std.specs.Str.{chars}
 use Rattle.arraystring.specs.Text.{size, width, bytes, cut}
 use Rattle.arraystring.specs.TextLaws.{size-append, chars-bytes}
 use Rattle.arraystring.specs.CutLaws.{cut-fits, cut-past_part}
-use Rattle.arraystring.specs.EditLaws.{addition-made, addition-refused}
+use Rattle.arraystring.specs.AdditionLaws.{addition-made, addition-refused}
 use Rattle.arraystring_uses.proofs.log_line.push_marked.Goals as goal
 
 mark_width : width 0x2026 ≡ 3

@@ -1,0 +1,161 @@
+-- Laws of the rows that add: `addition`, `addition_of_cut`, `insertion` and `insertion_of_cut` (specs/Edits).
+-- Of each row: what holds after an `Ok` (`-made`) and after an `Err` (`-refused`), when the answer is `Ok` (`-makes`), and
+-- when it is which `Err` (`-past`, `-over`, `-inside`). A law takes what its row takes behind the text, and then facts.
+use Rattle.std.proofs.Common.{◌≡◌, ℕ, ◌+◌, ◌-◌, ◌<◌, ◌≤◌, ◌⊎◌, List, [], ◌++◌, ap, sym, ◌∙◌, arith, true, false, inl, inr, refl, Result, Ok, Err}
+use Rattle.std.proofs.lemmas.Bool.{lt-ltb, le-ltb, ltb-true, ltb-false, both_ways}
+use Rattle.arraystring_base.specs.Text.{size, cut, front, back, boundary}
+use Rattle.arraystring_base.specs.CutLaws.{cut-all, cut-past_part}
+use Rattle.arraystring_base.specs.BoundaryLaws.{boundary-within, front-start, back-start, boundary-is}
+use Rattle.arraystring_base.specs.declared.error.Error.{Error}
+use Rattle.arraystring_base.specs.declared.error.Error.TheVariants.{Utf8, OutOfBounds}
+use Rattle.arraystring_core.specs.Edits.{Cause, Past, Room, Inside, Makes, error_of, past, addition, addition_of_cut, insertion, insertion_of_cut}
+use Rattle.arraystring_core.specs.EditLaws.{inside-not, inside-so}
+use Rattle.arraystring.specs.TestLaws.{FirstHolds, past-failed, past-held, inside-failed, inside-held, place-held}
+use Rattle.arraystring.specs.EditLaws.{edit-makes, edit-refuses, edit-none_held, edit-first_held}
+
+-- `given` is added at the end
+module _ {t : List ℕ} (given : List ℕ) (n : ℕ) {new : List ℕ} where
+  -- an addition that answered `Ok`: all of it fitted, and stands at the end
+  pub addition-made : Makes (addition t given n) t (Ok tt) new → (size t + size given ≤ n) × (new ≡ t ++ given)
+  addition-made m = (ltb-false n (size t + size given) (edit-none_held m).0, m.ok)
+
+  -- an addition that answered `Err`: it did not fit, and the text is the old one
+  pub addition-refused : {error : Error} → Makes (addition t given n) t (Err error) new
+      → (n < size t + size given) × (error ≡ OutOfBounds) × (new ≡ t)
+  addition-refused {error} m = let was = edit-first_held m in go was.1 was.2 was.3
+    where
+      go : {cause : Cause} → FirstHolds (addition t given n).tests cause → error ≡ error_of cause → new ≡ t
+          → (n < size t + size given) × (error ≡ OutOfBounds) × (new ≡ t)
+      go (inl (over, is)) e same = (ltb-true n (size t + size given) over, e ∙ ap error_of is, same)
+      go (inr (fits, none)) e same = absurd none
+
+module _ {t : List ℕ} (given : List ℕ) (n : ℕ) {new : List ℕ} {result : Result (Unit {0}) Error} where
+  -- what fits is added
+  pub addition-makes : size t + size given ≤ n → Makes (addition t given n) t result new → (result ≡ Ok tt) × (new ≡ t ++ given)
+  addition-makes fits m = edit-makes (rw (le-ltb n (size t + size given) fits) refl) m
+
+  -- what does not fit is refused
+  pub addition-over : n < size t + size given → Makes (addition t given n) t result new → (result ≡ Err OutOfBounds) × (new ≡ t)
+  addition-over over m = edit-refuses {cause = Room} (rw (lt-ltb n (size t + size given) over) refl) m
+
+-- what fits of `given` is added at the end
+module _ {t : List ℕ} (given : List ℕ) (n : ℕ) {new : List ℕ} {result : Result (Unit {0}) Error} where
+  -- what is left of the room is filled with the cut of what is given
+  pub addition_of_cut-makes : Makes (addition_of_cut t given n) t result new → (result ≡ Ok tt) × (new ≡ t ++ cut given (n - size t))
+  addition_of_cut-makes m = edit-makes refl m
+
+  -- all of it, where it fits
+  pub addition_of_cut-fits : size t + size given ≤ n → Makes (addition_of_cut t given n) t result new → new ≡ t ++ given
+  addition_of_cut-fits fits m =
+      (edit-makes refl m).1 ∙ ap (λ l. t ++ l) (cut-all given (n - size t) (omega (arith, fits)))
+
+  -- the text after is the cut of both, where the text before fits
+  pub addition_of_cut-cuts : size t ≤ n → Makes (addition_of_cut t given n) t result new → new ≡ cut (t ++ given) n
+  addition_of_cut-cuts fits m = (edit-makes refl m).1 ∙ sym (cut-past_part t given n fits)
+
+-- `given` is put at `i`
+module _ {t : List ℕ} (i : ℕ) (given : List ℕ) (n : ℕ) {new : List ℕ} where
+  -- an insertion that answered `Ok`: the index is a boundary of the text, all of it fitted, and stands there
+  pub insertion-made : Makes (insertion t i given n) t (Ok tt) new
+      → (i ≤ size t) × (size t + size given ≤ n) × (boundary t i ≡ true) × (new ≡ front t i ++ (given ++ back t i))
+  insertion-made m =
+      let none = edit-none_held m in
+      let within = past-failed t i none.0 in
+      (within, ltb-false n (size t + size given) none.1.0, inside-failed t i within none.1.1.0, m.ok)
+
+  -- an insertion that answered `Err`: the index is past the text, or it did not fit, or the index is inside a character
+  pub insertion-refused : {error : Error} → Makes (insertion t i given n) t (Err error) new
+      → (((size t < i) × (error ≡ OutOfBounds))
+      ⊎ ((i ≤ size t) × (n < size t + size given) × (error ≡ OutOfBounds))
+      ⊎ ((i < size t) × (size t + size given ≤ n) × (boundary t i ≡ false) × (error ≡ Utf8)))
+      × (new ≡ t)
+  insertion-refused {error} m = let was = edit-first_held m in (go was.1 was.2, was.3)
+    where
+      go : {cause : Cause} → FirstHolds (insertion t i given n).tests cause → error ≡ error_of cause
+          → ((size t < i) × (error ≡ OutOfBounds))
+          ⊎ ((i ≤ size t) × (n < size t + size given) × (error ≡ OutOfBounds))
+          ⊎ ((i < size t) × (size t + size given ≤ n) × (boundary t i ≡ false) × (error ≡ Utf8))
+      go (inl (far, is)) e = inl (past-held t i far, e ∙ ap error_of is)
+      go (inr (near, inl (over, is))) e = inr (inl (past-failed t i near, ltb-true n (size t + size given) over, e ∙ ap error_of is))
+      go (inr (near, inr (fits, inl (inner, is)))) e =
+          let at = inside-held t i inner in inr (inr (at.0, ltb-false n (size t + size given) fits, at.1, e ∙ ap error_of is))
+      go (inr (near, inr (fits, inr (out, none)))) e = absurd none
+
+module _ {t : List ℕ} (i : ℕ) (given : List ℕ) (n : ℕ) {new : List ℕ} {result : Result (Unit {0}) Error} where
+  -- what fits is put at a boundary
+  pub insertion-makes : size t + size given ≤ n → boundary t i ≡ true → Makes (insertion t i given n) t result new
+      → (result ≡ Ok tt) × (new ≡ front t i ++ (given ++ back t i))
+  insertion-makes fits b m =
+      edit-makes (rw (le-ltb (size t) i (boundary-within t i b), le-ltb n (size t + size given) fits, inside-not t i b) refl) m
+
+  -- an index past the text is refused first
+  pub insertion-past : size t < i → Makes (insertion t i given n) t result new → (result ≡ Err OutOfBounds) × (new ≡ t)
+  insertion-past far m = edit-refuses {cause = Past} (rw (lt-ltb (size t) i far) refl) m
+
+  -- then what does not fit
+  pub insertion-over : i ≤ size t → n < size t + size given → Makes (insertion t i given n) t result new
+      → (result ≡ Err OutOfBounds) × (new ≡ t)
+  insertion-over within over m =
+      edit-refuses {cause = Room} (rw (le-ltb (size t) i within, lt-ltb n (size t + size given) over) refl) m
+
+  -- then an index inside a character
+  pub insertion-inside : i ≤ size t → size t + size given ≤ n → boundary t i ≡ false → Makes (insertion t i given n) t result new
+      → (result ≡ Err Utf8) × (new ≡ t)
+  insertion-inside within fits b m =
+      edit-refuses {cause = Inside} (rw (le-ltb (size t) i within, le-ltb n (size t + size given) fits, inside-so t i within b) refl) m
+
+-- `given` is put at the start
+module _ {t : List ℕ} (given : List ℕ) (n : ℕ) {new : List ℕ} where
+  -- one that answered `Ok`: all of it fitted, and stands before the text
+  pub insertion_at_start-made : Makes (insertion t 0 given n) t (Ok tt) new → (size t + size given ≤ n) × (new ≡ given ++ t)
+  insertion_at_start-made m = (
+    (insertion-made 0 given n m).1,
+    m.ok ∙ ap (λ l. l ++ (given ++ back t 0)) (front-start t) ∙ ap (λ l. given ++ l) (back-start t),
+  )
+
+  -- one that answered `Err`: it did not fit, and the text is the old one
+  pub insertion_at_start-refused : {error : Error} → Makes (insertion t 0 given n) t (Err error) new
+      → (n < size t + size given) × (error ≡ OutOfBounds) × (new ≡ t)
+  insertion_at_start-refused {error} m = go (insertion-refused 0 given n m).0 m.err
+    where
+      go : ((size t < 0) × (error ≡ OutOfBounds))
+          ⊎ ((0 ≤ size t) × (n < size t + size given) × (error ≡ OutOfBounds))
+          ⊎ ((0 < size t) × (size t + size given ≤ n) × (boundary t 0 ≡ false) × (error ≡ Utf8))
+          → new ≡ t → (n < size t + size given) × (error ≡ OutOfBounds) × (new ≡ t)
+      go (inl past) same = absurd (omega (arith, past.0))
+      go (inr (inl over)) same = (over.1, over.2, same)
+      go (inr (inr inner)) same = absurd (both_ways (boundary t 0) inner.2 (boundary-is [] t 0 refl))
+
+-- what fits of `given` is put at `i`
+module _ {t : List ℕ} (i : ℕ) (given : List ℕ) (n : ℕ) {new : List ℕ} where
+  -- an insertion of a cut that answered `Ok`: the index is a boundary of the text, and the cut stands there
+  pub insertion_of_cut-made : Makes (insertion_of_cut t i given n) t (Ok tt) new
+      → (i ≤ size t) × (boundary t i ≡ true) × (new ≡ front t i ++ (cut given (n - size t) ++ back t i))
+  insertion_of_cut-made m =
+      let none = edit-none_held m in
+      let within = past-failed t i none.0 in (within, inside-failed t i within none.1.0, m.ok)
+
+  -- all of it, where it fits
+  pub insertion_of_cut-fits : size t + size given ≤ n → Makes (insertion_of_cut t i given n) t (Ok tt) new
+      → new ≡ front t i ++ (given ++ back t i)
+  insertion_of_cut-fits fits m = m.ok ∙ ap (λ l. front t i ++ (l ++ back t i)) (cut-all given (n - size t) (omega (arith, fits)))
+
+  -- one that answered `Err`: the index is past the text, or inside a character
+  pub insertion_of_cut-refused : {error : Error} → Makes (insertion_of_cut t i given n) t (Err error) new
+      → (((size t < i) × (error ≡ OutOfBounds)) ⊎ ((i < size t) × (boundary t i ≡ false) × (error ≡ Utf8))) × (new ≡ t)
+  insertion_of_cut-refused m = let was = edit-first_held m in (place-held t i was.1 was.2, was.3)
+
+module _ {t : List ℕ} (i : ℕ) (given : List ℕ) (n : ℕ) {new : List ℕ} {result : Result (Unit {0}) Error} where
+  -- at a boundary it answers `Ok`
+  pub insertion_of_cut-makes : boundary t i ≡ true → Makes (insertion_of_cut t i given n) t result new
+      → (result ≡ Ok tt) × (new ≡ front t i ++ (cut given (n - size t) ++ back t i))
+  insertion_of_cut-makes b m = edit-makes (rw (le-ltb (size t) i (boundary-within t i b), inside-not t i b) refl) m
+
+  -- an index past the text is refused first
+  pub insertion_of_cut-past : size t < i → Makes (insertion_of_cut t i given n) t result new → (result ≡ Err OutOfBounds) × (new ≡ t)
+  insertion_of_cut-past far m = edit-refuses {cause = Past} (rw (lt-ltb (size t) i far) refl) m
+
+  -- then an index inside a character
+  pub insertion_of_cut-inside : i ≤ size t → boundary t i ≡ false → Makes (insertion_of_cut t i given n) t result new
+      → (result ≡ Err Utf8) × (new ≡ t)
+  insertion_of_cut-inside within b m = edit-refuses {cause = Inside} (rw (le-ltb (size t) i within, inside-so t i within b) refl) m

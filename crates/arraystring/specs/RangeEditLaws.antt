@@ -1,0 +1,145 @@
+-- Laws of the rows of ranges, `draining` and `replacement` (specs/Edits).
+-- Of each row: what holds after an `Ok` (`-made`) and after an `Err` (`-refused`), when the answer is `Ok` (`-makes`), and
+-- when it is which `Err` (`-crossed`, `-past`, `-over`, `-inside`). A law takes what its row takes behind the text, and then facts.
+use Rattle.std.proofs.Common.{◌≡◌, ℕ, ◌+◌, ◌-◌, ◌<◌, ◌≤◌, ◌⊎◌, List, ◌++◌, ap, ◌∙◌, arith, true, false, inl, inr, refl, Result, Ok, Err}
+use Rattle.std.proofs.lemmas.Bool.{lt-ltb, le-ltb, ltb-true, ltb-false}
+use Rattle.arraystring_base.specs.Text.{size, front, back, boundary}
+use Rattle.arraystring_base.specs.BoundaryLaws.{boundary-within}
+use Rattle.arraystring_base.specs.declared.error.Error.{Error}
+use Rattle.arraystring_base.specs.declared.error.Error.TheVariants.{Utf8, OutOfBounds}
+use Rattle.arraystring_core.specs.Edits.{Cause, Past, Room, Inside, Makes, error_of, crossed, part, draining, replacement}
+use Rattle.arraystring_core.specs.EditLaws.{inside-not}
+use Rattle.arraystring.specs.TestLaws.{FirstHolds, past-failed, past-held, inside-failed, inside-held, ends-held}
+use Rattle.arraystring.specs.EditLaws.{edit-made, edit-makes, edit-refuses, edit-none_held, edit-first_held}
+
+-- the part from `start` to `end` is taken out, and is the answer
+module _ {t : List ℕ} (start end : ℕ) {new : List ℕ} where
+  -- a drain that answered `Ok`: the range is in order and in the text, its ends are boundaries, and its part is the answer
+  pub draining-made : {answer : List ℕ} → Makes (draining t start end) t (Ok answer) new
+      → (start ≤ end) × (end ≤ size t) × (boundary t start ≡ true) × (boundary t end ≡ true)
+      × (answer ≡ part t start end) × (new ≡ front t start ++ back t end)
+  draining-made m =
+      let was = edit-made m in
+      let none = edit-none_held m in
+      let order : start ≤ end = ltb-false end start none.0 in
+      let within = past-failed t end none.1.0 in
+      let starts = inside-failed t start (omega (arith, order, within)) none.1.1.0 in
+      (order, within, starts, inside-failed t end within none.1.1.1.0, was.1, was.2)
+
+  -- one that answered `Err`: by the first test that holds
+  pub draining-refused : {error : Error} → Makes (draining t start end) t (Err error) new
+      → (((end < start) × (error ≡ OutOfBounds))
+      ⊎ ((start ≤ end) × (size t < end) × (error ≡ OutOfBounds))
+      ⊎ ((start ≤ end) × (end ≤ size t) × (boundary t start ≡ false) × (error ≡ Utf8))
+      ⊎ ((start ≤ end) × (end ≤ size t) × (boundary t start ≡ true) × (boundary t end ≡ false) × (error ≡ Utf8)))
+      × (new ≡ t)
+  draining-refused {error} m = let was = edit-first_held m in (go was.1 was.2, was.3)
+    where
+      go : {cause : Cause} → FirstHolds (draining t start end).tests cause → error ≡ error_of cause
+          → ((end < start) × (error ≡ OutOfBounds))
+          ⊎ ((start ≤ end) × (size t < end) × (error ≡ OutOfBounds))
+          ⊎ ((start ≤ end) × (end ≤ size t) × (boundary t start ≡ false) × (error ≡ Utf8))
+          ⊎ ((start ≤ end) × (end ≤ size t) × (boundary t start ≡ true) × (boundary t end ≡ false) × (error ≡ Utf8))
+      go (inl (crossed, is)) e = inl (ltb-true end start crossed, e ∙ ap error_of is)
+      go (inr (near, inl (far, is))) e = inr (inl (ltb-false end start near, past-held t end far, e ∙ ap error_of is))
+      go (inr (near, inr (none, inl (inner, is)))) e =
+          inr (inr (inl (ltb-false end start near, past-failed t end none, (inside-held t start inner).1, e ∙ ap error_of is)))
+      go (inr (near, inr (none, inr (out, inl (inner, is))))) e =
+          let order : start ≤ end = ltb-false end start near in
+          let within = past-failed t end none in
+          inr (inr (inr (order, within, inside-failed t start (omega (arith, order, within)) out, (inside-held t end inner).1, e ∙ ap error_of is)))
+      go (inr (near, inr (none, inr (out, inr (ends, nothing))))) e = absurd nothing
+
+module _ {t : List ℕ} (start end : ℕ) {new : List ℕ} {result : Result (List ℕ) Error} where
+  -- the part between two boundaries is drained
+  pub draining-makes : start ≤ end → boundary t start ≡ true → boundary t end ≡ true → Makes (draining t start end) t result new
+      → (result ≡ Ok (part t start end)) × (new ≡ front t start ++ back t end)
+  draining-makes order b d m =
+      edit-makes (rw (le-ltb end start order, le-ltb (size t) end (boundary-within t end d), inside-not t start b, inside-not t end d) refl) m
+
+  -- a range that ends before it starts is refused first
+  pub draining-crossed : end < start → Makes (draining t start end) t result new → (result ≡ Err OutOfBounds) × (new ≡ t)
+  draining-crossed crossed m = edit-refuses {cause = Past} (rw (lt-ltb end start crossed) refl) m
+
+  -- then one that ends past the text
+  pub draining-past : start ≤ end → size t < end → Makes (draining t start end) t result new → (result ≡ Err OutOfBounds) × (new ≡ t)
+  draining-past order far m = edit-refuses {cause = Past} (rw (le-ltb end start order, lt-ltb (size t) end far) refl) m
+
+  -- then a start or an end inside a character
+  pub draining-inside : start ≤ end → end ≤ size t → (boundary t start ≡ false) ⊎ (boundary t end ≡ false)
+      → Makes (draining t start end) t result new → (result ≡ Err Utf8) × (new ≡ t)
+  draining-inside order within at m =
+      edit-refuses {cause = Inside} (rw (le-ltb end start order, le-ltb (size t) end within) (ends-held t start end order within at)) m
+
+-- `given` is put in place of the part from `start` to `end`
+module _ {t : List ℕ} (start end : ℕ) (given : List ℕ) (n : ℕ) {new : List ℕ} where
+  -- a replacement that answered `Ok`: as a drain that did, and all of what is given fitted
+  pub replacement-made : Makes (replacement t start end given n) t (Ok tt) new
+      → (start ≤ end) × (end ≤ size t) × (size t - (end - start) + size given ≤ n) × (boundary t start ≡ true) × (boundary t end ≡ true)
+      × (new ≡ front t start ++ (given ++ back t end))
+  replacement-made m =
+      let none = edit-none_held m in
+      let order : start ≤ end = ltb-false end start none.0 in
+      let within = past-failed t end none.1.0 in
+      let starts = inside-failed t start (omega (arith, order, within)) none.1.1.1.0 in
+      (order, within, ltb-false n _ none.1.1.0, starts, inside-failed t end within none.1.1.1.1.0, m.ok)
+
+  -- one that answered `Err`: by the first test that holds
+  pub replacement-refused : {error : Error} → Makes (replacement t start end given n) t (Err error) new
+      → (((end < start) × (error ≡ OutOfBounds))
+      ⊎ ((start ≤ end) × (size t < end) × (error ≡ OutOfBounds))
+      ⊎ ((start ≤ end) × (end ≤ size t) × (n < size t - (end - start) + size given) × (error ≡ OutOfBounds))
+      ⊎ ((start ≤ end) × (end ≤ size t) × (size t - (end - start) + size given ≤ n) × (boundary t start ≡ false) × (error ≡ Utf8))
+      ⊎ ((start ≤ end) × (end ≤ size t) × (size t - (end - start) + size given ≤ n) × (boundary t start ≡ true) × (boundary t end ≡ false)
+      × (error ≡ Utf8)))
+      × (new ≡ t)
+  replacement-refused {error} m = let was = edit-first_held m in (go was.1 was.2, was.3)
+    where
+      go : {cause : Cause} → FirstHolds (replacement t start end given n).tests cause → error ≡ error_of cause
+          → ((end < start) × (error ≡ OutOfBounds))
+          ⊎ ((start ≤ end) × (size t < end) × (error ≡ OutOfBounds))
+          ⊎ ((start ≤ end) × (end ≤ size t) × (n < size t - (end - start) + size given) × (error ≡ OutOfBounds))
+          ⊎ ((start ≤ end) × (end ≤ size t) × (size t - (end - start) + size given ≤ n) × (boundary t start ≡ false) × (error ≡ Utf8))
+          ⊎ ((start ≤ end) × (end ≤ size t) × (size t - (end - start) + size given ≤ n) × (boundary t start ≡ true) × (boundary t end ≡ false)
+          × (error ≡ Utf8))
+      go (inl (crossed, is)) e = inl (ltb-true end start crossed, e ∙ ap error_of is)
+      go (inr (near, inl (far, is))) e = inr (inl (ltb-false end start near, past-held t end far, e ∙ ap error_of is))
+      go (inr (near, inr (none, inl (over, is)))) e =
+          inr (inr (inl (ltb-false end start near, past-failed t end none, ltb-true n _ over, e ∙ ap error_of is)))
+      go (inr (near, inr (none, inr (fits, inl (inner, is))))) e =
+          inr (inr (inr (inl (ltb-false end start near, past-failed t end none, ltb-false n _ fits, (inside-held t start inner).1, e ∙ ap error_of is))))
+      go (inr (near, inr (none, inr (fits, inr (out, inl (inner, is)))))) e =
+          let order : start ≤ end = ltb-false end start near in
+          let within = past-failed t end none in
+          let starts = inside-failed t start (omega (arith, order, within)) out in
+          inr (inr (inr (inr (order, within, ltb-false n _ fits, starts, (inside-held t end inner).1, e ∙ ap error_of is))))
+      go (inr (near, inr (none, inr (fits, inr (out, inr (ends, nothing)))))) e = absurd nothing
+
+module _ {t : List ℕ} (start end : ℕ) (given : List ℕ) (n : ℕ) {new : List ℕ} {result : Result (Unit {0}) Error} where
+  -- what fits replaces the part between two boundaries
+  pub replacement-makes : start ≤ end → size t - (end - start) + size given ≤ n → boundary t start ≡ true → boundary t end ≡ true
+      → Makes (replacement t start end given n) t result new → (result ≡ Ok tt) × (new ≡ front t start ++ (given ++ back t end))
+  replacement-makes order fits b d m =
+      edit-makes (rw (le-ltb end start order, le-ltb (size t) end (boundary-within t end d), le-ltb n _ fits, inside-not t start b, inside-not t end d) refl) m
+
+  -- a range that ends before it starts is refused first
+  pub replacement-crossed : end < start → Makes (replacement t start end given n) t result new → (result ≡ Err OutOfBounds) × (new ≡ t)
+  replacement-crossed crossed m = edit-refuses {cause = Past} (rw (lt-ltb end start crossed) refl) m
+
+  -- then one that ends past the text
+  pub replacement-past : start ≤ end → size t < end → Makes (replacement t start end given n) t result new
+      → (result ≡ Err OutOfBounds) × (new ≡ t)
+  replacement-past order far m = edit-refuses {cause = Past} (rw (le-ltb end start order, lt-ltb (size t) end far) refl) m
+
+  -- then what does not fit
+  pub replacement-over : start ≤ end → end ≤ size t → n < size t - (end - start) + size given → Makes (replacement t start end given n) t result new
+      → (result ≡ Err OutOfBounds) × (new ≡ t)
+  replacement-over order within over m =
+      edit-refuses {cause = Room} (rw (le-ltb end start order, le-ltb (size t) end within, lt-ltb n _ over) refl) m
+
+  -- then a start or an end inside a character
+  pub replacement-inside : start ≤ end → end ≤ size t → size t - (end - start) + size given ≤ n
+      → (boundary t start ≡ false) ⊎ (boundary t end ≡ false)
+      → Makes (replacement t start end given n) t result new → (result ≡ Err Utf8) × (new ≡ t)
+  replacement-inside order within fits at m =
+      edit-refuses {cause = Inside} (rw (le-ltb end start order, le-ltb (size t) end within, le-ltb n _ fits) (ends-held t start end order within at)) m

@@ -1,0 +1,162 @@
+-- Laws of the rows that take out or change characters, but for those of ranges (specs/Edits).
+-- Of each row: what holds after an `Ok` (`-made`) and after an `Err` (`-refused`), when the answer is `Ok` (`-makes`), and
+-- when it is which `Err` (`-past`, `-inside`). A law takes what its row takes behind the text, and then facts.
+use Rattle.std.proofs.Common.{◌≡◌, ℕ, ◌<◌, ◌≤◌, ◌⊎◌, List, [], ◌∷◌, ◌++◌, ap, sym, ◌∙◌, arith, true, false, Bool, inl, inr, refl, Option, Some, None, Result, Ok, Err, map, drop}
+use Rattle.std.proofs.lemmas.Bool.{lt-ltb, le-ltb, lt-leb, le-leb, leb-false, leb-true}
+use Rattle.std.specs.Prelude.{slice_index}
+use Rattle.std.specs.Char.{to_ascii_uppercase, to_ascii_lowercase}
+use Rattle.arraystring_base.specs.Text.{size, front, back, boundary}
+use Rattle.arraystring_base.specs.TextLaws.{width-bounds}
+use Rattle.arraystring_base.specs.BoundaryLaws.{back-size, boundary-within}
+use Rattle.arraystring_base.specs.declared.error.Error.{Error}
+use Rattle.arraystring_base.specs.declared.error.Error.TheVariants.{Utf8, OutOfBounds}
+use Rattle.arraystring_core.specs.Edits.{Cause, Past, Inside, Makes, error_of, popping, truncation, trimming, removal, clearing, split, uppercase, lowercase, last_of, all_but_last, without_leading, without_trailing}
+use Rattle.arraystring_core.specs.EditLaws.{inside-not, inside-so}
+use Rattle.arraystring.specs.TestLaws.{FirstHolds, past-failed, inside-failed, inside-held, inside-fails, place-held}
+use Rattle.arraystring.specs.EditLaws.{edit-made, edit-makes, edit-refuses, edit-none_held, edit-first_held}
+
+-- the last character of a text
+last-of : (t : List ℕ) (c : ℕ) → Some c ≡ last_of t → t ≡ all_but_last t ++ c ∷ []
+last-of [] c e = absurd (cc)
+last-of (a ∷ []) c e = let same : c ≡ a = cc in ap (λ x. x ∷ []) (sym same)
+last-of (a ∷ b ∷ t) c e = ap (λ l. a ∷ l) (last-of (b ∷ t) c e)
+
+none-of : (t : List ℕ) → None ≡ last_of t → t ≡ []
+none-of [] e = refl
+none-of (a ∷ []) e = absurd (cc)
+none-of (a ∷ b ∷ t) e = absurd (cons-not (none-of (b ∷ t) e))
+  where
+    cons-not : b ∷ t ≡ [] → ⊥
+    cons-not same = absurd (cc)
+
+-- the last character is taken
+module _ {t new : List ℕ} where
+  -- a pop answers the last character, and leaves those before it
+  pub popping-makes : {result : Result (Option ℕ) Error} → Makes (popping t) t result new → (result ≡ Ok (last_of t)) × (new ≡ all_but_last t)
+  popping-makes m = edit-makes refl m
+
+  -- an answer stood behind the text after
+  pub popping-some : {c : ℕ} → Makes (popping t) t (Ok (Some c)) new → t ≡ new ++ c ∷ []
+  popping-some {c} m = last-of t c (edit-made m).1 ∙ ap (λ l. l ++ c ∷ []) (sym m.ok)
+
+  -- no answer comes of the empty text alone
+  pub popping-none : Makes (popping t) t (Ok None) new → (t ≡ []) × (new ≡ [])
+  popping-none m = let empty = none-of t (edit-made m).1 in (empty, m.ok ∙ ap all_but_last empty)
+
+-- the part before `i` is kept
+module _ {t : List ℕ} (i : ℕ) {new : List ℕ} where
+  -- a truncation that answered `Ok`: the index is no place inside a character, and the part before it is kept
+  pub truncation-made : Makes (truncation t i) t (Ok tt) new → (i ≤ size t → boundary t i ≡ true) × (new ≡ front t i)
+  truncation-made m = let none = edit-none_held m in (λ within. inside-failed t i within none.0, m.ok)
+
+  -- one that answered `Err`: the index is inside a character
+  pub truncation-refused : {error : Error} → Makes (truncation t i) t (Err error) new
+      → (i < size t) × (boundary t i ≡ false) × (error ≡ Utf8) × (new ≡ t)
+  truncation-refused {error} m = let was = edit-first_held m in go was.1 was.2 was.3
+    where
+      go : {cause : Cause} → FirstHolds (truncation t i).tests cause → error ≡ error_of cause → new ≡ t
+          → (i < size t) × (boundary t i ≡ false) × (error ≡ Utf8) × (new ≡ t)
+      go (inl (inner, is)) e same = let at = inside-held t i inner in (at.0, at.1, e ∙ ap error_of is, same)
+      go (inr (out, none)) e same = absurd none
+
+module _ {t : List ℕ} (i : ℕ) {new : List ℕ} {result : Result (Unit {0}) Error} where
+  -- at a boundary, or past the text, it answers `Ok`
+  pub truncation-makes : (i ≤ size t → boundary t i ≡ true) → Makes (truncation t i) t result new → (result ≡ Ok tt) × (new ≡ front t i)
+  truncation-makes b m = edit-makes (rw (inside-fails t i b) refl) m
+
+  -- an index inside a character is refused
+  pub truncation-inside : i ≤ size t → boundary t i ≡ false → Makes (truncation t i) t result new → (result ≡ Err Utf8) × (new ≡ t)
+  truncation-inside within b m = edit-refuses {cause = Inside} (rw (inside-so t i within b) refl) m
+
+-- the characters at both ends that pass are dropped
+pub trimming-makes : {t new : List ℕ} (passes : ℕ → Bool) {result : Result (Unit {0}) Error} → Makes (trimming passes t) t result new
+    → (result ≡ Ok tt) × (new ≡ without_leading passes (without_trailing passes t))
+trimming-makes passes m = edit-makes refl m
+
+-- all is dropped
+pub clearing-makes : {t new : List ℕ} {result : Result (Unit {0}) Error} → Makes clearing t result new → (result ≡ Ok tt) × (new ≡ [])
+clearing-makes m = edit-makes refl m
+
+-- letters of ASCII change their case
+pub uppercase-makes : {t new : List ℕ} {result : Result (Unit {0}) Error} → Makes (uppercase t) t result new
+    → (result ≡ Ok tt) × (new ≡ map to_ascii_uppercase t)
+uppercase-makes m = edit-makes refl m
+
+-- and the other way round
+pub lowercase-makes : {t new : List ℕ} {result : Result (Unit {0}) Error} → Makes (lowercase t) t result new
+    → (result ≡ Ok tt) × (new ≡ map to_ascii_lowercase t)
+lowercase-makes m = edit-makes refl m
+
+-- the character that begins at `i` is taken out
+module _ {t : List ℕ} (i : ℕ) {new : List ℕ} where
+  -- a removal that answered `Ok`: a character begins at the index, is the answer, and is gone
+  pub removal-made : {c : ℕ} → Makes (removal t i) t (Ok c) new
+      → (i < size t) × (boundary t i ≡ true) × ((rest : List ℕ) × (back t i ≡ c ∷ rest) × (new ≡ front t i ++ rest))
+  removal-made {c} m =
+      let was = edit-made m in
+      let none = edit-none_held m in
+      let under : i < size t = leb-false (size t) i none.0 in
+      let b = inside-failed t i (omega (arith, under)) none.1.0 in
+      (under, b, go (back t i) refl (omega (arith, under, back-size t i b)) was.1 was.2)
+    where
+      go : (l : List ℕ) → back t i ≡ l → 0 < size l → c ≡ slice_index l 0 → new ≡ front t i ++ drop 1 l
+          → (rest : List ℕ) × (back t i ≡ c ∷ rest) × (new ≡ front t i ++ rest)
+      go [] e some is same = absurd (omega (arith, some))
+      go (d ∷ rest) e some is same = (rest, e ∙ ap (λ x. x ∷ rest) (sym is), same)
+
+  -- one that answered `Err`: the index is not below the size of the text, or inside a character
+  pub removal-refused : {error : Error} → Makes (removal t i) t (Err error) new
+      → (((size t ≤ i) × (error ≡ OutOfBounds)) ⊎ ((i < size t) × (boundary t i ≡ false) × (error ≡ Utf8))) × (new ≡ t)
+  removal-refused {error} m = let was = edit-first_held m in (go was.1 was.2, was.3)
+    where
+      go : {cause : Cause} → FirstHolds (removal t i).tests cause → error ≡ error_of cause
+          → ((size t ≤ i) × (error ≡ OutOfBounds)) ⊎ ((i < size t) × (boundary t i ≡ false) × (error ≡ Utf8))
+      go (inl (far, is)) e = inl (leb-true (size t) i far, e ∙ ap error_of is)
+      go (inr (near, inl (inner, is))) e = let at = inside-held t i inner in inr (at.0, at.1, e ∙ ap error_of is)
+      go (inr (near, inr (out, none))) e = absurd none
+
+module _ {t : List ℕ} (i : ℕ) {new : List ℕ} {result : Result ℕ Error} where
+  -- the character that begins at a boundary is removed
+  pub removal-makes : {c : ℕ} {rest : List ℕ} → boundary t i ≡ true → back t i ≡ c ∷ rest → Makes (removal t i) t result new
+      → (result ≡ Ok c) × (new ≡ front t i ++ rest)
+  removal-makes {c} {rest} b e m =
+      let under : i < size t = omega (arith, back-size t i b, boundary-within t i b, ap size e, width-bounds c) in
+      let made = edit-makes (rw (lt-leb (size t) i under, inside-not t i b) refl) m in
+      (made.0 ∙ ap (λ l. Ok (slice_index l 0)) e, made.1 ∙ ap (λ l. front t i ++ drop 1 l) e)
+
+  -- an index that is not below the size of the text is refused first
+  pub removal-past : size t ≤ i → Makes (removal t i) t result new → (result ≡ Err OutOfBounds) × (new ≡ t)
+  removal-past far m = edit-refuses {cause = Past} (rw (le-leb (size t) i far) refl) m
+
+  -- then an index inside a character
+  pub removal-inside : i < size t → boundary t i ≡ false → Makes (removal t i) t result new → (result ≡ Err Utf8) × (new ≡ t)
+  removal-inside under b m =
+      edit-refuses {cause = Inside} (rw (lt-leb (size t) i under, inside-so t i (omega (arith, under)) b) refl) m
+
+-- the part from `i` on is the answer
+module _ {t : List ℕ} (i : ℕ) {new : List ℕ} where
+  -- a split that answered `Ok`: the index is a boundary of the text, and the two parts are the answer and the text
+  pub split-made : {answer : List ℕ} → Makes (split t i) t (Ok answer) new
+      → (i ≤ size t) × (boundary t i ≡ true) × (answer ≡ back t i) × (new ≡ front t i)
+  split-made m =
+      let was = edit-made m in
+      let none = edit-none_held m in
+      let within = past-failed t i none.0 in (within, inside-failed t i within none.1.0, was.1, was.2)
+
+  -- one that answered `Err`: the index is past the text, or inside a character
+  pub split-refused : {error : Error} → Makes (split t i) t (Err error) new
+      → (((size t < i) × (error ≡ OutOfBounds)) ⊎ ((i < size t) × (boundary t i ≡ false) × (error ≡ Utf8))) × (new ≡ t)
+  split-refused m = let was = edit-first_held m in (place-held t i was.1 was.2, was.3)
+
+module _ {t : List ℕ} (i : ℕ) {new : List ℕ} {result : Result (List ℕ) Error} where
+  -- at a boundary it answers `Ok`
+  pub split-makes : boundary t i ≡ true → Makes (split t i) t result new → (result ≡ Ok (back t i)) × (new ≡ front t i)
+  split-makes b m = edit-makes (rw (le-ltb (size t) i (boundary-within t i b), inside-not t i b) refl) m
+
+  -- an index past the text is refused first
+  pub split-past : size t < i → Makes (split t i) t result new → (result ≡ Err OutOfBounds) × (new ≡ t)
+  split-past far m = edit-refuses {cause = Past} (rw (lt-ltb (size t) i far) refl) m
+
+  -- then an index inside a character
+  pub split-inside : i ≤ size t → boundary t i ≡ false → Makes (split t i) t result new → (result ≡ Err Utf8) × (new ≡ t)
+  split-inside within b m = edit-refuses {cause = Inside} (rw (le-ltb (size t) i within, inside-so t i within b) refl) m
