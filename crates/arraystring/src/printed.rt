@@ -24,7 +24,10 @@ fn the_empty_text_is_printed_for_debugging(rt: HostRuntime) -> Result<(), Fail> 
 fn nothing_left_is_printed_for_debugging(rt: HostRuntime) -> Result<(), Fail> {
     let none = Drain::<5>::default();
     let printed = format!(in rt.alloc(); "{none:?}|{none:#?}|{none:9?}")?;
-    assert_eq!(rt; printed.as_str(), "Drain(\"\")|Drain(\n    \"\",\n)|Drain(\"\")");
+    assert_eq!(rt;
+        printed.as_str(),
+        "Drain(\"\")|Drain(\n    \"\",\n)|Drain(\"\")"
+    );
     Ok(())
 }
 
