@@ -1,12 +1,11 @@
 -- Lines as words and arguments: what a line is the line of.
-use Rattle.std.proofs.Common.{◌≡◌, ◌≢◌, ℕ, ◌<◌, ◌≤◌, List, [], ◌∷◌, ◌++◌, length, map, drop, get_or, ◌^◌, refl, sym, ap, subst, ◌∙◌, arith, codes, nat_eq, nat_le, IsUtf8, Bool, true, if◌then◌else◌, ◌&&◌, suc, ◌+◌, length-append, rules, Result, Ok, Err, Option, Some, None, IfSome, IfNone, MatchOption, Bor}
+use Rattle.std.proofs.Common.{◌≡◌, ◌≢◌, ℕ, ◌<◌, ◌≤◌, List, [], ◌∷◌, ◌++◌, length, map, drop, get_or, ◌^◌, refl, sym, ap, subst, ◌∙◌, arith, codes, nat_eq, nat_le, IsUtf8, Bool, true, if◌then◌else◌, ◌&&◌, ◌+◌, length-append, rules, Result, Ok, Err, IfSome, IfNone}
 use Rattle.std.specs.Bool.{⊤}
 use Rattle.std.proofs.lemmas.List.{append-nil}
 use Rattle.std.proofs.lemmas.Bool.{and_parts, leb-true}
 use Rattle.std.proofs.lemmas.Str.{IsUtf8-nil, IsUtf8-append, IsUtf8-drop, IsUtf8-from_ascii, IsCharBoundary-after_ascii}
 use Rattle.std.proofs.Math.Seq.{get_or-append_seam, drop-append-add}
 use Rattle.std.proofs.lemmas.Str.Ascii.{IsAscii-nil, IsAscii-cons}
-use Rattle.std.proofs.lemmas.Str.Pattern.{IsSplitOnceResult, split_parts}
 use Rattle.std.proofs.lemmas.Str.Parse.{IsNumeralModel, numerals_by_fold, parse_plain}
 use Rattle.std.proofs.lemmas.Fmt.{digits_decimal, digits_value-decimal, decimal_nonempty, length-decimal-le}
 use Rattle.std.specs.Fmt.{decimal}
@@ -265,34 +264,6 @@ arguments-utf8 (a ∷ given) bs (first, others, whole, spelled, next) =
 pub line-utf8 : (bs : List ℕ) (c : Command) → IsLineOf bs c → IsUtf8 bs
 line-utf8 bs c (rest, whole, spelled) =
     rw whole (IsUtf8-append (word c) rest (letters-utf8 (word c) (letters-from_test (word c) (letters-word c))) (arguments-utf8 (arguments c) rest spelled))
-
--- what `split_once` gives at a space
-one-from_get : (bs : List ℕ) → ((i : ℕ) → i < length bs → get_or bs i 0 ≢ space) → IsOneWord bs
-one-from_get [] other = tt
-one-from_get (b ∷ bs) other = (other 0 (omega arith), one-from_get bs (λ i lt. other (suc i) (omega arith)))
-
-module _ (bs : List ℕ) (r : Option (Bor (List ℕ) × Bor (List ℕ))) (split : IsSplitOnceResult space bs r) where
-  parts : MatchOption r ((i : ℕ) → i < length bs → get_or bs i 0 ≢ space)
-      (λ x. (bs ≡ x.0.now ++ space ∷ x.1.now) × ((i : ℕ) → i < length x.0.now → get_or x.0.now i 0 ≢ space))
-  parts = split_parts space bs r split (omega arith)
-
-  pub parts-found : IfSome r (λ x. (bs ≡ x.0.now ++ space ∷ x.1.now) × IsOneWord x.0.now)
-  parts-found = found r parts where
-    found : (o : Option (Bor (List ℕ) × Bor (List ℕ)))
-        → MatchOption o ((i : ℕ) → i < length bs → get_or bs i 0 ≢ space)
-        (λ x. (bs ≡ x.0.now ++ space ∷ x.1.now) × ((i : ℕ) → i < length x.0.now → get_or x.0.now i 0 ≢ space))
-        → IfSome o (λ x. (bs ≡ x.0.now ++ space ∷ x.1.now) × IsOneWord x.0.now)
-    found None h = tt
-    found (Some x) h = (h.0, one-from_get x.0.now h.1)
-
-  pub parts-none : IfNone r (IsOneWord bs)
-  parts-none = none r parts where
-    none : (o : Option (Bor (List ℕ) × Bor (List ℕ)))
-        → MatchOption o ((i : ℕ) → i < length bs → get_or bs i 0 ≢ space)
-        (λ x. (bs ≡ x.0.now ++ space ∷ x.1.now) × ((i : ℕ) → i < length x.0.now → get_or x.0.now i 0 ≢ space))
-        → IfNone o (IsOneWord bs)
-    none None h = one-from_get bs h
-    none (Some x) h = tt
 
 -- what follows a space is well formed
 pub behind-space : (front rest : List ℕ) → IsUtf8 (front ++ space ∷ rest) → IsWellFormed rest

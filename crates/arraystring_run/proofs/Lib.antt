@@ -1,6 +1,7 @@
 pub mod RunLemmas
 pub mod GrammarLemmas
 pub mod ScriptLemmas
+pub mod SpaceLemmas
 pub mod PrintLemmas
 pub mod OneReadingLemmas
 pub mod LineLemmas

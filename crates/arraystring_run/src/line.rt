@@ -5,6 +5,7 @@ ghost use Rattle.arraystring_run.specs.Grammar.{IsLineOf, IsNumber, IsNumberBefo
 ghost use Rattle.arraystring_run.specs.declared.commands.Command.{Command as Edit};
 
 use crate::Command;
+use memchr::memchr;
 use std::str;
 
 /// The command of a line without its end.
@@ -24,7 +25,8 @@ fn split_at_space(text: &str) -> Option<(&str, &str)>
     ensures some { IfSome result (λ parts. (text.now ≡ parts.0.now ++ space ∷ parts.1.now) × IsOneWord parts.0.now) }
     ensures none { IfNone result (IsOneWord text.now) }
 {
-    text.split_once(' ')
+    let end = memchr(b' ', text.as_bytes())?;
+    Some((&text[..end], &text[end + 1..]))
 }
 
 /// The command of a line that is one word.
