@@ -75,7 +75,9 @@ fn both_ends_in_a_walk(rt: HostRuntime) {
 /// Walks all of a text by one choice of ends: the back where the choice has a bit.
 fn walk_by(rt: &impl Abort, text: &str, choice: u32) {
     let mut whole: SmallString = string(text);
-    let mut drain = whole.drain(..).unwrap_or_default();
+    let Ok(mut drain) = whole.drain(..) else {
+        return assert!(rt; false, "the range has boundaries");
+    };
     let mut wanted = text.chars();
     let mut choice = choice;
     for _ in text.chars() {

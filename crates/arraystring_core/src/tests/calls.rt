@@ -2,10 +2,13 @@
 //!
 //!     text before | call | place or range | what is given | answer | text after | bytes that moved
 //!
-//! where the last stands behind a call that counts. A range stands as in Rust, or as two bounds in
-//! brackets: `(` and `)` leave a place out, `[` and `]` take it in. Behind `untold` it is of a type that
-//! does not tell its bounds, and `walked` is an inclusive range that was walked to its end. Where no text stands before, the call goes on with the
-//! string that the row above left.
+//! where the last stands behind a call that counts. Where no text stands before, the call goes on
+//! with the string that the row above left; `new` is a new string. A text in quotes keeps its spaces.
+//!
+//! The answer is a text or a character itself, `ok` for a call that gives nothing back, `None`, or the
+//! name of the refusal. A range stands as in Rust, or as two bounds in brackets: `(` and `)` leave a
+//! place out, `[` and `]` take it in. Where `untold` stands behind it, it is of a type that does not
+//! tell its bounds, and `walked` is an inclusive range that was walked to its end.
 ghost use Rattle.std.specs.Prelude.{◌≤◌};
 
 use super::table::{

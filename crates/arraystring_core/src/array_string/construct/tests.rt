@@ -284,6 +284,8 @@ fn pieces_are_taken_up_to_the_first_that_does_not_fit(rt: HostRuntime) {
 #[test]
 fn a_full_string_takes_one_more_item(rt: HostRuntime) {
     let full: ArrayString<255> = letters();
+    let made = ArrayString::<255>::from_utf8(&[b'x'; 255]);
+    agree(&rt, "255 bytes", made, Ok(full));
     agree(
         &rt,
         "characters",

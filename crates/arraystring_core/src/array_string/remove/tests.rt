@@ -2,7 +2,7 @@
 use super::*;
 use crate::tests::calls::hold;
 use crate::tests::table::agree;
-use crate::tests::{MaxString, SmallString, letters, string};
+use crate::tests::{SmallString, letters, string};
 
 #[test]
 fn characters_are_removed(rt: HostRuntime) {
