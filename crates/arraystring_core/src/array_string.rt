@@ -243,6 +243,7 @@ impl<const N: usize> ArrayString<N> {
     }
 
     /// Puts `given` in place of the text between two boundaries. There must be room for it.
+    #[inline(always)]
     fn splice(&mut self, start: usize, end: usize, given: &str, steps: &mut Steps)
         requires order { start ≤ end }
         requires start { IsTrue (boundary self.old.text start) }
@@ -265,6 +266,7 @@ impl<const N: usize> ArrayString<N> {
     }
 
     /// Puts `ch` at a boundary. There must be room for it.
+    #[inline(always)]
     fn put_char(&mut self, at: usize, ch: char)
         requires boundary { IsTrue (boundary self.old.text at) }
         requires room { size self.old.text + width ch ≤ cap N }

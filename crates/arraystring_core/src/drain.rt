@@ -77,6 +77,10 @@ impl<const N: usize> Iterator for Drain<N> {
 
     /// The first character that is left; `None` where none is, and from then on.
     fn next(&mut self) -> Option<char> {
+        // Asked before the text is lent: a walk then reads each byte at its place in the array.
+        if self.front == self.removed.len() {
+            return None;
+        }
         let mut left = self.as_str().chars();
         let ch = left.next()?;
         self.front = self.removed.len() - left.as_str().len() as u8;

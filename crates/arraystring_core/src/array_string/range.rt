@@ -187,8 +187,7 @@ impl<const N: usize> ArrayString<N> {
         if !self.is_boundary(to) {
             return Err(Error::Utf8);
         }
-        let mut removed = Self::new();
-        removed.push_str_unchecked(self.between(from, to));
+        let removed = Self::from_str_unchecked(self.between(from, to));
         self.take_out(from, to, steps);
         Ok(removed)
     }

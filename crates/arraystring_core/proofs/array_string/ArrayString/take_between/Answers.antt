@@ -1,4 +1,4 @@
-use Rattle.std.proofs.Common.{◌+◌, ◌≤◌, ◌++◌, sym, arith, rules, ◌∙◌, ap, chars}
+use Rattle.std.proofs.Common.{◌≤◌, sym, arith, rules, ◌∙◌, ap}
 use Rattle.std.proofs.lemmas.Bool.{le-ltb}
 use Rattle.arraystring_base.specs.Text.{size, cap}
 use Rattle.arraystring_core.specs.Edits.{Inside, part}
@@ -28,15 +28,13 @@ between-requires g c =
     let to = sym c.is_boundary-2.ensures ∙ c.if-not-is_boundary-2.false in
     (search rules, (c.if-start-end.false, (at, to)))
 
-pub push_str_unchecked-requires : goal.push_str_unchecked-requires
-push_str_unchecked-requires g c =
+pub from_str_unchecked-removed-requires : goal.from_str_unchecked-removed-requires
+from_str_unchecked-removed-requires g c =
     let t = c.args.self.now.text in
     let removed = part t c.args.start c.args.end in
     let filled : size t ≤ cap g.row.N = rw (← c.len.ensures.value) c.len.ensures.fits in
     let taken = chars-bytes _ removed c.between.utf8 c.between.ensures in
-    let fits : size c.new-removed.result.text + size (chars c.between.result.now) ≤ cap g.row.N =
-    omega (arith, ap size c.new-removed.ensures, ap size taken, part-size-le t c.args.start c.args.end, filled) in
-    (search rules, fits)
+    (search rules, omega (arith, ap size taken, part-size-le t c.args.start c.args.end, filled))
 
 pub take_out-requires : goal.take_out-requires
 take_out-requires g c =
@@ -52,5 +50,5 @@ returns-clause-edit g c =
     let to = sym c.is_boundary-2.ensures ∙ c.if-not-is_boundary-2.false in
     let taken = chars-bytes _ (part t c.args.start c.args.end) c.between.utf8 c.between.ensures in
     makes _ _ _ _ (rw (le-ltb _ _ c.if-start-end.false, le-ltb _ _ reached, inside-not t c.args.start at, inside-not t c.args.end to))
-    (c.push_str_unchecked.ensures ∙ ap (λ l. l ++ chars c.between.result.now) c.new-removed.ensures ∙ taken)
+    (c.from_str_unchecked-removed.ensures ∙ taken)
     c.take_out.ensures.text
