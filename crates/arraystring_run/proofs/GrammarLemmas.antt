@@ -1,5 +1,5 @@
 -- Lines as words and arguments: what a line is the line of.
-use Rattle.std.proofs.Common.{◌≡◌, ◌≢◌, ℕ, ◌<◌, ◌≤◌, List, [], ◌∷◌, ◌++◌, length, map, drop, get_or, ◌^◌, refl, sym, ap, subst, ◌∙◌, arith, codes, nat_eq, nat_le, IsUtf8, Bool, true, if◌then◌else◌, ◌&&◌, ◌+◌, length-append, rules, Result, Ok, Err, IfSome, IfNone}
+use Rattle.std.proofs.Common.{◌≡◌, ◌≢◌, ℕ, ◌<◌, ◌≤◌, List, [], ◌∷◌, ◌++◌, length, map, drop, get_or, ◌^◌, refl, sym, ap, subst, ◌∙◌, arith, nat_le, IsUtf8, true, ◌&&◌, ◌+◌, length-append, rules, Result, Ok, Err, IfSome, IfNone}
 use Rattle.std.specs.Bool.{⊤}
 use Rattle.std.proofs.lemmas.List.{append-nil}
 use Rattle.std.proofs.lemmas.Bool.{and_parts, leb-true}
@@ -11,11 +11,10 @@ use Rattle.std.proofs.lemmas.Fmt.{digits_decimal, digits_value-decimal, decimal_
 use Rattle.std.specs.Fmt.{decimal}
 use Rattle.std.specs.Str.Parse.{ParsesUnsigned}
 use Rattle.std.specs.Result.{OkIff, result_ok}
-use Rattle.std.specs.Cmp.Lexicographic.{pointwise}
 use Rattle.arraystring.specs.Text.{utf8, IsScalarValue, IsWellFormed}
 use Rattle.arraystring.specs.TextLaws.{bytes-utf8, well_formed-utf8, utf8-well_formed}
 use Rattle.arraystring_run.specs.declared.commands.Command.{Command}
-use Rattle.arraystring_run.specs.declared.commands.Command.TheVariants.{TryPush, TryPushStr, PushStr, Pop, Truncate, Trim, Remove, RetainNot, TryInsert, TryInsertStr, InsertStr, SplitOff, Clear, Drain, DrainThrough, DrainBack, ReplaceRange, Upper, Lower, Get, Len, Capacity, AsStr}
+use Rattle.arraystring_run.proofs.CommandLemmas.{are_letters, kind, shape, told-by_word}
 use Rattle.arraystring_run.specs.Grammar.{Argument, Number, Character, Text, word, arguments, AreDigits, value_after, IsNumber, IsNumberBefore, IsSpelled, AreSpelled, IsLineOf, IsOneWord, space, spellings, line_of, AreArguments}
 
 head-of : (x y : ℕ) (xs ys : List ℕ) → x ∷ xs ≡ y ∷ ys → x ≡ y
@@ -45,10 +44,6 @@ abbrev AreLetters : List ℕ → Type 0
 AreLetters [] = ⊤
 AreLetters (b ∷ bs) = (0x5F ≤ b) × (b ≤ 0x7A) × AreLetters bs
 
-are_letters : List ℕ → Bool
-are_letters [] = true
-are_letters (b ∷ bs) = (nat_le 0x5F b && nat_le b 0x7A) && are_letters bs
-
 letters-from_test : (bs : List ℕ) → are_letters bs ≡ true → AreLetters bs
 unfolding are_letters
 letters-from_test [] e = tt
@@ -57,92 +52,12 @@ letters-from_test (b ∷ bs) e =
     let ends = and_parts (nat_le 0x5F b) (nat_le b 0x7A) both.0 in
     (leb-true 0x5F b ends.0, leb-true b 0x7A ends.1, letters-from_test bs both.1)
 
-letters-word : (c : Command) → are_letters (word c) ≡ true
-unfolding are_letters
-letters-word (TryPush c) = refl
-letters-word (TryPushStr given) = refl
-letters-word (PushStr given) = refl
-letters-word Pop = refl
-letters-word (Truncate i) = refl
-letters-word Trim = refl
-letters-word (Remove i) = refl
-letters-word (RetainNot c) = refl
-letters-word (TryInsert i c) = refl
-letters-word (TryInsertStr i given) = refl
-letters-word (InsertStr i given) = refl
-letters-word (SplitOff i) = refl
-letters-word Clear = refl
-letters-word (Drain start end) = refl
-letters-word (DrainThrough start last) = refl
-letters-word (DrainBack start end) = refl
-letters-word (ReplaceRange start end given) = refl
-letters-word Upper = refl
-letters-word Lower = refl
-letters-word (Get start end) = refl
-letters-word Len = refl
-letters-word Capacity = refl
-letters-word AsStr = refl
-
 one-from_letters : (bs : List ℕ) → AreLetters bs → IsOneWord bs
 one-from_letters [] are = tt
 one-from_letters (b ∷ bs) are = (λ e. omega (arith, are.0), one-from_letters bs are.2)
 
 pub one-word : (c : Command) → IsOneWord (word c)
-one-word c = one-from_letters (word c) (letters-from_test (word c) (letters-word c))
-
--- the kind of an argument
-abbrev pub kind : Argument → ℕ
-kind (Number n) = 0
-kind (Character c) = 1
-kind (Text given) = 2
-
-abbrev pub equals : List ℕ → List ℕ → Bool
-equals w v = pointwise nat_eq w v
-
--- the kinds of the arguments of a word
-unfoldable pub shape : List ℕ → List ℕ
-shape w =
-    if equals w (codes "try_push") then 1 ∷ [] else
-    if equals w (codes "try_push_str") then 2 ∷ [] else
-    if equals w (codes "push_str") then 2 ∷ [] else
-    if equals w (codes "truncate") then 0 ∷ [] else
-    if equals w (codes "remove") then 0 ∷ [] else
-    if equals w (codes "retain_not") then 1 ∷ [] else
-    if equals w (codes "try_insert") then 0 ∷ 1 ∷ [] else
-    if equals w (codes "try_insert_str") then 0 ∷ 2 ∷ [] else
-    if equals w (codes "insert_str") then 0 ∷ 2 ∷ [] else
-    if equals w (codes "split_off") then 0 ∷ [] else
-    if equals w (codes "drain") then 0 ∷ 0 ∷ [] else
-    if equals w (codes "drain_through") then 0 ∷ 0 ∷ [] else
-    if equals w (codes "drain_back") then 0 ∷ 0 ∷ [] else
-    if equals w (codes "replace_range") then 0 ∷ 0 ∷ 2 ∷ [] else
-    if equals w (codes "get") then 0 ∷ 0 ∷ [] else []
-
-pub shape-is : (c : Command) → map kind (arguments c) ≡ shape (word c)
-unfolding shape
-shape-is (TryPush c) = refl
-shape-is (TryPushStr given) = refl
-shape-is (PushStr given) = refl
-shape-is Pop = refl
-shape-is (Truncate i) = refl
-shape-is Trim = refl
-shape-is (Remove i) = refl
-shape-is (RetainNot c) = refl
-shape-is (TryInsert i c) = refl
-shape-is (TryInsertStr i given) = refl
-shape-is (InsertStr i given) = refl
-shape-is (SplitOff i) = refl
-shape-is Clear = refl
-shape-is (Drain start end) = refl
-shape-is (DrainThrough start last) = refl
-shape-is (DrainBack start end) = refl
-shape-is (ReplaceRange start end given) = refl
-shape-is Upper = refl
-shape-is Lower = refl
-shape-is (Get start end) = refl
-shape-is Len = refl
-shape-is Capacity = refl
-shape-is AsStr = refl
+one-word c = one-from_letters (word c) (letters-from_test (word c) ((told-by_word c).letters))
 
 -- what stands behind a word and a space, read as arguments of these kinds
 abbrev pub Reads : List ℕ → List ℕ → Type 0
@@ -164,7 +79,7 @@ line-parts w rest c one (more, e, spelled) = split-line w (word c) rest more (ar
 pub reads : (w rest kinds : List ℕ) (c : Command) → IsOneWord w → shape w ≡ kinds → IsLineOf (w ++ space ∷ rest) c → Reads rest kinds
 reads w rest kinds c one known line =
     let found = line-parts w rest c one line in
-    (arguments c, shape-is c ∙ ap shape (sym found.0) ∙ known, found.1)
+    (arguments c, (told-by_word c).kinds ∙ ap shape (sym found.0) ∙ known, found.1)
 
 -- the arguments of each shape
 last-of : (rest first others : List ℕ) → space ∷ rest ≡ space ∷ (first ++ others) → others ≡ [] → rest ≡ first
@@ -263,7 +178,7 @@ arguments-utf8 (a ∷ given) bs (first, others, whole, spelled, next) =
 
 pub line-utf8 : (bs : List ℕ) (c : Command) → IsLineOf bs c → IsUtf8 bs
 line-utf8 bs c (rest, whole, spelled) =
-    rw whole (IsUtf8-append (word c) rest (letters-utf8 (word c) (letters-from_test (word c) (letters-word c))) (arguments-utf8 (arguments c) rest spelled))
+    rw whole (IsUtf8-append (word c) rest (letters-utf8 (word c) (letters-from_test (word c) ((told-by_word c).letters))) (arguments-utf8 (arguments c) rest spelled))
 
 -- what follows a space is well formed
 pub behind-space : (front rest : List ℕ) → IsUtf8 (front ++ space ∷ rest) → IsWellFormed rest

@@ -1,4 +1,5 @@
 pub mod RunLemmas
+pub mod CommandLemmas
 pub mod GrammarLemmas
 pub mod ScriptLemmas
 pub mod SpaceLemmas

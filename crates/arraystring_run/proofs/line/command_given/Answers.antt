@@ -3,7 +3,8 @@ use Rattle.arraystring.specs.TextLaws.{utf8-well_formed, well_formed-utf8}
 use Rattle.arraystring_run.specs.declared.commands.Command.{Command}
 use Rattle.arraystring_run.specs.declared.commands.Command.TheVariants.{TryPush, TryPushStr, PushStr, Pop, Truncate, Trim, Remove, RetainNot, TryInsert, TryInsertStr, InsertStr, SplitOff, Clear, Drain, DrainThrough, DrainBack, ReplaceRange, Upper, Lower, Get, Len, Capacity, AsStr}
 use Rattle.arraystring_run.specs.Grammar.{Number, Character, Text, word, arguments, AreSpelled, space}
-use Rattle.arraystring_run.proofs.GrammarLemmas.{shape, reads, reads-two, reads-before, reads-behind, reads-character, line-parts, line-given, spelled-one, spelled-before, number-behind}
+use Rattle.arraystring_run.proofs.CommandLemmas.{shape}
+use Rattle.arraystring_run.proofs.GrammarLemmas.{reads, reads-two, reads-before, reads-behind, reads-character, line-parts, line-given, spelled-one, spelled-before, number-behind}
 use Rattle.arraystring_run.proofs.line.command_given.Goals as goal
 
 pub returns-in_ok-only_char-in-try_push-clause-some : goal.returns-in_ok-only_char-in-try_push-clause-some
