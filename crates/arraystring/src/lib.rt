@@ -33,6 +33,8 @@ pub mod prelude {
 }
 
 #[cfg(test)]
+mod examples;
+#[cfg(test)]
 mod parity;
 #[cfg(test)]
 mod printed;

@@ -158,6 +158,11 @@ impl<const N: usize> ArrayString<N> {
     }
 
     /// Adds the longest leading run of whole characters of `string` that fits at the end.
+    ///
+    /// ```
+    /// let mut line = ArrayString::<4>::from_str_truncate("abc");
+    /// line.push_str("dé"); // "abcd", since `é` takes two bytes
+    /// ```
     pub fn push_str(&mut self, string: &str)
         ensures { Makes (addition_of_cut self.old.text (chars string.now) (cap N)) self.old.text (Ok result) self.new.text }
     {

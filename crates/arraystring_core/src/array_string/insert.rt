@@ -80,6 +80,12 @@ impl<const N: usize> ArrayString<N> {
     /// Inserts the longest leading run of whole characters of `string` that fits, at the byte index
     /// `index`. Refused with `OutOfBounds` where the index is past the text, then with `Utf8` where
     /// it is inside a character. The text is then as it was.
+    ///
+    /// ```
+    /// let mut line = ArrayString::<4>::from_str_truncate("abc");
+    /// let cut = line.insert_str(1, "xyz"); // Ok(()), and the text is "axbc"
+    /// let past = line.insert_str(9, "z"); // Err(OutOfBounds)
+    /// ```
     pub fn insert_str(&mut self, index: u8, string: &str) -> Result<(), Error>
         ensures { Makes (insertion_of_cut self.old.text index (chars string.now) (cap N)) self.old.text result self.new.text }
     {

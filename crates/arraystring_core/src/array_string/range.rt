@@ -35,6 +35,12 @@ impl<const N: usize> ArrayString<N> {
 
     /// The part in the range, borrowed without a copy. It is `None` where the range ends before it
     /// starts, or an end is not a boundary. The ends are plain numbers, so `..=255` ends at 256.
+    ///
+    /// ```
+    /// let line = ArrayString::<4>::from_str_truncate("aéb");
+    /// let part = line.get(1..3); // Some("é")
+    /// let inside = line.get(..2); // None
+    /// ```
     pub fn get<R: RangeBounds<u8> + Drop>(&self, range: R) -> Option<&str>
         ensures { OfToldBounds R.has_bounds R.start_bound R.end_bound range (λ start end.
             let found = part_in self.now.text (start_index start) (end_index end (size self.now.text)) in
@@ -51,6 +57,12 @@ impl<const N: usize> ArrayString<N> {
     /// excluded start and an included end add 1, and stop at 255. Refused with `OutOfBounds` where
     /// the range ends before it starts, then where it ends past the text, then with `Utf8` where
     /// its start is inside a character, then where its end is. The text is then as it was.
+    ///
+    /// ```
+    /// let mut line = ArrayString::<5>::from_str_truncate("abcde");
+    /// let drained = line.drain(1..=2); // Ok of 'b' and 'c', and the text is "ade"
+    /// let past = line.drain(2..9); // Err(OutOfBounds)
+    /// ```
     pub fn drain<R: RangeBounds<u8> + Drop>(&mut self, range: R) -> Result<Drain<N>, Error>
         ensures { OfToldBounds R.has_bounds R.start_bound R.end_bound range (λ start end. let t = self.old.text in
             Makes (draining t (lo start) (hi end (size t))) t (with_left result) self.new.text) }
@@ -89,6 +101,12 @@ impl<const N: usize> ArrayString<N> {
     /// and stop at 255. Refused with `OutOfBounds` where the range ends before it starts, then
     /// where it ends past the text, then where the result does not fit, then with `Utf8` where its
     /// start is inside a character, then where its end is. The text is then as it was.
+    ///
+    /// ```
+    /// let mut line = ArrayString::<4>::from_str_truncate("abcd");
+    /// let replaced = line.replace_range(1..3, "é"); // Ok(()), and the text is "aéd"
+    /// let large = line.replace_range(.., "abcde"); // Err(OutOfBounds)
+    /// ```
     pub fn replace_range<R: RangeBounds<u8> + Drop>(
         &mut self,
         range: R,

@@ -13,6 +13,12 @@ use arraystring_base::utils::Steps;
 impl<const N: usize> ArrayString<N> {
     /// Keeps the part before the byte index `size`; one past the text changes nothing. Refused with
     /// `Utf8` where `size` is inside a character. The text is then as it was.
+    ///
+    /// ```
+    /// let mut line = ArrayString::<4>::from_str_truncate("aé");
+    /// let inside = line.truncate(2); // Err(Utf8)
+    /// let past = line.truncate(9); // Ok(()), and the text is still "aé"
+    /// ```
     pub fn truncate(&mut self, size: u8) -> Result<(), Utf8>
         ensures { Makes (truncation self.old.text size) self.old.text (from_utf8_error result) self.new.text }
     {
@@ -64,6 +70,11 @@ impl<const N: usize> ArrayString<N> {
     /// Calls `f` once with each character, in order, and keeps those for which it returns true. The
     /// precondition is that `f` may be called with each of them, in each state that its earlier
     /// calls leave.
+    ///
+    /// ```
+    /// let mut line = ArrayString::<5>::from_str_truncate("a-b-c");
+    /// line.retain(|ch| ch != '-'); // "abc"
+    /// ```
     pub fn retain<F: FnMut(char) -> bool + Drop>(&mut self, f: F)
         requires { MayBeAsked F.pre F.step f self.old.text }
         ensures { IsFiltered F.step f self.old.text self.new.text }

@@ -28,6 +28,11 @@ impl<const N: usize> ArrayString<N> {
     /// The longest leading run of characters of `units` that fits. Refused with `Utf16` where a
     /// lone surrogate comes right after that run, also if the string is full. What comes after a
     /// character that does not fit is not looked at.
+    ///
+    /// ```
+    /// let cut = ArrayString::<4>::from_utf16(&[0x61, 0xD83E, 0xDD14]); // Ok of "a"
+    /// let lone = ArrayString::<4>::from_utf16(&[0x61, 0xD83E]); // Err(Utf16)
+    /// ```
     pub fn from_utf16(units: &[u16]) -> Result<Self, Utf16>
         ensures { (items : List Unit16) → IsReading units.now items → GivesRun (first_stop items (cap N)) result }
     {
