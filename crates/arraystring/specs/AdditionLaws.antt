@@ -1,6 +1,6 @@
 -- Laws of the rows that add: `addition`, `addition_of_cut`, `insertion` and `insertion_of_cut` (specs/Edits).
 -- Of each row: what holds after an `Ok` (`-made`) and after an `Err` (`-refused`), when the answer is `Ok` (`-makes`), and
--- when it is which `Err` (`-past`, `-over`, `-inside`). A law takes what its row takes behind the text, and then facts.
+-- when it is which `Err` (`-past`, `-over`, `-inside`). A law takes what its row takes after the text, and then facts.
 use Rattle.std.proofs.Common.{◌≡◌, ℕ, ◌+◌, ◌-◌, ◌<◌, ◌≤◌, ◌⊎◌, List, [], ◌++◌, ap, sym, ◌∙◌, arith, true, false, inl, inr, refl, Result, Ok, Err}
 use Rattle.std.proofs.lemmas.Bool.{lt-ltb, le-ltb, ltb-true, ltb-false, both_ways}
 use Rattle.arraystring_base.specs.Text.{size, cut, front, back, boundary}
@@ -15,11 +15,11 @@ use Rattle.arraystring.specs.EditLaws.{edit-makes, edit-refuses, edit-none_held,
 
 -- `given` is added at the end
 module _ {t : List ℕ} (given : List ℕ) (n : ℕ) {new : List ℕ} where
-  -- an addition that answered `Ok`: all of it fitted, and stands at the end
+  -- an addition that returned `Ok`: all of it fitted, and is at the end
   pub addition-made : Makes (addition t given n) t (Ok tt) new → (size t + size given ≤ n) × (new ≡ t ++ given)
   addition-made m = (ltb-false n (size t + size given) (edit-none_held m).0, m.ok)
 
-  -- an addition that answered `Err`: it did not fit, and the text is the old one
+  -- an addition that returned `Err`: it did not fit, and the text is the old one
   pub addition-refused : {error : Error} → Makes (addition t given n) t (Err error) new
       → (n < size t + size given) × (error ≡ OutOfBounds) × (new ≡ t)
   addition-refused {error} m = let was = edit-first_held m in go was.1 was.2 was.3
@@ -55,7 +55,7 @@ module _ {t : List ℕ} (given : List ℕ) (n : ℕ) {new : List ℕ} {result : 
 
 -- `given` is put at `i`
 module _ {t : List ℕ} (i : ℕ) (given : List ℕ) (n : ℕ) {new : List ℕ} where
-  -- an insertion that answered `Ok`: the index is a boundary of the text, all of it fitted, and stands there
+  -- an insertion that returned `Ok`: the index is a boundary of the text, all of it fitted, and is there
   pub insertion-made : Makes (insertion t i given n) t (Ok tt) new
       → (i ≤ size t) × (size t + size given ≤ n) × (boundary t i ≡ true) × (new ≡ front t i ++ (given ++ back t i))
   insertion-made m =
@@ -63,7 +63,7 @@ module _ {t : List ℕ} (i : ℕ) (given : List ℕ) (n : ℕ) {new : List ℕ} 
       let within = past-failed t i none.0 in
       (within, ltb-false n (size t + size given) none.1.0, inside-failed t i within none.1.1.0, m.ok)
 
-  -- an insertion that answered `Err`: the index is past the text, or it did not fit, or the index is inside a character
+  -- an insertion that returned `Err`: the index is past the text, or it did not fit, or the index is inside a character
   pub insertion-refused : {error : Error} → Makes (insertion t i given n) t (Err error) new
       → (((size t < i) × (error ≡ OutOfBounds))
       ⊎ ((i ≤ size t) × (n < size t + size given) × (error ≡ OutOfBounds))
@@ -106,14 +106,14 @@ module _ {t : List ℕ} (i : ℕ) (given : List ℕ) (n : ℕ) {new : List ℕ} 
 
 -- `given` is put at the start
 module _ {t : List ℕ} (given : List ℕ) (n : ℕ) {new : List ℕ} where
-  -- one that answered `Ok`: all of it fitted, and stands before the text
+  -- one that returned `Ok`: all of it fitted, and is before the text
   pub insertion_at_start-made : Makes (insertion t 0 given n) t (Ok tt) new → (size t + size given ≤ n) × (new ≡ given ++ t)
   insertion_at_start-made m = (
     (insertion-made 0 given n m).1,
     m.ok ∙ ap (λ l. l ++ (given ++ back t 0)) (front-start t) ∙ ap (λ l. given ++ l) (back-start t),
   )
 
-  -- one that answered `Err`: it did not fit, and the text is the old one
+  -- one that returned `Err`: it did not fit, and the text is the old one
   pub insertion_at_start-refused : {error : Error} → Makes (insertion t 0 given n) t (Err error) new
       → (n < size t + size given) × (error ≡ OutOfBounds) × (new ≡ t)
   insertion_at_start-refused {error} m = go (insertion-refused 0 given n m).0 m.err
@@ -128,7 +128,7 @@ module _ {t : List ℕ} (given : List ℕ) (n : ℕ) {new : List ℕ} where
 
 -- what fits of `given` is put at `i`
 module _ {t : List ℕ} (i : ℕ) (given : List ℕ) (n : ℕ) {new : List ℕ} where
-  -- an insertion of a cut that answered `Ok`: the index is a boundary of the text, and the cut stands there
+  -- an insertion of a cut that returned `Ok`: the index is a boundary of the text, and the cut is there
   pub insertion_of_cut-made : Makes (insertion_of_cut t i given n) t (Ok tt) new
       → (i ≤ size t) × (boundary t i ≡ true) × (new ≡ front t i ++ (cut given (n - size t) ++ back t i))
   insertion_of_cut-made m =
@@ -140,7 +140,7 @@ module _ {t : List ℕ} (i : ℕ) (given : List ℕ) (n : ℕ) {new : List ℕ} 
       → new ≡ front t i ++ (given ++ back t i)
   insertion_of_cut-fits fits m = m.ok ∙ ap (λ l. front t i ++ (l ++ back t i)) (cut-all given (n - size t) (omega (arith, fits)))
 
-  -- one that answered `Err`: the index is past the text, or inside a character
+  -- one that returned `Err`: the index is past the text, or inside a character
   pub insertion_of_cut-refused : {error : Error} → Makes (insertion_of_cut t i given n) t (Err error) new
       → (((size t < i) × (error ≡ OutOfBounds)) ⊎ ((i < size t) × (boundary t i ≡ false) × (error ≡ Utf8))) × (new ≡ t)
   insertion_of_cut-refused m = let was = edit-first_held m in (place-held t i was.1 was.2, was.3)

@@ -12,11 +12,11 @@ use Rattle.arraystring_core.specs.Edits.{part, part_in}
 pub front-back : (t : List ℕ) (i : ℕ) → front t i ++ back t i ≡ t
 front-back = law.front-back
 
--- before the start stands nothing
+-- before the start is nothing
 pub front-start : (t : List ℕ) → front t 0 ≡ []
 front-start = law.front-start
 
--- from the start on stands the text
+-- from the start on is the text
 pub back-start : (t : List ℕ) → back t 0 ≡ t
 back-start = law.back-start
 
@@ -24,11 +24,11 @@ back-start = law.back-start
 pub boundary-start : (t : List ℕ) → boundary t 0 ≡ true
 boundary-start t = law.boundary-is [] t 0 refl
 
--- before the end stands the text
+-- before the end is the text
 pub front-end : (t : List ℕ) → front t (size t) ≡ t
 front-end = law.front-end
 
--- from the end on stands nothing
+-- from the end on is nothing
 pub back-end : (t : List ℕ) → back t (size t) ≡ []
 back-end = law.back-end
 
@@ -36,7 +36,7 @@ back-end = law.back-end
 pub boundary-end : (t : List ℕ) → boundary t (size t) ≡ true
 boundary-end = law.boundary-end
 
--- where two texts are joined, the first stands before
+-- where two texts are joined, the first is before
 pub front-is : (p q : List ℕ) (i : ℕ) → size p ≡ i → front (p ++ q) i ≡ p
 front-is = law.front-is
 
@@ -56,11 +56,11 @@ boundary-leading = law.boundary-leading
 pub boundary-within : (t : List ℕ) (i : ℕ) → boundary t i ≡ true → i ≤ size t
 boundary-within = law.boundary-within
 
--- before a boundary stand as many bytes as it says
+-- before a boundary are as many bytes as it says
 pub front-size : (t : List ℕ) (i : ℕ) → boundary t i ≡ true → size (front t i) ≡ i
 front-size = law.front-size
 
--- from a boundary on stand the other bytes
+-- from a boundary on are the other bytes
 pub back-size : (t : List ℕ) (i : ℕ) → boundary t i ≡ true → size (back t i) ≡ size t - i
 back-size = law.back-size
 
@@ -72,7 +72,7 @@ bytes-front = law.bytes-front
 pub bytes-back : (t : List ℕ) (i : ℕ) → boundary t i ≡ true → drop i (bytes t) ≡ bytes (back t i)
 bytes-back = law.bytes-back
 
--- behind the character that begins at a boundary is the next boundary
+-- after the character that begins at a boundary is the next boundary
 pub next-char : (t : List ℕ) (i : ℕ) → boundary t i ≡ true → (c : ℕ) (rest : List ℕ) → back t i ≡ c ∷ rest
     → (boundary t (i + width c) ≡ true) × (back t (i + width c) ≡ rest) × (front t (i + width c) ≡ front t i ++ c ∷ [])
 next-char = law.next-char
@@ -91,7 +91,7 @@ part-all t = ap (λ l. back l 0) (law.front-end t) ∙ law.back-start t
 
 -- the part between two boundaries
 module _ (t : List ℕ) (start end : ℕ) (order : start ≤ end) where
-  -- the parts before, between and behind are the text
+  -- the parts before, between and after are the text
   pub part-joined : front t start ++ (part t start end ++ back t end) ≡ t
   part-joined =
       let f = front t end in
@@ -99,7 +99,7 @@ module _ (t : List ℕ) (start end : ℕ) (order : start ≤ end) where
       ∙ sym (append_assoc (front f start) (part t start end) (back t end))
       ∙ ap (λ l. l ++ back t end) (law.front-back f start) ∙ law.front-back t end
 
-  -- a boundary of the text is one of what stands before the end
+  -- a boundary of the text is one of what is before the end
   pub boundary-in_front : boundary t start ≡ true → boundary (front t end) start ≡ true
   boundary-in_front = law.boundary-in_front t start end order
 

@@ -19,7 +19,7 @@ cut-cut t {m} {n} less = law.cut-cut t m n less
 pub cut-past_part : (p q : List ℕ) (n : ℕ) → size p ≤ n → cut (p ++ q) n ≡ p ++ cut q (n - size p)
 cut-past_part = law.cut-past_part
 
--- what stands behind a part that does not fit changes no cut
+-- what is after a part that does not fit changes no cut
 pub cut-past : (p q : List ℕ) (n : ℕ) → n < size p → cut (p ++ q) n ≡ cut p n
 cut-past = law.cut-past
 

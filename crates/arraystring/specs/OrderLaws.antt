@@ -10,14 +10,14 @@ use Rattle.arraystring_base.specs.OrderLaws as law
 pub order-says : (a b : List ℕ) (o : Ordering) → o ≡ slice_cmp nat_cmp a b → MatchOrdering o (IsBefore a b) (a ≡ b) (IsBefore b a)
 order-says = law.order-says
 
--- of two texts that are not the same, one stands before the other
+-- of two texts that are not the same, one is before the other
 pub before-total : (a b : List ℕ) → IsBefore a b ⊎ (a ≡ b) ⊎ IsBefore b a
 before-total = law.before-total
 
--- what stands before a text stands before all that follow it
+-- what is before a text is before all that follow it
 pub before-trans : (a b c : List ℕ) → IsBefore a b → IsBefore b c → IsBefore a c
 before-trans = law.before-trans
 
--- no text stands before itself
+-- no text is before itself
 pub before-itself : (a : List ℕ) → IsBefore a a → ⊥
 before-itself = law.before-itself

@@ -1,6 +1,6 @@
 -- Laws of the rows of ranges, `draining` and `replacement` (specs/Edits).
 -- Of each row: what holds after an `Ok` (`-made`) and after an `Err` (`-refused`), when the answer is `Ok` (`-makes`), and
--- when it is which `Err` (`-crossed`, `-past`, `-over`, `-inside`). A law takes what its row takes behind the text, and then facts.
+-- when it is which `Err` (`-crossed`, `-past`, `-over`, `-inside`). A law takes what its row takes after the text, and then facts.
 use Rattle.std.proofs.Common.{◌≡◌, ℕ, ◌+◌, ◌-◌, ◌<◌, ◌≤◌, ◌⊎◌, List, ◌++◌, ap, ◌∙◌, arith, true, false, inl, inr, refl, Result, Ok, Err}
 use Rattle.std.proofs.lemmas.Bool.{lt-ltb, le-ltb, ltb-true, ltb-false}
 use Rattle.arraystring_base.specs.Text.{size, front, back, boundary}
@@ -14,7 +14,7 @@ use Rattle.arraystring.specs.EditLaws.{edit-made, edit-makes, edit-refuses, edit
 
 -- the part from `start` to `end` is taken out, and is the answer
 module _ {t : List ℕ} (start end : ℕ) {new : List ℕ} where
-  -- a drain that answered `Ok`: the range is in order and in the text, its ends are boundaries, and its part is the answer
+  -- a drain that returned `Ok`: the range is in order and in the text, its ends are boundaries, and its part is the answer
   pub draining-made : {answer : List ℕ} → Makes (draining t start end) t (Ok answer) new
       → (start ≤ end) × (end ≤ size t) × (boundary t start ≡ true) × (boundary t end ≡ true)
       × (answer ≡ part t start end) × (new ≡ front t start ++ back t end)
@@ -26,7 +26,7 @@ module _ {t : List ℕ} (start end : ℕ) {new : List ℕ} where
       let starts = inside-failed t start (omega (arith, order, within)) none.1.1.0 in
       (order, within, starts, inside-failed t end within none.1.1.1.0, was.1, was.2)
 
-  -- one that answered `Err`: by the first test that holds
+  -- one that returned `Err`: by the first test that holds
   pub draining-refused : {error : Error} → Makes (draining t start end) t (Err error) new
       → (((end < start) × (error ≡ OutOfBounds))
       ⊎ ((start ≤ end) × (size t < end) × (error ≡ OutOfBounds))
@@ -73,7 +73,7 @@ module _ {t : List ℕ} (start end : ℕ) {new : List ℕ} {result : Result (Lis
 
 -- `given` is put in place of the part from `start` to `end`
 module _ {t : List ℕ} (start end : ℕ) (given : List ℕ) (n : ℕ) {new : List ℕ} where
-  -- a replacement that answered `Ok`: as a drain that did, and all of what is given fitted
+  -- a replacement that returned `Ok`: as a drain that did, and all of what is given fitted
   pub replacement-made : Makes (replacement t start end given n) t (Ok tt) new
       → (start ≤ end) × (end ≤ size t) × (size t - (end - start) + size given ≤ n) × (boundary t start ≡ true) × (boundary t end ≡ true)
       × (new ≡ front t start ++ (given ++ back t end))
@@ -84,7 +84,7 @@ module _ {t : List ℕ} (start end : ℕ) (given : List ℕ) (n : ℕ) {new : Li
       let starts = inside-failed t start (omega (arith, order, within)) none.1.1.1.0 in
       (order, within, ltb-false n _ none.1.1.0, starts, inside-failed t end within none.1.1.1.1.0, m.ok)
 
-  -- one that answered `Err`: by the first test that holds
+  -- one that returned `Err`: by the first test that holds
   pub replacement-refused : {error : Error} → Makes (replacement t start end given n) t (Err error) new
       → (((end < start) × (error ≡ OutOfBounds))
       ⊎ ((start ≤ end) × (size t < end) × (error ≡ OutOfBounds))

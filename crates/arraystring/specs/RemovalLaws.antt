@@ -1,6 +1,6 @@
 -- Laws of the rows that take out or change characters, but for those of ranges (specs/Edits).
 -- Of each row: what holds after an `Ok` (`-made`) and after an `Err` (`-refused`), when the answer is `Ok` (`-makes`), and
--- when it is which `Err` (`-past`, `-inside`). A law takes what its row takes behind the text, and then facts.
+-- when it is which `Err` (`-past`, `-inside`). A law takes what its row takes after the text, and then facts.
 use Rattle.std.proofs.Common.{◌≡◌, ℕ, ◌<◌, ◌≤◌, ◌⊎◌, List, [], ◌∷◌, ◌++◌, ap, sym, ◌∙◌, arith, true, false, Bool, inl, inr, refl, Option, Some, None, Result, Ok, Err, map, drop}
 use Rattle.std.proofs.lemmas.Bool.{lt-ltb, le-ltb, lt-leb, le-leb, leb-false, leb-true}
 use Rattle.std.specs.Prelude.{slice_index}
@@ -35,7 +35,7 @@ module _ {t new : List ℕ} where
   pub popping-makes : {result : Result (Option ℕ) Error} → Makes (popping t) t result new → (result ≡ Ok (last_of t)) × (new ≡ all_but_last t)
   popping-makes m = edit-makes refl m
 
-  -- an answer stood behind the text after
+  -- the text was what is left of it, and then the answer
   pub popping-some : {c : ℕ} → Makes (popping t) t (Ok (Some c)) new → t ≡ new ++ c ∷ []
   popping-some {c} m = last-of t c (edit-made m).1 ∙ ap (λ l. l ++ c ∷ []) (sym m.ok)
 
@@ -45,11 +45,11 @@ module _ {t new : List ℕ} where
 
 -- the part before `i` is kept
 module _ {t : List ℕ} (i : ℕ) {new : List ℕ} where
-  -- a truncation that answered `Ok`: the index is no place inside a character, and the part before it is kept
+  -- a truncation that returned `Ok`: the index is no place inside a character, and the part before it is kept
   pub truncation-made : Makes (truncation t i) t (Ok tt) new → (i ≤ size t → boundary t i ≡ true) × (new ≡ front t i)
   truncation-made m = let none = edit-none_held m in (λ within. inside-failed t i within none.0, m.ok)
 
-  -- one that answered `Err`: the index is inside a character
+  -- one that returned `Err`: the index is inside a character
   pub truncation-refused : {error : Error} → Makes (truncation t i) t (Err error) new
       → (i < size t) × (boundary t i ≡ false) × (error ≡ Utf8) × (new ≡ t)
   truncation-refused {error} m = let was = edit-first_held m in go was.1 was.2 was.3
@@ -89,7 +89,7 @@ lowercase-makes m = edit-makes refl m
 
 -- the character that begins at `i` is taken out
 module _ {t : List ℕ} (i : ℕ) {new : List ℕ} where
-  -- a removal that answered `Ok`: a character begins at the index, is the answer, and is gone
+  -- a removal that returned `Ok`: a character begins at the index, is the answer, and is gone
   pub removal-made : {c : ℕ} → Makes (removal t i) t (Ok c) new
       → (i < size t) × (boundary t i ≡ true) × ((rest : List ℕ) × (back t i ≡ c ∷ rest) × (new ≡ front t i ++ rest))
   removal-made {c} m =
@@ -104,7 +104,7 @@ module _ {t : List ℕ} (i : ℕ) {new : List ℕ} where
       go [] e some is same = absurd (omega (arith, some))
       go (d ∷ rest) e some is same = (rest, e ∙ ap (λ x. x ∷ rest) (sym is), same)
 
-  -- one that answered `Err`: the index is not below the size of the text, or inside a character
+  -- one that returned `Err`: the index is not below the size of the text, or inside a character
   pub removal-refused : {error : Error} → Makes (removal t i) t (Err error) new
       → (((size t ≤ i) × (error ≡ OutOfBounds)) ⊎ ((i < size t) × (boundary t i ≡ false) × (error ≡ Utf8))) × (new ≡ t)
   removal-refused {error} m = let was = edit-first_held m in (go was.1 was.2, was.3)
@@ -135,7 +135,7 @@ module _ {t : List ℕ} (i : ℕ) {new : List ℕ} {result : Result ℕ Error} w
 
 -- the part from `i` on is the answer
 module _ {t : List ℕ} (i : ℕ) {new : List ℕ} where
-  -- a split that answered `Ok`: the index is a boundary of the text, and the two parts are the answer and the text
+  -- a split that returned `Ok`: the index is a boundary of the text, and the two parts are the answer and the text
   pub split-made : {answer : List ℕ} → Makes (split t i) t (Ok answer) new
       → (i ≤ size t) × (boundary t i ≡ true) × (answer ≡ back t i) × (new ≡ front t i)
   split-made m =
@@ -143,7 +143,7 @@ module _ {t : List ℕ} (i : ℕ) {new : List ℕ} where
       let none = edit-none_held m in
       let within = past-failed t i none.0 in (within, inside-failed t i within none.1.0, was.1, was.2)
 
-  -- one that answered `Err`: the index is past the text, or inside a character
+  -- one that returned `Err`: the index is past the text, or inside a character
   pub split-refused : {error : Error} → Makes (split t i) t (Err error) new
       → (((size t < i) × (error ≡ OutOfBounds)) ⊎ ((i < size t) × (boundary t i ≡ false) × (error ≡ Utf8))) × (new ≡ t)
   split-refused m = let was = edit-first_held m in (place-held t i was.1 was.2, was.3)

@@ -4,11 +4,11 @@ use Rattle.std.specs.Char.{len_utf8, encode_utf8}
 use Rattle.arraystring_base.specs.Text.{IsText, IsWellFormed, width, utf8, size, bytes}
 use Rattle.arraystring_base.specs.TextLaws as law
 
--- the size of two texts, one behind the other, is the sum of theirs
+-- the size of two texts, one after the other, is the sum of theirs
 pub size-append : (a b : List ℕ) → size (a ++ b) ≡ size a + size b
 size-append = law.size-append
 
--- the bytes of two texts, one behind the other, are theirs, one behind the other
+-- the bytes of two texts, one after the other, are theirs, one after the other
 pub bytes-append : (a b : List ℕ) → bytes (a ++ b) ≡ bytes a ++ bytes b
 bytes-append = law.bytes-append
 
@@ -32,7 +32,7 @@ bytes-chars {bs} spelled = law.bytes-chars bs spelled
 pub chars-bytes : {bs t : List ℕ} → IsUtf8 bs → bs ≡ bytes t → chars bs ≡ t
 chars-bytes {bs} {t} spelled is = law.chars-bytes bs t spelled is
 
--- a `&str` is as long as the text that it lends is large
+-- a `&str` is as long as the text that it borrows is large
 pub size-lent : {bs : List ℕ} → IsUtf8 bs → size (chars bs) ≡ length bs
 size-lent {bs} spelled = law.size-lent bs spelled
 

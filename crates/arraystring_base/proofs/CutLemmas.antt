@@ -1,4 +1,4 @@
--- Where a text is cut, and how far back the boundary stands.
+-- Where a text is cut, and how far back the boundary is.
 use Rattle.std.proofs.Common.{◌≡◌, ℕ, ◌+◌, ◌-◌, ◌<◌, ◌≤◌, List, [], ◌∷◌, ◌++◌, length, take, drop, refl, sym, ap, ◌∙◌, arith, IsUtf8, IsCharBoundary, chars, length-append, length-take-le, take-append-drop, inl, inr}
 use Rattle.std.proofs.lemmas.Bool.{cases_lt}
 use Rattle.std.proofs.lemmas.List.{drop_at}

@@ -13,7 +13,7 @@ module _ (old half new first last : List ℕ) (from to k len : ℕ) (source : fr
   first-length : length first ≡ k
   first-length = ap length is_first ∙ length-take-le k (drop from old) (omega (arith, length-drop from old))
 
-  -- what stands before the second part
+  -- what is before the second part
   front : take (to + (len - k)) half ≡ take to old ++ take (len - k) (drop from old)
   front =
       let rest = first ++ drop (to + k) old in
@@ -24,7 +24,7 @@ module _ (old half new first last : List ℕ) (from to k len : ℕ) (source : fr
       ∙ ap (take (len - k)) is_first ∙ take-take (len - k) k (drop from old) most
       )
 
-  -- what stands behind it
+  -- what is after it
   behind : drop (to + (len - k) + k) half ≡ drop (to + len) old
   behind =
       let head = take to old ++ first in

@@ -1,9 +1,9 @@
 //! How a run of bytes is moved inside an array: as its first `K` and its last `K` bytes, which may
 //! overlap, and both are read before the first is written. So does `memmove` with a short run. A
-//! byte that both hold is written twice, to one place: it moves once.
+//! byte that both hold is written twice, to one offset: it moves once.
 ghost use Rattle.std.specs.Prelude.{◌≡◌, ◌+◌, ◌-◌, ◌≤◌, ◌<◌, ◌++◌, take, drop};
 
-/// Takes the `len` bytes that stand from `from` on to `to`, overlapping or not. Up to four bytes
+/// Takes the `len` bytes from `from` on to `to`, overlapping or not. Up to four bytes
 /// cost no call.
 #[inline(always)]
 pub(crate) fn move_run<const N: usize>(array: &mut [u8; N], from: usize, to: usize, len: usize)

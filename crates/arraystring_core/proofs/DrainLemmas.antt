@@ -32,7 +32,7 @@ module _ (places : ℕ) (removed : Stored) (i : ℕ) (is : IsDrained places remo
   whole-size : i + size left ≡ size removed.text
   whole-size = omega (arith, ap size whole, size-append (front removed.text i) left, front-size removed.text i is.at)
 
-  -- the bytes that are left behind the first character
+  -- the bytes that are left after the first character
   pub front-stepped : (c : ℕ) (rest : List ℕ) → left ≡ c ∷ chars rest → IsUtf8 rest → i + width c + length rest ≡ size removed.text
   front-stepped c rest starts u = omega (arith, whole-size, ap size starts, size-lent rest u)
 

@@ -12,7 +12,7 @@ module _ (old new : List ℕ) (from to k : ℕ) (source : from + k ≤ length ol
   run-length : length (take k (drop from old)) ≡ k
   run-length = length-take-le k (drop from old) (omega (arith, length-drop from old))
 
-  -- what stands before the target stays
+  -- what is before the target stays
   pub shift-before : (i n : ℕ) → i + n ≤ to → take n (drop i new) ≡ take n (drop i old)
   shift-before i n within =
       let rest = take k (drop from old) ++ drop (to + k) old in
@@ -25,14 +25,14 @@ module _ (old new : List ℕ) (from to k : ℕ) (source : from + k ≤ length ol
       ∙ ap (λ l. take n (l ++ rest)) kept ∙ take-append-le n (take (to - i) (drop i old)) rest (omega (arith, long))
       ∙ take-take n (to - i) (drop i old) (omega arith)
 
-  -- at the target stands what was moved
+  -- at the target is what was moved
   pub shift-moved : take k (drop to new) ≡ take k (drop from old)
   shift-moved =
       ap (λ l. take k (drop to l)) moved
       ∙ ap (take k) (drop_at (take to old) (take k (drop from old) ++ drop (to + k) old) to before-length)
       ∙ take_at (take k (drop from old)) (drop (to + k) old) k run-length
 
-  -- what stands behind the target stays
+  -- what is after the target stays
   pub shift-behind : (i : ℕ) → to + k ≤ i → drop i new ≡ drop i old
   shift-behind i past =
       let front = take to old ++ take k (drop from old) in
@@ -54,7 +54,7 @@ module _ (old new given : List ℕ) (at : ℕ) (within : at + length given ≤ l
   written-length =
       omega (arith, ap length written, length-append (take at old) (given ++ drop (at + length given) old), length-append given (drop (at + length given) old), length-take-le at old (omega arith), length-drop (at + length given) old)
 
-  -- from a place q on there stand then what stood there, what was given, and what stood behind the gap
+  -- from a place q on there is then what was there, what was given, and what was after the gap
   pub written-parts : (q s k : ℕ) → at ≡ q + s
       → take (s + (length given + k)) (drop q new) ≡ take s (drop q old) ++ (given ++ take k (drop (at + length given) old))
   written-parts q s k e =
@@ -70,7 +70,7 @@ module _ (old new given : List ℕ) (at : ℕ) (within : at + length given ≤ l
       ∙ take-append-add (take s (drop q old)) rest (length given + k)
       ∙ ap (λ l. take s (drop q old) ++ l) (take-append-add given (drop (at + length given) old) k)
 
--- `given` was written into the gap that stands behind the first s bytes from q on
+-- `given` was written into the gap that is after the first s bytes from q on
 module _ (old gapped new given : List ℕ) (p q s e k : ℕ) (within : q + s + length given ≤ length gapped)
     (front : take s (drop q gapped) ≡ take s (drop p old))
     (tail : take k (drop (q + (s + length given)) gapped) ≡ take k (drop (p + e) old))

@@ -1,4 +1,4 @@
--- A text that stands at a place of its array, and what it is once a part of it is replaced, dropped or kept.
+-- A text at an offset of its array, and what it is once a part of it is replaced, dropped or kept.
 use Rattle.std.proofs.Common.{◌≡◌, ℕ, ◌+◌, ◌-◌, ◌≤◌, List, [], ◌++◌, length, take, drop, refl, sym, ap, ◌∙◌, arith, IsUtf8, chars, true, take-take}
 use Rattle.std.proofs.lemmas.Str.{IsUtf8-append, IsUtf8-take, IsUtf8-drop, IsUtf8-nil, chars-nil}
 use Rattle.std.proofs.lemmas.List.{drop-take, drop-drop, append-nil}
@@ -57,7 +57,7 @@ module _ (places : ℕ) (array : List ℕ) (p n : ℕ) (is : IsStored places arr
   pub replaced-room : start + (length given + (n - end)) ≤ cap places
   replaced-room = omega (arith, opened-size places array p n is v e, boundary-within v.text end d)
 
-  -- q is where the text stands afterwards
+  -- q is the offset of the text afterwards
   module _ (u : IsUtf8 given) (after : List ℕ) (q : ℕ) (long : length after ≡ places)
       (held : q + (start + (length given + (n - end))) ≤ cap places)
       (written : take (start + (length given + (n - end))) (drop q after) ≡ take start (drop p array) ++ (given ++ take (n - end) (drop end (drop p array)))) where
@@ -71,7 +71,7 @@ module _ (places : ℕ) (array : List ℕ) (p n : ℕ) (is : IsStored places arr
         let low : start ≤ n = omega (arith, replaced-within) in
         replaced-text v.text (drop p array) n (opened-bytes places array p n is v e) (stored-utf8 places array p n is) given u start end low replaced-within b d _ written
 
--- `given` was written behind the text
+-- `given` was written after the text
 module _ (places : ℕ) (array : List ℕ) (p n : ℕ) (is : IsStored places array p n) (v : Stored) (e : stored array p n ≡ v)
     (given : List ℕ) (u : IsUtf8 given) (room : p + n + length given ≤ cap places) (after : List ℕ)
     (written : after ≡ take (p + n) array ++ (given ++ drop (p + n + length given) array)) where

@@ -47,7 +47,7 @@ pub record IsPartRetained {F : Type 0} (can : F → ℕ → Type 0) (steps : F �
   pub told : (more : List ℕ) → IsFiltered steps f (chars (between array place read size)) more
       → IsFiltered steps f₀ (chars (take size (drop place array₀))) (chars (kept_bytes array place kept run read) ++ more)
 
--- one run of bytes behind another
+-- one run of bytes after another
 between-split : (array : List ℕ) (place from mid to : ℕ) → from ≤ mid → mid ≤ to
     → between array place from to ≡ between array place from mid ++ between array place mid to
 between-split array place from mid to low high =
@@ -99,7 +99,7 @@ kept_bytes-more array place kept run read size c rest low order within starts =
     ∙ ap (λ l. between array place run read ++ l) (char-bytes array place read size c rest order within starts))
     ∙ sym (append_assoc (take kept (drop place array)) (between array place run read) (utf8 c))
 
--- the run of kept bytes is moved behind the first ones
+-- the run of kept bytes is moved after the first ones
 module _ (old new : List ℕ) (place kept run read size : ℕ) (first : kept ≤ run) (next : run ≤ read) (order : read ≤ size)
     (within : place + size ≤ length old)
     (moved : new ≡ take (place + kept) old ++ (take (read - run) (drop (place + run) old) ++ drop (place + kept + (read - run)) old)) where

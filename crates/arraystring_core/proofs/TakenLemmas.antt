@@ -24,7 +24,7 @@ joined-more pieces piece =
     ap joined (map-append piece_text pieces (piece ∷ [])) ∙ joined-append (map piece_text pieces) (piece_text piece ∷ [])
     ∙ ap (λ l. joined_pieces pieces ++ l) (append-nil (piece_text piece))
 
--- a text behind another
+-- a text after another
 pub behind : (old a b new : List ℕ) → new ≡ old ++ a → a ≡ b → new ≡ old ++ b
 behind old a b new e f = e ∙ ap (λ l. old ++ l) f
 
@@ -32,7 +32,7 @@ behind old a b new e f = e ∙ ap (λ l. old ++ l) f
 pub cut-none : (c n : ℕ) → n < width c → cut (c ∷ []) n ≡ []
 cut-none c n over = rw (lt-leb (width c) n over) refl
 
--- the text `now` is the text `old` and the items behind it, and the item x comes
+-- the text `now` is the text `old` and the items after it, and the item x comes
 module _ {A : Type 0} (spelled : List A → List ℕ) (one : A → List ℕ)
     (more : (items : List A) (x : A) → spelled (items ++ x ∷ []) ≡ spelled items ++ one x)
     (old now : List ℕ) (n : ℕ) (items : List A) (is : now ≡ old ++ spelled items) (filled : size old + size (spelled items) ≤ n) (x : A) where

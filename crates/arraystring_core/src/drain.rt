@@ -77,7 +77,7 @@ impl<const N: usize> Iterator for Drain<N> {
 
     /// The first character that is left; `None` where none is, and from then on.
     fn next(&mut self) -> Option<char> {
-        // Asked before the text is lent: a walk then reads each byte at its place in the array.
+        // Asked before the text is borrowed: a walk then reads each byte where it is in the array.
         if self.front == self.removed.len() {
             return None;
         }

@@ -59,7 +59,7 @@ one-from_letters (b ∷ bs) are = (λ e. omega (arith, are.0), one-from_letters 
 pub one-word : (c : Command) → IsOneWord (word c)
 one-word c = one-from_letters (word c) (letters-from_test (word c) ((told-by_word c).letters))
 
--- what stands behind a word and a space, read as arguments of these kinds
+-- what is after a word and a space, read as arguments of these kinds
 abbrev pub Reads : List ℕ → List ℕ → Type 0
 Reads rest kinds = (given : List Argument) × (map kind given ≡ kinds) × AreSpelled (space ∷ rest) given
 
@@ -132,7 +132,7 @@ pub before-same : (bs : List ℕ) (m n : ℕ) (rest others : List ℕ) → IsNum
 before-same bs m n rest others (ds, number, e) (es, also, f) =
     (first-space ds es rest others (number-one ds m number) (number-one es n also) (sym e ∙ f)).1
 
--- what is behind a number that was read
+-- what is after a number that was read
 pub reads-behind : (rest : List ℕ) (n : ℕ) (behind : List ℕ) (k : ℕ) (kinds : List ℕ) → IsNumberBefore rest n behind
     → Reads rest (0 ∷ k ∷ kinds) → Reads behind (k ∷ kinds)
 reads-behind rest n behind k kinds before read =

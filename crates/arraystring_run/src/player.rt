@@ -142,7 +142,7 @@ fn told<E: Write>(played: Result<(), PlayFault>, errors: &mut E) -> u8
     }
 }
 
-/// Reads to the end; a refused growth and a failed read are told apart.
+/// Reads to the end; a refused growth and a failed read are different faults.
 fn read_all<I: Read>(alloc: Global, input: &mut I) -> Result<Vec<u8>, PlayFault>
     ensures end { OnOk result (IsAtEnd (I.remaining input.new)) }
     ensures whole { IfOk result (λ v. IfSome (I.remaining input.old) (λ given. v.items ≡ given)) }

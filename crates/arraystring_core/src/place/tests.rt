@@ -1,4 +1,4 @@
-//! Strings whose texts do not begin at the first place of the array, beside strings that were built
+//! Strings whose texts do not begin at offset 0 of the array, beside strings that were built
 //! anew from the same texts: each call gives the same, worked out by hand.
 use super::*;
 use crate::ArrayString;
@@ -9,8 +9,8 @@ use crate::utils::is_char_boundary;
 use arraystring_base::error::{OutOfBounds, Utf8};
 use std::process::Abort;
 
-/// The string of a text that begins at the third place, and the one that was built anew. At 8 a
-/// text of six bytes fills the array up to its end, and one of four leaves two places behind it.
+/// The string of a text that begins at offset 2, and the one that was built anew. At 8 a
+/// text of six bytes fills the array up to its end, and one of four leaves two bytes after it.
 fn both(text: &str) -> [ArrayString<8>; 2] {
     let mut behind: ArrayString<8> = string("..");
     behind.push_str(text);
@@ -66,8 +66,8 @@ fn inserted(text: ArrayString<8>, index: u8, given: &str) -> (ArrayString<8>, u6
     (text, steps.moved())
 }
 
-/// Makes the calls of a table on a string whose text begins at the third place, and on one that was
-/// built anew from the same text, and asserts that each answers and leaves what its row says.
+/// Makes the calls of a table on a string whose text begins at offset 2, and on one that was
+/// built anew from the same text, and asserts that each returns and leaves what its row says.
 fn hold_wherever_it_begins(rt: &impl Abort, table: &str) {
     let [mut behind, mut anew] = both("");
     for row in rows(table) {
@@ -277,7 +277,7 @@ fn what_is_known_to_fit_is_put_in_front(rt: HostRuntime) {
     }
 }
 
-/// The string with three letters behind it as characters, and with them as pieces.
+/// The string with three letters after it as characters, and with them as pieces.
 fn filled_up(text: ArrayString<8>) -> [ArrayString<8>; 2] {
     let mut by_chars = text;
     by_chars.extend_chars(['x', 'y', 'z']);

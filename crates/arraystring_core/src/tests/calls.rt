@@ -1,14 +1,14 @@
 //! Tables of calls. The columns of a row are
 //!
-//!     text before | call | place or range | what is given | answer | text after | bytes that moved
+//!     text before | call | index or range | what is given | result | text after | bytes that moved
 //!
-//! where the last stands behind a call that counts. Where no text stands before, the call goes on
-//! with the string that the row above left; `new` is a new string. A text in quotes keeps its spaces.
+//! where only calls that count have the last. With no text before, the call goes on with the string
+//! that the row above left; `new` is a new string. A text in quotes keeps its spaces.
 //!
-//! The answer is a text or a character itself, `ok` for a call that gives nothing back, `None`, or the
-//! name of the refusal. A range stands as in Rust, or as two bounds in brackets: `(` and `)` leave a
-//! place out, `[` and `]` take it in. Where `untold` stands behind it, it is of a type that does not
-//! tell its bounds, and `walked` is an inclusive range that was walked to its end.
+//! The result is a text or a character itself, `ok` for a call that returns nothing, `None`, or the
+//! name of the refusal. A range is written as in Rust, or as two bounds in brackets: `(` and `)`
+//! exclude an index, `[` and `]` include it. With `untold` after it, it is of a type that does not
+//! tell its bounds, and `walked` is an inclusive range that was iterated to its end.
 ghost use Rattle.std.specs.Prelude.{◌≤◌};
 
 use super::table::{
@@ -22,7 +22,7 @@ use std::ops::{Bound, RangeBounds, RangeInclusive};
 use std::process::Abort;
 
 /// Makes the calls of a table on strings of the capacity of `text`, the first of them on `text` itself
-/// where its row says no other, and asserts what each answers and leaves.
+/// where its row says no other, and asserts what each returns and leaves.
 pub(crate) fn hold<R: Abort, const N: usize>(rt: &R, text: ArrayString<N>, table: &str)
     requires { N ≤ 300 }
 {
@@ -35,7 +35,7 @@ pub(crate) fn hold<R: Abort, const N: usize>(rt: &R, text: ArrayString<N>, table
     }
 }
 
-/// Makes the call of a row, and asserts what it answers and leaves.
+/// Makes the call of a row, and asserts what it returns and leaves.
 pub(crate) fn holds<R: Abort, const N: usize>(rt: &R, text: &mut ArrayString<N>, row: &str)
     requires { N ≤ 300 }
 {
@@ -152,7 +152,7 @@ fn removed<R: Abort, const N: usize>(
     })
 }
 
-/// Makes a call that answers nothing, and tells whether there is such a call.
+/// Makes a call that returns nothing, and whether there is such a call.
 fn changed<R: Abort, const N: usize>(rt: &R, text: &mut ArrayString<N>, row: &str) -> bool {
     match column(row, 1) {
         "trim" => text.trim(),
@@ -176,7 +176,7 @@ fn retain_without<const N: usize>(text: &mut ArrayString<N>, dropped: &str) {
     text.retain(|ch| !dropped.contains(ch));
 }
 
-/// What `split_off` answers.
+/// What `split_off` returns.
 fn split<const N: usize>(text: &mut ArrayString<N>, at: u8) -> MaxString
     requires { N ≤ 300 }
 {
@@ -317,7 +317,7 @@ impl RangeBounds<u8> for Untold {
     }
 }
 
-/// `1..=3` after all three numbers were taken from it: it is empty and stands at 3.
+/// `1..=3` after all three numbers were taken from it: it is empty and is at 3.
 fn walked() -> RangeInclusive<u8> {
     let mut range = 1..=3;
     for _ in 0..3 {
@@ -407,7 +407,7 @@ fn of_range<R: Abort, B: RangeBounds<u8> + Drop, const N: usize>(
     }
 }
 
-/// What `drain` answers.
+/// What `drain` returns.
 fn drained<const N: usize>(answer: Result<Drain<N>, Error>) -> MaxString {
     match answer {
         Ok(drain) => string(drain.as_str()),

@@ -1,4 +1,4 @@
-//! Tables of cases: a line of a text is a case, and `|` stands between its columns. However many lines a
+//! Tables of cases: a line of a text is a case, and `|` is between its columns. However many lines a
 //! table has, the test that walks over it is proved once.
 use super::{MaxString, string};
 use arraystring_base::error::{Error, OutOfBounds};
@@ -11,7 +11,7 @@ pub(crate) fn rows(table: &str) -> Lines {
     table.trim().lines()
 }
 
-/// A column of a row, without the spaces round it and without the quotes in which a text may stand.
+/// A column of a row, without the spaces round it and without the quotes in which a text may be.
 pub(crate) fn column(row: &str, at: usize) -> &str {
     let column = row
         .split('|')
@@ -42,7 +42,7 @@ pub(crate) fn agree<T: PartialEq + Debug + Drop>(rt: &impl Abort, case: &str, ga
     assert_eq!(rt; gave, wanted, "{case}");
 }
 
-/// What was answered as it stands in a table: a text itself, a refusal by its name.
+/// What was returned as it is written in a table: a text itself, a refusal by its name.
 pub(crate) fn told(answer: Result<&str, Error>) -> MaxString {
     match answer {
         Ok(text) => string(text),

@@ -121,7 +121,7 @@ fn what_was_drained_is_walked(rt: HostRuntime) {
     agree(&rt, "the text", text.as_str(), "D🤔");
 }
 
-/// What `drain` answered, as a string.
+/// What `drain` returned, as a string.
 fn left_of<const N: usize>(answer: Result<Drain<N>, Error>) -> Result<ArrayString<N>, Error> {
     Ok(string(answer?.as_str()))
 }
@@ -219,7 +219,7 @@ fn more_letters_than_fit(rt: HostRuntime) {
     agree(&rt, "the text", text.as_str(), "");
 }
 
-/// The bounds of what is behind the last place.
+/// The bounds of what is after the last place.
 const PAST: (Bound<u8>, Bound<u8>) = (Bound::Excluded(255), Bound::Unbounded);
 
 #[test]

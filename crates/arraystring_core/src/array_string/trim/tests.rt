@@ -23,7 +23,7 @@ fn trims<const N: usize>(text: ArrayString<N>) -> [ArrayString<N>; 2] {
     [trimmed, without_spaces]
 }
 
-/// `a` behind a character, before it, and between it and itself.
+/// `a` after a character, before it, and between it and itself.
 fn beside(end: char) -> [MaxString; 3] {
     let mut behind = MaxString::new();
     let _ = behind.try_push(end);
@@ -35,7 +35,7 @@ fn beside(end: char) -> [MaxString; 3] {
     [behind, before, between]
 }
 
-/// A text that begins at the third place of the array.
+/// A text that begins at offset 2 of the array.
 fn from_third_place(text: &str) -> ArrayString<8> {
     let mut behind: ArrayString<8> = string("..");
     behind.push_str(text);
@@ -44,7 +44,7 @@ fn from_third_place(text: &str) -> ArrayString<8> {
     behind
 }
 
-/// The string with as many digits behind it as fit.
+/// The string with as many digits after it as fit.
 fn grown(text: ArrayString<8>) -> ArrayString<8> {
     let mut text = text;
     text.push_str("12345678");
@@ -118,7 +118,7 @@ fn what_stands_beside_white_space_stays(rt: HostRuntime) {
     agree(&rt, "the list", BESIDE.chars().count(), 20);
 }
 
-/// Asserts what is left of a text that begins at the third place, and that it grows by as much as one
+/// Asserts what is left of a text that begins at offset 2, and that it grows by as much as one
 /// that was built anew.
 fn trimmed_behind_the_start(rt: &impl Abort, text: &str, trimmed: &str, without_spaces: &str) {
     let left = trims(from_third_place(text));

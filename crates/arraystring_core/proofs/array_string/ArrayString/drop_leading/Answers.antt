@@ -14,7 +14,7 @@ module _ (text lent rest : List ℕ) (ch : ℕ) (is : lent ≡ bytes text) (begi
       let found = first-char text 0 (boundary-is [] text 0 refl) ch rest (sym is ∙ begins) in
       (found.0, sym (back-start text) ∙ found.1)
 
-  -- the place behind it, and the text from there on
+  -- the place after it, and the text from there on
   module _ (k : ℕ) (wide : k ≡ width ch) where
     long : size (ch ∷ []) ≡ k
     long = omega (arith, wide)
