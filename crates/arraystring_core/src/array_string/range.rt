@@ -8,7 +8,7 @@ ghost use Rattle.std.specs.Range.Bound.{start_index, end_index};
 ghost use Rattle.arraystring_base.specs.Text.{bytes, cap, size, front, back, boundary};
 ghost use Rattle.arraystring_core.specs.RangeEnds.{OfToldBounds, lo, hi};
 ghost use Rattle.arraystring_core.specs.Drained.{with_left};
-ghost use Rattle.arraystring_core.specs.Edits.{Makes, with_text, draining, replacement, part, part_in};
+ghost use Rattle.arraystring_core.specs.Edits.{Makes, draining, replacement, part, part_in};
 
 use crate::range_ends::{plain_ends, saturating_ends};
 use crate::{ArrayString, Drain};
@@ -63,6 +63,7 @@ impl<const N: usize> ArrayString<N> {
     /// let drained = line.drain(1..=2); // Ok of 'b' and 'c', and the text is "ade"
     /// let past = line.drain(2..9); // Err(OutOfBounds)
     /// ```
+    #[inline(always)]
     pub fn drain<R: RangeBounds<u8> + Drop>(&mut self, range: R) -> Result<Drain<N>, Error>
         ensures { OfToldBounds R.has_bounds R.start_bound R.end_bound range (λ start end. let t = self.old.text in
             Makes (draining t (lo start) (hi end (size t))) t (with_left result) self.new.text) }
@@ -74,6 +75,7 @@ impl<const N: usize> ArrayString<N> {
     /// range is not empty, it moves at least as many as the shorter of the parts before and after
     /// it has. It moves none where the range begins at index 0, and none where it is refused. Both
     /// counts must be at most 2^63.
+    #[inline(always)]
     pub fn drain_counted<R: RangeBounds<u8> + Drop>(
         &mut self,
         range: R,
@@ -93,8 +95,7 @@ impl<const N: usize> ArrayString<N> {
         ensures looked { steps.new.looked ≡ steps.old.looked }
     {
         let (start, end) = saturating_ends(range, self.len());
-        let removed = self.take_between(start, end, steps)?;
-        Ok(Drain::new(removed))
+        self.take_between(start, end, steps)
     }
 
     /// Puts `with` in place of the part in the range. An excluded start and an included end add 1,
@@ -182,9 +183,10 @@ impl<const N: usize> ArrayString<N> {
     }
 
     /// Takes the bytes from `start` to `end` out of the string and returns them.
-    fn take_between(&mut self, start: u8, end: u8, steps: &mut Steps) -> Result<Self, Error>
+    #[inline(always)]
+    fn take_between(&mut self, start: u8, end: u8, steps: &mut Steps) -> Result<Drain<N>, Error>
         requires { steps.old.moved ≤ 2 ^ 63 }
-        ensures edit { Makes (draining self.old.text start end) self.old.text (with_text result) self.new.text }
+        ensures edit { Makes (draining self.old.text start end) self.old.text (with_left result) self.new.text }
         ensures refused { OnErr result (steps.new.moved ≡ steps.old.moved) }
         ensures free { start ≡ 0 → steps.new.moved ≡ steps.old.moved }
         ensures tail_alone { steps.new.moved ≤ steps.old.moved + (size self.old.text - end) }
@@ -205,7 +207,7 @@ impl<const N: usize> ArrayString<N> {
         if !self.is_boundary(to) {
             return Err(Error::Utf8);
         }
-        let removed = Self::from_str_unchecked(self.between(from, to));
+        let removed = Drain::new(self.array, self.start + start, self.start + end);
         self.take_out(from, to, steps);
         Ok(removed)
     }

@@ -4,6 +4,7 @@ ghost use Rattle.arraystring_base.specs.Text.{cap, size};
 ghost use Rattle.arraystring_core.specs.Drained.{Front, Back, walked};
 
 use super::*;
+use crate::ArrayString;
 use crate::tests::table::agree;
 use crate::tests::{SmallString, string};
 use std::process::Abort;

@@ -1,51 +1,64 @@
-use Rattle.std.proofs.Common.{◌≡◌, ◌≢◌, [], ◌∷◌, ◌++◌, length, sym, ap, ◌∙◌, arith, Some, length-append}
-use Rattle.arraystring_base.specs.Text.{size, back}
-use Rattle.arraystring_base.specs.TextLaws.{empty-size}
-use Rattle.arraystring_core.specs.Edits.{last_of}
-use Rattle.arraystring_core.proofs.DrainLemmas.{ends-with, none-left, some-left, back-char, back-given, back-rest}
+use Rattle.std.proofs.Common.{◌≡◌, [], ◌∷◌, ◌++◌, ◌+◌, sym, ap, ◌∙◌, arith}
+use Rattle.arraystring_base.specs.TextLaws.{chars-bytes}
+use Rattle.arraystring_core.specs.Drained.{drained}
+use Rattle.arraystring_core.proofs.DrainLemmas.{none-left, pushed-length, last-given, last-rest, back-within, back-given, back-rest}
 use Rattle.arraystring_core.proofs.drain.DrainDoubleEndedIterator.next_back.Goals as goal
 
-pub returns-then-self-len-clause-steps : goal.returns-then-self-len-clause-steps
-returns-then-self-len-clause-steps g c =
-    let left = c.args.self.now.left in
-    let s = c.self.inside in
-    let met : s.front ≡ size s.removed.text = omega (arith, c.if-self-len.true, c.len.ensures.value) in
-    let none = empty-size left (none-left g.row.N s.removed s.front c.self.invariant left (ap (λ d. d.left) c.self.view_is) met) in
-    (none, none)
+pub returns-then-self-clause-steps : goal.returns-then-self-clause-steps
+returns-then-self-clause-steps g c =
+    let none = sym (ap (λ d. d.left) c.self.view_is) ∙ none-left g.row.N _ _ _ c.self.invariant c.if-self.true in (none, none)
 
 pub invariant_of-self : goal.invariant_of-self
-invariant_of-self g c =
+invariant_of-self g c = last-given g.row.N _ _ _ c.self.invariant c.if-self.false c.if-last-lt128.true
+
+pub returns-then-last-lt128-clause-steps : goal.returns-then-last-lt128-clause-steps
+returns-then-last-lt128-clause-steps g c =
+    sym (ap (λ d. d.left) c.self.view_is) ∙ last-rest g.row.N _ _ _ c.self.invariant c.if-self.false c.if-last-lt128.true
+
+pub returns-then-last-lt128-clause-goes : goal.returns-then-last-lt128-clause-goes
+returns-then-last-lt128-clause-goes g c =
+    let shorter = pushed-length _ _ _ (returns-then-last-lt128-clause-steps g c) in
+    record { on = λ _. (tt, tt, omega (arith, shorter)); keeps = tt; rests = λ _. tt }
+
+pub returns-in_err-start-clause-steps : goal.returns-in_err-start-clause-steps
+returns-in_err-start-clause-steps g c =
     let left = c.args.self.now.left in
-    let s = c.self.inside in
-    let shown : back s.removed.text s.front ≡ left = ap (λ d. d.left) c.self.view_is in
-    let apart : s.front ≢ size s.removed.text = λ e. c.if-self-len.false (e ∙ sym c.len.ensures.value) in
-    let ends = ends-with left (some-left g.row.N s.removed s.front c.self.invariant left shown apart) in
-    back-given g.row.N s.removed s.front c.self.invariant left shown ends.1 ends.0 ends.2 c.pop.new.self c.pop.ensures.ok
+    let none : left ≡ [] = sym (chars-bytes _ left c.as_str.utf8 c.as_str.ensures.bytes) ∙ c.in_err-start.ensures.none in
+    rw c.from_residual.ensures (none, none)
+
+pub overflow_cast-self : goal.overflow_cast-self
+overflow_cast-self g c =
+    let left = c.args.self.now.left in
+    let found = c.in_ok-start.ensures.some in
+    let ends = ap (λ d. d.left) c.self.view_is ∙ sym (chars-bytes _ left c.as_str.utf8 c.as_str.ensures.bytes) ∙ found.1 in
+    omega (arith, back-within g.row.N _ _ _ c.self.invariant c.in_ok-start.ch found.0 ends, found.2, c.self.invariant.held.0, c.self.invariant.order)
+
+pub overflow_add-self : goal.overflow_add-self
+overflow_add-self g c =
+    let left = c.args.self.now.left in
+    let found = c.in_ok-start.ensures.some in
+    let ends = ap (λ d. d.left) c.self.view_is ∙ sym (chars-bytes _ left c.as_str.utf8 c.as_str.ensures.bytes) ∙ found.1 in
+    omega (arith, back-within g.row.N _ _ _ c.self.invariant c.in_ok-start.ch found.0 ends, found.2, c.self.invariant.held.0, c.self.invariant.order)
+
+pub invariant_of-self-2 : goal.invariant_of-self-2
+invariant_of-self-2 g c =
+    let left = c.args.self.now.left in
+    let found = c.in_ok-start.ensures.some in
+    let ends = ap (λ d. d.left) c.self.view_is ∙ sym (chars-bytes _ left c.as_str.utf8 c.as_str.ensures.bytes) ∙ found.1 in
+    rw (← found.2) (back-given g.row.N _ _ _ c.self.invariant c.in_ok-start.ch found.0 ends)
 
 pub returns-clause-steps : goal.returns-clause-steps
 returns-clause-steps g c =
     let left = c.args.self.now.left in
     let s = c.self.inside in
-    let shown : back s.removed.text s.front ≡ left = ap (λ d. d.left) c.self.view_is in
-    let apart : s.front ≢ size s.removed.text = λ e. c.if-self-len.false (e ∙ sym c.len.ensures.value) in
-    let ends = ends-with left (some-left g.row.N s.removed s.front c.self.invariant left shown apart) in
-    let last = back-char g.row.N s.removed s.front c.self.invariant left shown ends.1 ends.0 ends.2 in
-    let rest = back-rest g.row.N s.removed s.front c.self.invariant left shown ends.1 ends.0 ends.2 c.pop.new.self c.pop.ensures.ok in
-    let answer = c.pop.ensures.answer in
-    let popped : c.pop.result ≡ last_of s.removed.text = cc in
-    let is : c.pop.result ≡ Some ends.1 = popped ∙ last in
-    rw is (ends.2 ∙ ap (λ l. l ++ ends.1 ∷ []) (sym rest))
+    let ch = c.in_ok-start.ch in
+    let found = c.in_ok-start.ensures.some in
+    let lent = sym (chars-bytes _ left c.as_str.utf8 c.as_str.ensures.bytes) ∙ found.1 in
+    let ends = ap (λ d. d.left) c.self.view_is ∙ lent in
+    let rest = sym (back-rest g.row.N _ _ _ c.self.invariant ch found.0 ends) ∙ ap (λ i. (drained s.array s.front (s.front + i)).left) found.2 in
+    lent ∙ ap (λ l. l ++ ch ∷ []) rest
 
 pub returns-clause-goes : goal.returns-clause-goes
 returns-clause-goes g c =
-    let left = c.args.self.now.left in
-    let s = c.self.inside in
-    let shown : back s.removed.text s.front ≡ left = ap (λ d. d.left) c.self.view_is in
-    let apart : s.front ≢ size s.removed.text = λ e. c.if-self-len.false (e ∙ sym c.len.ensures.value) in
-    let ends = ends-with left (some-left g.row.N s.removed s.front c.self.invariant left shown apart) in
-    let last = back-char g.row.N s.removed s.front c.self.invariant left shown ends.1 ends.0 ends.2 in
-    let rest = back-rest g.row.N s.removed s.front c.self.invariant left shown ends.1 ends.0 ends.2 c.pop.new.self c.pop.ensures.ok in
-    let answer = c.pop.ensures.answer in
-    let popped : c.pop.result ≡ last_of s.removed.text = cc in
-    let is : c.pop.result ≡ Some ends.1 = popped ∙ last in
-    rw is (record { on = λ _. (tt, tt, omega (arith, ap length ends.2, length-append ends.0 (ends.1 ∷ []), ap length rest)); keeps = tt; rests = λ _. tt })
+    let shorter = pushed-length _ _ _ (returns-clause-steps g c) in
+    record { on = λ _. (tt, tt, omega (arith, shorter)); keeps = tt; rests = λ _. tt }
