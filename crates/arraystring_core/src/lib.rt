@@ -9,6 +9,7 @@ pub mod laws;
 mod place;
 mod range_ends;
 pub mod utils;
+mod well_formed;
 
 pub use array_string::ArrayString;
 pub use drain::Drain;

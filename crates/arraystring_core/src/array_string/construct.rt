@@ -9,6 +9,7 @@ ghost use Rattle.arraystring_core.specs.Taken.{Takes, TakesAll, Fits, Gives, joi
 
 use super::ArrayString;
 use crate::place::copy_in;
+use crate::well_formed::read_utf8;
 use arraystring_base::error::{Error, OutOfBounds, Utf8};
 use arraystring_base::utils::truncate_str;
 use std::str::{self, FromStr};
@@ -152,13 +153,13 @@ impl<const N: usize> ArrayString<N> {
         ensures bytes { IfOk result (λ made. bytes made.text ≡ given.now) }
         ensures text { IfOk result (λ made. IsText made.text) }
     {
-        match str::from_utf8(given) {
-            Ok(string) => match Self::try_from_str(string) {
-                Ok(made) => Ok(made),
-                Err(OutOfBounds) => Err(Error::OutOfBounds),
-            },
-            Err(_) => Err(Error::Utf8),
+        let Ok(text) = read_utf8(given) else {
+            return Err(Error::Utf8);
+        };
+        if text.len() > Self::capacity() as usize {
+            return Err(Error::OutOfBounds);
         }
+        Ok(Self::from_str_unchecked(text))
     }
 
     /// The longest leading run of whole characters that fits of the text whose UTF-8 is `given`.
@@ -169,7 +170,7 @@ impl<const N: usize> ArrayString<N> {
         ensures cut { (t : List ℕ) → IsText t → bytes t ≡ given.now → IfOk result (λ made. made.text ≡ cut t (cap N)) }
         ensures text { IfOk result (λ made. IsText made.text) }
     {
-        let Ok(string) = str::from_utf8(given) else {
+        let Ok(string) = read_utf8(given) else {
             return Err(Utf8);
         };
         Ok(Self::from_str_truncate(string))

@@ -7,7 +7,7 @@ use Rattle.arraystring_core.proofs.array_string.ArrayString.from_utf8.Goals as g
 pub returns : goal.returns
 returns g c =
     let given = c.args.given.now in
-    let read = c.in-Ok.ensures.cases in
+    let read = c.in-Ok.ensures in
     record {
       well_formed = (λ _. utf8-well_formed given read.1, λ _. refl);
       cut = λ t is e. c.from_str_truncate.ensures ∙ ap (λ bs. cut (chars bs) (cap g.row.N)) read.0
@@ -16,4 +16,4 @@ returns g c =
     }
 
 pub returns-in_default-clause-well_formed : goal.returns-in_default-clause-well_formed
-returns-in_default-clause-well_formed g c = (λ e. cc, λ well. absurd (c.in_default.ensures.cases.0 (well_formed-utf8 c.args.given.now well)))
+returns-in_default-clause-well_formed g c = (λ e. cc, λ well. absurd (c.in_default.ensures (well_formed-utf8 c.args.given.now well)))

@@ -1,0 +1,70 @@
+//! The test of UTF-8, many bytes at a time.
+ghost use Rattle.std.specs.Prelude.{◌≡◌, ℕ, ◌+◌, ◌<◌, ◌≤◌, length, slice_index, IsTrue, IsAscii, IsUtf8, MatchResult};
+
+use arraystring_base::error::Utf8;
+use std::simd::Simd;
+use std::str;
+
+/// The text whose UTF-8 is `given`. Refused where `given` is not well-formed. Few bytes are left to
+/// std, as its test has less to set up. Most texts are ASCII, for which a shorter test is enough.
+pub(crate) fn read_utf8(given: &[u8]) -> Result<&str, Utf8>
+    ensures { MatchResult result (λ string. (string.now ≡ given.now) × IsUtf8 given.now) (λ _. ¬ (IsUtf8 given.now)) }
+{
+    if given.len() < 16 {
+        return match str::from_utf8(given) {
+            Ok(string) => Ok(string),
+            Err(_) => Err(Utf8),
+        };
+    }
+    if is_ascii(given) || simdutf8::is_utf8(given) {
+        Ok(unsafe { str::from_utf8_unchecked(given) })
+    } else {
+        Err(Utf8)
+    }
+}
+
+/// Whether all bytes are ASCII.
+fn is_ascii(given: &[u8]) -> bool
+    requires { 16 ≤ length given.now }
+    ensures { IsTrue result → IsAscii given.now }
+{
+    if given.len() < 64 {
+        is_ascii_by_blocks::<16>(given)
+    } else {
+        is_ascii_by_blocks::<64>(given)
+    }
+}
+
+/// The same by blocks of `K` bytes. The last block ends where the bytes end, and may overlap the one
+/// before it.
+#[inline(always)]
+fn is_ascii_by_blocks<const K: usize>(given: &[u8]) -> bool
+    requires some { 0 < K }
+    requires few { K ≤ 64 }
+    requires block { K ≤ length given.now }
+    ensures { IsTrue result → IsAscii given.now }
+{
+    let last = given.len() - K;
+    let mut at = 0;
+    while at < last {
+        if !is_ascii_block::<K>(given, at) {
+            return false;
+        }
+        at += K;
+    }
+    is_ascii_block::<K>(given, last)
+}
+
+/// Whether the `K` bytes from `at` on are ASCII.
+#[inline(always)]
+fn is_ascii_block<const K: usize>(given: &[u8], at: usize) -> bool
+    requires few { K ≤ 64 }
+    requires block { at + K ≤ length given.now }
+    ensures { IsTrue result → (k : ℕ) → at ≤ k → k < at + K → slice_index given.now k < 128 }
+{
+    let block = Simd::<u8, K>::from_slice(&given[at..]);
+    block.simd_ge(Simd::splat(128)).to_bitmask() == 0
+}
+
+#[cfg(test)]
+mod tests;
