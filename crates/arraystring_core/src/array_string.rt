@@ -55,7 +55,7 @@ impl<const N: usize> Model for ArrayString<N> {
 
 impl<const N: usize> ArrayString<N> {
     /// The empty string.
-    #[inline]
+    #[inline(always)]
     pub const fn new() -> Self
         ensures { result.text ≡ [] }
     {
@@ -150,10 +150,17 @@ impl<const N: usize> ArrayString<N> {
     pub fn try_push_str(&mut self, string: &str) -> Result<(), OutOfBounds>
         ensures { Makes (addition self.old.text (chars string.now) (cap N)) self.old.text (from_out_of_bounds result) self.new.text }
     {
-        if self.len() as usize + string.len() > Self::capacity() as usize {
-            return Err(OutOfBounds);
+        // Room after the text is asked first: where there is some, it is the only test.
+        let size = self.len() as usize;
+        let capacity = Self::capacity() as usize;
+        if self.start as usize + size + string.len() > capacity {
+            if size + string.len() > capacity {
+                return Err(OutOfBounds);
+            }
+            self.push_str_at_start(string);
+        } else {
+            self.push_str_unchecked(string);
         }
-        self.push_str_unchecked(string);
         Ok(())
     }
 
