@@ -6,9 +6,8 @@ use super::*;
 
 pub(crate) mod calls;
 mod edges;
+pub(crate) mod prints;
 pub(crate) mod table;
-
-pub(crate) type SmallString = ArrayString<23>;
 
 pub(crate) type MaxString = ArrayString<255>;
 
@@ -18,14 +17,5 @@ pub(crate) fn string<const N: usize>(text: &str) -> ArrayString<N>
 {
     let mut string = ArrayString::new();
     string.push_str(text);
-    string
-}
-
-/// A string of 255 letters, as many as fit into any.
-pub(crate) fn letters<const N: usize>() -> ArrayString<N> {
-    let mut string = ArrayString::new();
-    for _ in 0..255 {
-        string.push_str("x");
-    }
     string
 }

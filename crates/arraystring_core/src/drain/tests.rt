@@ -5,8 +5,8 @@ ghost use Rattle.arraystring_core.specs.Drained.{Front, Back, walked};
 
 use super::*;
 use crate::ArrayString;
-use crate::tests::table::agree;
-use crate::tests::{SmallString, string};
+use crate::tests::string;
+use crate::tests::table::{agree, column, number, rows, told_next};
 use std::process::Abort;
 
 /// Walks by one end after the other, the front where true, and returns what came from the front and
@@ -33,81 +33,139 @@ fn walk<const N: usize>(drain: &mut Drain<N>, ends: &[bool]) -> (ArrayString<N>,
     (fronts, backs)
 }
 
+/// What `[ ]` has in it of a text, taken out of it.
+fn taken_out<const N: usize>(written: &str) -> Drain<N> {
+    let (before, rest) = written.split_once('[').unwrap_or_default();
+    let (inside, after) = rest.split_once(']').unwrap_or_default();
+    let mut text: ArrayString<N> = string(before);
+    let start = text.len();
+    text.push_str(inside);
+    let end = text.len();
+    text.push_str(after);
+    text.drain(start..end).unwrap_or_default()
+}
+
+/// Asserts what steps over a drain give. The columns of a row are
+///
+///     text, with what is taken out in `[ ]` | step | result | what is left
+///
+/// With no text, the step is one of the drain that the row above left, and first of a default drain.
+fn hold<const N: usize>(rt: &impl Abort, table: &str)
+    requires { N ≤ 300 }
+{
+    let mut drain = Drain::<N>::default();
+    for row in rows(table) {
+        if !column(row, 0).is_empty() {
+            drain = taken_out(column(row, 0));
+        }
+        let answer = match column(row, 1) {
+            "next" => drain.next(),
+            _ => drain.next_back(),
+        };
+        let answer = told_next(answer);
+        agree(
+            rt,
+            row,
+            (answer.as_str(), drain.as_str()),
+            (column(row, 2), column(row, 3)),
+        );
+    }
+}
+
 #[test]
 fn both_ends_in_turn(rt: HostRuntime) {
-    let mut text: SmallString = string("A🤔B");
-    let mut drain = text.drain(..).unwrap_or_default();
+    hold::<23>(
+        &rt,
+        "
+        [A🤔B]   | next      | A    | 🤔B
+                 | next_back | B    | 🤔
+                 | next      | 🤔   |
+                 | next_back | None |
+                 | next      | None |
+                 | next      | None |
+        [A🤔B]   | next_back | B    | A🤔
+        [ABC]D🤔 | next      | A    | BC
+                 | next      | B    | C
+                 | next      | C    |
+                 | next      | None |
+        ",
+    );
+}
+
+#[test]
+fn a_drain_of_nothing(rt: HostRuntime) {
+    hold::<4>(
+        &rt,
+        "
+         | next      | None |
+         | next_back | None |
+        ",
+    );
+    hold::<0>(
+        &rt,
+        "
+        [] | next      | None |
+           | next_back | None |
+        ",
+    );
+}
+
+#[test]
+fn a_copy_keeps_what_it_had(rt: HostRuntime) {
+    let mut drain = taken_out::<23>("[A🤔B]");
     let mut copy = drain;
     agree(&rt, "the front", drain.next(), Some('A'));
-    agree(&rt, "the back", drain.next_back(), Some('B'));
-    agree(&rt, "the middle", drain.as_str(), "🤔");
-    agree(&rt, "the front again", drain.next(), Some('🤔'));
-    agree(&rt, "nothing", drain.as_str(), "");
-    agree(&rt, "the back at the end", drain.next_back(), None);
-    agree(&rt, "the front at the end", drain.next(), None);
-    agree(&rt, "the front past the end", drain.next(), None);
     agree(&rt, "the copy", copy.as_str(), "A🤔B");
     agree(&rt, "the back of the copy", copy.next_back(), Some('B'));
 }
 
 #[test]
-fn a_drain_of_nothing(rt: HostRuntime) {
-    let mut none = Drain::<4>::default();
-    agree(&rt, "the text", none.as_str(), "");
-    agree(&rt, "the front", none.next(), None);
-    agree(&rt, "the back", none.next_back(), None);
-}
-
-#[test]
 fn both_ends_in_a_walk(rt: HostRuntime) {
-    let mut text: SmallString = string("aé€🤔bé");
-    let Ok(mut drain) = text.drain(..) else {
-        return assert!(rt; false, "the range has boundaries");
-    };
+    let mut drain = taken_out::<23>("[aé€🤔bé]");
     if drain.as_str().len() > 23 {
-        return assert!(rt; false, "no more is taken out than was there");
+        return agree(&rt, "more is taken out than was there", true, false);
     }
     let (fronts, backs) = walk(&mut drain, &[true, false, false, true]);
-    agree(&rt, "from the front", fronts.as_str(), "aé");
-    agree(&rt, "what is left", drain.as_str(), "€🤔");
-    agree(&rt, "from the back", backs.as_str(), "éb");
+    agree(
+        &rt,
+        "from the front, what is left, from the back",
+        (fronts.as_str(), drain.as_str(), backs.as_str()),
+        ("aé", "€🤔", "éb"),
+    );
 }
 
 /// Walks all of a text by one choice of ends: the back where the choice has a bit.
 fn walk_by(rt: &impl Abort, text: &str, choice: u32) {
-    let mut whole: SmallString = string(text);
-    let Ok(mut drain) = whole.drain(..) else {
-        return assert!(rt; false, "the range has boundaries");
-    };
+    let mut drain = string::<23>(text).drain(..).unwrap_or_default();
     let mut wanted = text.chars();
     let mut choice = choice;
     for _ in text.chars() {
-        if choice & 1 == 0 {
-            agree(rt, text, drain.next(), wanted.next());
+        let steps = if choice & 1 == 0 {
+            (drain.next(), wanted.next())
         } else {
-            agree(rt, text, drain.next_back(), wanted.next_back());
-        }
+            (drain.next_back(), wanted.next_back())
+        };
+        agree(rt, text, steps.0, steps.1);
         choice >>= 1;
     }
     agree(rt, text, drain.as_str(), "");
-    agree(rt, text, drain.next(), None);
-    agree(rt, text, drain.next_back(), None);
-}
-
-/// Walks all of a text by each of so many choices of ends.
-fn walk_each_way(rt: &impl Abort, text: &str, choices: u32) {
-    for choice in 0..choices {
-        walk_by(rt, text, choice);
-    }
+    agree(rt, text, (drain.next(), drain.next_back()), (None, None));
 }
 
 #[test]
 fn each_walk(rt: HostRuntime) {
-    walk_each_way(&rt, "", 1);
-    walk_each_way(&rt, "a", 2);
-    walk_each_way(&rt, "aé", 4);
-    walk_each_way(&rt, "aé€", 8);
-    walk_each_way(&rt, "aé€🤔", 16);
-    walk_each_way(&rt, "aé€🤔b", 32);
-    walk_each_way(&rt, "aé€🤔bé", 64);
+    let table = "
+        1  |
+        2  | a
+        4  | aé
+        8  | aé€
+        16 | aé€🤔
+        32 | aé€🤔b
+        64 | aé€🤔bé
+        ";
+    for row in rows(table) {
+        for choice in 0..number(&rt, row, 0) {
+            walk_by(&rt, column(row, 1), choice as u32);
+        }
+    }
 }

@@ -1,71 +1,66 @@
 //! Strings to JSON values and back, worked out by hand.
+ghost use Rattle.std.specs.Prelude.{◌≤◌};
+
 use super::*;
-use crate::tests::table::agree;
-use std::test::Fail;
+use crate::tests::prints::{debugs, displays};
+use crate::tests::table::{MANY_LETTERS, agree, column, rows};
+use crate::tests::{MaxString, string};
+use std::process::Abort;
+
+/// Asserts that a text which fits is a JSON text of its characters, and is read back.
+fn kept<const N: usize>(rt: &(impl Abort + AllocGlobal), text: &str)
+    requires { N ≤ 300 }
+{
+    let string = ArrayString::<N>::from(text);
+    let value = string
+        .to_value(rt.alloc())
+        .expect(rt, "memory for the value");
+    agree(rt, text, value.as_str(), Some(text));
+    agree(rt, text, ArrayString::from_value(&value), Ok(string));
+}
 
 #[test]
-fn a_string_is_read_back(rt: HostRuntime) -> Result<(), Fail> {
+fn a_string_is_read_back(rt: HostRuntime) {
+    kept::<8>(&rt, "abcdefg");
+    kept::<255>(&rt, MANY_LETTERS);
     let string = ArrayString::<8>::from("abcdefg");
-    let value = string.to_value(rt.alloc())?;
-    agree(&rt, "the value", value.as_str(), Some("abcdefg"));
-    let printed = value.to_string(rt.alloc())?;
-    agree(&rt, "its text", printed.as_str(), "\"abcdefg\"");
-    agree(
-        &rt,
-        "read back",
-        ArrayString::from_value(&value),
-        Ok(string),
-    );
-    Ok(())
+    let value = string.to_value(rt.alloc()).expect(&rt, "memory for it");
+    displays(&rt, "{}", &value, "\"abcdefg\"");
 }
 
-#[test]
-fn a_full_string_is_read_back(rt: HostRuntime) -> Result<(), Fail> {
-    let letters = "abcde".repeat(rt.alloc(), 51)?;
-    let string = ArrayString::<255>::from(letters.as_str());
-    let value = string.to_value(rt.alloc())?;
-    agree(&rt, "the value", value.as_str(), Some(letters.as_str()));
-    agree(
-        &rt,
-        "read back",
-        ArrayString::from_value(&value),
-        Ok(string),
-    );
-    Ok(())
+/// The value that a JSON text says.
+fn value_of(rt: &(impl Abort + AllocGlobal), json: &str) -> Value {
+    Value::from_str(rt.alloc(), json).expect(rt, "a JSON text")
 }
 
-#[test]
-fn a_text_is_cut_to_the_capacity(rt: HostRuntime) -> Result<(), Fail> {
-    let letters = "abcdefghij".repeat(rt.alloc(), 7)?;
-    let value = Value::String(letters);
-    let string = ArrayString::<63>::from_value(&value)?;
-    let sixty = "abcdefghijabcdefghijabcdefghijabcdefghijabcdefghijabcdefghij";
-    agree(&rt, "the front", string.as_str().get(..60), Some(sixty));
-    agree(&rt, "the end", string.as_str().get(60..), Some("abc"));
-    Ok(())
-}
-
-#[test]
-fn escapes_are_characters(rt: HostRuntime) -> Result<(), Fail> {
-    let value = Value::from_str(rt.alloc(), "\"a\\u00e9\\n\"")?;
-    let string = ArrayString::<8>::from_value(&value)?;
-    agree(&rt, "the text", string.as_str(), "aé\n");
-    Ok(())
-}
-
-#[test]
-fn other_values_are_not_texts(rt: HostRuntime) -> Result<(), Fail> {
-    let values = "null true false 7 -7 0.5 1e300 [] [\"a\"] {}";
-    for text in values.split(' ') {
-        let value = Value::from_str(rt.alloc(), text)?;
-        agree(
-            &rt,
-            text,
-            ArrayString::<63>::from_value(&value),
-            Err(NotText),
-        );
+/// What is read of a JSON text, as it is written in a table.
+fn read<const N: usize>(rt: &(impl Abort + AllocGlobal), json: &str) -> MaxString
+    requires { N ≤ 300 }
+{
+    match ArrayString::<N>::from_value(&value_of(rt, json)) {
+        Ok(made) => string(made.as_str()),
+        Err(NotText) => string("NotText"),
     }
-    Ok(())
+}
+
+#[test]
+fn a_text_is_cut_to_the_capacity(rt: HostRuntime) {
+    let json = "\"abcdefghijabcdefghijabcdefghijabcdefghijabcdefghijabcdefghijabcdefghij\"";
+    let wanted = "abcdefghijabcdefghijabcdefghijabcdefghijabcdefghijabcdefghijabc";
+    agree(&rt, "seventy", read::<63>(&rt, json).as_str(), wanted);
+}
+
+#[test]
+fn escapes_are_characters(rt: HostRuntime) {
+    let read = read::<8>(&rt, "\"a\\u00e9\\n\"");
+    agree(&rt, "the text", read.as_str(), "aé\n");
+}
+
+#[test]
+fn other_values_are_not_texts(rt: HostRuntime) {
+    for json in "null true false 7 -7 0.5 1e300 [] [\"a\"] {}".split(' ') {
+        agree(&rt, json, read::<63>(&rt, json).as_str(), "NotText");
+    }
 }
 
 fn as_std_error<E: Error>(error: E) -> E {
@@ -73,10 +68,10 @@ fn as_std_error<E: Error>(error: E) -> E {
 }
 
 #[test]
-fn the_refusal_prints_its_name(rt: HostRuntime) -> Result<(), Fail> {
+fn the_refusal_prints_its_name(rt: HostRuntime) {
     let refusal = as_std_error(NotText);
-    let printed = format!(in rt.alloc(); "{refusal}|{refusal:12}|{refusal:?}|{refusal:>12?}")?;
-    let wanted = "NotText|NotText|NotText|NotText";
-    agree(&rt, "each form", printed.as_str(), wanted);
-    Ok(())
+    displays(&rt, "{}", &refusal, "NotText");
+    displays(&rt, "{:12}", &refusal, "NotText");
+    debugs(&rt, "{:?}", &refusal, "NotText");
+    debugs(&rt, "{:>12?}", &refusal, "NotText");
 }

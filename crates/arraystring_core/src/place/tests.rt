@@ -1,12 +1,9 @@
 //! Strings whose texts do not begin at offset 0 of the array, beside strings that were built
 //! anew from the same texts: each call gives the same, worked out by hand.
-use super::*;
 use crate::ArrayString;
 use crate::tests::calls::{hold, holds};
-use crate::tests::table::{agree, column, rows};
-use crate::tests::{letters, string};
-use crate::utils::is_char_boundary;
-use arraystring_base::error::{OutOfBounds, Utf8};
+use crate::tests::string;
+use crate::tests::table::{column, rows};
 use std::process::Abort;
 
 /// The string of a text that begins at offset 2, and the one that was built anew. At 8 a
@@ -16,54 +13,6 @@ fn both(text: &str) -> [ArrayString<8>; 2] {
     behind.push_str(text);
     let _ = behind.drain(..2);
     [behind, string(text)]
-}
-
-/// The string with `ch` at its end by `push_unchecked`, where it fits.
-fn pushed(text: ArrayString<8>, ch: char) -> Option<ArrayString<8>> {
-    if text.len() as usize + ch.len_utf8() > 8 {
-        return None;
-    }
-    let mut text = text;
-    text.push_unchecked(ch);
-    Some(text)
-}
-
-/// The string with `given` at its end by `push_str_unchecked`, where it fits.
-fn pushed_str(text: ArrayString<8>, given: &str) -> Option<ArrayString<8>> {
-    if text.len() as usize + given.len() > 8 {
-        return None;
-    }
-    let mut text = text;
-    text.push_str_unchecked(given);
-    Some(text)
-}
-
-/// The string with `ch` in front of it by `insert_unchecked`, where it fits.
-fn with_front(text: ArrayString<8>, ch: char) -> Option<ArrayString<8>> {
-    if text.len() as usize + ch.len_utf8() > 8 {
-        return None;
-    }
-    let mut text = text;
-    text.insert_unchecked(0, ch);
-    Some(text)
-}
-
-/// The string with `given` in front of it by `insert_str_unchecked`, where it fits.
-fn with_front_str(text: ArrayString<8>, given: &str) -> Option<ArrayString<8>> {
-    if text.len() as usize + given.len() > 8 {
-        return None;
-    }
-    let mut text = text;
-    text.insert_str_unchecked(0, given);
-    Some(text)
-}
-
-/// The string with `given` before the index, where it fits, and how many bytes moved.
-fn inserted(text: ArrayString<8>, index: u8, given: &str) -> (ArrayString<8>, u64) {
-    let mut text = text;
-    let mut steps = Steps::new();
-    let _ = text.try_insert_str_counted(index, given, &mut steps);
-    (text, steps.moved())
 }
 
 /// Makes the calls of a table on a string whose text begins at offset 2, and on one that was
@@ -80,106 +29,70 @@ fn hold_wherever_it_begins(rt: &impl Abort, table: &str) {
 }
 
 #[test]
-fn a_trimmed_string_grows(rt: HostRuntime) {
-    let mut text: ArrayString<8> = string("  abcdef");
-    let mut steps = Steps::new();
-    text.trim_counted(&mut steps);
-    agree(&rt, "the trim", steps.moved(), 0);
-    let grown = string("abcdefxy");
-    agree(&rt, "counted", inserted(text, 6, "xy"), (grown, 6));
-    agree(&rt, "at the end", text.try_push_str("xy"), Ok(()));
-    agree(&rt, "the text", (text, text.len()), (grown, 8));
-}
-
-#[test]
-fn a_trimmed_string_grows_inside(rt: HostRuntime) {
-    let mut text: ArrayString<4> = string(" ab");
-    text.trim();
-    let mut steps = Steps::new();
-    let answer = text.try_insert_str_counted(1, "xy", &mut steps);
-    agree(&rt, "the answer", answer, Ok(()));
-    agree(&rt, "the text", (text, steps.moved()), (string("axyb"), 2));
-}
-
-#[test]
-fn a_character_takes_the_place_of_the_first(rt: HostRuntime) {
-    hold(
+fn what_is_left_stays_where_it_is_until_it_grows(rt: HostRuntime) {
+    hold::<8>(
         &rt,
-        ArrayString::<4>::new(),
         "
-        abcd | remove     | 0 |   | a  | bcd
-             | try_insert | 1 | x | ok | bxcd
+        '  abcdef' | trim_counted           |     |    | ok | abcdef   | 0
+                   | try_insert_str_counted | 6   | xy | ok | abcdefxy | 6
+        '  abcdef' | trim_counted           |     |    | ok | abcdef   | 0
+                   | try_push_str           |     | xy | ok | abcdefxy
+        abcdefgh   | remove                 | 0   |    | a  | bcdefgh
+                   | try_insert_str_counted | 7   | x  | ok | bcdefghx | 7
+        abcdefgh   | drain                  | ..2 |    | ab | cdefgh
+                   | try_insert_str_counted | 6   | x  | ok | cdefghx  | 6
+        ",
+    );
+    hold::<4>(
+        &rt,
+        "
+        ' ab' | trim                   |   |    | ok | ab
+              | try_insert_str_counted | 1 | xy | ok | axyb | 2
+        abcd  | remove                 | 0 |    | a  | bcd
+              | try_insert             | 1 | x  | ok | bxcd
+        ",
+    );
+    hold::<300>(
+        &rt,
+        "
+        255 x | remove   | 0 |   | x           | 254 x
+              | try_push |   | x | ok          | 255 x
+              | try_push |   | x | OutOfBounds | 255 x
         ",
     );
 }
 
 #[test]
-fn the_most_letters_begin_behind_the_start(rt: HostRuntime) {
-    let mut most: ArrayString<300> = letters();
-    agree(&rt, "the first", most.remove(0), Ok('x'));
-    agree(&rt, "one more", most.try_push('x'), Ok(()));
-    agree(&rt, "the text", most, letters());
-    agree(&rt, "one too many", most.try_push('x'), Err(OutOfBounds));
-}
-
-#[test]
 fn an_insertion_with_room_behind_the_text_moves_what_is_behind_it(rt: HostRuntime) {
-    let [behind, _] = both("abcd");
-    agree(&rt, "at 3", inserted(behind, 3, "x"), (string("abcxd"), 1));
-    agree(&rt, "at 0", inserted(behind, 0, "x"), (string("xabcd"), 4));
-    agree(
+    hold::<8>(
         &rt,
-        "at 4",
-        inserted(behind, 4, "xy"),
-        (string("abcdxy"), 0),
-    );
-}
-
-#[test]
-fn what_is_left_stays_where_it_is_until_it_grows(rt: HostRuntime) {
-    hold(
-        &rt,
-        ArrayString::<8>::new(),
         "
-        abcdefgh | remove                 | 0   |   | a  | bcdefgh
-                 | try_insert_str_counted | 7   | x | ok | bcdefghx | 7
-        abcdefgh | drain                  | ..2 |   | ab | cdefgh
-                 | try_insert_str_counted | 6   | x | ok | cdefghx  | 6
+        ..abcd | drain                  | ..2 |    | .. | abcd
+               | try_insert_str_counted | 3   | x  | ok | abcxd  | 1
+        ..abcd | drain                  | ..2 |    | .. | abcd
+               | try_insert_str_counted | 0   | x  | ok | xabcd  | 4
+        ..abcd | drain                  | ..2 |    | .. | abcd
+               | try_insert_str_counted | 4   | xy | ok | abcdxy | 0
         ",
     );
 }
 
 #[test]
 fn texts_are_lent(rt: HostRuntime) {
-    for text in both("abCDef") {
-        agree(&rt, "the text", text.as_str(), "abCDef");
-        agree(&rt, "its bytes", text.as_bytes(), b"abCDef".as_slice());
-        agree(&rt, "its size", (text.len(), text.is_empty()), (6, false));
-    }
-    for text in both("aBé") {
-        let wanted = [0x61, 0x42, 0xC3, 0xA9];
-        agree(&rt, "bytes past ASCII", text.as_bytes(), wanted.as_slice());
-    }
-}
-
-#[test]
-fn texts_are_equal_wherever_they_begin(rt: HostRuntime) {
-    for text in both("abCDef") {
-        agree(&rt, "the same text", text, string("abCDef"));
-        agree(&rt, "a shorter text", text != string("abCDe"), true);
-    }
-    for text in both("aBé") {
-        agree(&rt, "past ASCII", text, string("aBé"));
-    }
-}
-
-#[test]
-fn boundaries_count_from_the_start_of_the_text(rt: HostRuntime) {
-    for text in both("aBé") {
-        agree(&rt, "behind B", is_char_boundary(&text, 2), Ok(()));
-        agree(&rt, "inside é", is_char_boundary(&text, 3), Err(Utf8));
-        agree(&rt, "past the end", is_char_boundary(&text, 5), Err(Utf8));
-    }
+    hold_wherever_it_begins(
+        &rt,
+        "
+        abCDef | as_bytes         |   | 61 62 43 44 65 66 | ok      | abCDef
+               | len              |   |                   | ok      | abCDef | 6
+               | cmp              |   | abCDef            | Equal   | abCDef
+               | cmp              |   | abCDe             | Greater | abCDef
+        aBé    | as_bytes         |   | 61 42 C3 A9       | ok      | aBé
+               | cmp              |   | aBé               | Equal   | aBé
+               | is_char_boundary | 2 |                   | ok      | aBé
+               | is_char_boundary | 3 |                   | Utf8    | aBé
+               | is_char_boundary | 5 |                   | Utf8    | aBé
+        ",
+    );
 }
 
 #[test]
@@ -229,9 +142,8 @@ fn texts_grow(rt: HostRuntime) {
 
 #[test]
 fn a_full_text_does_not_grow(rt: HostRuntime) {
-    hold(
+    hold::<8>(
         &rt,
-        ArrayString::<8>::new(),
         "
         abcdefé  | try_push_str   |   | € | OutOfBounds | abcdefé
                  | try_push       |   | € | OutOfBounds | abcdefé
@@ -242,68 +154,34 @@ fn a_full_text_does_not_grow(rt: HostRuntime) {
 
 #[test]
 fn what_is_known_to_fit_is_added(rt: HostRuntime) {
-    for text in both("abcdef") {
-        let wanted = string("abcdefé");
-        agree(&rt, "a character", pushed(text, 'é'), Some(wanted));
-        agree(&rt, "a text", pushed_str(text, "é"), Some(wanted));
-    }
-    for text in both("aBé") {
-        let wanted = string("aBéé");
-        agree(&rt, "a character", pushed(text, 'é'), Some(wanted));
-        agree(&rt, "a text", pushed_str(text, "é"), Some(wanted));
-    }
-}
-
-#[test]
-fn what_is_known_to_fit_is_put_in_front(rt: HostRuntime) {
-    for text in both("abcdef") {
-        let wanted = string("xyabcdef");
-        agree(&rt, "a text", with_front_str(text, "xy"), Some(wanted));
-        let wanted = string("éabcdef");
-        agree(&rt, "a character", with_front(text, 'é'), Some(wanted));
-        agree(&rt, "no room for a character", with_front(text, '🤔'), None);
-    }
-    for text in both("aBé") {
-        let wanted = string("xyaBé");
-        agree(&rt, "a text", with_front_str(text, "xy"), Some(wanted));
-        let wanted = string("🤔aBé");
-        agree(&rt, "a character", with_front(text, '🤔'), Some(wanted));
-        agree(
-            &rt,
-            "no room for a text",
-            with_front_str(text, "01234"),
-            None,
-        );
-    }
-}
-
-/// The string with three letters after it as characters, and with them as pieces.
-fn filled_up(text: ArrayString<8>) -> [ArrayString<8>; 2] {
-    let mut by_chars = text;
-    by_chars.extend_chars(['x', 'y', 'z']);
-    let mut by_strs = text;
-    by_strs.extend_strs(["x", "yz"]);
-    [by_chars, by_strs]
+    hold_wherever_it_begins(
+        &rt,
+        "
+        abcdef | push_unchecked       |   | é     | ok   | abcdefé
+        abcdef | push_str_unchecked   |   | é     | ok   | abcdefé
+        aBé    | push_unchecked       |   | é     | ok   | aBéé
+        aBé    | push_str_unchecked   |   | é     | ok   | aBéé
+        abcdef | insert_str_unchecked | 0 | xy    | ok   | xyabcdef
+        abcdef | insert_unchecked     | 0 | é     | ok   | éabcdef
+        abcdef | insert_unchecked     | 0 | 🤔    | None | abcdef
+        aBé    | insert_str_unchecked | 0 | xy    | ok   | xyaBé
+        aBé    | insert_unchecked     | 0 | 🤔    | ok   | 🤔aBé
+        aBé    | insert_str_unchecked | 0 | 01234 | None | aBé
+        ",
+    );
 }
 
 #[test]
 fn texts_are_filled_up(rt: HostRuntime) {
-    for text in both("abcdef") {
-        agree(
-            &rt,
-            "two letters fit",
-            filled_up(text),
-            [string("abcdefxy"); 2],
-        );
-    }
-    for text in both("aBé") {
-        agree(
-            &rt,
-            "all letters fit",
-            filled_up(text),
-            [string("aBéxyz"); 2],
-        );
-    }
+    hold_wherever_it_begins(
+        &rt,
+        "
+        abcdef | extend_chars | | xyz  | ok | abcdefxy
+        abcdef | extend_strs  | | x,yz | ok | abcdefxy
+        aBé    | extend_chars | | xyz  | ok | aBéxyz
+        aBé    | extend_strs  | | x,yz | ok | aBéxyz
+        ",
+    );
 }
 
 #[test]
@@ -333,6 +211,51 @@ fn texts_shrink(rt: HostRuntime) {
         ' aé'    | trim      |   | | ok          | aé
         ",
     );
+}
+
+#[test]
+fn trimmed_texts_grow(rt: HostRuntime) {
+    hold_wherever_it_begins(
+        &rt,
+        "
+        '\u{2003}aé'  | trim        | |          | ok | aé
+                      | push_str    | | 12345678 | ok | aé12345
+        '\u{2003}aé'  | trim_spaces | |          | ok | '\u{2003}aé'
+                      | push_str    | | 12345678 | ok | '\u{2003}aé12'
+        ' a\u{3000} ' | trim        | |          | ok | a
+                      | push_str    | | 12345678 | ok | a1234567
+        ' a\u{3000} ' | trim_spaces | |          | ok | 'a\u{3000}'
+                      | push_str    | | 12345678 | ok | 'a\u{3000}1234'
+        ' ab cd'      | trim        | |          | ok | ab cd
+                      | push_str    | | 12345678 | ok | ab cd123
+        ' ab cd'      | trim_spaces | |          | ok | ab cd
+                      | push_str    | | 12345678 | ok | ab cd123
+        'ab  '        | trim        | |          | ok | ab
+                      | push_str    | | 12345678 | ok | ab123456
+        'ab  '        | trim_spaces | |          | ok | ab
+                      | push_str    | | 12345678 | ok | ab123456
+        '\u{2003} '   | trim        | |          | ok |
+                      | push_str    | | 12345678 | ok | 12345678
+        '\u{2003} '   | trim_spaces | |          | ok | '\u{2003}'
+                      | push_str    | | 12345678 | ok | '\u{2003}12345'
+        ",
+    );
+}
+
+#[test]
+fn a_trimmed_line_grows(rt: HostRuntime) {
+    for line in both("\n\u{A0}a") {
+        let mut text = line;
+        holds(&rt, &mut text, " | trim | | | ok | a");
+        holds(&rt, &mut text, " | push_str | | 12345678 | ok | a1234567");
+        text = line;
+        holds(&rt, &mut text, " | trim_spaces | | | ok | '\n\u{A0}a'");
+        holds(
+            &rt,
+            &mut text,
+            " | push_str | | 12345678 | ok | '\n\u{A0}a1234'",
+        );
+    }
 }
 
 #[test]

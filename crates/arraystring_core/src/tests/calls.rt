@@ -1,32 +1,40 @@
 //! Tables of calls. The columns of a row are
 //!
-//!     text before | call | index or range | what is given | result | text after | bytes that moved
+//!     text before | call | index or range | what is given | result | text after | number
 //!
-//! where only calls that count have the last. With no text before, the call goes on with the string
-//! that the row above left; `new` is a new string. A text in quotes keeps its spaces.
+//! With no text before, the call goes on with the string that the row above left; `new` is a new
+//! string. A text in quotes keeps its spaces, and `255 x` is a text of so many letters. Pieces are
+//! written with `,` between them, and bytes as hexadecimal digits.
 //!
 //! The result is a text or a character itself, `ok` for a call that returns nothing, `None`, or the
-//! name of the refusal. A range is written as in Rust, or as two bounds in brackets: `(` and `)`
-//! exclude an index, `[` and `]` include it. With `untold` after it, it is of a type that does not
-//! tell its bounds, and `walked` is an inclusive range that was iterated to its end.
+//! name of the refusal. An unchecked call is made where its conditions hold, and else gives `None`.
+//! The number is what `len` and `capacity` return, how many bytes `pop_counted` looked at, and how
+//! many bytes any other call that counts moved.
+//!
+//! A range is written as in Rust, or as two bounds in brackets: `(` and `)` exclude an index, `[`
+//! and `]` include it. With `untold` after it, it is of a type that does not tell its bounds, and
+//! `walked` is an inclusive range that was iterated to its end.
 ghost use Rattle.std.specs.Prelude.{◌≤◌};
 
 use super::table::{
-    agree, character, column, number, rows, told, told_character, told_done, told_room, told_text,
+    agree, character, column, hash_of, number, rows, told, told_character, told_done, told_next,
+    told_order, told_room, told_text, told_utf8,
 };
 use super::{MaxString, string};
+use crate::utils::is_char_boundary;
 use crate::{ArrayString, Drain};
 use arraystring_base::error::{Error, Utf8};
 use arraystring_base::utils::Steps;
+use std::fmt::Write;
 use std::ops::{Bound, RangeBounds, RangeInclusive};
 use std::process::Abort;
 
-/// Makes the calls of a table on strings of the capacity of `text`, the first of them on `text` itself
-/// where its row says no other, and asserts what each returns and leaves.
-pub(crate) fn hold<R: Abort, const N: usize>(rt: &R, text: ArrayString<N>, table: &str)
+/// Makes the calls of a table on strings of one capacity, the first on a default string where its row
+/// says no other, and asserts what each returns and leaves.
+pub(crate) fn hold<const N: usize>(rt: &impl Abort, table: &str)
     requires { N ≤ 300 }
 {
-    let mut text = text;
+    let mut text = ArrayString::<N>::default();
     for row in rows(table) {
         if !column(row, 0).is_empty() {
             text = string(text_of(row));
@@ -47,6 +55,7 @@ pub(crate) fn holds<R: Abort, const N: usize>(rt: &R, text: &mut ArrayString<N>,
         (answer.as_str(), text.as_str()),
         (column(row, 4), after),
     );
+    agree(rt, row, text.as_bytes(), after.as_bytes());
     agree(
         rt,
         row,
@@ -73,13 +82,19 @@ fn called<R: Abort, const N: usize>(rt: &R, text: &mut ArrayString<N>, row: &str
     if let Some(answer) = at_the_end(rt, text, row) {
         return answer;
     }
+    if let Some(answer) = unchecked(rt, text, row) {
+        return answer;
+    }
     if let Some(answer) = inserted(rt, text, row) {
         return answer;
     }
     if let Some(answer) = removed(rt, text, row) {
         return answer;
     }
-    if changed(rt, text, row) {
+    if let Some(answer) = asked(rt, text, row) {
+        return answer;
+    }
+    if changed(rt, text, row) || told_number(rt, text, row) {
         return string("ok");
     }
     in_range(rt, text, row)
@@ -98,12 +113,91 @@ fn at_the_end<R: Abort, const N: usize>(
             text.push_str(column(row, 3));
             string("ok")
         }
-        "pop" => match text.pop() {
-            Some(ch) => told_character(Ok(ch)),
-            None => string("None"),
+        "write_str" => match text.write_str(column(row, 3)) {
+            Ok(()) => string("ok"),
+            Err(_) => string("Error"),
         },
+        "extend_chars" => {
+            text.extend_chars(column(row, 3).chars());
+            string("ok")
+        }
+        "extend_strs" => {
+            text.extend_strs(column(row, 3).split(','));
+            string("ok")
+        }
+        "pop" => told_next(text.pop()),
+        "pop_counted" => {
+            let mut steps = Steps::new();
+            let answer = text.pop_counted(&mut steps);
+            agree(rt, row, steps.looked(), number(rt, row, 6) as u64);
+            agree(rt, row, steps.moved(), 0);
+            told_next(answer)
+        }
         _ => return None,
     })
+}
+
+/// The calls whose conditions are not checked.
+fn unchecked<R: Abort, const N: usize>(
+    rt: &R,
+    text: &mut ArrayString<N>,
+    row: &str,
+) -> Option<MaxString> {
+    let given = column(row, 3);
+    let was_made = match column(row, 1) {
+        "push_unchecked" => pushed(text, character(rt, row, 3)),
+        "push_str_unchecked" => pushed_str(text, given),
+        "insert_unchecked" => put_in(text, number(rt, row, 2), character(rt, row, 3)),
+        "insert_str_unchecked" => put_str_in(text, number(rt, row, 2), given),
+        _ => return None,
+    };
+    Some(string(if was_made { "ok" } else { "None" }))
+}
+
+/// Adds `ch` by `push_unchecked`, where it fits.
+fn pushed<const N: usize>(text: &mut ArrayString<N>, ch: char) -> bool {
+    let size = text.len() as usize + ch.len_utf8();
+    if size > ArrayString::<N>::capacity() as usize {
+        return false;
+    }
+    text.push_unchecked(ch);
+    true
+}
+
+/// Adds `given` by `push_str_unchecked`, where it fits.
+fn pushed_str<const N: usize>(text: &mut ArrayString<N>, given: &str) -> bool {
+    let size = text.len() as usize + given.len();
+    if size > ArrayString::<N>::capacity() as usize {
+        return false;
+    }
+    text.push_str_unchecked(given);
+    true
+}
+
+/// Puts `ch` before the index by `insert_unchecked`, where its conditions hold.
+fn put_in<const N: usize>(text: &mut ArrayString<N>, index: u8, ch: char) -> bool {
+    let size = text.len() as usize + ch.len_utf8();
+    if size > ArrayString::<N>::capacity() as usize {
+        return false;
+    }
+    let Ok(()) = is_char_boundary(text, index) else {
+        return false;
+    };
+    text.insert_unchecked(index, ch);
+    true
+}
+
+/// Puts `given` before the index by `insert_str_unchecked`, where its conditions hold.
+fn put_str_in<const N: usize>(text: &mut ArrayString<N>, index: u8, given: &str) -> bool {
+    let size = text.len() as usize + given.len();
+    if size > ArrayString::<N>::capacity() as usize {
+        return false;
+    }
+    let Ok(()) = is_char_boundary(text, index) else {
+        return false;
+    };
+    text.insert_str_unchecked(index, given);
+    true
 }
 
 /// The calls that insert.
@@ -148,8 +242,89 @@ fn removed<R: Abort, const N: usize>(
             Err(Utf8) => string("Utf8"),
         },
         "split_off" => split(text, number(rt, row, 2)),
+        "retain_in_turn" => retain_in_turn(text, column(row, 3)),
         _ => return None,
     })
+}
+
+/// Keeps the characters at whose turn no `-` is given, and returns all that were asked about.
+fn retain_in_turn<const N: usize>(text: &mut ArrayString<N>, answers: &str) -> MaxString {
+    let mut asked = MaxString::new();
+    let mut answers = answers.chars();
+    text.retain(|ch| {
+        asked.push_str(ch.encode_utf8(&mut [0; 4]));
+        answers.next() != Some('-')
+    });
+    asked
+}
+
+/// The calls that leave the text as it was.
+fn asked<R: Abort, const N: usize>(rt: &R, text: &ArrayString<N>, row: &str) -> Option<MaxString>
+    requires { N ≤ 300 }
+{
+    let given = column(row, 3);
+    Some(match column(row, 1) {
+        "as_bytes" => has_bytes(rt, text.as_bytes(), given),
+        "is_char_boundary" => told_utf8(is_char_boundary(text, number(rt, row, 2))),
+        "cmp" => compared(rt, row, text, &ArrayString::from(given)),
+        "hash" => hashed(rt, row, text, &ArrayString::from(given)),
+        "add" => string((*text + given).as_str()),
+        "clone" => match text.clone() {
+            Ok(copy) => string(copy.as_str()),
+            Err(_) => string("Error"),
+        },
+        _ => return None,
+    })
+}
+
+/// `ok` where these are the bytes that the digits say.
+fn has_bytes(rt: &impl Abort, bytes: &[u8], digits: &str) -> MaxString {
+    let mut rest = bytes;
+    for byte in digits.split(' ') {
+        let byte = u8::from_str_radix(byte, 16).expect(rt, "two digits of a byte");
+        match rest.split_first() {
+            Some((first, later)) if *first == byte => rest = later,
+            _ => return string("other bytes"),
+        }
+    }
+    string(if rest.is_empty() { "ok" } else { "more bytes" })
+}
+
+/// The order of two strings, which each comparison has to tell.
+fn compared<const N: usize>(
+    rt: &impl Abort,
+    row: &str,
+    text: &ArrayString<N>,
+    other: &ArrayString<N>,
+) -> MaxString {
+    let order = text.cmp(other);
+    agree(rt, row, text.partial_cmp(other), Some(order));
+    agree(rt, row, *text == *other, order.is_eq());
+    agree(rt, row, *text != *other, order.is_ne());
+    told_order(order)
+}
+
+/// `ok` where the hash is that of the other string and that of its text.
+fn hashed<const N: usize>(
+    rt: &impl Abort,
+    row: &str,
+    text: &ArrayString<N>,
+    other: &ArrayString<N>,
+) -> MaxString {
+    agree(rt, row, hash_of(text), hash_of(other));
+    agree(rt, row, hash_of(text), hash_of(&other.as_str()));
+    string("ok")
+}
+
+/// Asserts the number that a call returns, and tells whether there is such a call.
+fn told_number<R: Abort, const N: usize>(rt: &R, text: &ArrayString<N>, row: &str) -> bool {
+    let told = match column(row, 1) {
+        "len" => text.len(),
+        "capacity" => ArrayString::<N>::capacity(),
+        _ => return false,
+    };
+    agree(rt, row, told, number(rt, row, 6));
+    true
 }
 
 /// Makes a call that returns nothing, and whether there is such a call.

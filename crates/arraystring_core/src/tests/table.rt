@@ -1,10 +1,24 @@
 //! Tables of cases: a line of a text is a case, and `|` is between its columns. However many lines a
 //! table has, the test that walks over it is proved once.
 use super::{MaxString, string};
-use arraystring_base::error::{Error, OutOfBounds};
+use arraystring_base::error::{Error, OutOfBounds, Utf8};
+use std::cmp::Ordering;
 use std::fmt::Debug;
+use std::hash::{DefaultHasher, Hash, Hasher};
 use std::process::Abort;
 use std::str::Lines;
+
+/// 256 letters, one more than fit into any string.
+pub(crate) const LETTERS: &str = "xxxxxxxxxxxxxxxxxxxxxxxxxxxxxxxxxxxxxxxxxxxxxxxxxxxxxxxxxxxxxxxx\
+    xxxxxxxxxxxxxxxxxxxxxxxxxxxxxxxxxxxxxxxxxxxxxxxxxxxxxxxxxxxxxxxx\
+    xxxxxxxxxxxxxxxxxxxxxxxxxxxxxxxxxxxxxxxxxxxxxxxxxxxxxxxxxxxxxxxx\
+    xxxxxxxxxxxxxxxxxxxxxxxxxxxxxxxxxxxxxxxxxxxxxxxxxxxxxxxxxxxxxxxx";
+
+/// 255 letters that are not all the same.
+pub(crate) const MANY_LETTERS: &str =
+    "abcdeabcdeabcdeabcdeabcdeabcdeabcdeabcdeabcdeabcdeabcdeabcdeabcdeabcdeabcdeabcdeabcde\
+    abcdeabcdeabcdeabcdeabcdeabcdeabcdeabcdeabcdeabcdeabcdeabcdeabcdeabcdeabcdeabcdeabcde\
+    abcdeabcdeabcdeabcdeabcdeabcdeabcdeabcdeabcdeabcdeabcdeabcdeabcdeabcdeabcdeabcdeabcde";
 
 /// The rows of a table.
 pub(crate) fn rows(table: &str) -> Lines {
@@ -12,16 +26,28 @@ pub(crate) fn rows(table: &str) -> Lines {
 }
 
 /// A column of a row, without the spaces round it and without the quotes in which a text may be.
+/// `255 x` is so many letters.
 pub(crate) fn column(row: &str, at: usize) -> &str {
     let column = row
         .split('|')
         .nth(at)
         .unwrap_or("no column")
         .trim_matches(' ');
-    match column.strip_prefix('\'') {
-        Some(rest) => rest.strip_suffix('\'').unwrap_or(column),
+    if let Some(rest) = column.strip_prefix('\'') {
+        return rest.strip_suffix('\'').unwrap_or(column);
+    }
+    match column.strip_suffix(" x") {
+        Some(count) => letters(count).unwrap_or(column),
         None => column,
     }
+}
+
+/// As many letters as the digits say.
+fn letters(count: &str) -> Option<&str> {
+    let Ok(count) = count.parse::<usize>() else {
+        return None;
+    };
+    LETTERS.get(..count)
 }
 
 /// The number in a column.
@@ -74,6 +100,38 @@ pub(crate) fn told_character(answer: Result<char, Error>) -> MaxString {
         Ok(ch) => string(ch.encode_utf8(&mut [0; 4])),
         Err(why) => told(Err(why)),
     }
+}
+
+/// The same of a character that may not be there.
+pub(crate) fn told_next(answer: Option<char>) -> MaxString {
+    match answer {
+        Some(ch) => told_character(Ok(ch)),
+        None => string("None"),
+    }
+}
+
+/// The same of a call that asks for a boundary.
+pub(crate) fn told_utf8(answer: Result<(), Utf8>) -> MaxString {
+    match answer {
+        Ok(()) => string("ok"),
+        Err(Utf8) => string("Utf8"),
+    }
+}
+
+/// The name of an order.
+pub(crate) fn told_order(order: Ordering) -> MaxString {
+    string(match order {
+        Ordering::Less => "Less",
+        Ordering::Equal => "Equal",
+        Ordering::Greater => "Greater",
+    })
+}
+
+/// The hash of a value.
+pub(crate) fn hash_of<T: Hash>(value: &T) -> u64 {
+    let mut state = DefaultHasher::new();
+    value.hash(&mut state);
+    state.finish()
 }
 
 /// The same of what may not be there.

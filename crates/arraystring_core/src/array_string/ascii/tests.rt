@@ -1,12 +1,10 @@
 //! ASCII letters in the other case, with their neighbours in the table of ASCII.
-use crate::tests::SmallString;
 use crate::tests::calls::hold;
 
 #[test]
 fn letters_change_case(rt: HostRuntime) {
-    hold(
+    hold::<23>(
         &rt,
-        SmallString::new(),
         "
         aBé                     | make_ascii_uppercase | | | ok | ABé
         aBé                     | make_ascii_lowercase | | | ok | abé

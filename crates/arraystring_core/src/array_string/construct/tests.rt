@@ -1,18 +1,124 @@
 //! Each constructor, and what is added from an iterator, on values worked out by hand.
-ghost use Rattle.std.specs.Prelude.{◌≡◌, IfSome, chars};
+ghost use Rattle.std.specs.Prelude.{◌≡◌, ◌≤◌, IfSome, chars};
 ghost use Rattle.arraystring_base.specs.Text.{cap, cut};
 ghost use Rattle.arraystring_core.specs.Taken.{joined_pieces};
 
 use super::*;
-use crate::tests::letters;
-use crate::tests::table::agree;
+use crate::tests::table::{agree, column, rows, told, told_next, told_text};
+use crate::tests::{MaxString, string};
 use std::process::Abort;
 
 type SmallString = ArrayString<23>;
 
 const ZEROS_23: &str = "00000000000000000000000";
 
-const ZEROS_24: &str = "000000000000000000000000";
+/// The constructors that refuse a text which is too large, those that cut it, and those that are
+/// called where it fits.
+const WHOLE: &str = "try_from_str parse try_from_chars try_from_iterator try_from_utf8";
+
+const CUT: &str = "from_str_truncate from from_chars from_iterator from_utf8";
+
+const UNCHECKED: &str = "unchecked from_iterator_unchecked";
+
+/// Asserts what constructors make at one capacity. The columns of a row are
+///
+///     constructor, or `whole`, `cut`, `unchecked` for each of those above | text | result
+///
+/// Pieces are written with `,` between them. The result is the text that was made, the name of the
+/// refusal, or `None` where an unchecked constructor is not called since the text does not fit.
+fn make<const N: usize>(rt: &impl Abort, table: &str)
+    requires { N ≤ 300 }
+{
+    for row in rows(table) {
+        let calls = match column(row, 0) {
+            "whole" => WHOLE,
+            "cut" => CUT,
+            "unchecked" => UNCHECKED,
+            call => call,
+        };
+        for call in calls.split(' ') {
+            agree(
+                rt,
+                row,
+                made::<N>(call, column(row, 1)).as_str(),
+                column(row, 2),
+            );
+        }
+    }
+}
+
+/// What a constructor makes of a text.
+fn made<const N: usize>(call: &str, given: &str) -> MaxString
+    requires { N ≤ 300 }
+{
+    match call {
+        "try_from_str" => told_room(ArrayString::<N>::try_from_str(given)),
+        "parse" => told_room(given.parse::<ArrayString<N>>()),
+        "try_from_chars" => told_room(ArrayString::<N>::try_from_chars(given.chars())),
+        "try_from_iterator" => told_room(ArrayString::<N>::try_from_iterator(given.split(','))),
+        "try_from_utf8" => told_made(ArrayString::<N>::try_from_utf8(given.as_bytes())),
+        call => made_cut::<N>(call, given),
+    }
+}
+
+/// The same of those that cut it, and of those that are called where it fits.
+fn made_cut<const N: usize>(call: &str, given: &str) -> MaxString
+    requires { N ≤ 300 }
+{
+    match call {
+        "from_str_truncate" => string(ArrayString::<N>::from_str_truncate(given).as_str()),
+        "from" => string(ArrayString::<N>::from(given).as_str()),
+        "from_chars" => string(of_chars::<N>(given).as_str()),
+        "from_iterator" => string(ArrayString::<N>::from_iterator(given.split(',')).as_str()),
+        "from_utf8" => told_utf8(ArrayString::<N>::from_utf8(given.as_bytes())),
+        "unchecked" => unchecked::<N>(given),
+        "from_iterator_unchecked" => match of_pieces_that_fit::<N>(&[given]) {
+            Some(made) => string(made.as_str()),
+            None => string("None"),
+        },
+        _ => string("no such constructor"),
+    }
+}
+
+/// What the unchecked constructors of a text make, if it is one text.
+fn unchecked<const N: usize>(given: &str) -> MaxString
+    requires { N ≤ 300 }
+{
+    match of_text_that_fits::<N>(given) {
+        Some(made) => {
+            let first = made[0];
+            if made != [first; 3] {
+                return string("several texts");
+            }
+            string(first.as_str())
+        }
+        None => string("None"),
+    }
+}
+
+/// What was made as it is written in a table.
+fn told_made<const N: usize>(answer: Result<ArrayString<N>, Error>) -> MaxString {
+    match answer {
+        Ok(made) => string(made.as_str()),
+        Err(why) => told(Err(why)),
+    }
+}
+
+/// The same of a constructor that can only want room.
+fn told_room<const N: usize>(answer: Result<ArrayString<N>, OutOfBounds>) -> MaxString {
+    match answer {
+        Ok(made) => string(made.as_str()),
+        Err(OutOfBounds) => string("OutOfBounds"),
+    }
+}
+
+/// The same of one that can only be given bytes that are no text.
+fn told_utf8<const N: usize>(answer: Result<ArrayString<N>, Utf8>) -> MaxString {
+    match answer {
+        Ok(made) => string(made.as_str()),
+        Err(Utf8) => string("Utf8"),
+    }
+}
 
 /// What a caller knows of the pieces of a slice.
 fn of_pieces<const N: usize>(pieces: &[&str]) -> ArrayString<N>
@@ -50,358 +156,234 @@ fn of_pieces_that_fit<const N: usize>(pieces: &[&str]) -> Option<ArrayString<N>>
     }
 }
 
-/// Asserts that each constructor that can refuse gives the text.
-fn made_or_refused(rt: &impl Abort, text: &str) {
-    let wanted = SmallString::from_str_truncate(text);
-    agree(rt, text, wanted.as_str(), text);
-    agree(rt, text, SmallString::try_from_str(text), Ok(wanted));
-    agree(rt, text, SmallString::try_from_iterator([text]), Ok(wanted));
-    agree(
-        rt,
-        text,
-        SmallString::try_from_chars(text.chars()),
-        Ok(wanted),
-    );
-    agree(rt, text, text.parse::<SmallString>(), Ok(wanted));
-}
-
-/// Asserts that each constructor that cuts gives the text, and each that reads its bytes.
-fn made_or_cut(rt: &impl Abort, text: &str) {
-    let wanted = SmallString::from_str_truncate(text);
-    agree(rt, text, SmallString::from_iterator([text]), wanted);
-    agree(rt, text, SmallString::from_chars(text.chars()), wanted);
-    agree(rt, text, SmallString::from(text), wanted);
-    agree(
-        rt,
-        text,
-        SmallString::try_from_utf8(text.as_bytes()),
-        Ok(wanted),
-    );
-    agree(
-        rt,
-        text,
-        SmallString::from_utf8(text.as_bytes()),
-        Ok(wanted),
-    );
-}
-
-/// Asserts that each constructor of what is known to fit gives the text.
-fn made_unchecked(rt: &impl Abort, text: &str) {
-    let wanted = SmallString::from_str_truncate(text);
-    agree(rt, text, of_text_that_fits::<23>(text), Some([wanted; 3]));
-    agree(rt, text, of_pieces_that_fit::<23>(&[text]), Some(wanted));
-}
-
 #[test]
 fn a_text_by_each_constructor(rt: HostRuntime) {
-    for text in ["My String", "", "🤔🤔🤔🤔🤔", ZEROS_23] {
-        made_or_refused(&rt, text);
-        made_or_cut(&rt, text);
-        made_unchecked(&rt, text);
-    }
+    make::<23>(
+        &rt,
+        "
+        whole     | My String                | My String
+        cut       | My String                | My String
+        unchecked | My String                | My String
+        whole     |                          |
+        cut       |                          |
+        unchecked |                          |
+        whole     | 🤔🤔🤔🤔🤔               | 🤔🤔🤔🤔🤔
+        cut       | 🤔🤔🤔🤔🤔               | 🤔🤔🤔🤔🤔
+        unchecked | 🤔🤔🤔🤔🤔               | 🤔🤔🤔🤔🤔
+        whole     | 00000000000000000000000  | 00000000000000000000000
+        cut       | 00000000000000000000000  | 00000000000000000000000
+        unchecked | 00000000000000000000000  | 00000000000000000000000
+        whole     | 000000000000000000000000 | OutOfBounds
+        cut       | 000000000000000000000000 | 00000000000000000000000
+        unchecked | 000000000000000000000000 | None
+        ",
+    );
 }
 
 #[test]
-fn a_text_that_is_too_large_is_cut(rt: HostRuntime) {
-    let cut = SmallString::from_str_truncate(ZEROS_24);
-    agree(&rt, "a text", cut.as_str(), ZEROS_23);
-    agree(
-        &rt,
-        "characters",
-        SmallString::from_chars(ZEROS_24.chars()),
-        cut,
-    );
-    agree(&rt, "pieces", SmallString::from_iterator(["000"; 400]), cut);
-    agree(&rt, "bytes", SmallString::from_utf8(&[b'0'; 300]), Ok(cut));
-    let shortened: SmallString = ZEROS_24.into();
-    agree(&rt, "a text, turned", shortened, cut);
-}
-
-#[test]
-fn a_text_that_is_too_large_is_refused(rt: HostRuntime) {
-    agree(
-        &rt,
-        "a text",
-        SmallString::try_from_str(ZEROS_24),
-        Err(OutOfBounds),
-    );
-    agree(
-        &rt,
-        "characters",
-        SmallString::try_from_chars(ZEROS_24.chars()),
-        Err(OutOfBounds),
-    );
-    agree(
-        &rt,
-        "pieces",
-        SmallString::try_from_iterator(["000"; 100]),
-        Err(OutOfBounds),
-    );
-    let bytes = SmallString::try_from_utf8(&[b'0'; 1600]);
-    agree(&rt, "bytes", bytes, Err(Error::OutOfBounds));
-    agree(
-        &rt,
-        "a text, parsed",
-        ZEROS_24.parse::<SmallString>(),
-        Err(OutOfBounds),
-    );
-    agree(
-        &rt,
-        "a text, unchecked",
-        of_text_that_fits::<23>(ZEROS_24),
-        None,
-    );
-    agree(
-        &rt,
-        "pieces, unchecked",
-        of_pieces_that_fit::<23>(&[ZEROS_23, "0"]),
-        None,
-    );
+fn many_pieces_and_many_bytes(rt: HostRuntime) {
+    let cut = told_room(SmallString::try_from_str(ZEROS_23));
+    let pieces = SmallString::from_iterator(["000"; 400]);
+    agree(&rt, "400 pieces", pieces.as_str(), cut.as_str());
+    let pieces = told_room(SmallString::try_from_iterator(["000"; 100]));
+    agree(&rt, "100 pieces", pieces.as_str(), "OutOfBounds");
+    let bytes = told_utf8(SmallString::from_utf8(&[b'0'; 300]));
+    agree(&rt, "300 bytes", bytes, cut);
+    let bytes = told_made(SmallString::try_from_utf8(&[b'0'; 1600]));
+    agree(&rt, "1600 bytes", bytes.as_str(), "OutOfBounds");
 }
 
 #[test]
 fn the_first_that_does_not_fit_ends_it(rt: HostRuntime) {
-    agree(&rt, "characters at 4", of_chars::<4>("a🤔b").as_str(), "a");
-    agree(&rt, "characters at 5", of_chars::<5>("a🤔b").as_str(), "a🤔");
-    agree(
+    make::<4>(
         &rt,
-        "pieces at 5",
-        of_pieces::<5>(&["ab", "c🤔", "d"]).as_str(),
-        "abc",
+        "
+        from_chars     | a🤔b | a
+        try_from_chars | a🤔b | OutOfBounds
+        ",
     );
-    let refused = ArrayString::<5>::try_from_iterator(["ab", "c🤔", "d"]);
-    agree(&rt, "pieces, refused", refused, Err(OutOfBounds));
-    let refused = ArrayString::<4>::try_from_chars(['a', '🤔', 'b']);
-    agree(&rt, "characters, refused", refused, Err(OutOfBounds));
+    make::<5>(
+        &rt,
+        "
+        from_chars        | a🤔b    | a🤔
+        from_iterator     | ab,c🤔,d | abc
+        try_from_iterator | ab,c🤔,d | OutOfBounds
+        ",
+    );
+    let pieces = ["ab", "c🤔", "d"];
+    agree(&rt, "a slice", of_pieces::<5>(&pieces).as_str(), "abc");
+    let pieces = of_pieces_that_fit::<23>(&[ZEROS_23, "0"]);
+    agree(&rt, "pieces, unchecked", pieces, None);
 }
 
-#[test]
-fn the_first_that_does_not_fit_ends_an_addition(rt: HostRuntime) {
-    let mut pieces: ArrayString<6> = ArrayString::from("ab");
-    pieces.extend_strs(["c", "🤔", "d"]);
-    agree(&rt, "pieces", pieces.as_str(), "abc");
-    let mut characters: ArrayString<6> = ArrayString::from("ab");
-    characters.extend_chars(['c', 'd', '🤔', 'e']);
-    agree(&rt, "characters", characters.as_str(), "abcd");
+/// Asserts what is made at one capacity from an iterator that is lent. The columns of a row are
+///
+///     call | text before an addition | what is given | result | next item that was not taken
+fn lend<const N: usize>(rt: &impl Abort, table: &str)
+    requires { N ≤ 300 }
+{
+    for row in rows(table) {
+        let (answer, next) = lent::<N>(row);
+        agree(
+            rt,
+            row,
+            (answer.as_str(), next.as_str()),
+            (column(row, 3), column(row, 4)),
+        );
+    }
 }
 
-#[test]
-fn a_lent_iterator_has_given_what_did_not_fit(rt: HostRuntime) {
-    let mut characters = "abcd".chars();
-    let made = ArrayString::<2>::from_chars(&mut characters);
-    agree(&rt, "characters", made.as_str(), "ab");
-    agree(&rt, "the next character", characters.next(), Some('d'));
-
-    let pieces = ["ab", "cd", "ef"];
-    let mut lent = pieces.iter().copied();
-    let made = ArrayString::<3>::from_iterator(lent.by_ref());
-    agree(&rt, "pieces", made.as_str(), "abc");
-    agree(&rt, "the next piece", lent.next(), Some("ef"));
+/// What is made by the call of a row, and the next item.
+fn lent<const N: usize>(row: &str) -> (MaxString, MaxString)
+    requires { N ≤ 300 }
+{
+    let given = column(row, 2);
+    match column(row, 0) {
+        "try_from_chars" => {
+            let mut lent = given.chars();
+            let made = ArrayString::<N>::try_from_chars(&mut lent);
+            (told_room(made), told_next(lent.next()))
+        }
+        "from_chars" => {
+            let mut lent = given.chars();
+            let made = ArrayString::<N>::from_chars(&mut lent);
+            (string(made.as_str()), told_next(lent.next()))
+        }
+        "try_from_iterator" => {
+            let mut lent = given.split(',');
+            let made = ArrayString::<N>::try_from_iterator(lent.by_ref());
+            (told_room(made), told_text(lent.next()))
+        }
+        "from_iterator" => {
+            let mut lent = given.split(',');
+            let made = ArrayString::<N>::from_iterator(lent.by_ref());
+            (string(made.as_str()), told_text(lent.next()))
+        }
+        call => added::<N>(call, column(row, 1), given),
+    }
 }
 
-/// The string of the characters, if they fit, and the next of them that was not taken.
-fn of_lent_chars<const N: usize>(
-    given: &str,
-) -> (Result<ArrayString<N>, OutOfBounds>, Option<char>) {
-    let mut lent = given.chars();
-    (ArrayString::try_from_chars(&mut lent), lent.next())
-}
-
-/// The string of the pieces, if they fit, and the next of them that was not taken.
-fn of_lent_pieces<'a, const N: usize>(
-    given: &[&'a str],
-) -> (Result<ArrayString<N>, OutOfBounds>, Option<&'a str>) {
-    let mut lent = given.iter().copied();
-    (ArrayString::try_from_iterator(lent.by_ref()), lent.next())
-}
-
-/// The text with characters added, and the next of them that was not taken.
-fn with_lent_chars<const N: usize>(text: &str, given: &str) -> (ArrayString<N>, Option<char>) {
-    let mut made = ArrayString::from(text);
-    let mut lent = given.chars();
-    made.extend_chars(&mut lent);
-    (made, lent.next())
-}
-
-/// The text with pieces added, and the next of them that was not taken.
-fn with_lent_pieces<'a, const N: usize>(
-    text: &str,
-    given: &[&'a str],
-) -> (ArrayString<N>, Option<&'a str>) {
-    let mut made = ArrayString::from(text);
-    let mut lent = given.iter().copied();
-    made.extend_strs(lent.by_ref());
-    (made, lent.next())
+/// The text with what is given added, and the next item.
+fn added<const N: usize>(call: &str, text: &str, given: &str) -> (MaxString, MaxString)
+    requires { N ≤ 300 }
+{
+    let mut made = ArrayString::<N>::from(text);
+    match call {
+        "extend_chars" => {
+            let mut lent = given.chars();
+            made.extend_chars(&mut lent);
+            (string(made.as_str()), told_next(lent.next()))
+        }
+        "extend_strs" => {
+            let mut lent = given.split(',');
+            made.extend_strs(lent.by_ref());
+            (string(made.as_str()), told_text(lent.next()))
+        }
+        _ => (string("no such call"), string("None")),
+    }
 }
 
 #[test]
 fn characters_are_taken_up_to_the_first_that_does_not_fit(rt: HostRuntime) {
-    let refused = (Err(OutOfBounds), Some('c'));
-    agree(&rt, "a wider one", of_lent_chars::<5>("ab🤔cd"), refused);
-    let refused = (Err(OutOfBounds), Some('y'));
-    agree(&rt, "one too many", of_lent_chars::<5>("abcdexyz"), refused);
-    let wanted = ArrayString::<23>::from("abcde");
-    agree(&rt, "all", of_lent_chars("abcde"), (Ok(wanted), None));
-    let wanted = ArrayString::<5>::from("abc");
-    agree(
+    lend::<2>(&rt, "from_chars | | abcd | ab | d");
+    lend::<5>(
         &rt,
-        "a wider one is added",
-        with_lent_chars("ab", "c🤔de"),
-        (wanted, Some('d')),
+        "
+        try_from_chars |     | ab🤔cd   | OutOfBounds | c
+        try_from_chars |     | abcdexyz | OutOfBounds | y
+        extend_chars   | ab  | c🤔de    | abc         | d
+        extend_chars   | abc | dexyz    | abcde       | y
+        ",
     );
-    let wanted = ArrayString::<5>::from("abcde");
-    agree(
-        &rt,
-        "one too many is added",
-        with_lent_chars("abc", "dexyz"),
-        (wanted, Some('y')),
-    );
+    lend::<23>(&rt, "try_from_chars | | abcde | abcde | None");
 }
 
 #[test]
 fn pieces_are_taken_up_to_the_first_that_does_not_fit(rt: HostRuntime) {
-    let pieces = ["ab", "c🤔", "d", "e"];
-    let refused = (Err(OutOfBounds), Some("d"));
-    agree(&rt, "a wider one", of_lent_pieces::<5>(&pieces), refused);
-    let wanted = ArrayString::<23>::from("abc🤔de");
-    agree(&rt, "all", of_lent_pieces(&pieces), (Ok(wanted), None));
-    let wanted = ArrayString::<7>::from("xyabc");
-    agree(
+    lend::<3>(&rt, "from_iterator | | ab,cd,ef | abc | ef");
+    lend::<5>(
         &rt,
-        "a wider one is added",
-        with_lent_pieces("xy", &pieces),
-        (wanted, Some("d")),
+        "
+        try_from_iterator |     | ab,c🤔,d,e | OutOfBounds | d
+        extend_strs       | xyz | ab,c🤔,d,e | xyzab       | d
+        ",
     );
-    let wanted = ArrayString::<5>::from("xyzab");
-    agree(
-        &rt,
-        "one too many is added",
-        with_lent_pieces("xyz", &pieces),
-        (wanted, Some("d")),
-    );
+    lend::<7>(&rt, "extend_strs | xy | ab,c🤔,d,e | xyabc | d");
+    lend::<23>(&rt, "try_from_iterator | | ab,c🤔,d,e | abc🤔de | None");
 }
 
 #[test]
 fn a_full_string_takes_one_more_item(rt: HostRuntime) {
-    let full: ArrayString<255> = letters();
-    let made = ArrayString::<255>::from_utf8(&[b'x'; 255]);
-    agree(&rt, "255 bytes", made, Ok(full));
-    agree(
+    make::<255>(&rt, "from_utf8 | 255 x | 255 x");
+    lend::<255>(
         &rt,
-        "characters",
-        with_lent_chars(full.as_str(), "abc"),
-        (full, Some('b')),
-    );
-    let pieces = ["a", "b"];
-    agree(
-        &rt,
-        "pieces",
-        with_lent_pieces(full.as_str(), &pieces),
-        (full, Some("b")),
+        "
+        extend_chars | 255 x | abc | 255 x | b
+        extend_strs  | 255 x | a,b | 255 x | b
+        ",
     );
 }
 
 #[test]
-fn bytes_are_judged_whole(rt: HostRuntime) {
-    let bad = [0x61, 0x62, 0xFF];
-    agree(
+fn the_first_that_does_not_fit_ends_an_addition(rt: HostRuntime) {
+    lend::<6>(
         &rt,
-        "bad",
-        ArrayString::<1>::try_from_utf8(&bad),
-        Err(Error::Utf8),
-    );
-    agree(
-        &rt,
-        "bad, cut",
-        ArrayString::<1>::from_utf8(&bad),
-        Err(Utf8),
-    );
-    let good = [0x61, 0x62];
-    agree(
-        &rt,
-        "good",
-        ArrayString::<1>::try_from_utf8(&good),
-        Err(Error::OutOfBounds),
-    );
-    let cut = ArrayString::from("a");
-    agree(
-        &rt,
-        "good, cut",
-        ArrayString::<1>::from_utf8(&good),
-        Ok(cut),
+        "
+        extend_strs  | ab | c,🤔,d | abc  | d
+        extend_chars | ab | cd🤔e  | abcd | e
+        ",
     );
 }
 
-/// Asserts that bytes are no text.
+/// Asserts that bytes are no text, at a capacity for all of them and at one byte.
 fn refused(rt: &impl Abort, given: &[u8], why: &str) {
     agree(rt, why, SmallString::try_from_utf8(given), Err(Error::Utf8));
     agree(rt, why, SmallString::from_utf8(given), Err(Utf8));
+    let cut = ArrayString::<1>::try_from_utf8(given);
+    agree(rt, why, cut, Err(Error::Utf8));
+    agree(rt, why, ArrayString::<1>::from_utf8(given), Err(Utf8));
 }
 
 #[test]
 fn faults_in_bytes(rt: HostRuntime) {
-    refused(&rt, &[0x00, 0x9F, 0x92, 0x96], "a lone continuation byte");
-    refused(&rt, &[0x61, 0x61, 0xC0, 0x80], "an overlong form");
-    refused(&rt, &[0x61, 0xED, 0xA0, 0x80], "a surrogate");
-    refused(&rt, &[0xF4, 0x90, 0x80, 0x80], "past the last scalar value");
-    refused(&rt, &[0x61, 0xF0, 0x9F, 0xA4], "a character cut short");
+    refused(&rt, b"\x00\x9F\x92\x96", "a lone continuation byte");
+    refused(&rt, b"\x61\x61\xC0\x80", "an overlong form");
+    refused(&rt, b"\x61\xED\xA0\x80", "a surrogate");
+    refused(&rt, b"\xF4\x90\x80\x80", "past the last scalar value");
+    refused(&rt, b"\x61\xF0\x9F\xA4", "a character cut short");
+    refused(&rt, b"\x61\x62\xFF", "bytes are judged whole");
 }
 
 #[test]
 fn capacities(rt: HostRuntime) {
-    let none = ArrayString::new();
-    agree(
+    make::<0>(
         &rt,
-        "nothing at 0",
-        ArrayString::<0>::try_from_str(""),
-        Ok(none),
+        "
+        try_from_str  |   |
+        try_from_str  | x | OutOfBounds
+        from_iterator | x |
+        ",
     );
-    agree(
+    make::<1>(
         &rt,
-        "x at 0",
-        ArrayString::<0>::try_from_str("x"),
-        Err(OutOfBounds),
+        "
+        try_from_utf8 | ab  | OutOfBounds
+        from_utf8     | ab  | a
+        from_chars    | 🤔x |
+        from_chars    | éa  |
+        ",
     );
-    agree(
+    make::<300>(
         &rt,
-        "x at 0, cut",
-        ArrayString::<0>::from_iterator(["x"]),
-        none,
+        "
+        try_from_utf8 | 255 x | 255 x
+        try_from_str  | 255 x | 255 x
+        try_from_utf8 | 256 x | OutOfBounds
+        try_from_str  | 256 x | OutOfBounds
+        from_utf8     | 256 x | 255 x
+        ",
     );
-    let none = ArrayString::new();
-    agree(
-        &rt,
-        "a wide one at 1",
-        ArrayString::<1>::from_chars(['🤔', 'x']),
-        none,
-    );
-}
-
-#[test]
-fn letters_at_300(rt: HostRuntime) {
-    let given = [b'x'; 256];
-    let full = letters();
-    agree(
-        &rt,
-        "255 bytes",
-        ArrayString::<300>::try_from_utf8(&given[..255]),
-        Ok(full),
-    );
-    agree(&rt, "the size", full.len(), 255);
-    agree(
-        &rt,
-        "a text",
-        ArrayString::<300>::try_from_str(full.as_str()),
-        Ok(full),
-    );
-    let bytes = ArrayString::<300>::try_from_utf8(&given);
-    agree(&rt, "256 bytes", bytes, Err(Error::OutOfBounds));
-    let pieces = ArrayString::<300>::try_from_iterator([full.as_str(), "x"]);
-    agree(&rt, "pieces", pieces, Err(OutOfBounds));
-    agree(
-        &rt,
-        "256 bytes, cut",
-        ArrayString::<300>::from_utf8(&given),
-        Ok(full),
-    );
+    let pieces = [column("255 x", 0), "x"];
+    let pieces = told_room(ArrayString::<300>::try_from_iterator(pieces));
+    agree(&rt, "pieces", pieces.as_str(), "OutOfBounds");
 }

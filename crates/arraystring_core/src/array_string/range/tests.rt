@@ -1,16 +1,13 @@
 //! Parts of a string, on values worked out by hand.
-use super::*;
+use crate::ArrayString;
 use crate::tests::calls::hold;
-use crate::tests::table::agree;
-use crate::tests::{MaxString, SmallString, letters, string};
-use std::ops::Bound;
-use std::str;
+use crate::tests::string;
+use crate::tests::table::{LETTERS, agree};
 
 #[test]
 fn parts_are_lent(rt: HostRuntime) {
-    hold(
+    hold::<23>(
         &rt,
-        SmallString::new(),
         "
         ABCD🤔 | get   | ..     | | ABCD🤔 | ABCD🤔
                | get   | 3..    | | D🤔    | ABCD🤔
@@ -49,9 +46,8 @@ fn parts_are_lent(rt: HostRuntime) {
 
 #[test]
 fn letters_change_case_in_a_range(rt: HostRuntime) {
-    hold(
+    hold::<4>(
         &rt,
-        ArrayString::<4>::new(),
         "
         abcd | make_ascii_uppercase_in | 1..=2 | | ok   | aBCd
         abcd | make_ascii_lowercase_in | 1..=2 | | ok   | abcd
@@ -61,9 +57,8 @@ fn letters_change_case_in_a_range(rt: HostRuntime) {
         abcd | make_ascii_lowercase_in | 0..=4 | | None | abcd
         ",
     );
-    hold(
+    hold::<23>(
         &rt,
-        SmallString::new(),
         "
         aZéZaé | make_ascii_uppercase_in | 1..=4 | | ok   | aZéZaé
         aZéZaé | make_ascii_lowercase_in | 1..=4 | | ok   | azézaé
@@ -79,9 +74,8 @@ fn letters_change_case_in_a_range(rt: HostRuntime) {
 
 #[test]
 fn parts_are_drained(rt: HostRuntime) {
-    hold(
+    hold::<23>(
         &rt,
-        SmallString::new(),
         "
         ABCD🤔 | drain | ..3  | | ABC         | D🤔
                | drain | 3..  | | Utf8        | D🤔
@@ -91,9 +85,8 @@ fn parts_are_drained(rt: HostRuntime) {
                | drain | 3..2 | | OutOfBounds | D🤔
         ",
     );
-    hold(
+    hold::<4>(
         &rt,
-        ArrayString::<4>::new(),
         "
         abcd | drain | [1..3) | | bc   | ad
         abcd | drain | [1..1] | | b    | acd
@@ -111,26 +104,9 @@ fn parts_are_drained(rt: HostRuntime) {
 }
 
 #[test]
-fn what_was_drained_is_walked(rt: HostRuntime) {
-    let mut text: SmallString = string("ABCD🤔");
-    let mut drain = text.drain(..3).unwrap_or_default();
-    agree(&rt, "first", drain.next(), Some('A'));
-    agree(&rt, "second", drain.next(), Some('B'));
-    agree(&rt, "third", drain.next(), Some('C'));
-    agree(&rt, "the end", drain.next(), None);
-    agree(&rt, "the text", text.as_str(), "D🤔");
-}
-
-/// What `drain` returned, as a string.
-fn left_of<const N: usize>(answer: Result<Drain<N>, Error>) -> Result<ArrayString<N>, Error> {
-    Ok(string(answer?.as_str()))
-}
-
-#[test]
 fn parts_are_replaced(rt: HostRuntime) {
-    hold(
+    hold::<23>(
         &rt,
-        SmallString::new(),
         "
         ABCD🤔 | replace_range | 2..4   | EFGHI                   | ok          | ABEFGHI🤔
                | replace_range | 9..    | J                       | Utf8        | ABEFGHI🤔
@@ -151,9 +127,8 @@ fn parts_are_replaced(rt: HostRuntime) {
 
 #[test]
 fn moves_of_drains(rt: HostRuntime) {
-    hold(
+    hold::<23>(
         &rt,
-        SmallString::new(),
         "
         ABCD🤔 | drain_counted | 0..2 | | AB          | CD🤔   | 0
         ABCD🤔 | drain_counted | 1..3 | | BC          | AD🤔   | 5
@@ -168,9 +143,8 @@ fn moves_of_drains(rt: HostRuntime) {
 
 #[test]
 fn moves_of_replacements(rt: HostRuntime) {
-    hold(
+    hold::<23>(
         &rt,
-        SmallString::new(),
         "
         ABCD🤔 | replace_range_counted | 2..4 |                        | ok          | AB🤔    | 4
         ABCD🤔 | replace_range_counted | 2..4 | xyz                    | ok          | ABxyz🤔 | 4
@@ -185,9 +159,8 @@ fn moves_of_replacements(rt: HostRuntime) {
 
 #[test]
 fn the_size_of_the_result_decides(rt: HostRuntime) {
-    hold(
+    hold::<4>(
         &rt,
-        ArrayString::<4>::new(),
         "
         abcd | replace_range | 0..0 | xy     | OutOfBounds | abcd
              | replace_range | 1..2 | xy     | OutOfBounds | abcd
@@ -204,72 +177,36 @@ fn the_size_of_the_result_decides(rt: HostRuntime) {
 }
 
 #[test]
-fn more_letters_than_fit(rt: HostRuntime) {
-    let letter = [b'x'; 256];
-    let Ok(more) = str::from_utf8(&letter) else {
-        return assert!(rt; false, "letters are text");
-    };
-    let mut text = MaxString::new();
-    agree(
+fn the_last_places(rt: HostRuntime) {
+    hold::<255>(
         &rt,
-        "256 letters",
-        text.replace_range(0..0, more),
-        Err(Error::OutOfBounds),
+        "
+        255 x | get           | 0..=255   |       | None        | 255 x
+              | get           | 0..=254   |       | 255 x       | 255 x
+              | get           | 255..255  |       |             | 255 x
+              | get           | 255..=255 |       | None        | 255 x
+              | get           | (255..)   |       | None        | 255 x
+              | drain         | (255..)   |       |             | 255 x
+              | drain         | 255..=255 |       |             | 255 x
+              | replace_range | (255..)   |       | ok          | 255 x
+              | drain         | 0..=255   |       | 255 x       |
+        255 x | replace_range | 0..=255   | x     | ok          | x
+        new   | replace_range | 0..0      | 256 x | OutOfBounds |
+        ",
     );
-    agree(&rt, "the text", text.as_str(), "");
-}
-
-/// The bounds of what is after the last place.
-const PAST: (Bound<u8>, Bound<u8>) = (Bound::Excluded(255), Bound::Unbounded);
-
-#[test]
-fn the_last_places_are_lent(rt: HostRuntime) {
-    let full: MaxString = letters();
-    agree(&rt, "through 255", full.get(0..=255), None);
-    agree(&rt, "through 254", full.get(0..=254), Some(full.as_str()));
-    agree(&rt, "from 255 to 255", full.get(255..255), Some(""));
-    agree(&rt, "from 255 through 255", full.get(255..=255), None);
-    agree(&rt, "behind 255", full.get(PAST), None);
-}
-
-#[test]
-fn the_last_places_are_drained(rt: HostRuntime) {
-    let full: MaxString = letters();
-    let mut text = full;
-    agree(&rt, "behind 255", left_of(text.drain(PAST)), Ok(string("")));
-    agree(
+    hold::<300>(
         &rt,
-        "at 255",
-        left_of(text.drain(255..=255)),
-        Ok(string("")),
+        "255 x | replace_range | 255.. | x | OutOfBounds | 255 x",
     );
-    agree(&rt, "nothing", text.replace_range(PAST, ""), Ok(()));
-    agree(&rt, "the text", text, full);
-    agree(&rt, "through 255", left_of(text.drain(0..=255)), Ok(full));
-    agree(&rt, "the rest", text.as_str(), "");
-}
-
-#[test]
-fn the_last_places_are_replaced(rt: HostRuntime) {
-    let mut text: MaxString = letters();
-    agree(&rt, "through 255", text.replace_range(0..=255, "x"), Ok(()));
-    agree(&rt, "the text", text.as_str(), "x");
-    let mut most: ArrayString<300> = letters();
-    agree(
-        &rt,
-        "at 255",
-        most.replace_range(255.., "x"),
-        Err(Error::OutOfBounds),
-    );
+    let mut most: ArrayString<300> = string(LETTERS);
     agree(&rt, "from 254", most.replace_range(254.., "y"), Ok(()));
     agree(&rt, "the last", most.get(254..), Some("y"));
 }
 
 #[test]
 fn no_capacity(rt: HostRuntime) {
-    hold(
+    hold::<0>(
         &rt,
-        ArrayString::<0>::new(),
         "
         new | replace_range           | 0..0  |   | ok          |
             | replace_range           | ..    | x | OutOfBounds |
@@ -281,16 +218,12 @@ fn no_capacity(rt: HostRuntime) {
             | drain                   | ..=0  |   | OutOfBounds |
         ",
     );
-    let mut drain = ArrayString::<0>::new().drain(..).unwrap_or_default();
-    agree(&rt, "the front", drain.next(), None);
-    agree(&rt, "the back", drain.next_back(), None);
 }
 
 #[test]
 fn a_range_type_that_tells_no_bounds(rt: HostRuntime) {
-    hold(
+    hold::<23>(
         &rt,
-        SmallString::new(),
         "
         ABCD🤔 | get                   | [1..3) untold |   | BC          | ABCD🤔
                | drain                 | [1..3) untold |   | BC          | AD🤔
@@ -318,9 +251,8 @@ fn a_range_type_that_tells_no_bounds(rt: HostRuntime) {
 
 #[test]
 fn an_inclusive_range_that_was_walked_to_its_end(rt: HostRuntime) {
-    hold(
+    hold::<23>(
         &rt,
-        SmallString::new(),
         "
         ABCD🤔 | get                   | walked |    |             | ABCD🤔
                | drain                 | walked |    |             | ABCD🤔

@@ -1,14 +1,10 @@
 //! What is taken out of a string, on values worked out by hand.
-use super::*;
 use crate::tests::calls::hold;
-use crate::tests::table::agree;
-use crate::tests::{SmallString, letters, string};
 
 #[test]
 fn characters_are_removed(rt: HostRuntime) {
-    hold(
+    hold::<23>(
         &rt,
-        SmallString::new(),
         "
         ABCD🤔 | remove | 8  | | OutOfBounds | ABCD🤔
                | remove | 10 | | OutOfBounds | ABCD🤔
@@ -18,9 +14,8 @@ fn characters_are_removed(rt: HostRuntime) {
                | remove | 2  | | 🤔          | BC
         ",
     );
-    hold(
+    hold::<4>(
         &rt,
-        ArrayString::<4>::new(),
         "
         abcd | remove | 4 | | OutOfBounds | abcd
              | remove | 0 | | a           | bcd
@@ -31,18 +26,16 @@ fn characters_are_removed(rt: HostRuntime) {
 
 #[test]
 fn a_text_is_truncated(rt: HostRuntime) {
-    hold(
+    hold::<23>(
         &rt,
-        SmallString::new(),
         "
         My String | truncate | 5 | | ok | My St
                   | truncate | 6 | | ok | My St
                   | truncate | 5 | | ok | My St
         ",
     );
-    hold(
+    hold::<4>(
         &rt,
-        ArrayString::<4>::new(),
         "
         🤔 | truncate | 1 | | Utf8 | 🤔
            | truncate | 3 | | Utf8 | 🤔
@@ -54,9 +47,8 @@ fn a_text_is_truncated(rt: HostRuntime) {
 
 #[test]
 fn moves_of_removals(rt: HostRuntime) {
-    hold(
+    hold::<23>(
         &rt,
-        SmallString::new(),
         "
         ABCD🤔 | remove_counted | 0  | | A           | BCD🤔  | 0
         ABCD🤔 | remove_counted | 3  | | D           | ABC🤔  | 4
@@ -69,63 +61,24 @@ fn moves_of_removals(rt: HostRuntime) {
 }
 
 #[test]
-fn each_character_is_asked_in_turn(rt: HostRuntime) {
-    let mut text: SmallString = string("a🤔bc");
-    let mut asked = SmallString::new();
-    let mut keeps = false;
-    text.retain(|ch| {
-        asked.push_str(ch.encode_utf8(&mut [0; 4]));
-        keeps = !keeps;
-        keeps
-    });
-    agree(
-        &rt,
-        "every other one",
-        (text.as_str(), asked.as_str()),
-        ("ab", "a🤔bc"),
-    );
-}
-
-#[test]
 fn characters_are_retained(rt: HostRuntime) {
-    hold(
+    hold::<23>(
         &rt,
-        SmallString::new(),
         "
-        ABCD🤔 | retain_without | | 🤔     | ok | ABCD
-        ABCD🤔 | retain_without | | ABCD🤔 | ok |
+        ABCD🤔 | retain_without | | 🤔      | ok     | ABCD
+        ABCD🤔 | retain_without | | ABCD🤔  | ok     |
+        a🤔bc  | retain_in_turn | | +-+-    | a🤔bc  | ab
+        ABCD🤔 | retain_in_turn | | -++++   | ABCD🤔 | BCD🤔
+        abcd   | retain_in_turn | | ++++    | abcd   | abcd
         ",
     );
+    hold::<4>(&rt, "abcd | retain_in_turn | | ++++ | abcd | abcd");
 }
 
 #[test]
-fn all_but_the_first_are_retained(rt: HostRuntime) {
-    let mut text: SmallString = string("ABCD🤔");
-    let mut was_asked = false;
-    text.retain(|_| {
-        let keep = was_asked;
-        was_asked = true;
-        keep
-    });
-    agree(&rt, "all but the first", text.as_str(), "BCD🤔");
-}
-
-#[test]
-fn all_are_retained(rt: HostRuntime) {
-    let mut full: ArrayString<4> = string("abcd");
-    let mut count = 0u8;
-    full.retain(|_| {
-        count = count.wrapping_add(1);
-        true
-    });
-    agree(&rt, "all", (full.as_str(), count), ("abcd", 4));
-}
-
-#[test]
-fn a_text_is_split(rt: HostRuntime) {
-    hold(
+fn a_text_is_split_and_cleared(rt: HostRuntime) {
+    hold::<23>(
         &rt,
-        SmallString::new(),
         "
         AB🤔CD | split_off | 6  | | CD          | AB🤔
                | split_off | 20 | | OutOfBounds | AB🤔
@@ -134,29 +87,21 @@ fn a_text_is_split(rt: HostRuntime) {
                | split_off | 6  | |             | AB🤔
         ",
     );
-    hold(
+    hold::<4>(
         &rt,
-        ArrayString::<4>::new(),
         "
         abcd | split_off | 4 | |    | abcd
              | split_off | 2 | | cd | ab
              | split_off | 0 | | ab |
+        abcd | clear     |   | | ok |
         ",
     );
 }
 
 #[test]
-fn a_text_is_cleared(rt: HostRuntime) {
-    let mut full: ArrayString<4> = string("abcd");
-    full.clear();
-    agree(&rt, "the text", full, ArrayString::new());
-}
-
-#[test]
 fn capacities(rt: HostRuntime) {
-    hold(
+    hold::<0>(
         &rt,
-        ArrayString::<0>::new(),
         "
         new | remove         | 0 | | OutOfBounds |
             | truncate       | 0 | | ok          |
@@ -168,9 +113,8 @@ fn capacities(rt: HostRuntime) {
             | retain_without |   | | ok          |
         ",
     );
-    hold(
+    hold::<1>(
         &rt,
-        ArrayString::<1>::new(),
         "
         a | remove | 1 | | OutOfBounds | a
           | remove | 0 | | a           |
@@ -180,25 +124,17 @@ fn capacities(rt: HostRuntime) {
 
 #[test]
 fn a_string_of_the_most_letters(rt: HostRuntime) {
-    let full: ArrayString<300> = letters();
-    let mut most = full;
-    agree(
+    hold::<300>(
         &rt,
-        "past the end",
-        most.remove(255),
-        Err(Error::OutOfBounds),
+        "
+        255 x | remove         | 255 | | OutOfBounds | 255 x
+              | truncate       | 255 | | ok          | 255 x
+              | split_off      | 255 | |             | 255 x
+              | trim           |     | | ok          | 255 x
+              | retain_in_turn |     | | 255 x       | 255 x
+              | remove         | 254 | | x           | 254 x
+              | remove         | 0   | | x           | 253 x
+              | len            |     | | ok          | 253 x | 253
+        ",
     );
-    agree(&rt, "all kept", most.truncate(255), Ok(()));
-    agree(
-        &rt,
-        "nothing split off",
-        most.split_off(255),
-        Ok(string("")),
-    );
-    most.trim();
-    most.retain(|_| true);
-    agree(&rt, "the text", most, full);
-    agree(&rt, "the last", most.remove(254), Ok('x'));
-    agree(&rt, "the first", most.remove(0), Ok('x'));
-    agree(&rt, "the size", most.len(), 253);
 }

@@ -15,9 +15,10 @@ const BESIDE: &str = "\u{8}\u{E}\u{1F}\u{21}\u{84}\u{86}\u{9F}\u{A1}\u{167F}\
     \u{1681}\u{1FFF}\u{200B}\u{2027}\u{202A}\u{202E}\u{2030}\u{205E}\
     \u{2060}\u{2FFF}\u{3001}";
 
-/// What `trim` leaves of a string, and what `trim_spaces` does.
-fn trims<const N: usize>(text: ArrayString<N>) -> [ArrayString<N>; 2] {
-    let (mut trimmed, mut without_spaces) = (text, text);
+/// What `trim` leaves of a text, and what `trim_spaces` does.
+fn trims<const N: usize>(text: &str) -> [ArrayString<N>; 2] {
+    let mut trimmed: ArrayString<N> = string(text);
+    let mut without_spaces = trimmed;
     trimmed.trim();
     without_spaces.trim_spaces();
     [trimmed, without_spaces]
@@ -35,27 +36,10 @@ fn beside(end: char) -> [MaxString; 3] {
     [behind, before, between]
 }
 
-/// A text that begins at offset 2 of the array.
-fn from_third_place(text: &str) -> ArrayString<8> {
-    let mut behind: ArrayString<8> = string("..");
-    behind.push_str(text);
-    let _ = behind.remove(0);
-    let _ = behind.remove(0);
-    behind
-}
-
-/// The string with as many digits after it as fit.
-fn grown(text: ArrayString<8>) -> ArrayString<8> {
-    let mut text = text;
-    text.push_str("12345678");
-    text
-}
-
 #[test]
 fn texts_are_trimmed(rt: HostRuntime) {
-    hold(
+    hold::<255>(
         &rt,
-        MaxString::new(),
         "
         '   🤔'                 | trim        | | | ok | 🤔
         '   🤔'                 | trim_spaces | | | ok | 🤔
@@ -83,27 +67,25 @@ fn texts_are_trimmed(rt: HostRuntime) {
         new                     | trim_spaces | | | ok |
         ",
     );
-    let line: MaxString = string(" a  b\n");
-    agree(
-        &rt,
-        "a line",
-        trims(line),
-        [string("a  b"), string("a  b\n")],
-    );
+    let trimmed = trims::<255>(" a  b\n");
+    agree(&rt, "a line", trimmed, [string("a  b"), string("a  b\n")]);
+}
+
+/// Asserts whether a character is trimmed from `a`, and whether it is a space.
+fn trimmed_from_a(rt: &impl Abort, end: char, is_trimmed: bool, is_space: bool) {
+    let a: MaxString = string("a");
+    for text in beside(end) {
+        let trimmed = if is_trimmed { a } else { text };
+        let without_spaces = if is_space { a } else { text };
+        let left = trims(text.as_str());
+        agree(rt, text.as_str(), left, [trimmed, without_spaces]);
+    }
 }
 
 #[test]
 fn each_white_space_is_trimmed(rt: HostRuntime) {
     for end in WHITE_SPACE.chars() {
-        for text in beside(end) {
-            let without_spaces = if end == ' ' { string("a") } else { text };
-            agree(
-                &rt,
-                "white space",
-                trims(text),
-                [string("a"), without_spaces],
-            );
-        }
+        trimmed_from_a(&rt, end, true, end == ' ');
     }
     agree(&rt, "the list", WHITE_SPACE.chars().count(), 25);
 }
@@ -111,38 +93,15 @@ fn each_white_space_is_trimmed(rt: HostRuntime) {
 #[test]
 fn what_stands_beside_white_space_stays(rt: HostRuntime) {
     for end in BESIDE.chars() {
-        for text in beside(end) {
-            agree(&rt, "beside white space", trims(text), [text, text]);
-        }
+        trimmed_from_a(&rt, end, false, false);
     }
     agree(&rt, "the list", BESIDE.chars().count(), 20);
 }
 
-/// Asserts what is left of a text that begins at offset 2, and that it grows by as much as one
-/// that was built anew.
-fn trimmed_behind_the_start(rt: &impl Abort, text: &str, trimmed: &str, without_spaces: &str) {
-    let left = trims(from_third_place(text));
-    let anew = [string(trimmed), string(without_spaces)];
-    agree(rt, text, left, anew);
-    agree(rt, text, grown(left[0]), grown(anew[0]));
-    agree(rt, text, grown(left[1]), grown(anew[1]));
-}
-
-#[test]
-fn texts_behind_the_start_are_trimmed(rt: HostRuntime) {
-    trimmed_behind_the_start(&rt, "\u{2003}aé", "aé", "\u{2003}aé");
-    trimmed_behind_the_start(&rt, " a\u{3000} ", "a", "a\u{3000}");
-    trimmed_behind_the_start(&rt, " ab cd", "ab cd", "ab cd");
-    trimmed_behind_the_start(&rt, "\n\u{A0}a", "a", "\n\u{A0}a");
-    trimmed_behind_the_start(&rt, "ab  ", "ab", "ab");
-    trimmed_behind_the_start(&rt, "\u{2003} ", "", "\u{2003}");
-}
-
 #[test]
 fn full_texts_are_trimmed(rt: HostRuntime) {
-    hold(
+    hold::<4>(
         &rt,
-        ArrayString::<4>::new(),
         "
         '  ab' | trim        | | | ok | ab
         '  ab' | trim_spaces | | | ok | ab
@@ -158,9 +117,8 @@ fn full_texts_are_trimmed(rt: HostRuntime) {
 
 #[test]
 fn a_trim_moves_nothing(rt: HostRuntime) {
-    hold(
+    hold::<8>(
         &rt,
-        ArrayString::<8>::new(),
         "
         '  abcdef'          | trim_counted | | | ok | abcdef | 0
         '\t🤔\u{A0}'        | trim_counted | | | ok | 🤔     | 0

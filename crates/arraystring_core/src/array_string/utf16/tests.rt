@@ -1,145 +1,152 @@
 //! Strings from units, worked out by hand by the rules of the Unicode Standard, section 3.9.
+ghost use Rattle.std.specs.Prelude.{◌≤◌};
+
 use super::*;
-use crate::tests::string;
-use crate::tests::table::agree;
+use crate::tests::table::{agree, column, rows, told};
+use crate::tests::{MaxString, string};
 use std::process::Abort;
 
-/// Asserts that each of the three constructors reads `units` as `wanted`.
-fn read_as<const N: usize>(rt: &impl Abort, case: &str, units: &[u16], wanted: ArrayString<N>) {
-    agree(rt, case, ArrayString::try_from_utf16(units), Ok(wanted));
-    agree(rt, case, ArrayString::from_utf16(units), Ok(wanted));
-    agree(rt, case, ArrayString::from_utf16_lossy(units), wanted);
+/// Asserts what the constructors make of units. The columns of a row are
+///
+///     capacity | units in hexadecimal | `try_from_utf16` | `from_utf16` | `from_utf16_lossy`
+///
+/// where the last three are texts, or the names of refusals.
+fn hold(rt: &impl Abort, table: &str) {
+    for row in rows(table) {
+        match column(row, 0) {
+            "0" => holds::<0>(rt, row),
+            "1" => holds::<1>(rt, row),
+            "2" => holds::<2>(rt, row),
+            "3" => holds::<3>(rt, row),
+            "4" => holds::<4>(rt, row),
+            "5" => holds::<5>(rt, row),
+            "6" => holds::<6>(rt, row),
+            "8" => holds::<8>(rt, row),
+            "9" => holds::<9>(rt, row),
+            "10" => holds::<10>(rt, row),
+            "23" => holds::<23>(rt, row),
+            _ => agree(rt, row, "no such capacity", ""),
+        }
+    }
 }
 
-/// Asserts that both strict constructors refuse `units` for a fault, and the lossy one reads them as
-/// `wanted`.
-fn faulty<const N: usize>(rt: &impl Abort, case: &str, units: &[u16], wanted: ArrayString<N>) {
-    agree(
-        rt,
-        case,
-        ArrayString::<N>::try_from_utf16(units),
-        Err(Error::Utf16),
-    );
-    agree(rt, case, ArrayString::<N>::from_utf16(units), Err(Utf16));
-    agree(rt, case, ArrayString::from_utf16_lossy(units), wanted);
+/// Asserts what a row says.
+fn holds<const N: usize>(rt: &impl Abort, row: &str)
+    requires { N ≤ 300 }
+{
+    let (units, count) = units_of(rt, column(row, 1));
+    let units = units.get(..count).unwrap_or_default();
+    agree(rt, row, whole::<N>(units).as_str(), column(row, 2));
+    agree(rt, row, cut::<N>(units).as_str(), column(row, 3));
+    let lossy = ArrayString::<N>::from_utf16_lossy(units);
+    agree(rt, row, lossy.as_str(), column(row, 4));
 }
 
-/// Asserts that `units` are too many for `try_from_utf16`, and the others end with `wanted`.
-fn cut_to<const N: usize>(rt: &impl Abort, case: &str, units: &[u16], wanted: ArrayString<N>) {
-    agree(
-        rt,
-        case,
-        ArrayString::<N>::try_from_utf16(units),
-        Err(Error::OutOfBounds),
-    );
-    agree(rt, case, ArrayString::from_utf16(units), Ok(wanted));
-    agree(rt, case, ArrayString::from_utf16_lossy(units), wanted);
+/// The units that are written in a column, and how many they are.
+fn units_of(rt: &impl Abort, written: &str) -> ([u16; 8], usize) {
+    let mut units = [0; 8];
+    let mut count = 0usize;
+    for digits in written.split(' ') {
+        if let Some(unit) = units.get_mut(count)
+            && !digits.is_empty()
+        {
+            *unit = u16::from_str_radix(digits, 16).expect(rt, "a unit in the column");
+            count = count.wrapping_add(1);
+        }
+    }
+    (units, count)
+}
+
+/// What `try_from_utf16` returns.
+fn whole<const N: usize>(units: &[u16]) -> MaxString
+    requires { N ≤ 300 }
+{
+    match ArrayString::<N>::try_from_utf16(units) {
+        Ok(made) => string(made.as_str()),
+        Err(why) => told(Err(why)),
+    }
+}
+
+/// What `from_utf16` returns.
+fn cut<const N: usize>(units: &[u16]) -> MaxString
+    requires { N ≤ 300 }
+{
+    match ArrayString::<N>::from_utf16(units) {
+        Ok(made) => string(made.as_str()),
+        Err(Utf16) => string("Utf16"),
+    }
 }
 
 #[test]
 fn units_of_texts(rt: HostRuntime) {
-    read_as(&rt, "none", &[], string::<0>(""));
-    let music = [0xD834, 0xDD1E, 0x6D, 0x75, 0x73, 0x69, 0x63];
-    read_as(&rt, "music", &music, string::<23>("𝄞music"));
-    let each_width = [0x61, 0xE9, 0x20AC, 0xD83E, 0xDD14];
-    read_as(&rt, "each width at 10", &each_width, string::<10>("aé€🤔"));
-    cut_to(&rt, "each width at 9", &each_width, string::<9>("aé€"));
+    hold(
+        &rt,
+        "
+        0  |                           |             |        |
+        23 | D834 DD1E 6D 75 73 69 63  | 𝄞music      | 𝄞music | 𝄞music
+        10 | 61 E9 20AC D83E DD14      | aé€🤔       | aé€🤔  | aé€🤔
+        9  | 61 E9 20AC D83E DD14      | OutOfBounds | aé€    | aé€
+        ",
+    );
 }
 
 #[test]
 fn faults(rt: HostRuntime) {
-    let music = [0xD834, 0xDD1E, 0x6D, 0x75, 0xD800, 0x69, 0x63];
-    faulty(&rt, "music", &music, string::<23>("𝄞mu\u{FFFD}ic"));
-    let units = [0xD800, 0xD834, 0xDD1E];
-    faulty(&rt, "high before a pair", &units, string::<23>("\u{FFFD}𝄞"));
-    faulty(
+    hold(
         &rt,
-        "high at the end",
-        &[0x61, 0xD83E],
-        string::<23>("a\u{FFFD}"),
+        "
+        23 | D834 DD1E 6D 75 D800 69 63 | Utf16 | Utf16 | 𝄞mu\u{FFFD}ic
+        23 | D800 D834 DD1E             | Utf16 | Utf16 | \u{FFFD}𝄞
+        23 | 61 D83E                    | Utf16 | Utf16 | a\u{FFFD}
+        23 | D83E D83E DD14             | Utf16 | Utf16 | \u{FFFD}🤔
+        23 | DD14 D83E                  | Utf16 | Utf16 | \u{FFFD}\u{FFFD}
+        4  | 61 D800 62                 | Utf16 | Utf16 | a\u{FFFD}
+        3  | 61 D800 62                 | Utf16 | Utf16 | a
+        1  | D800                       | Utf16 | Utf16 |
+        2  | D800                       | Utf16 | Utf16 |
+        3  | D800                       | Utf16 | Utf16 | \u{FFFD}
+        ",
     );
-    let units = [0xD83E, 0xD83E, 0xDD14];
-    faulty(&rt, "high twice", &units, string::<23>("\u{FFFD}🤔"));
-    faulty(
-        &rt,
-        "low first",
-        &[0xDD14, 0xD83E],
-        string::<23>("\u{FFFD}\u{FFFD}"),
-    );
-    let units = [0x61, 0xD800, 0x62];
-    faulty(&rt, "room for U+FFFD", &units, string::<4>("a\u{FFFD}"));
-    faulty(&rt, "no room for U+FFFD", &units, string::<3>("a"));
-}
-
-#[test]
-fn a_replacement_needs_three_bytes(rt: HostRuntime) {
-    faulty(&rt, "one byte", &[0xD800], string::<1>(""));
-    faulty(&rt, "two bytes", &[0xD800], string::<2>(""));
-    faulty(&rt, "three bytes", &[0xD800], string::<3>("\u{FFFD}"));
 }
 
 #[test]
 fn the_first_stop_decides(rt: HostRuntime) {
-    faulty(
+    hold(
         &rt,
-        "a full string",
-        &[0x61, 0x62, 0xD800],
-        string::<2>("ab"),
+        "
+        2 | 61 62 D800        | Utf16       | Utf16 | ab
+        2 | 61 62 63 D800     | OutOfBounds | ab    | ab
+        0 | D800              | Utf16       | Utf16 |
+        0 | 61 D800           | OutOfBounds |       |
+        5 | D834 DD1E E9 D800 | OutOfBounds | 𝄞     | 𝄞
+        6 | D834 DD1E E9 D800 | Utf16       | Utf16 | 𝄞é
+        5 | D834 DD1E E9 61   | OutOfBounds | 𝄞     | 𝄞
+        ",
     );
-    let units = [0x61, 0x62, 0x63, 0xD800];
-    cut_to(&rt, "one too many", &units, string::<2>("ab"));
-    faulty(&rt, "no capacity", &[0xD800], string::<0>(""));
-    cut_to(&rt, "no capacity for a", &[0x61, 0xD800], string::<0>(""));
-    let units = [0xD834, 0xDD1E, 0xE9, 0xD800];
-    cut_to(&rt, "the room is first", &units, string::<5>("𝄞"));
-    faulty(&rt, "the fault is first", &units, string::<6>("𝄞é"));
-    let units = [0xD834, 0xDD1E, 0xE9, 0x61];
-    cut_to(&rt, "not the later one", &units, string::<5>("𝄞"));
 }
 
 #[test]
 fn characters_at_the_edges(rt: HostRuntime) {
-    let units = [0xD7FF, 0xE000, 0xFFFF];
-    let wanted = string::<9>("\u{D7FF}\u{E000}\u{FFFF}");
-    read_as(&rt, "three bytes each", &units, wanted);
-    cut_to(
+    hold(
         &rt,
-        "three bytes each, cut",
-        &units,
-        string::<8>("\u{D7FF}\u{E000}"),
-    );
-    read_as(
-        &rt,
-        "the first pair",
-        &[0xD800, 0xDC00],
-        string::<4>("\u{10000}"),
-    );
-    cut_to(
-        &rt,
-        "the first pair, cut",
-        &[0xD800, 0xDC00],
-        string::<3>(""),
-    );
-    read_as(
-        &rt,
-        "the last pair",
-        &[0xDBFF, 0xDFFF],
-        string::<4>("\u{10FFFF}"),
-    );
-    cut_to(
-        &rt,
-        "the last pair, cut",
-        &[0xDBFF, 0xDFFF],
-        string::<3>(""),
+        "
+        9 | D7FF E000 FFFF | \u{D7FF}\u{E000}\u{FFFF} | \u{D7FF}\u{E000}\u{FFFF} | \u{D7FF}\u{E000}\u{FFFF}
+        8 | D7FF E000 FFFF | OutOfBounds | \u{D7FF}\u{E000} | \u{D7FF}\u{E000}
+        4 | D800 DC00      | \u{10000}   | \u{10000}        | \u{10000}
+        3 | D800 DC00      | OutOfBounds |                  |
+        4 | DBFF DFFF      | \u{10FFFF}  | \u{10FFFF}       | \u{10FFFF}
+        3 | DBFF DFFF      | OutOfBounds |                  |
+        ",
     );
 }
 
 #[test]
 fn a_long_list_of_units(rt: HostRuntime) {
-    let mut zeros = ArrayString::<23>::new();
-    for _ in 0..23 {
-        zeros.push_str("\0");
-    }
+    let zeros = "\0\0\0\0\0\0\0\0\0\0\0\0\0\0\0\0\0\0\0\0\0\0\0";
     agree(&rt, "the size", zeros.len(), 23);
-    cut_to(&rt, "300 zeros", &[0; 300], zeros);
+    let units = [0; 300];
+    agree(&rt, "whole", whole::<23>(&units).as_str(), "OutOfBounds");
+    agree(&rt, "cut", cut::<23>(&units).as_str(), zeros);
+    let lossy = ArrayString::<23>::from_utf16_lossy(&units);
+    agree(&rt, "lossy", lossy.as_str(), zeros);
 }
