@@ -41,4 +41,6 @@ mod printed;
 #[cfg(test)]
 mod surface;
 #[cfg(test)]
+mod table;
+#[cfg(test)]
 mod tests;

@@ -2,6 +2,7 @@
 use crate::drain::Drain;
 use crate::error::{OutOfBounds, Utf8, Utf16};
 use crate::integration::NotText;
+use crate::table::agree;
 use crate::utf16::{Unit16, Units};
 use crate::utils::Steps;
 use crate::{
@@ -14,7 +15,6 @@ use std::hash::Hash;
 use std::iter::FusedIterator;
 use std::ops::Add;
 use std::str::{FromStr, Utf8Error};
-use std::test::Fail;
 
 fn is_plain<T: Copy + Clone + PartialEq + Eq + Debug>() {}
 
@@ -76,33 +76,30 @@ fn each_type_has_its_traits(rt: HostRuntime) {
     is_walked::<Units<'static>>();
 
     // What is at hand is the default: nothing is refused, and nothing is left.
-    assert_eq!(rt; Drain::<5>::default().next(), None);
-    assert!(rt; ArrayString::<5>::default().is_empty());
+    agree(&rt, "a drain", Drain::<5>::default().next(), None);
+    let string = ArrayString::<5>::default();
+    agree(&rt, "a string", string.as_str(), "");
 }
 
 /// It takes two values of one type alone.
-fn are_same<T: PartialEq>(left: &T, right: &T) -> bool {
-    left == right
-}
-
 #[test]
-fn each_path_names_the_same(rt: HostRuntime) -> Result<(), Fail> {
+fn each_path_names_the_same(rt: HostRuntime) {
     let small = ArrayString::<23>::new();
-    assert!(rt; are_same(&small, &SmallString::new()));
-    assert!(rt; are_same(&small, &prelude::SmallString::new()));
+    agree(&rt, "small", small, SmallString::new());
+    agree(&rt, "small, taken", small, prelude::SmallString::new());
     let most = ArrayString::<255>::new();
-    assert!(rt; are_same(&most, &MaxString::new()));
-    assert!(rt; are_same(&most, &prelude::MaxString::new()));
-    assert!(rt; are_same(&CacheString::new(), &prelude::CacheString::new()));
+    agree(&rt, "most", most, MaxString::new());
+    agree(&rt, "most, taken", most, prelude::MaxString::new());
+    let cached = prelude::CacheString::new();
+    agree(&rt, "cached", CacheString::new(), cached);
     let mut text = prelude::ArrayString::<5>::from("abc");
-    let removed: prelude::Drain<5> = text.drain(1..)?;
-    let left: drain::Drain<5> = removed;
-    assert_eq!(rt; left.as_str(), "bc");
-    assert!(rt; are_same(&error::Utf8, &prelude::Utf8));
-    assert!(rt; are_same(&error::Utf16, &prelude::Utf16));
-    assert!(rt; are_same(&error::OutOfBounds, &prelude::OutOfBounds));
-    assert!(rt; are_same(&error::Error::Utf8, &Error::from(Utf8)));
-    Ok(())
+    let removed: Result<prelude::Drain<5>, Error> = text.drain(1..);
+    let left: drain::Drain<5> = removed.unwrap_or_default();
+    agree(&rt, "drained", left.as_str(), "bc");
+    agree(&rt, "UTF-8", error::Utf8, prelude::Utf8);
+    agree(&rt, "UTF-16", error::Utf16, prelude::Utf16);
+    agree(&rt, "bounds", error::OutOfBounds, prelude::OutOfBounds);
+    agree(&rt, "an error", error::Error::Utf8, Error::from(Utf8));
 }
 
 #[test]
@@ -110,24 +107,26 @@ fn each_path_names_the_same(rt: HostRuntime) -> Result<(), Fail> {
 fn the_calls_on_bytes_are_at_hand(rt: HostRuntime) {
     let mut array = [0; 4];
     let mut steps = Steps::new();
-    assert_eq!(rt; utils::encode('é', &mut array, 0), 2);
+    agree(&rt, "encode", utils::encode('é', &mut array, 0), 2);
     utils::shift(&mut array, 0, 2, 2, &mut steps);
-    assert_eq!(rt; array, [0xC3, 0xA9, 0xC3, 0xA9]);
-    assert_eq!(rt; utils::look(&array, 1, &mut steps), 0xA9);
-    assert_eq!(rt; (steps.looked(), steps.moved()), (1, 2));
-    assert!(rt; utils::is_boundary("é", 2));
-    assert_eq!(rt; utils::is_inside_boundary(3, 2), Err(OutOfBounds));
-    assert_eq!(rt; utils::truncate_str("aé", 2), "a");
+    agree(&rt, "shift", array, [0xC3, 0xA9, 0xC3, 0xA9]);
+    agree(&rt, "look", utils::look(&array, 1, &mut steps), 0xA9);
+    agree(&rt, "steps", (steps.looked(), steps.moved()), (1, 2));
+}
+
+#[test]
+fn the_calls_on_texts_are_at_hand(rt: HostRuntime) {
+    agree(&rt, "a boundary", utils::is_boundary("é", 2), true);
+    let past = utils::is_inside_boundary(3, 2);
+    agree(&rt, "past", past, Err(OutOfBounds));
+    agree(&rt, "cut", utils::truncate_str("aé", 2), "a");
     let mut steps = Steps::new();
-    assert_eq!(rt; utils::truncate_str_counted("aé", 2, &mut steps), "a");
-    assert_eq!(rt;
-        utils::is_char_boundary(&ArrayString::<5>::from("é"), 1),
-        Err(Utf8)
-    );
-    assert_eq!(rt;
-        utf16::Units::new(&[0xD800]).next(),
-        Some(utf16::Unit16::Lone(0xD800))
-    );
+    let cut = utils::truncate_str_counted("aé", 2, &mut steps);
+    agree(&rt, "cut and counted", cut, "a");
+    let inside = utils::is_char_boundary(&ArrayString::<5>::from("é"), 1);
+    agree(&rt, "inside", inside, Err(Utf8));
+    let unit = utf16::Units::new(&[0xD800]).next();
+    agree(&rt, "a unit", unit, Some(utf16::Unit16::Lone(0xD800)));
 }
 
 /// Each law is called by its path; it does nothing.

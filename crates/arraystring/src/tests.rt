@@ -1,9 +1,8 @@
 //! The example of the README, and the other doors to the string.
 use super::prelude::{MaxString, OutOfBounds, SmallString};
+use super::table::{agree, hash_of};
 use super::{ArrayString, Error};
-use std::alloc::Global;
 use std::cmp::Ordering;
-use std::hash::{DefaultHasher, Hash, Hasher};
 use std::test::Fail;
 
 type Username = ArrayString<20>;
@@ -19,30 +18,31 @@ fn greet(name: &str) -> Result<Username, Error> {
 }
 
 #[test]
-fn a_name_is_greeted(rt: HostRuntime) -> Result<(), Fail> {
-    for (name, greeting) in [
-        ("ann", Ok("@ann, welcome back")),
-        ("bartholomew", Ok("@bartholomew, welcom")),
-        ("", Ok("@, welcome back")),
-        ("abcdefghijklmnopqrst", Err(Error::OutOfBounds)),
-        ("abcdefghijklmnopqrstu", Err(Error::OutOfBounds)),
-    ] {
-        assert_eq!(rt; greet(name), greeting.map(Username::from_str_truncate));
-    }
-    Ok(())
+fn a_name_is_greeted(rt: HostRuntime) {
+    let greeting = Username::from("@ann, welcome back");
+    agree(&rt, "a name", greet("ann"), Ok(greeting));
+    let greeting = Username::from("@bartholomew, welcom");
+    agree(&rt, "a long name", greet("bartholomew"), Ok(greeting));
+    let greeting = Username::from("@, welcome back");
+    agree(&rt, "no name", greet(""), Ok(greeting));
+    let greeted = greet("abcdefghijklmnopqrst");
+    agree(&rt, "20 letters", greeted, Err(Error::OutOfBounds));
+    let greeted = greet("abcdefghijklmnopqrstu");
+    agree(&rt, "21 letters", greeted, Err(Error::OutOfBounds));
 }
 
 #[test]
-fn names_and_roles_fit(rt: HostRuntime) -> Result<(), Fail> {
-    let username = Username::try_from_str("user")?;
-    let role = Role::try_from_str("admin")?;
-    assert_eq!(rt; (username.as_str(), role.as_str()), ("user", "admin"));
-    Ok(())
+fn names_and_roles_fit(rt: HostRuntime) {
+    let username = Username::try_from_str("user").unwrap_or_default();
+    agree(&rt, "a name", username.as_str(), "user");
+    let role = Role::try_from_str("admin").unwrap_or_default();
+    agree(&rt, "a role", role.as_str(), "admin");
 }
 
 #[test]
 fn the_aliases_have_their_capacities(rt: HostRuntime) {
-    assert_eq!(rt; (SmallString::capacity(), MaxString::capacity()), (23, 255));
+    agree(&rt, "small", SmallString::capacity(), 23);
+    agree(&rt, "greatest", MaxString::capacity(), 255);
 }
 
 const ZEROS_23: &str = "00000000000000000000000";
@@ -50,132 +50,135 @@ const ZEROS_23: &str = "00000000000000000000000";
 const ZEROS_24: &str = "000000000000000000000000";
 
 #[test]
-fn a_small_string_is_filled(rt: HostRuntime) -> Result<(), Fail> {
-    let mut text = SmallString::try_from_str("My String")?;
-    text.try_push('!')?;
-    assert_eq!(rt; text.as_str(), "My String!");
-    let mut full = SmallString::try_from_str(ZEROS_23)?;
-    assert_eq!(rt; full.try_push('!'), Err(OutOfBounds));
-    assert_eq!(rt; full.as_str(), ZEROS_23);
+fn a_small_string_is_filled(rt: HostRuntime) {
+    let mut text = SmallString::try_from_str("My String").unwrap_or_default();
+    agree(&rt, "one more", text.try_push('!'), Ok(()));
+    agree(&rt, "the text", text.as_str(), "My String!");
+    let mut full = SmallString::try_from_str(ZEROS_23).unwrap_or_default();
+    agree(&rt, "one too many", full.try_push('!'), Err(OutOfBounds));
+    agree(&rt, "full", full.as_str(), ZEROS_23);
     let mut cut = SmallString::new();
     cut.push_str(ZEROS_24);
-    assert_eq!(rt; cut, full);
-    let mut replaced = SmallString::try_from_str("ABCD🤔")?;
-    assert_eq!(rt;
-        replaced.replace_range(0..1, ZEROS_23),
-        Err(Error::OutOfBounds)
-    );
-    assert_eq!(rt; replaced.as_str(), "ABCD🤔");
-    let mut empty = SmallString::new();
-    assert_eq!(rt; empty.remove(0), Err(Error::OutOfBounds));
-    Ok(())
+    agree(&rt, "cut", cut, full);
+}
+
+#[test]
+fn a_small_string_refuses(rt: HostRuntime) {
+    let refused = Err(Error::OutOfBounds);
+    let mut replaced = SmallString::try_from_str("ABCD🤔").unwrap_or_default();
+    let answer = replaced.replace_range(0..1, ZEROS_23);
+    agree(&rt, "too large", answer, refused);
+    agree(&rt, "the text", replaced.as_str(), "ABCD🤔");
+    let answer = SmallString::new().remove(0);
+    agree(&rt, "empty", answer, Err(Error::OutOfBounds));
+}
+
+#[test]
+fn pieces_are_joined(rt: HostRuntime) {
+    let pieces = ["My String", " My other String"];
+    let joined = MaxString::try_from_iterator(pieces.iter().copied()).unwrap_or_default();
+    let whole = "My String My other String";
+    agree(&rt, "joined", joined.as_str(), whole);
+    let cut = MaxString::from_iterator(pieces.iter().copied());
+    agree(&rt, "joined and cut", cut, joined);
+    let mut added = MaxString::try_from_str("My String").unwrap_or_default();
+    let answer = added.try_push_str(" My other String");
+    agree(&rt, "added", (answer, added), (Ok(()), joined));
+    let mut pushed = MaxString::try_from_str("My String").unwrap_or_default();
+    pushed.push_str(" My other String");
+    agree(&rt, "pushed", pushed, joined);
 }
 
 #[test]
 fn a_greatest_string_is_filled(rt: HostRuntime) -> Result<(), Fail> {
-    let pieces = ["My String", " My other String"];
-    let whole = "My String My other String";
-    let joined = MaxString::try_from_iterator(pieces.iter().copied())?;
-    assert_eq!(rt; joined.as_str(), whole);
-    assert_eq!(rt; MaxString::from_iterator(pieces.iter().copied()), joined);
-    let mut added = MaxString::try_from_str("My String")?;
-    added.try_push_str(" My other String")?;
-    assert_eq!(rt; added, joined);
-    let mut pushed = MaxString::try_from_str("My String")?;
-    pushed.push_str(" My other String");
-    assert_eq!(rt; pushed, joined);
-    let mut letters = String::new(rt.alloc());
-    for _ in 0..255u8 {
-        letters.push('0')?;
-    }
-    assert_eq!(rt; added.try_push_str(&letters), Err(OutOfBounds));
-    assert_eq!(rt; added, joined);
-    letters.push('0')?;
-    assert_eq!(rt;
-        ArrayString::<300>::try_from_str(&letters),
-        Err(OutOfBounds)
-    );
+    let letters = "0".repeat(rt.alloc(), 256)?;
+    let mut added = MaxString::from("My String My other String");
+    let all_but_one = letters.as_str().get(1..).unwrap_or_default();
+    agree(&rt, "255 zeros", all_but_one.len(), 255);
+    let answer = added.try_push_str(all_but_one);
+    agree(&rt, "no room", answer, Err(OutOfBounds));
+    agree(&rt, "the text", added.as_str(), "My String My other String");
+    let refused = ArrayString::<300>::try_from_str(&letters);
+    agree(&rt, "256 zeros", refused, Err(OutOfBounds));
     Ok(())
 }
 
 #[test]
 fn a_string_that_was_trimmed_is_as_one_made_at_once(rt: HostRuntime) -> Result<(), Fail> {
-    let mut trimmed = ArrayString::<8>::try_from_str("  abcdef")?;
+    let mut trimmed = ArrayString::<8>::from("  abcdef");
     trimmed.trim();
-    trimmed.try_push_str("xy")?;
-    let at_once = ArrayString::<8>::try_from_str("abcdefxy")?;
-    let mut first = DefaultHasher::new();
-    trimmed.hash(&mut first);
-    let mut second = DefaultHasher::new();
-    at_once.hash(&mut second);
-    assert_eq!(rt; trimmed, at_once);
-    assert_eq!(rt; first.finish(), second.finish());
-    assert_eq!(rt; trimmed.cmp(&at_once), Ordering::Equal);
-    assert_eq!(rt;
-        trimmed.to_value(rt.alloc())?,
-        at_once.to_value(rt.alloc())?
-    );
-    let mut drained = ArrayString::<8>::try_from_str("xyab")?;
-    let _ = drained.drain(..2);
-    let mut third = DefaultHasher::new();
-    drained.hash(&mut third);
-    let mut fourth = DefaultHasher::new();
-    ArrayString::<8>::try_from_str("ab")?.hash(&mut fourth);
-    assert_eq!(rt; third.finish(), fourth.finish());
+    agree(&rt, "added", trimmed.try_push_str("xy"), Ok(()));
+    let at_once = ArrayString::<8>::from("abcdefxy");
+    agree(&rt, "equal", trimmed, at_once);
+    agree(&rt, "the hash", hash_of(&trimmed), hash_of(&at_once));
+    let order = trimmed.cmp(&at_once);
+    agree(&rt, "the order", order, Ordering::Equal);
+    let value = trimmed.to_value(rt.alloc())?;
+    agree(&rt, "the value", value, at_once.to_value(rt.alloc())?);
     Ok(())
 }
 
-/// Text of `count` letters.
-fn letters(alloc: Global, count: usize) -> Result<String, Fail> {
-    Ok("a".repeat(alloc, count)?)
+#[test]
+fn a_string_that_was_drained_is_hashed_as_one_made_at_once(rt: HostRuntime) {
+    let mut drained = ArrayString::<8>::from("xyab");
+    let _ = drained.drain(..2);
+    let at_once = ArrayString::<8>::from("ab");
+    agree(&rt, "the hash", hash_of(&drained), hash_of(&at_once));
 }
 
 #[test]
 fn no_capacity_is_above_255(rt: HostRuntime) -> Result<(), Fail> {
-    assert_eq!(rt; ArrayString::<300>::capacity(), 255);
-    let most = letters(rt.alloc(), 255)?;
-    let string = ArrayString::<300>::try_from_str(&most)?;
-    assert_eq!(rt; string.as_str(), most.as_str());
-    let more = letters(rt.alloc(), 256)?;
-    assert_eq!(rt; ArrayString::<300>::try_from_str(&more), Err(OutOfBounds));
+    agree(&rt, "300", ArrayString::<300>::capacity(), 255);
+    let more = "a".repeat(rt.alloc(), 256)?;
+    let most = more.as_str().get(1..).unwrap_or_default();
+    let string = ArrayString::<300>::try_from_str(most).unwrap_or_default();
+    agree(&rt, "the size", string.len(), 255);
+    agree(&rt, "255 letters", string.as_str(), most);
+    let refused = ArrayString::<300>::try_from_str(&more);
+    agree(&rt, "256 letters", refused, Err(OutOfBounds));
     Ok(())
 }
 
 #[test]
 fn room_is_asked_before_the_place(rt: HostRuntime) {
     let mut text = SmallString::from("ABCD🤔");
-    assert_eq!(rt; text.try_insert(1, 'A'), Ok(()));
-    assert_eq!(rt; text.try_insert(2, 'B'), Ok(()));
-    assert_eq!(rt; text.as_str(), "AABBCD🤔");
-    assert_eq!(rt; text.try_insert(20, 'C'), Err(Error::OutOfBounds));
-    assert_eq!(rt; text.try_insert(8, 'D'), Err(Error::Utf8));
-    assert_eq!(rt; text.as_str(), "AABBCD🤔");
+    agree(&rt, "A at 1", text.try_insert(1, 'A'), Ok(()));
+    agree(&rt, "B at 2", text.try_insert(2, 'B'), Ok(()));
+    agree(&rt, "the text", text.as_str(), "AABBCD🤔");
+    let refused = Err(Error::OutOfBounds);
+    agree(&rt, "C at 20", text.try_insert(20, 'C'), refused);
+    agree(&rt, "D at 8", text.try_insert(8, 'D'), Err(Error::Utf8));
+    agree(&rt, "the same text", text.as_str(), "AABBCD🤔");
+}
+
+#[test]
+fn a_full_string_has_no_room_at_any_place(rt: HostRuntime) {
+    let refused = Err(Error::OutOfBounds);
     let mut full = SmallString::from("abcdefghijklmnopqrstuvw");
-    assert_eq!(rt; full.try_insert(0, 'C'), Err(Error::OutOfBounds));
-    assert_eq!(rt; full.as_str(), "abcdefghijklmnopqrstuvw");
+    agree(&rt, "C at 0", full.try_insert(0, 'C'), refused);
+    agree(&rt, "letters", full.as_str(), "abcdefghijklmnopqrstuvw");
     let mut face = ArrayString::<4>::from("🤔");
-    assert_eq!(rt; face.try_insert(1, 'x'), Err(Error::OutOfBounds));
-    assert_eq!(rt; face.insert_str(1, "x"), Err(Error::Utf8));
-    assert_eq!(rt; face.as_str(), "🤔");
+    agree(&rt, "whole", face.try_insert(1, 'x'), refused);
+    agree(&rt, "cut", face.insert_str(1, "x"), Err(Error::Utf8));
+    agree(&rt, "a face", face.as_str(), "🤔");
 }
 
 #[test]
 fn a_full_text_is_replaced(rt: HostRuntime) {
     let mut text = ArrayString::<4>::from("abcd");
-    assert_eq!(rt; text.replace_range(0..4, "x"), Ok(()));
-    assert_eq!(rt; text.as_str(), "x");
+    agree(&rt, "all", text.replace_range(0..4, "x"), Ok(()));
+    agree(&rt, "one letter", text.as_str(), "x");
     let mut text = ArrayString::<4>::from("abcd");
-    assert_eq!(rt; text.replace_range(0..0, "xy"), Err(Error::OutOfBounds));
-    assert_eq!(rt; text.as_str(), "abcd");
+    let refused = Err(Error::OutOfBounds);
+    agree(&rt, "none", text.replace_range(0..0, "xy"), refused);
+    agree(&rt, "the text", text.as_str(), "abcd");
 }
 
 #[test]
 fn the_bytes_are_those_of_utf8(rt: HostRuntime) {
     let shown = ArrayString::<8>::from_utf16_lossy(&[0xD834, 0xDD1E, 0xD800]);
-    let bytes = [0xF0, 0x9D, 0x84, 0x9E, 0xEF, 0xBF, 0xBD];
-    assert_eq!(rt; shown.as_bytes(), bytes.as_slice());
-    assert_eq!(rt;
-        ArrayString::<8>::from("\u{1D11E}\u{FFFD}").as_bytes(),
-        bytes.as_slice()
-    );
+    let bytes = b"\xF0\x9D\x84\x9E\xEF\xBF\xBD".as_slice();
+    agree(&rt, "units", shown.as_bytes(), bytes);
+    let text = ArrayString::<8>::from("\u{1D11E}\u{FFFD}");
+    agree(&rt, "a text", text.as_bytes(), bytes);
 }

@@ -5,10 +5,11 @@ ghost use Rattle.std.specs.Ordering.{nat_cmp};
 
 use super::*;
 use crate::integration::NotText;
-use std::alloc::AllocError;
+use crate::table::{agree, hash_of};
+use std::alloc::{AllocError, Global};
 use std::cmp::Ordering;
 use std::fmt::Write;
-use std::hash::{DefaultHasher, Hash, Hasher};
+use std::process::Abort;
 use std::test::Fail;
 
 const ZEROS_63: &str = "000000000000000000000000000000000000000000000000000000000000000";
@@ -37,102 +38,140 @@ fn of_pieces_that_fit(pieces: &[&str]) -> Option<CacheString> {
 
 #[test]
 fn a_text_by_each_constructor(rt: HostRuntime) {
-    for text in ["My String", "", "🤔🤔🤔🤔🤔", ZEROS_63] {
-        let wanted = CacheString(ArrayString::from(text));
-        assert_eq!(rt; wanted.0.as_str(), text);
-        assert_eq!(rt; CacheString::from(wanted.0), wanted);
-        assert_eq!(rt; CacheString::try_from_str(text), Ok(wanted));
-        assert_eq!(rt; CacheString::from_str_truncate(text), wanted);
-        assert_eq!(rt; CacheString::try_from_chars(text.chars()), Ok(wanted));
-        assert_eq!(rt; CacheString::from_chars(text.chars()), wanted);
-        assert_eq!(rt; CacheString::try_from_utf8(text.as_bytes()), Ok(wanted));
-        assert_eq!(rt; CacheString::from_utf8(text.as_bytes()), Ok(wanted));
-        assert_eq!(rt; text.parse::<CacheString>(), Ok(wanted));
-        assert_eq!(rt; of_text_that_fits(text), Some([wanted; 3]));
-    }
-    assert_eq!(rt; CacheString::new().0.as_str(), "");
-    assert_eq!(rt; CacheString::default(), CacheString::new());
-    assert_eq!(rt; CacheString::capacity(), 63);
+    made(&rt, "My String");
+    made(&rt, "");
+    made(&rt, "🤔🤔🤔🤔🤔");
+    made(&rt, ZEROS_63);
+    let new = CacheString::new();
+    agree(&rt, "new", new.0.as_str(), "");
+    agree(&rt, "default", CacheString::default(), new);
+    agree(&rt, "the capacity", CacheString::capacity(), 63);
+}
+
+/// Asserts that each constructor gives the text.
+fn made(rt: &impl Abort, text: &str) {
+    made_or_refused(rt, text);
+    made_or_cut(rt, text);
+}
+
+/// Asserts that each constructor that can refuse gives the text, and each that is called where it
+/// fits.
+fn made_or_refused(rt: &impl Abort, text: &str) {
+    let wanted = CacheString(ArrayString::from(text));
+    agree(rt, text, wanted.0.as_str(), text);
+    agree(rt, text, CacheString::try_from_str(text), Ok(wanted));
+    let made = CacheString::try_from_chars(text.chars());
+    agree(rt, text, made, Ok(wanted));
+    let made = CacheString::try_from_utf8(text.as_bytes());
+    agree(rt, text, made, Ok(wanted));
+    let made = CacheString::from_utf8(text.as_bytes());
+    agree(rt, text, made, Ok(wanted));
+    agree(rt, text, text.parse::<CacheString>(), Ok(wanted));
+    agree(rt, text, of_text_that_fits(text), Some([wanted; 3]));
+}
+
+/// Asserts that each constructor that cuts gives the text.
+fn made_or_cut(rt: &impl Abort, text: &str) {
+    let made = CacheString::from(ArrayString::from(text));
+    agree(rt, text, made.0.as_str(), text);
+    let made = CacheString::from_str_truncate(text);
+    agree(rt, text, made.0.as_str(), text);
+    let made = CacheString::from_chars(text.chars());
+    agree(rt, text, made.0.as_str(), text);
 }
 
 #[test]
 fn pieces_are_joined(rt: HostRuntime) {
-    let pieces = ["My String", " My other String"];
     let joined = CacheString::from_str_truncate("My String My other String");
-    assert_eq!(rt; CacheString::try_from_iterator(pieces), Ok(joined));
-    assert_eq!(rt; CacheString::from_iterator(pieces), joined);
-    assert_eq!(rt; of_pieces_that_fit(&pieces), Some(joined));
+    let made = CacheString::try_from_iterator(["My String", " My other String"]);
+    agree(&rt, "whole", made, Ok(joined));
+    let made = CacheString::from_iterator(["My String", " My other String"]);
+    agree(&rt, "cut", made.0.as_str(), joined.0.as_str());
+    let made = of_pieces_that_fit(&["My String", " My other String"]);
+    agree(&rt, "unchecked", made, Some(joined));
 }
 
 #[test]
-fn a_text_that_is_too_large(rt: HostRuntime) {
+fn a_text_that_is_too_large_is_cut(rt: HostRuntime) {
     let cut = CacheString::from_str_truncate(ZEROS_64);
-    assert_eq!(rt; cut.0.as_str(), ZEROS_63);
-    assert_eq!(rt; CacheString::from_chars(ZEROS_64.chars()), cut);
-    assert_eq!(rt; CacheString::from_iterator(["000"; 400]), cut);
-    assert_eq!(rt; CacheString::from_utf8(&[b'0'; 300]), Ok(cut));
+    agree(&rt, "a text", cut.0.as_str(), ZEROS_63);
+    let made = CacheString::from_chars(ZEROS_64.chars());
+    agree(&rt, "characters", made, cut);
+    let made = CacheString::from_iterator(["000"; 400]);
+    agree(&rt, "pieces", made, cut);
+    let made = CacheString::from_utf8(&[b'0'; 300]);
+    agree(&rt, "bytes", made, Ok(cut));
+}
 
-    assert_eq!(rt; CacheString::try_from_str(ZEROS_64), Err(OutOfBounds));
-    assert_eq!(rt; ZEROS_64.parse::<CacheString>(), Err(OutOfBounds));
-    assert_eq!(rt;
-        CacheString::try_from_chars(ZEROS_64.chars()),
-        Err(OutOfBounds)
-    );
-    assert_eq!(rt;
-        CacheString::try_from_iterator(["000"; 100]),
-        Err(OutOfBounds)
-    );
-    assert_eq!(rt;
-        CacheString::try_from_utf8(&[b'0'; 1600]),
-        Err(Error::OutOfBounds)
-    );
-    assert_eq!(rt; of_text_that_fits(ZEROS_64), None);
-    assert_eq!(rt; of_pieces_that_fit(&[ZEROS_63, "0"]), None);
+#[test]
+fn a_text_that_is_too_large_is_refused(rt: HostRuntime) {
+    let made = CacheString::try_from_str(ZEROS_64);
+    agree(&rt, "a text", made, Err(OutOfBounds));
+    let made = ZEROS_64.parse::<CacheString>();
+    agree(&rt, "parsed", made, Err(OutOfBounds));
+    let made = CacheString::try_from_chars(ZEROS_64.chars());
+    agree(&rt, "characters", made, Err(OutOfBounds));
+    let made = CacheString::try_from_iterator(["000"; 100]);
+    agree(&rt, "pieces", made, Err(OutOfBounds));
+    let made = CacheString::try_from_utf8(&[b'0'; 1600]);
+    agree(&rt, "bytes", made, Err(Error::OutOfBounds));
+    agree(&rt, "a text, unchecked", of_text_that_fits(ZEROS_64), None);
+    let made = of_pieces_that_fit(&[ZEROS_63, "0"]);
+    agree(&rt, "pieces, unchecked", made, None);
 }
 
 #[test]
 fn bytes_that_are_not_utf8(rt: HostRuntime) {
-    let given = [0x00, 0x9F, 0x92, 0x96];
-    assert_eq!(rt; CacheString::try_from_utf8(&given), Err(Error::Utf8));
-    assert_eq!(rt; CacheString::from_utf8(&given), Err(Utf8));
+    let given = b"\x00\x9F\x92\x96";
+    let made = CacheString::try_from_utf8(given);
+    agree(&rt, "whole", made, Err(Error::Utf8));
+    agree(&rt, "cut", CacheString::from_utf8(given), Err(Utf8));
 }
 
 #[test]
 fn texts_from_utf16(rt: HostRuntime) {
     let units = [0xD834, 0xDD1E, 0x6D, 0x75, 0x73, 0x69, 0x63];
-    let music = CacheString::from_str_truncate("𝄞music");
-    assert_eq!(rt; CacheString::try_from_utf16(&units), Ok(music));
-    assert_eq!(rt; CacheString::from_utf16(&units), Ok(music));
-    assert_eq!(rt; CacheString::from_utf16_lossy(&units), music);
-
-    let units = [0xD834, 0xDD1E, 0x6D, 0x75, 0xD800, 0x69, 0x63];
-    assert_eq!(rt; CacheString::try_from_utf16(&units), Err(Error::Utf16));
-    assert_eq!(rt; CacheString::from_utf16(&units), Err(Utf16));
+    let made = CacheString::try_from_utf16(&units).unwrap_or_default();
+    agree(&rt, "whole", made.0.as_str(), "𝄞music");
+    let made = CacheString::from_utf16(&units).unwrap_or_default();
+    agree(&rt, "cut", made.0.as_str(), "𝄞music");
     let shown = CacheString::from_utf16_lossy(&units);
-    assert_eq!(rt; shown.0.as_str(), "𝄞mu\u{FFFD}ic");
+    agree(&rt, "lossy", shown.0.as_str(), "𝄞music");
+}
 
+#[test]
+fn a_lone_surrogate(rt: HostRuntime) {
+    let units = [0xD834, 0xDD1E, 0x6D, 0x75, 0xD800, 0x69, 0x63];
+    let made = CacheString::try_from_utf16(&units);
+    agree(&rt, "whole", made, Err(Error::Utf16));
+    agree(&rt, "cut", CacheString::from_utf16(&units), Err(Utf16));
+    let shown = CacheString::from_utf16_lossy(&units);
+    agree(&rt, "lossy", shown.0.as_str(), "𝄞mu\u{FFFD}ic");
+}
+
+#[test]
+fn too_many_units(rt: HostRuntime) {
     let units = [0; 300];
     let cut = CacheString(ArrayString::from_chars(['\0'; 63]));
-    assert_eq!(rt;
-        CacheString::try_from_utf16(&units),
-        Err(Error::OutOfBounds)
-    );
-    assert_eq!(rt; CacheString::from_utf16(&units), Ok(cut));
-    assert_eq!(rt; CacheString::from_utf16_lossy(&units), cut);
+    let made = CacheString::try_from_utf16(&units);
+    agree(&rt, "whole", made, Err(Error::OutOfBounds));
+    agree(&rt, "cut", CacheString::from_utf16(&units), Ok(cut));
+    let shown = CacheString::from_utf16_lossy(&units);
+    agree(&rt, "lossy", shown.0.as_str(), cut.0.as_str());
 }
 
 #[test]
 fn a_string_is_split(rt: HostRuntime) {
     let mut text = CacheString::from_str_truncate("AB🤔CD");
-    let Ok(rest) = text.split_off(6) else {
-        return assert!(rt; false, "6 is a boundary");
-    };
-    assert_eq!(rt; rest.0.as_str(), "CD");
-    assert_eq!(rt; text.0.as_str(), "AB🤔");
-    assert_eq!(rt; text.split_off(20), Err(Error::OutOfBounds));
-    assert_eq!(rt; text.split_off(4), Err(Error::Utf8));
-    assert_eq!(rt; text.split_off(6), Ok(CacheString::new()));
-    assert_eq!(rt; text.0.as_str(), "AB🤔");
+    let rest = Ok(CacheString::from_str_truncate("CD"));
+    agree(&rt, "at 6", text.split_off(6), rest);
+    agree(&rt, "the text", text.0.as_str(), "AB🤔");
+    let past = text.split_off(20);
+    agree(&rt, "at 20", past, Err(Error::OutOfBounds));
+    agree(&rt, "at 4", text.split_off(4), Err(Error::Utf8));
+    let none = Ok(CacheString::new());
+    agree(&rt, "at the end", text.split_off(6), none);
+    agree(&rt, "the same text", text.0.as_str(), "AB🤔");
 }
 
 /// A clone has the text.
@@ -155,21 +194,18 @@ fn order(left: &CacheString, right: &CacheString) -> Ordering
     left.cmp(right)
 }
 
-fn hash_of<T: Hash>(value: &T) -> u64 {
-    let mut state = DefaultHasher::new();
-    value.hash(&mut state);
-    state.finish()
-}
-
 #[test]
 fn texts_are_compared_and_hashed(rt: HostRuntime) -> Result<(), Fail> {
     let low = CacheString::from_str_truncate("\u{FFFF}");
     let high = CacheString::from_str_truncate("\u{10000}");
-    assert_eq!(rt; order(&low, &high), Ordering::Less);
-    assert_eq!(rt; high.partial_cmp(&low), Some(Ordering::Greater));
-    assert!(rt; low != high);
-    assert!(rt; is_same_text(&low, &cloned(&low)?) && !is_same_text(&low, &high));
-    assert_eq!(rt; hash_of(&low), hash_of(&"\u{FFFF}"));
+    agree(&rt, "less", order(&low, &high), Ordering::Less);
+    let order = high.partial_cmp(&low);
+    agree(&rt, "greater", order, Some(Ordering::Greater));
+    agree(&rt, "not equal", low != high, true);
+    let clone = cloned(&low)?;
+    agree(&rt, "a clone", is_same_text(&low, &clone), true);
+    agree(&rt, "no clone", is_same_text(&low, &high), false);
+    agree(&rt, "the hash", hash_of(&low), hash_of(&"\u{FFFF}"));
     Ok(())
 }
 
@@ -177,23 +213,25 @@ fn texts_are_compared_and_hashed(rt: HostRuntime) -> Result<(), Fail> {
 fn texts_are_printed(rt: HostRuntime) -> Result<(), Fail> {
     let abc = CacheString::from_str_truncate("abc");
     let printed = format!(in rt.alloc(); "{abc}|{abc:5}|{abc:?}")?;
-    assert_eq!(rt;
-        printed.as_str(),
-        "abc|abc|CacheString(ArrayString { array: \"abc\", size: 3 })"
-    );
+    let wanted = "abc|abc|CacheString(ArrayString { array: \"abc\", size: 3 })";
+    agree(&rt, "abc", printed.as_str(), wanted);
+    Ok(())
+}
+
+/// Asserts that a text is printed as it is, and so also in each form that would pad or cut it.
+fn not_padded(rt: &impl Abort, alloc: Global, text: &str) -> Result<(), Fail> {
+    let string = CacheString::from_str_truncate(text);
+    let printed = format!(in alloc; "{string}|{string:2}|{string:>70}|{string:^70}|{string:.1}")?;
+    let wanted = format!(in alloc; "{text}|{text}|{text}|{text}|{text}")?;
+    agree(rt, text, printed.as_str(), wanted.as_str());
     Ok(())
 }
 
 #[test]
 fn no_text_is_padded(rt: HostRuntime) -> Result<(), Fail> {
-    for text in ["", ZEROS_63, "aé€🤔"] {
-        let string = CacheString::from_str_truncate(text);
-        let printed = format!(in rt.alloc(); "{string}")?;
-        assert_eq!(rt; printed.as_str(), text);
-        let padded = format!(in rt.alloc(); "{string:2}|{string:>70}|{string:^70}|{string:.1}")?;
-        let wanted = format!(in rt.alloc(); "{text}|{text}|{text}|{text}")?;
-        assert_eq!(rt; padded.as_str(), wanted.as_str());
-    }
+    not_padded(&rt, rt.alloc(), "")?;
+    not_padded(&rt, rt.alloc(), ZEROS_63)?;
+    not_padded(&rt, rt.alloc(), "aé€🤔")?;
     Ok(())
 }
 
@@ -203,14 +241,12 @@ fn a_debug_text_on_lines_of_its_own(rt: HostRuntime) -> Result<(), Fail> {
     let printed = format!(in rt.alloc(); "{string:#?}")?;
     let wanted =
         "CacheString(\n    ArrayString {\n        array: \"aé€🤔\",\n        size: 10,\n    },\n)";
-    assert_eq!(rt; printed.as_str(), wanted);
+    agree(&rt, "on lines", printed.as_str(), wanted);
     // A width is handed on to the fields, as derived forms do.
     let abc = CacheString::from_str_truncate("abc");
     let printed = format!(in rt.alloc(); "{abc:5?}")?;
-    assert_eq!(rt;
-        printed.as_str(),
-        "CacheString(ArrayString { array: \"abc\", size:     3 })"
-    );
+    let wanted = "CacheString(ArrayString { array: \"abc\", size:     3 })";
+    agree(&rt, "in a width", printed.as_str(), wanted);
     Ok(())
 }
 
@@ -218,25 +254,25 @@ fn a_debug_text_on_lines_of_its_own(rt: HostRuntime) -> Result<(), Fail> {
 fn refusals_print_their_name_in_each_form(rt: HostRuntime) -> Result<(), Fail> {
     let error = Error::OutOfBounds;
     let printed = format!(in rt.alloc(); "{error}|{error:20}|{error:?}|{error:#?}|{error:>20?}")?;
-    assert_eq!(rt;
-        printed.as_str(),
-        "OutOfBounds|OutOfBounds|Error::OutOfBounds|Error::OutOfBounds|Error::OutOfBounds"
-    );
+    let wanted = "OutOfBounds|OutOfBounds|Error::OutOfBounds|Error::OutOfBounds|Error::OutOfBounds";
+    agree(&rt, "an error", printed.as_str(), wanted);
     let refusal = NotText;
     let printed = format!(in rt.alloc();
         "{refusal}|{refusal:12}|{refusal:?}|{refusal:#?}|{refusal:>12?}"
     )?;
-    assert_eq!(rt; printed.as_str(), "NotText|NotText|NotText|NotText|NotText");
+    let wanted = "NotText|NotText|NotText|NotText|NotText";
+    agree(&rt, "no text", printed.as_str(), wanted);
     Ok(())
 }
 
 #[test]
 fn texts_are_added(rt: HostRuntime) {
     let mut text = CacheString::from_str_truncate("ab") + "cd";
-    assert_eq!(rt; text.0.as_str(), "abcd");
-    assert!(rt; text.write_str(ZEROS_63).is_err());
-    assert_eq!(rt; text.0.as_str(), "abcd");
-    assert!(rt; write!(text, "{}{}", "e", "f").is_ok());
-    assert_eq!(rt; text.0.as_str(), "abcdef");
-    assert_eq!(rt; (CacheString::new() + ZEROS_64).0.as_str(), ZEROS_63);
+    agree(&rt, "ab + cd", text.0.as_str(), "abcd");
+    agree(&rt, "too large", text.write_str(ZEROS_63).is_err(), true);
+    agree(&rt, "the same text", text.0.as_str(), "abcd");
+    agree(&rt, "e and f", write!(text, "{}{}", "e", "f").is_ok(), true);
+    agree(&rt, "the text", text.0.as_str(), "abcdef");
+    let cut = CacheString::new() + ZEROS_64;
+    agree(&rt, "cut", cut.0.as_str(), ZEROS_63);
 }

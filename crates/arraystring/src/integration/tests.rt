@@ -1,5 +1,7 @@
 //! Strings to JSON values and back, worked out by hand.
 use super::*;
+use crate::table::agree;
+use std::process::Abort;
 use std::test::Fail;
 
 /// As many letters as fit.
@@ -9,8 +11,9 @@ const LETTERS: &str = "abcdefghijklmnopqrstuvwxyzABCDEFGHIJKLMNOPQRSTUVWXYZabcde
 fn a_string_is_read_back(rt: HostRuntime) -> Result<(), Fail> {
     let string = CacheString::from_str_truncate("abcdefg");
     let value = string.to_value(rt.alloc())?;
-    assert_eq!(rt; value.as_str(), Some("abcdefg"));
-    assert_eq!(rt; CacheString::from_value(&value), Ok(string));
+    agree(&rt, "the value", value.as_str(), Some("abcdefg"));
+    let back = CacheString::from_value(&value);
+    agree(&rt, "read back", back, Ok(string));
     Ok(())
 }
 
@@ -18,17 +21,16 @@ fn a_string_is_read_back(rt: HostRuntime) -> Result<(), Fail> {
 fn a_text_is_cut_to_63_bytes(rt: HostRuntime) -> Result<(), Fail> {
     let letters = "abcdefghij".repeat(rt.alloc(), 7)?;
     let string = CacheString::from_value(&Value::String(letters))?;
-    let sixty = "abcdefghijabcdefghijabcdefghijabcdefghijabcdefghijabcdefghij";
-    assert_eq!(rt; string.0.as_str().get(..60), Some(sixty));
-    assert_eq!(rt; string.0.as_str().get(60..), Some("abc"));
+    let cut = "abcdefghijabcdefghijabcdefghijabcdefghijabcdefghijabcdefghijabc";
+    agree(&rt, "the text", string.0.as_str(), cut);
     Ok(())
 }
 
 #[test]
 fn other_values_are_not_texts(rt: HostRuntime) -> Result<(), Fail> {
-    for text in ["null", "true", "7", "0.5", "[]", "{}"] {
+    for text in "null true 7 0.5 [] {}".split(' ') {
         let value = Value::from_str(rt.alloc(), text)?;
-        assert_eq!(rt; CacheString::from_value(&value), Err(NotText), "{text}");
+        agree(&rt, text, CacheString::from_value(&value), Err(NotText));
     }
     Ok(())
 }
@@ -81,52 +83,73 @@ impl Scarce {
     }
 }
 
-/// Where ever more memory is left, from none up, a refused growth of `to_value` leaves the string.
+/// A string that becomes a JSON value.
+trait Json {
+    fn value(&self, alloc: Global) -> Result<Value, AllocError>;
+
+    fn text(&self) -> &str;
+}
+
+impl Json for ArrayString<63> {
+    fn value(&self, alloc: Global) -> Result<Value, AllocError> {
+        self.to_value(alloc)
+    }
+
+    fn text(&self) -> &str {
+        self.as_str()
+    }
+}
+
+impl Json for CacheString {
+    fn value(&self, alloc: Global) -> Result<Value, AllocError> {
+        self.to_value(alloc)
+    }
+
+    fn text(&self) -> &str {
+        self.0.as_str()
+    }
+}
+
+/// The value of a string where ever more memory is left, from none up. A refused growth leaves the
+/// string.
+fn value_at_last<S: Json>(rt: &impl Abort, alloc: Global, string: &S) -> Result<Value, Fail> {
+    let mut scarce = Scarce::new(alloc)?;
+    let mut refused = 0u32;
+    let mut made = Err(AllocError);
+    for _ in 0..TIMES {
+        scarce.leave_more(alloc)?;
+        made = string.value(alloc);
+        if made.is_ok() {
+            break;
+        }
+        refused = refused.saturating_add(1);
+        agree(rt, "the string", string.text(), LETTERS);
+    }
+    drop(scarce);
+    agree(rt, "refusals", refused >= 1, true);
+    Ok(made?)
+}
+
 #[test]
 fn want_of_memory_leaves_the_string(rt: HostRuntime) -> Result<(), Fail> {
     let string: ArrayString<63> = ArrayString::from_str_truncate(LETTERS);
-    let mut scarce = Scarce::new(rt.alloc())?;
-    let mut refused = 0u32;
-    let mut made = Err(AllocError);
-    for _ in 0..TIMES {
-        scarce.leave_more(rt.alloc())?;
-        made = string.to_value(rt.alloc());
-        if made.is_ok() {
-            break;
-        }
-        refused = refused.saturating_add(1);
-        assert_eq!(rt; string.as_str(), LETTERS);
-    }
-    drop(scarce);
-    assert!(rt; refused >= 1);
-    for value in [made?, string.to_value(rt.alloc())?] {
-        assert_eq!(rt; value.as_str(), Some(LETTERS));
-        assert_eq!(rt; ArrayString::from_value(&value), Ok(string));
-    }
+    let made = value_at_last(&rt, rt.alloc(), &string)?;
+    agree(&rt, "at last", made.as_str(), Some(LETTERS));
+    let back = ArrayString::from_value(&made);
+    agree(&rt, "read back", back, Ok(string));
+    let anew = string.to_value(rt.alloc())?;
+    agree(&rt, "once more", anew, made);
     Ok(())
 }
 
-/// The same of a `CacheString`.
 #[test]
 fn want_of_memory_leaves_the_cache_string(rt: HostRuntime) -> Result<(), Fail> {
     let string = CacheString::from_str_truncate(LETTERS);
-    let mut scarce = Scarce::new(rt.alloc())?;
-    let mut refused = 0u32;
-    let mut made = Err(AllocError);
-    for _ in 0..TIMES {
-        scarce.leave_more(rt.alloc())?;
-        made = string.to_value(rt.alloc());
-        if made.is_ok() {
-            break;
-        }
-        refused = refused.saturating_add(1);
-        assert_eq!(rt; string.0.as_str(), LETTERS);
-    }
-    drop(scarce);
-    assert!(rt; refused >= 1);
-    for value in [made?, string.to_value(rt.alloc())?] {
-        assert_eq!(rt; value.as_str(), Some(LETTERS));
-        assert_eq!(rt; CacheString::from_value(&value), Ok(string));
-    }
+    let made = value_at_last(&rt, rt.alloc(), &string)?;
+    agree(&rt, "at last", made.as_str(), Some(LETTERS));
+    let back = CacheString::from_value(&made);
+    agree(&rt, "read back", back, Ok(string));
+    let anew = string.to_value(rt.alloc())?;
+    agree(&rt, "once more", anew, made);
     Ok(())
 }
