@@ -18,6 +18,7 @@ mod compare;
 /// and where in it what is left begins and ends. It takes no memory.
 #[derive(Clone, Copy)]
 pub struct Drain<const N: usize> {
+    // The offsets lie before the array, so that a read of it is known to be no read of them.
     front: u8,
     end: u8,
     array: [u8; N],
@@ -89,6 +90,7 @@ impl<const N: usize> Iterator for Drain<N> {
         if self.front == self.end {
             return None;
         }
+        // A byte of ASCII is its character; others take the decoder.
         let first = self.array[self.front as usize];
         if first < 0x80 {
             self.front += 1;
