@@ -8,3 +8,4 @@ pub mod RangeLemmas
 pub mod DrainLemmas
 pub mod BackLemmas
 pub mod WalkedLemmas
+pub mod EqualLemmas

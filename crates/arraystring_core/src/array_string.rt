@@ -6,6 +6,7 @@ ghost use Rattle.std.specs.Cmp.Lexicographic.{pointwise, nat_list_eq_equiv};
 ghost use Rattle.arraystring_base.specs.Text.{size, width, bytes, cap, front, back, boundary, IsText};
 ghost use Rattle.arraystring_core.specs.Edits.{Makes, from_out_of_bounds, addition, addition_of_cut, popping};
 
+use crate::equal::equal;
 use crate::place::{copy_in, open_gap};
 use arraystring_base::error::OutOfBounds;
 use arraystring_base::utils::{Steps, encode, is_boundary, last_char, shift, truncate_str};
@@ -348,7 +349,7 @@ impl<const N: usize> PartialEq for ArrayString<N> {
     ghost laws = { on_per (λ s. s.text) (partial_equiv_from_equiv nat_list_eq_equiv) };
 
     fn eq(&self, other: &Self) -> bool {
-        self.as_str() == other.as_str()
+        equal(self.as_str(), other.as_str())
     }
 }
 

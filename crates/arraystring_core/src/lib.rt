@@ -4,6 +4,7 @@
 
 pub mod array_string;
 pub mod drain;
+mod equal;
 pub mod integration;
 pub mod laws;
 mod place;

@@ -4,5 +4,5 @@ use Rattle.arraystring_core.proofs.array_string.ArrayStringPartialEq.eq.Goals as
 
 pub returns : goal.returns
 returns g c =
-    let same = rw (c.as_str.ensures.bytes, c.as_str-2.ensures.bytes) at c.eq.ensures in
+    let same = rw (c.as_str.ensures.bytes, c.as_str-2.ensures.bytes) at c.equal.ensures in
     same ∙ pointwise-bytes c.args.self.now.text c.args.other.now.text
