@@ -19,10 +19,20 @@ impl<const N: usize> ArrayString<N> {
     pub fn try_from_str(string: &str) -> Result<Self, OutOfBounds>
         ensures { IsWholeOrRefused (chars string.now) (cap N) (from_out_of_bounds result) }
     {
-        if string.len() > Self::capacity() as usize {
-            return Err(OutOfBounds);
+        // One path for both outcomes, so that the text is copied into the result once.
+        let fits = string.len() <= Self::capacity() as usize;
+        let size = if fits { string.len() } else { 0 };
+        let mut made = ArrayString {
+            array: [0; N],
+            start: 0,
+            size: size as u8,
+        };
+        copy_in(&mut made.array, 0, &string.as_bytes()[..size]);
+        let mut result = Ok(made);
+        if !fits {
+            result = Err(OutOfBounds);
         }
-        Ok(Self::from_str_unchecked(string))
+        result
     }
 
     /// The longest leading run of whole characters of `string` that fits.
