@@ -143,18 +143,25 @@ fn strings_are_equal_by_their_texts(rt: HostRuntime) {
 #[test]
 fn printed_for_debugging(rt: HostRuntime) {
     let abc: ArrayString<8> = ArrayString::from("abc");
-    debugs(&rt, "{:?}", &abc, "ArrayString { array: \"abc\", size: 3 }");
-    let wanted = "ArrayString {\n    array: \"abc\",\n    size: 3,\n}";
-    debugs(&rt, "{:#?}", &abc, wanted);
-    let wanted = "ArrayString { array: \"abc\", size:    3 }";
-    debugs(&rt, "{:4?}", &abc, wanted);
+    let wanted = "ArrayString { array: \"abc\", size: 3 }|\
+        ArrayString {\n    array: \"abc\",\n    size: 3,\n}|\
+        ArrayString { array: \"abc\", size:    3 }|\
+        ArrayString { array: \"abc\", size:            3 }|\
+        ArrayString { array: \"abc\", size:            3 }";
+    debugs(&rt, &abc, wanted);
+    debugs(&rt, &ArrayString::<23>::from("abc"), wanted);
 }
 
 #[test]
 fn the_size_that_is_printed_counts_bytes(rt: HostRuntime) {
     let mut text: ArrayString<8> = ArrayString::from("aé");
     let _ = text.remove(0);
-    debugs(&rt, "{:?}", &text, "ArrayString { array: \"é\", size: 2 }");
+    let wanted = "ArrayString { array: \"é\", size: 2 }|\
+        ArrayString {\n    array: \"é\",\n    size: 2,\n}|\
+        ArrayString { array: \"é\", size:    2 }|\
+        ArrayString { array: \"é\", size:            2 }|\
+        ArrayString { array: \"é\", size:            2 }";
+    debugs(&rt, &text, wanted);
 }
 
 #[test]

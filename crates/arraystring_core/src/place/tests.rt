@@ -78,35 +78,26 @@ fn an_insertion_with_room_behind_the_text_moves_what_is_behind_it(rt: HostRuntim
 }
 
 #[test]
-fn texts_are_lent(rt: HostRuntime) {
+fn texts_and_their_parts_are_lent(rt: HostRuntime) {
     hold_wherever_it_begins(
         &rt,
         "
-        abCDef | as_bytes         |   | 61 62 43 44 65 66 | ok      | abCDef
-               | len              |   |                   | ok      | abCDef | 6
-               | cmp              |   | abCDef            | Equal   | abCDef
-               | cmp              |   | abCDe             | Greater | abCDef
-        aBé    | as_bytes         |   | 61 42 C3 A9       | ok      | aBé
-               | cmp              |   | aBé               | Equal   | aBé
-               | is_char_boundary | 2 |                   | ok      | aBé
-               | is_char_boundary | 3 |                   | Utf8    | aBé
-               | is_char_boundary | 5 |                   | Utf8    | aBé
-        ",
-    );
-}
-
-#[test]
-fn parts_are_lent(rt: HostRuntime) {
-    hold_wherever_it_begins(
-        &rt,
-        "
-        abCDef | get   | 1..3 | | bC   | abCDef
-               | get   | 4..  | | ef   | abCDef
-               | get   | ..7  | | None | abCDef
-               | slice | 1..3 | | bC   | abCDef
-        aBé    | get   | 1..  | | Bé   | aBé
-               | get   | ..3  | | None | aBé
-               | slice | 2..4 | | é    | aBé
+        abCDef | as_bytes         |      | 61 62 43 44 65 66 | ok      | abCDef
+               | len              |      |                   | ok      | abCDef | 6
+               | cmp              |      | abCDef            | Equal   | abCDef
+               | cmp              |      | abCDe             | Greater | abCDef
+        aBé    | as_bytes         |      | 61 42 C3 A9       | ok      | aBé
+               | cmp              |      | aBé               | Equal   | aBé
+               | is_char_boundary | 2    |                   | ok      | aBé
+               | is_char_boundary | 3    |                   | Utf8    | aBé
+               | is_char_boundary | 5    |                   | Utf8    | aBé
+        abCDef | get              | 1..3 |                   | bC      | abCDef
+               | get              | 4..  |                   | ef      | abCDef
+               | get              | ..7  |                   | None    | abCDef
+               | slice            | 1..3 |                   | bC      | abCDef
+        aBé    | get              | 1..  |                   | Bé      | aBé
+               | get              | ..3  |                   | None    | aBé
+               | slice            | 2..4 |                   | é       | aBé
         ",
     );
 }
@@ -116,26 +107,40 @@ fn texts_grow(rt: HostRuntime) {
     hold_wherever_it_begins(
         &rt,
         "
-        abcdef   | try_push       |      | x   | ok          | abcdefx
-        aBé      | try_push       |      | x   | ok          | aBéx
-        abcdef   | try_push_str   |      | é   | ok          | abcdefé
-        aBé      | try_push_str   |      | é   | ok          | aBéé
-        abcdef   | try_push_str   |      | €   | OutOfBounds | abcdef
-                 | try_push       |      | €   | OutOfBounds | abcdef
-        aBéé     | try_push_str   |      | €   | OutOfBounds | aBéé
-                 | try_push       |      | €   | OutOfBounds | aBéé
-        abcdef   | push_str       |      | xyz | ok          | abcdefxy
-        aBé      | push_str       |      | xyz | ok          | aBéxyz
-        abcdef   | try_insert     | 1    | é   | ok          | aébcdef
-        aBé      | try_insert     | 1    | é   | ok          | aéBé
-        abcdef   | try_insert_str | 0    | xy  | ok          | xyabcdef
-        aBé      | try_insert_str | 0    | xy  | ok          | xyaBé
-        xyabcd   | try_insert_str | 1    | €   | OutOfBounds | xyabcd
-        xyaBé    | try_insert_str | 1    | €   | OutOfBounds | xyaBé
-        abcdef   | insert_str     | 2    | xyz | ok          | abxycdef
-        aBé      | insert_str     | 2    | xyz | ok          | aBxyzé
-        abcdef   | replace_range  | 1..2 | xyz | ok          | axyzcdef
-        aBé      | replace_range  | 1..2 | xyz | ok          | axyzé
+        abcdef | try_push             |      | x     | ok          | abcdefx
+        aBé    | try_push             |      | x     | ok          | aBéx
+        abcdef | try_push_str         |      | é     | ok          | abcdefé
+        aBé    | try_push_str         |      | é     | ok          | aBéé
+        abcdef | try_push_str         |      | €     | OutOfBounds | abcdef
+               | try_push             |      | €     | OutOfBounds | abcdef
+        aBéé   | try_push_str         |      | €     | OutOfBounds | aBéé
+               | try_push             |      | €     | OutOfBounds | aBéé
+        abcdef | push_str             |      | xyz   | ok          | abcdefxy
+        aBé    | push_str             |      | xyz   | ok          | aBéxyz
+        abcdef | try_insert           | 1    | é     | ok          | aébcdef
+        aBé    | try_insert           | 1    | é     | ok          | aéBé
+        abcdef | try_insert_str       | 0    | xy    | ok          | xyabcdef
+        aBé    | try_insert_str       | 0    | xy    | ok          | xyaBé
+        xyabcd | try_insert_str       | 1    | €     | OutOfBounds | xyabcd
+        xyaBé  | try_insert_str       | 1    | €     | OutOfBounds | xyaBé
+        abcdef | insert_str           | 2    | xyz   | ok          | abxycdef
+        aBé    | insert_str           | 2    | xyz   | ok          | aBxyzé
+        abcdef | replace_range        | 1..2 | xyz   | ok          | axyzcdef
+        aBé    | replace_range        | 1..2 | xyz   | ok          | axyzé
+        abcdef | push_unchecked       |      | é     | ok          | abcdefé
+        abcdef | push_str_unchecked   |      | é     | ok          | abcdefé
+        aBé    | push_unchecked       |      | é     | ok          | aBéé
+        aBé    | push_str_unchecked   |      | é     | ok          | aBéé
+        abcdef | insert_str_unchecked | 0    | xy    | ok          | xyabcdef
+        abcdef | insert_unchecked     | 0    | é     | ok          | éabcdef
+        abcdef | insert_unchecked     | 0    | 🤔     | None        | abcdef
+        aBé    | insert_str_unchecked | 0    | xy    | ok          | xyaBé
+        aBé    | insert_unchecked     | 0    | 🤔     | ok          | 🤔aBé
+        aBé    | insert_str_unchecked | 0    | 01234 | None        | aBé
+        abcdef | extend_chars         |      | xyz   | ok          | abcdefxy
+        abcdef | extend_strs          |      | x,yz  | ok          | abcdefxy
+        aBé    | extend_chars         |      | xyz   | ok          | aBéxyz
+        aBé    | extend_strs          |      | x,yz  | ok          | aBéxyz
         ",
     );
 }
@@ -153,91 +158,62 @@ fn a_full_text_does_not_grow(rt: HostRuntime) {
 }
 
 #[test]
-fn what_is_known_to_fit_is_added(rt: HostRuntime) {
+fn texts_shrink_and_grow_again(rt: HostRuntime) {
     hold_wherever_it_begins(
         &rt,
         "
-        abcdef | push_unchecked       |   | é     | ok   | abcdefé
-        abcdef | push_str_unchecked   |   | é     | ok   | abcdefé
-        aBé    | push_unchecked       |   | é     | ok   | aBéé
-        aBé    | push_str_unchecked   |   | é     | ok   | aBéé
-        abcdef | insert_str_unchecked | 0 | xy    | ok   | xyabcdef
-        abcdef | insert_unchecked     | 0 | é     | ok   | éabcdef
-        abcdef | insert_unchecked     | 0 | 🤔    | None | abcdef
-        aBé    | insert_str_unchecked | 0 | xy    | ok   | xyaBé
-        aBé    | insert_unchecked     | 0 | 🤔    | ok   | 🤔aBé
-        aBé    | insert_str_unchecked | 0 | 01234 | None | aBé
-        ",
-    );
-}
-
-#[test]
-fn texts_are_filled_up(rt: HostRuntime) {
-    hold_wherever_it_begins(
-        &rt,
-        "
-        abcdef | extend_chars | | xyz  | ok | abcdefxy
-        abcdef | extend_strs  | | x,yz | ok | abcdefxy
-        aBé    | extend_chars | | xyz  | ok | aBéxyz
-        aBé    | extend_strs  | | x,yz | ok | aBéxyz
-        ",
-    );
-}
-
-#[test]
-fn texts_shrink(rt: HostRuntime) {
-    hold_wherever_it_begins(
-        &rt,
-        "
-        abcdef   | pop       |   | | f           | abcde
-        ' cdef ' | pop       |   | | ' '         | ' cdef'
-        aBé      | pop       |   | | é           | aB
-        ' aé'    | pop       |   | | é           | ' a'
-        abcdef   | truncate  | 2 | | ok          | ab
-        ' cdef ' | truncate  | 2 | | ok          | ' c'
-        aBé      | truncate  | 2 | | ok          | aB
-        ' aé'    | truncate  | 2 | | ok          | ' a'
-        abcdef   | split_off | 2 | | cdef        | ab
-                 | split_off | 3 | | OutOfBounds | ab
-        ' cdef ' | split_off | 2 | | 'def '      | ' c'
-                 | split_off | 3 | | OutOfBounds | ' c'
-        aBé      | split_off | 2 | | é           | aB
-                 | split_off | 3 | | OutOfBounds | aB
-        ' aé'    | split_off | 2 | | é           | ' a'
-                 | split_off | 3 | | OutOfBounds | ' a'
-        abcdef   | trim      |   | | ok          | abcdef
-        ' cdef ' | trim      |   | | ok          | cdef
-        aBé      | trim      |   | | ok          | aBé
-        ' aé'    | trim      |   | | ok          | aé
-        ",
-    );
-}
-
-#[test]
-fn trimmed_texts_grow(rt: HostRuntime) {
-    hold_wherever_it_begins(
-        &rt,
-        "
-        '\u{2003}aé'  | trim        | |          | ok | aé
-                      | push_str    | | 12345678 | ok | aé12345
-        '\u{2003}aé'  | trim_spaces | |          | ok | '\u{2003}aé'
-                      | push_str    | | 12345678 | ok | '\u{2003}aé12'
-        ' a\u{3000} ' | trim        | |          | ok | a
-                      | push_str    | | 12345678 | ok | a1234567
-        ' a\u{3000} ' | trim_spaces | |          | ok | 'a\u{3000}'
-                      | push_str    | | 12345678 | ok | 'a\u{3000}1234'
-        ' ab cd'      | trim        | |          | ok | ab cd
-                      | push_str    | | 12345678 | ok | ab cd123
-        ' ab cd'      | trim_spaces | |          | ok | ab cd
-                      | push_str    | | 12345678 | ok | ab cd123
-        'ab  '        | trim        | |          | ok | ab
-                      | push_str    | | 12345678 | ok | ab123456
-        'ab  '        | trim_spaces | |          | ok | ab
-                      | push_str    | | 12345678 | ok | ab123456
-        '\u{2003} '   | trim        | |          | ok |
-                      | push_str    | | 12345678 | ok | 12345678
-        '\u{2003} '   | trim_spaces | |          | ok | '\u{2003}'
-                      | push_str    | | 12345678 | ok | '\u{2003}12345'
+        abcdef        | pop          |   |          | f           | abcde
+        ' cdef '      | pop          |   |          | ' '         | ' cdef'
+        aBé           | pop          |   |          | é           | aB
+        ' aé'         | pop          |   |          | é           | ' a'
+        abcdef        | truncate     | 2 |          | ok          | ab
+        ' cdef '      | truncate     | 2 |          | ok          | ' c'
+        aBé           | truncate     | 2 |          | ok          | aB
+        ' aé'         | truncate     | 2 |          | ok          | ' a'
+        abcdef        | split_off    | 2 |          | cdef        | ab
+                      | split_off    | 3 |          | OutOfBounds | ab
+        ' cdef '      | split_off    | 2 |          | 'def '      | ' c'
+                      | split_off    | 3 |          | OutOfBounds | ' c'
+        aBé           | split_off    | 2 |          | é           | aB
+                      | split_off    | 3 |          | OutOfBounds | aB
+        ' aé'         | split_off    | 2 |          | é           | ' a'
+                      | split_off    | 3 |          | OutOfBounds | ' a'
+        abcdef        | trim         |   |          | ok          | abcdef
+        ' cdef '      | trim         |   |          | ok          | cdef
+        aBé           | trim         |   |          | ok          | aBé
+        ' aé'         | trim         |   |          | ok          | aé
+        '\u{2003}aé'  | trim         |   |          | ok          | aé
+                      | push_str     |   | 12345678 | ok          | aé12345
+        '\u{2003}aé'  | trim_spaces  |   |          | ok          | '\u{2003}aé'
+                      | push_str     |   | 12345678 | ok          | '\u{2003}aé12'
+        ' a\u{3000} ' | trim         |   |          | ok          | a
+                      | push_str     |   | 12345678 | ok          | a1234567
+        ' a\u{3000} ' | trim_spaces  |   |          | ok          | 'a\u{3000}'
+                      | push_str     |   | 12345678 | ok          | 'a\u{3000}1234'
+        ' ab cd'      | trim         |   |          | ok          | ab cd
+                      | push_str     |   | 12345678 | ok          | ab cd123
+        ' ab cd'      | trim_spaces  |   |          | ok          | ab cd
+                      | push_str     |   | 12345678 | ok          | ab cd123
+        'ab  '        | trim         |   |          | ok          | ab
+                      | push_str     |   | 12345678 | ok          | ab123456
+        'ab  '        | trim_spaces  |   |          | ok          | ab
+                      | push_str     |   | 12345678 | ok          | ab123456
+        '\u{2003} '   | trim         |   |          | ok          |
+                      | push_str     |   | 12345678 | ok          | 12345678
+        '\u{2003} '   | trim_spaces  |   |          | ok          | '\u{2003}'
+                      | push_str     |   | 12345678 | ok          | '\u{2003}12345'
+        abcdef        | trim         |   |          | ok          | abcdef
+                      | clear        |   |          | ok          |
+                      | try_push_str |   | abcdefgh | ok          | abcdefgh
+        ' cdef '      | trim         |   |          | ok          | cdef
+                      | clear        |   |          | ok          |
+                      | try_push_str |   | abcdefgh | ok          | abcdefgh
+        aBé           | trim         |   |          | ok          | aBé
+                      | clear        |   |          | ok          |
+                      | try_push_str |   | abcdefgh | ok          | abcdefgh
+        ' aé'         | trim         |   |          | ok          | aé
+                      | clear        |   |          | ok          |
+                      | try_push_str |   | abcdefgh | ok          | abcdefgh
         ",
     );
 }
@@ -259,73 +235,34 @@ fn a_trimmed_line_grows(rt: HostRuntime) {
 }
 
 #[test]
-fn a_cleared_text_has_all_the_room(rt: HostRuntime) {
+fn parts_are_taken_out_and_replaced(rt: HostRuntime) {
     hold_wherever_it_begins(
         &rt,
         "
-        abcdef   | trim         | |          | ok | abcdef
-                 | clear        | |          | ok |
-                 | try_push_str | | abcdefgh | ok | abcdefgh
-        ' cdef ' | trim         | |          | ok | cdef
-                 | clear        | |          | ok |
-                 | try_push_str | | abcdefgh | ok | abcdefgh
-        aBé      | trim         | |          | ok | aBé
-                 | clear        | |          | ok |
-                 | try_push_str | | abcdefgh | ok | abcdefgh
-        ' aé'    | trim         | |          | ok | aé
-                 | clear        | |          | ok |
-                 | try_push_str | | abcdefgh | ok | abcdefgh
-        ",
-    );
-}
-
-#[test]
-fn characters_are_removed(rt: HostRuntime) {
-    hold_wherever_it_begins(
-        &rt,
-        "
-        abcdef | remove         | 1 |   | b           | acdef
-               | remove         | 7 |   | OutOfBounds | acdef
-        aBCé   | remove         | 1 |   | B           | aCé
-               | remove         | 7 |   | OutOfBounds | aCé
-        aBCd   | remove         | 1 |   | B           | aCd
-               | remove         | 7 |   | OutOfBounds | aCd
-        abcdef | remove         | 0 |   | a           | bcdef
-               | try_insert_str | 0 | a | ok          | abcdef
-        aBCé   | remove         | 0 |   | a           | BCé
-               | try_insert_str | 0 | a | ok          | aBCé
-        aBCd   | remove         | 0 |   | a           | BCd
-               | try_insert_str | 0 | a | ok          | aBCd
-        ",
-    );
-}
-
-#[test]
-fn parts_are_drained_and_replaced(rt: HostRuntime) {
-    hold_wherever_it_begins(
-        &rt,
-        "
-        abcdef | drain         | 1..3 |   | bc          | adef
-               | drain         | 2..1 |   | OutOfBounds | adef
-        aBCé   | drain         | 1..3 |   | BC          | aé
-               | drain         | 2..1 |   | OutOfBounds | aé
-        aBCd   | drain         | 1..3 |   | BC          | ad
-               | drain         | 2..1 |   | OutOfBounds | ad
-        abcdef | replace_range | 1..3 | x | ok          | axdef
-        aBCé   | replace_range | 1..3 | x | ok          | axé
-        aBCd   | replace_range | 1..3 | x | ok          | axd
-        ",
-    );
-}
-
-#[test]
-fn characters_are_retained(rt: HostRuntime) {
-    hold_wherever_it_begins(
-        &rt,
-        "
-        abcdef | retain_without | | ad | ok | bcef
-        aBCé   | retain_without | | ad | ok | BCé
-        aBCd   | retain_without | | ad | ok | BC
+        abcdef | remove         | 1    |    | b           | acdef
+               | remove         | 7    |    | OutOfBounds | acdef
+        aBCé   | remove         | 1    |    | B           | aCé
+               | remove         | 7    |    | OutOfBounds | aCé
+        aBCd   | remove         | 1    |    | B           | aCd
+               | remove         | 7    |    | OutOfBounds | aCd
+        abcdef | remove         | 0    |    | a           | bcdef
+               | try_insert_str | 0    | a  | ok          | abcdef
+        aBCé   | remove         | 0    |    | a           | BCé
+               | try_insert_str | 0    | a  | ok          | aBCé
+        aBCd   | remove         | 0    |    | a           | BCd
+               | try_insert_str | 0    | a  | ok          | aBCd
+        abcdef | drain          | 1..3 |    | bc          | adef
+               | drain          | 2..1 |    | OutOfBounds | adef
+        aBCé   | drain          | 1..3 |    | BC          | aé
+               | drain          | 2..1 |    | OutOfBounds | aé
+        aBCd   | drain          | 1..3 |    | BC          | ad
+               | drain          | 2..1 |    | OutOfBounds | ad
+        abcdef | replace_range  | 1..3 | x  | ok          | axdef
+        aBCé   | replace_range  | 1..3 | x  | ok          | axé
+        aBCd   | replace_range  | 1..3 | x  | ok          | axd
+        abcdef | retain_without |      | ad | ok          | bcef
+        aBCé   | retain_without |      | ad | ok          | BCé
+        aBCd   | retain_without |      | ad | ok          | BC
         ",
     );
 }

@@ -18,7 +18,7 @@ ghost use Rattle.std.specs.Prelude.{◌≤◌};
 
 use super::table::{
     agree, character, column, hash_of, number, rows, told, told_character, told_done, told_next,
-    told_order, told_room, told_text, told_utf8,
+    told_order, told_room, told_text, told_utf8, told_written,
 };
 use super::{MaxString, string};
 use crate::utils::is_char_boundary;
@@ -94,7 +94,10 @@ fn called<R: Abort, const N: usize>(rt: &R, text: &mut ArrayString<N>, row: &str
     if let Some(answer) = asked(rt, text, row) {
         return answer;
     }
-    if changed(rt, text, row) || told_number(rt, text, row) {
+    if added(text, column(row, 1), column(row, 3))
+        || changed(rt, text, row)
+        || told_number(rt, text, row)
+    {
         return string("ok");
     }
     in_range(rt, text, row)
@@ -106,35 +109,39 @@ fn at_the_end<R: Abort, const N: usize>(
     text: &mut ArrayString<N>,
     row: &str,
 ) -> Option<MaxString> {
+    let given = column(row, 3);
     Some(match column(row, 1) {
         "try_push" => told_room(text.try_push(character(rt, row, 3))),
-        "try_push_str" => told_room(text.try_push_str(column(row, 3))),
-        "push_str" => {
-            text.push_str(column(row, 3));
-            string("ok")
-        }
-        "write_str" => match text.write_str(column(row, 3)) {
-            Ok(()) => string("ok"),
-            Err(_) => string("Error"),
-        },
-        "extend_chars" => {
-            text.extend_chars(column(row, 3).chars());
-            string("ok")
-        }
-        "extend_strs" => {
-            text.extend_strs(column(row, 3).split(','));
-            string("ok")
-        }
+        "try_push_str" => told_room(text.try_push_str(given)),
+        "write_str" => told_written(text.write_str(given)),
         "pop" => told_next(text.pop()),
-        "pop_counted" => {
-            let mut steps = Steps::new();
-            let answer = text.pop_counted(&mut steps);
-            agree(rt, row, steps.looked(), number(rt, row, 6) as u64);
-            agree(rt, row, steps.moved(), 0);
-            told_next(answer)
-        }
+        "pop_counted" => pop_counted(rt, text, row),
         _ => return None,
     })
+}
+
+/// Makes a call that counts what it looks at.
+fn pop_counted<R: Abort, const N: usize>(
+    rt: &R,
+    text: &mut ArrayString<N>,
+    row: &str,
+) -> MaxString {
+    let mut steps = Steps::new();
+    let answer = text.pop_counted(&mut steps);
+    let counted = (steps.looked(), steps.moved());
+    agree(rt, row, counted, (number(rt, row, 6) as u64, 0));
+    told_next(answer)
+}
+
+/// Adds at the end what fits, and tells whether there is such a call.
+fn added<const N: usize>(text: &mut ArrayString<N>, call: &str, given: &str) -> bool {
+    match call {
+        "push_str" => text.push_str(given),
+        "extend_chars" => text.extend_chars(given.chars()),
+        "extend_strs" => text.extend_strs(given.split(',')),
+        _ => return false,
+    }
+    true
 }
 
 /// The calls whose conditions are not checked.

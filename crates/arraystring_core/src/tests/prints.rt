@@ -3,42 +3,23 @@ use super::table::agree;
 use std::fmt::{Debug, Display};
 use std::process::Abort;
 
-/// Asserts how a value is printed by a form of `Display`.
-pub(crate) fn displays<T: Display>(
-    rt: &(impl Abort + AllocGlobal),
-    form: &str,
-    value: &T,
-    wanted: &str,
-) {
-    let printed = match form {
-        "{}" => format!(in rt.alloc(); "{value}"),
-        "{:5}" => format!(in rt.alloc(); "{value:5}"),
-        "{:>5}" => format!(in rt.alloc(); "{value:>5}"),
-        "{:9}" => format!(in rt.alloc(); "{value:9}"),
-        "{:>9}" => format!(in rt.alloc(); "{value:>9}"),
-        "{:12}" => format!(in rt.alloc(); "{value:12}"),
-        "{:300}" => format!(in rt.alloc(); "{value:300}"),
-        _ => format!(in rt.alloc(); "no such form"),
-    };
+/// Asserts that a value is printed as a text, whatever width is asked for.
+pub(crate) fn displays<T: Display>(rt: &(impl Abort + AllocGlobal), value: &T, wanted: &str) {
+    let printed = format!(in rt.alloc();
+        "{value}|{value:5}|{value:>5}|{value:9}|{value:>9}|{value:12}|{value:300}"
+    );
     let printed = printed.expect(rt, "memory for what is printed");
-    agree(rt, form, printed.as_str(), wanted);
+    agree(rt, wanted, printed.as_str().split('|').count(), 7);
+    for form in printed.as_str().split('|') {
+        agree(rt, "a form", form, wanted);
+    }
 }
 
-/// Asserts how a value is printed by a form of `Debug`.
-pub(crate) fn debugs<T: Debug>(
-    rt: &(impl Abort + AllocGlobal),
-    form: &str,
-    value: &T,
-    wanted: &str,
-) {
-    let printed = match form {
-        "{:?}" => format!(in rt.alloc(); "{value:?}"),
-        "{:#?}" => format!(in rt.alloc(); "{value:#?}"),
-        "{:4?}" => format!(in rt.alloc(); "{value:4?}"),
-        "{:12?}" => format!(in rt.alloc(); "{value:12?}"),
-        "{:>12?}" => format!(in rt.alloc(); "{value:>12?}"),
-        _ => format!(in rt.alloc(); "no such form"),
-    };
+/// Asserts how a value is printed for debugging: plainly, on lines, and in three widths.
+pub(crate) fn debugs<T: Debug>(rt: &(impl Abort + AllocGlobal), value: &T, wanted: &str) {
+    let printed = format!(in rt.alloc();
+        "{value:?}|{value:#?}|{value:4?}|{value:12?}|{value:>12?}"
+    );
     let printed = printed.expect(rt, "memory for what is printed");
-    agree(rt, form, printed.as_str(), wanted);
+    agree(rt, "each form", printed.as_str(), wanted);
 }

@@ -3,7 +3,7 @@
 use super::{MaxString, string};
 use arraystring_base::error::{Error, OutOfBounds, Utf8};
 use std::cmp::Ordering;
-use std::fmt::Debug;
+use std::fmt::{self, Debug};
 use std::hash::{DefaultHasher, Hash, Hasher};
 use std::process::Abort;
 use std::str::Lines;
@@ -99,6 +99,14 @@ pub(crate) fn told_character(answer: Result<char, Error>) -> MaxString {
     match answer {
         Ok(ch) => string(ch.encode_utf8(&mut [0; 4])),
         Err(why) => told(Err(why)),
+    }
+}
+
+/// The same of a call that writes.
+pub(crate) fn told_written(answer: fmt::Result) -> MaxString {
+    match answer {
+        Ok(()) => string("ok"),
+        Err(_) => string("Error"),
     }
 }
 

@@ -30,20 +30,27 @@ fn make<const N: usize>(rt: &impl Abort, table: &str)
     requires { N ≤ 300 }
 {
     for row in rows(table) {
-        let calls = match column(row, 0) {
-            "whole" => WHOLE,
-            "cut" => CUT,
-            "unchecked" => UNCHECKED,
-            call => call,
-        };
-        for call in calls.split(' ') {
-            agree(
-                rt,
-                row,
-                made::<N>(call, column(row, 1)).as_str(),
-                column(row, 2),
-            );
-        }
+        make_each::<N>(rt, calls_of(column(row, 0)), row);
+    }
+}
+
+/// The constructors that a column names.
+fn calls_of(column: &str) -> &str {
+    match column {
+        "whole" => WHOLE,
+        "cut" => CUT,
+        "unchecked" => UNCHECKED,
+        call => call,
+    }
+}
+
+/// Asserts what each of some constructors makes.
+fn make_each<const N: usize>(rt: &impl Abort, calls: &str, row: &str)
+    requires { N ≤ 300 }
+{
+    for call in calls.split(' ') {
+        let made = made::<N>(call, column(row, 1));
+        agree(rt, row, made.as_str(), column(row, 2));
     }
 }
 

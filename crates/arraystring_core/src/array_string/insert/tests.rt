@@ -2,38 +2,32 @@
 use crate::tests::calls::hold;
 
 #[test]
-fn characters_are_inserted(rt: HostRuntime) {
+fn characters_and_texts_are_inserted(rt: HostRuntime) {
     hold::<23>(
         &rt,
         "
-        ABCD🤔   | try_insert       | 1  | A | ok          | AABCD🤔
-                 | try_insert       | 2  | B | ok          | AABBCD🤔
-                 | try_insert       | 20 | C | OutOfBounds | AABBCD🤔
-                 | try_insert       | 8  | D | Utf8        | AABBCD🤔
-                 | try_insert       | 0  | é | ok          | éAABBCD🤔
-                 | try_insert       | 12 | € | ok          | éAABBCD🤔€
-        ABCD🤔   | insert_unchecked | 1  | A | ok          | AABCD🤔
-                 | insert_unchecked | 1  | B | ok          | ABABCD🤔
-        ",
-    );
-}
-
-#[test]
-fn texts_are_inserted(rt: HostRuntime) {
-    hold::<23>(
-        &rt,
-        "
-        ABCD🤔 | insert_str           | 1  | AB                      | ok          | AABBCD🤔
-               | insert_str           | 1  | BC                      | ok          | ABCABBCD🤔
-               | insert_str           | 20 | C                       | OutOfBounds | ABCABBCD🤔
-               | insert_str           | 10 | D                       | Utf8        | ABCABBCD🤔
-        ABCD🤔 | try_insert_str       | 1  | AB                      | ok          | AABBCD🤔
-               | try_insert_str       | 1  | BC                      | ok          | ABCABBCD🤔
-               | try_insert_str       | 20 | C                       | OutOfBounds | ABCABBCD🤔
-               | try_insert_str       | 10 | D                       | Utf8        | ABCABBCD🤔
-               | try_insert_str       | 1  | 00000000000000000000000 | OutOfBounds | ABCABBCD🤔
-        ABCD🤔 | insert_str_unchecked | 1  | AB                      | ok          | AABBCD🤔
-               | insert_str_unchecked | 1  | BC                      | ok          | ABCABBCD🤔
+        ABCD🤔                   | try_insert           | 1  | A                       | ok          | AABCD🤔
+                                | try_insert           | 2  | B                       | ok          | AABBCD🤔
+                                | try_insert           | 20 | C                       | OutOfBounds | AABBCD🤔
+                                | try_insert           | 8  | D                       | Utf8        | AABBCD🤔
+                                | try_insert           | 0  | é                       | ok          | éAABBCD🤔
+                                | try_insert           | 12 | €                       | ok          | éAABBCD🤔€
+        ABCD🤔                   | insert_unchecked     | 1  | A                       | ok          | AABCD🤔
+                                | insert_unchecked     | 1  | B                       | ok          | ABABCD🤔
+        ABCD🤔                   | insert_str           | 1  | AB                      | ok          | AABBCD🤔
+                                | insert_str           | 1  | BC                      | ok          | ABCABBCD🤔
+                                | insert_str           | 20 | C                       | OutOfBounds | ABCABBCD🤔
+                                | insert_str           | 10 | D                       | Utf8        | ABCABBCD🤔
+        ABCD🤔                   | try_insert_str       | 1  | AB                      | ok          | AABBCD🤔
+                                | try_insert_str       | 1  | BC                      | ok          | ABCABBCD🤔
+                                | try_insert_str       | 20 | C                       | OutOfBounds | ABCABBCD🤔
+                                | try_insert_str       | 10 | D                       | Utf8        | ABCABBCD🤔
+                                | try_insert_str       | 1  | 00000000000000000000000 | OutOfBounds | ABCABBCD🤔
+        ABCD🤔                   | insert_str_unchecked | 1  | AB                      | ok          | AABBCD🤔
+                                | insert_str_unchecked | 1  | BC                      | ok          | ABCABBCD🤔
+        abcdefghijklmnopqrstuvw | len                  |    |                         | ok          | abcdefghijklmnopqrstuvw | 23
+                                | try_insert           | 0  | C                       | OutOfBounds | abcdefghijklmnopqrstuvw
+        00000000000000000000000 | try_insert           | 0  | C                       | OutOfBounds | 00000000000000000000000
         ",
     );
 }
@@ -69,70 +63,49 @@ fn a_full_string_takes_the_empty_text_alone(rt: HostRuntime) {
     hold::<4>(
         &rt,
         "
-        abcd | try_insert     | 0 | x | OutOfBounds | abcd
-             | try_insert     | 1 | x | OutOfBounds | abcd
-             | try_insert     | 2 | x | OutOfBounds | abcd
-             | try_insert     | 3 | x | OutOfBounds | abcd
-             | try_insert     | 4 | x | OutOfBounds | abcd
-        abcd | try_insert_str | 0 | x | OutOfBounds | abcd
-             | try_insert_str | 0 |   | ok          | abcd
-             | try_insert_str | 1 | x | OutOfBounds | abcd
-             | try_insert_str | 1 |   | ok          | abcd
-             | try_insert_str | 2 | x | OutOfBounds | abcd
-             | try_insert_str | 2 |   | ok          | abcd
-             | try_insert_str | 3 | x | OutOfBounds | abcd
-             | try_insert_str | 3 |   | ok          | abcd
-             | try_insert_str | 4 | x | OutOfBounds | abcd
-             | try_insert_str | 4 |   | ok          | abcd
-        abcd | insert_str     | 0 | x | ok          | abcd
-             | insert_str     | 1 | x | ok          | abcd
-             | insert_str     | 2 | x | ok          | abcd
-             | insert_str     | 3 | x | ok          | abcd
-             | insert_str     | 4 | x | ok          | abcd
-             | insert_str     | 5 |   | OutOfBounds | abcd
-        abcd | insert_unchecked     | 0 | x | None | abcd
-             | insert_unchecked     | 1 | x | None | abcd
-             | insert_unchecked     | 2 | x | None | abcd
-             | insert_unchecked     | 3 | x | None | abcd
-             | insert_unchecked     | 4 | x | None | abcd
-        abcd | insert_str_unchecked | 0 |   | ok   | abcd
-             | insert_str_unchecked | 1 |   | ok   | abcd
-             | insert_str_unchecked | 2 |   | ok   | abcd
-             | insert_str_unchecked | 3 |   | ok   | abcd
-             | insert_str_unchecked | 4 |   | ok   | abcd
-        ",
-    );
-}
-
-#[test]
-fn a_full_string_of_letters(rt: HostRuntime) {
-    hold::<23>(
-        &rt,
-        "
-        abcdefghijklmnopqrstuvw | len        |   |   | ok          | abcdefghijklmnopqrstuvw | 23
-                                | try_insert | 0 | C | OutOfBounds | abcdefghijklmnopqrstuvw
-        00000000000000000000000 | try_insert | 0 | C | OutOfBounds | 00000000000000000000000
-        ",
-    );
-}
-
-#[test]
-fn room_is_asked_before_the_place(rt: HostRuntime) {
-    hold::<4>(
-        &rt,
-        "
-        🤔 | try_insert     | 1 | x | OutOfBounds | 🤔
-           | try_insert_str | 1 | x | OutOfBounds | 🤔
-           | try_insert_str | 1 |   | Utf8        | 🤔
-           | insert_str     | 1 | x | Utf8        | 🤔
-           | try_insert     | 2 | x | OutOfBounds | 🤔
-           | try_insert_str | 2 | x | OutOfBounds | 🤔
-           | try_insert_str | 2 |   | Utf8        | 🤔
-           | insert_str     | 2 | x | Utf8        | 🤔
-           | try_insert     | 3 | x | OutOfBounds | 🤔
-           | try_insert_str | 3 | x | OutOfBounds | 🤔
-           | try_insert_str | 3 |   | Utf8        | 🤔
-           | insert_str     | 3 | x | Utf8        | 🤔
+        abcd | try_insert           | 0 | x | OutOfBounds | abcd
+             | try_insert           | 1 | x | OutOfBounds | abcd
+             | try_insert           | 2 | x | OutOfBounds | abcd
+             | try_insert           | 3 | x | OutOfBounds | abcd
+             | try_insert           | 4 | x | OutOfBounds | abcd
+        abcd | try_insert_str       | 0 | x | OutOfBounds | abcd
+             | try_insert_str       | 0 |   | ok          | abcd
+             | try_insert_str       | 1 | x | OutOfBounds | abcd
+             | try_insert_str       | 1 |   | ok          | abcd
+             | try_insert_str       | 2 | x | OutOfBounds | abcd
+             | try_insert_str       | 2 |   | ok          | abcd
+             | try_insert_str       | 3 | x | OutOfBounds | abcd
+             | try_insert_str       | 3 |   | ok          | abcd
+             | try_insert_str       | 4 | x | OutOfBounds | abcd
+             | try_insert_str       | 4 |   | ok          | abcd
+        abcd | insert_str           | 0 | x | ok          | abcd
+             | insert_str           | 1 | x | ok          | abcd
+             | insert_str           | 2 | x | ok          | abcd
+             | insert_str           | 3 | x | ok          | abcd
+             | insert_str           | 4 | x | ok          | abcd
+             | insert_str           | 5 |   | OutOfBounds | abcd
+        abcd | insert_unchecked     | 0 | x | None        | abcd
+             | insert_unchecked     | 1 | x | None        | abcd
+             | insert_unchecked     | 2 | x | None        | abcd
+             | insert_unchecked     | 3 | x | None        | abcd
+             | insert_unchecked     | 4 | x | None        | abcd
+        abcd | insert_str_unchecked | 0 |   | ok          | abcd
+             | insert_str_unchecked | 1 |   | ok          | abcd
+             | insert_str_unchecked | 2 |   | ok          | abcd
+             | insert_str_unchecked | 3 |   | ok          | abcd
+             | insert_str_unchecked | 4 |   | ok          | abcd
+        🤔    | try_insert           | 1 | x | OutOfBounds | 🤔
+             | try_insert_str       | 1 | x | OutOfBounds | 🤔
+             | try_insert_str       | 1 |   | Utf8        | 🤔
+             | insert_str           | 1 | x | Utf8        | 🤔
+             | try_insert           | 2 | x | OutOfBounds | 🤔
+             | try_insert_str       | 2 | x | OutOfBounds | 🤔
+             | try_insert_str       | 2 |   | Utf8        | 🤔
+             | insert_str           | 2 | x | Utf8        | 🤔
+             | try_insert           | 3 | x | OutOfBounds | 🤔
+             | try_insert_str       | 3 | x | OutOfBounds | 🤔
+             | try_insert_str       | 3 |   | Utf8        | 🤔
+             | insert_str           | 3 | x | Utf8        | 🤔
         ",
     );
 }

@@ -126,26 +126,17 @@ fn parts_are_replaced(rt: HostRuntime) {
 }
 
 #[test]
-fn moves_of_drains(rt: HostRuntime) {
+fn moves_of_drains_and_replacements(rt: HostRuntime) {
     hold::<23>(
         &rt,
         "
-        ABCD🤔 | drain_counted | 0..2 | | AB          | CD🤔   | 0
-        ABCD🤔 | drain_counted | 1..3 | | BC          | AD🤔   | 5
-        ABCD🤔 | drain_counted | 3..8 | | D🤔         | ABC    | 0
-        ABCD🤔 | drain_counted | 2..2 | |             | ABCD🤔 | 0
-        ABCD🤔 | drain_counted | 2..6 | | Utf8        | ABCD🤔 | 0
-        ABCD🤔 | drain_counted | 2..9 | | OutOfBounds | ABCD🤔 | 0
-        ABCD🤔 | drain_counted | 3..2 | | OutOfBounds | ABCD🤔 | 0
-        ",
-    );
-}
-
-#[test]
-fn moves_of_replacements(rt: HostRuntime) {
-    hold::<23>(
-        &rt,
-        "
+        ABCD🤔 | drain_counted         | 0..2 |                        | AB          | CD🤔    | 0
+        ABCD🤔 | drain_counted         | 1..3 |                        | BC          | AD🤔    | 5
+        ABCD🤔 | drain_counted         | 3..8 |                        | D🤔          | ABC    | 0
+        ABCD🤔 | drain_counted         | 2..2 |                        |             | ABCD🤔  | 0
+        ABCD🤔 | drain_counted         | 2..6 |                        | Utf8        | ABCD🤔  | 0
+        ABCD🤔 | drain_counted         | 2..9 |                        | OutOfBounds | ABCD🤔  | 0
+        ABCD🤔 | drain_counted         | 3..2 |                        | OutOfBounds | ABCD🤔  | 0
         ABCD🤔 | replace_range_counted | 2..4 |                        | ok          | AB🤔    | 4
         ABCD🤔 | replace_range_counted | 2..4 | xyz                    | ok          | ABxyz🤔 | 4
         ABCD🤔 | replace_range_counted | 2..4 | xy                     | ok          | ABxy🤔  | 0
@@ -221,46 +212,37 @@ fn no_capacity(rt: HostRuntime) {
 }
 
 #[test]
-fn a_range_type_that_tells_no_bounds(rt: HostRuntime) {
+fn bounds_that_a_range_does_not_tell(rt: HostRuntime) {
     hold::<23>(
         &rt,
         "
-        ABCD🤔 | get                   | [1..3) untold |   | BC          | ABCD🤔
-               | drain                 | [1..3) untold |   | BC          | AD🤔
-        ABCD🤔 | replace_range         | [1..3) untold | x | ok          | AxD🤔
-        ABCD🤔 | get                   | (0..2] untold |   | BC          | ABCD🤔
-               | drain                 | (0..2] untold |   | BC          | AD🤔
-        ABCD🤔 | replace_range         | (0..2] untold | x | ok          | AxD🤔
-        ABCD🤔 | get                   | [4..) untold  |   | 🤔          | ABCD🤔
-               | drain                 | [4..) untold  |   | 🤔          | ABCD
-        ABCD🤔 | replace_range         | [4..) untold  | x | ok          | ABCDx
-        ABCD🤔 | get                   | (..0] untold  |   | A           | ABCD🤔
-               | drain                 | (..0] untold  |   | A           | BCD🤔
-        ABCD🤔 | replace_range         | (..0] untold  | x | ok          | xBCD🤔
-        ABCD🤔 | get                   | [5..) untold  |   | None        | ABCD🤔
-               | drain                 | [5..) untold  |   | Utf8        | ABCD🤔
-               | replace_range         | [5..) untold  | x | Utf8        | ABCD🤔
-        ABCD🤔 | get                   | [3..2) untold |   | None        | ABCD🤔
-               | drain                 | [3..2) untold |   | OutOfBounds | ABCD🤔
-               | replace_range         | [3..2) untold | x | OutOfBounds | ABCD🤔
-        ABCD🤔 | drain_counted         | [1..2] untold |   | BC          | AD🤔   | 5
-               | replace_range_counted | [1..2] untold |   | Utf8        | AD🤔   | 0
-        ",
-    );
-}
-
-#[test]
-fn an_inclusive_range_that_was_walked_to_its_end(rt: HostRuntime) {
-    hold::<23>(
-        &rt,
-        "
-        ABCD🤔 | get                   | walked |    |             | ABCD🤔
-               | drain                 | walked |    |             | ABCD🤔
-               | drain_counted         | walked |    |             | ABCD🤔    | 0
-               | replace_range         | walked | xy | ok          | ABCxyD🤔
-               | replace_range_counted | walked | z  | ok          | ABCzxyD🤔 | 7
-        é      | get                   | walked |    | None        | é
-               | drain                 | walked |    | OutOfBounds | é
+        ABCD🤔 | get                   | [1..3) untold |    | BC          | ABCD🤔
+              | drain                 | [1..3) untold |    | BC          | AD🤔
+        ABCD🤔 | replace_range         | [1..3) untold | x  | ok          | AxD🤔
+        ABCD🤔 | get                   | (0..2] untold |    | BC          | ABCD🤔
+              | drain                 | (0..2] untold |    | BC          | AD🤔
+        ABCD🤔 | replace_range         | (0..2] untold | x  | ok          | AxD🤔
+        ABCD🤔 | get                   | [4..) untold  |    | 🤔           | ABCD🤔
+              | drain                 | [4..) untold  |    | 🤔           | ABCD
+        ABCD🤔 | replace_range         | [4..) untold  | x  | ok          | ABCDx
+        ABCD🤔 | get                   | (..0] untold  |    | A           | ABCD🤔
+              | drain                 | (..0] untold  |    | A           | BCD🤔
+        ABCD🤔 | replace_range         | (..0] untold  | x  | ok          | xBCD🤔
+        ABCD🤔 | get                   | [5..) untold  |    | None        | ABCD🤔
+              | drain                 | [5..) untold  |    | Utf8        | ABCD🤔
+              | replace_range         | [5..) untold  | x  | Utf8        | ABCD🤔
+        ABCD🤔 | get                   | [3..2) untold |    | None        | ABCD🤔
+              | drain                 | [3..2) untold |    | OutOfBounds | ABCD🤔
+              | replace_range         | [3..2) untold | x  | OutOfBounds | ABCD🤔
+        ABCD🤔 | drain_counted         | [1..2] untold |    | BC          | AD🤔      | 5
+              | replace_range_counted | [1..2] untold |    | Utf8        | AD🤔      | 0
+        ABCD🤔 | get                   | walked        |    |             | ABCD🤔
+              | drain                 | walked        |    |             | ABCD🤔
+              | drain_counted         | walked        |    |             | ABCD🤔    | 0
+              | replace_range         | walked        | xy | ok          | ABCxyD🤔
+              | replace_range_counted | walked        | z  | ok          | ABCzxyD🤔 | 7
+        é     | get                   | walked        |    | None        | é
+              | drain                 | walked        |    | OutOfBounds | é
         ",
     );
 }

@@ -71,31 +71,25 @@ fn texts_are_trimmed(rt: HostRuntime) {
     agree(&rt, "a line", trimmed, [string("a  b"), string("a  b\n")]);
 }
 
-/// Asserts whether a character is trimmed from `a`, and whether it is a space.
-fn trimmed_from_a(rt: &impl Abort, end: char, is_trimmed: bool, is_space: bool) {
+/// Asserts whether each of some characters is trimmed from `a`. `trim_spaces` trims the space alone.
+fn trimmed_from_a(rt: &impl Abort, ends: &str, is_trimmed: bool) {
     let a: MaxString = string("a");
-    for text in beside(end) {
-        let trimmed = if is_trimmed { a } else { text };
-        let without_spaces = if is_space { a } else { text };
-        let left = trims(text.as_str());
-        agree(rt, text.as_str(), left, [trimmed, without_spaces]);
+    for end in ends.chars() {
+        for text in beside(end) {
+            let trimmed = if is_trimmed { a } else { text };
+            let without_spaces = if end == ' ' { a } else { text };
+            let left = trims(text.as_str());
+            agree(rt, text.as_str(), left, [trimmed, without_spaces]);
+        }
     }
 }
 
 #[test]
-fn each_white_space_is_trimmed(rt: HostRuntime) {
-    for end in WHITE_SPACE.chars() {
-        trimmed_from_a(&rt, end, true, end == ' ');
-    }
-    agree(&rt, "the list", WHITE_SPACE.chars().count(), 25);
-}
-
-#[test]
-fn what_stands_beside_white_space_stays(rt: HostRuntime) {
-    for end in BESIDE.chars() {
-        trimmed_from_a(&rt, end, false, false);
-    }
-    agree(&rt, "the list", BESIDE.chars().count(), 20);
+fn each_white_space_is_trimmed_and_nothing_beside_it(rt: HostRuntime) {
+    agree(&rt, "white space", WHITE_SPACE.chars().count(), 25);
+    trimmed_from_a(&rt, WHITE_SPACE, true);
+    agree(&rt, "beside it", BESIDE.chars().count(), 20);
+    trimmed_from_a(&rt, BESIDE, false);
 }
 
 #[test]

@@ -13,25 +13,30 @@ use std::process::Abort;
 /// where the last three are texts, or the names of refusals.
 fn hold(rt: &impl Abort, table: &str) {
     for row in rows(table) {
-        match column(row, 0) {
-            "0" => holds::<0>(rt, row),
-            "1" => holds::<1>(rt, row),
-            "2" => holds::<2>(rt, row),
-            "3" => holds::<3>(rt, row),
-            "4" => holds::<4>(rt, row),
-            "5" => holds::<5>(rt, row),
-            "6" => holds::<6>(rt, row),
-            "8" => holds::<8>(rt, row),
-            "9" => holds::<9>(rt, row),
-            "10" => holds::<10>(rt, row),
-            "23" => holds::<23>(rt, row),
-            _ => agree(rt, row, "no such capacity", ""),
-        }
+        holds(rt, column(row, 0), row);
     }
 }
 
-/// Asserts what a row says.
-fn holds<const N: usize>(rt: &impl Abort, row: &str)
+/// Asserts what a row says, at a capacity.
+fn holds(rt: &impl Abort, capacity: &str, row: &str) {
+    match capacity {
+        "0" => read::<0>(rt, row),
+        "1" => read::<1>(rt, row),
+        "2" => read::<2>(rt, row),
+        "3" => read::<3>(rt, row),
+        "4" => read::<4>(rt, row),
+        "5" => read::<5>(rt, row),
+        "6" => read::<6>(rt, row),
+        "8" => read::<8>(rt, row),
+        "9" => read::<9>(rt, row),
+        "10" => read::<10>(rt, row),
+        "23" => read::<23>(rt, row),
+        _ => agree(rt, row, "no such capacity", ""),
+    }
+}
+
+/// The same at `N`.
+fn read<const N: usize>(rt: &impl Abort, row: &str)
     requires { N ≤ 300 }
 {
     let (units, count) = units_of(rt, column(row, 1));

@@ -52,8 +52,6 @@ fn what_is_left_is_compared(rt: HostRuntime) {
 #[test]
 fn what_is_left_is_printed(rt: HostRuntime) {
     let drain = left("a[bc]");
-    debugs(&rt, "{:?}", &drain, "Drain(\"bc\")");
-    debugs(&rt, "{:#?}", &drain, "Drain(\n    \"bc\",\n)");
-    debugs(&rt, "{:12?}", &drain, "Drain(\"bc\")");
-    debugs(&rt, "{:>12?}", &drain, "Drain(\"bc\")");
+    let wanted = "Drain(\"bc\")|Drain(\n    \"bc\",\n)|Drain(\"bc\")|Drain(\"bc\")|Drain(\"bc\")";
+    debugs(&rt, &drain, wanted);
 }
