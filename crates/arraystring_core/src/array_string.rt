@@ -125,8 +125,9 @@ impl<const N: usize> ArrayString<N> {
     pub fn try_push(&mut self, ch: char) -> Result<(), OutOfBounds>
         ensures { Makes (addition self.old.text (ch ∷ []) (cap N)) self.old.text (from_out_of_bounds result) self.new.text }
     {
-        if !Self::has_room(self.len() as usize, ch) {
-            return Err(OutOfBounds);
+        let end = self.start as usize + self.size as usize;
+        if end + 4 > Self::capacity() as usize {
+            return self.try_push_near_end(ch);
         }
         self.push_unchecked(ch);
         Ok(())
@@ -225,6 +226,25 @@ impl<const N: usize> ArrayString<N> {
     {
         let capacity = Self::capacity() as usize;
         len + 4 <= capacity || len + ch.len_utf8() <= capacity
+    }
+
+    /// `try_push` where there may be less room than for four bytes after the text.
+    #[cold]
+    #[inline(never)]
+    fn try_push_near_end(&mut self, ch: char) -> Result<(), OutOfBounds>
+        ensures { Makes (addition self.old.text (ch ∷ []) (cap N)) self.old.text (from_out_of_bounds result) self.new.text }
+    {
+        let len = ch.len_utf8();
+        let size = self.len() as usize;
+        if size + len > Self::capacity() as usize {
+            return Err(OutOfBounds);
+        }
+        if self.start as usize + size + len > Self::capacity() as usize {
+            self.put_char_at_start(size, ch);
+        } else {
+            self.push_unchecked(ch);
+        }
+        Ok(())
     }
 
     /// Adds `ch` at the end of a text that has to move to the start of the array for it.
