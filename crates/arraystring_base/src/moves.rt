@@ -1,7 +1,10 @@
 //! How a run of bytes is moved inside an array: as its first `K` and its last `K` bytes, which may
 //! overlap, and both are read before the first is written. So does `memmove` with a short run. A
-//! byte that both hold is written twice, to one offset: it moves once.
-ghost use Rattle.std.specs.Prelude.{◌≡◌, ◌+◌, ◌-◌, ◌≤◌, ◌<◌, ◌++◌, take, drop};
+//! byte that both hold is written twice, to one offset: it moves once. They are read as vectors,
+//! since those stay in registers; arrays of bytes would be put on the stack.
+ghost use Rattle.std.specs.Prelude.{◌≡◌, ◌+◌, ◌-◌, ◌≤◌, ◌<◌, ◌++◌, length, take, drop};
+
+use std::simd::Simd;
 
 /// Takes the `len` bytes from `from` on to `to`, overlapping or not. Up to four bytes
 /// cost no call.
@@ -13,7 +16,34 @@ pub(crate) fn move_run<const N: usize>(array: &mut [u8; N], from: usize, to: usi
 {
     if len > 4 {
         move_long_run(array, from, to, len);
-    } else if len >= 2 {
+    } else {
+        move_short_run(array, from, to, len);
+    }
+}
+
+/// The same without a call, for a function that has no other.
+#[inline(always)]
+pub(crate) fn move_run_here<const N: usize>(array: &mut [u8; N], from: usize, to: usize, len: usize)
+    requires source { from + len ≤ N }
+    requires target { to + len ≤ N }
+    ensures { array.new ≡ take to array.old ++ (take len (drop from array.old) ++ drop (to + len) array.old) }
+{
+    if len > 4 {
+        move_by_length(array, from, to, len);
+    } else {
+        move_short_run(array, from, to, len);
+    }
+}
+
+/// The same for at most four bytes.
+#[inline(always)]
+fn move_short_run<const N: usize>(array: &mut [u8; N], from: usize, to: usize, len: usize)
+    requires source { from + len ≤ N }
+    requires target { to + len ≤ N }
+    requires short { len ≤ 4 }
+    ensures { array.new ≡ take to array.old ++ (take len (drop from array.old) ++ drop (to + len) array.old) }
+{
+    if len >= 2 {
         move_ends::<N, 2>(array, from, to, len);
     } else if len == 1 {
         move_ends::<N, 1>(array, from, to, len);
@@ -31,25 +61,41 @@ fn move_long_run<const N: usize>(array: &mut [u8; N], from: usize, to: usize, le
     move_by_length(array, from, to, len);
 }
 
-/// The same, for `move_long_run` alone: what it reads is kept in registers where it is inlined.
+/// The same without a call. What an array of `N` bytes can't have is not asked.
+#[inline(always)]
 fn move_by_length<const N: usize>(array: &mut [u8; N], from: usize, to: usize, len: usize)
     requires source { from + len ≤ N }
     requires target { to + len ≤ N }
     requires long { 4 < len }
     ensures { array.new ≡ take to array.old ++ (take len (drop from array.old) ++ drop (to + len) array.old) }
 {
-    if len <= 8 {
-        move_ends::<N, 4>(array, from, to, len);
-    } else if len <= 16 {
+    if len > 16 {
+        if N > 64 && len > 64 {
+            move_much(array, from, to, len);
+        } else if N > 32 && len > 32 {
+            move_ends::<N, 32>(array, from, to, len);
+        } else {
+            move_ends::<N, 16>(array, from, to, len);
+        }
+    } else if len > 8 {
         move_ends::<N, 8>(array, from, to, len);
-    } else if len <= 32 {
-        move_ends::<N, 16>(array, from, to, len);
-    } else if len <= 64 {
-        move_ends::<N, 32>(array, from, to, len);
-    } else if len <= 128 {
+    } else {
+        move_ends::<N, 4>(array, from, to, len);
+    }
+}
+
+/// The same for more than 64 bytes.
+#[inline(always)]
+fn move_much<const N: usize>(array: &mut [u8; N], from: usize, to: usize, len: usize)
+    requires source { from + len ≤ N }
+    requires target { to + len ≤ N }
+    requires long { 64 < len }
+    ensures { array.new ≡ take to array.old ++ (take len (drop from array.old) ++ drop (to + len) array.old) }
+{
+    if len <= 128 {
         move_ends::<N, 64>(array, from, to, len);
-    } else if len <= 256 {
-        move_ends::<N, 128>(array, from, to, len);
+    } else if N <= 256 {
+        move_pairs::<N, 64>(array, from, to, len);
     } else {
         move_any_run(array, from, to, len);
     }
@@ -84,28 +130,109 @@ fn move_ends<const N: usize, const K: usize>(
     let rest = len - K;
     let first = bytes_at::<N, K>(array, from);
     let last = bytes_at::<N, K>(array, from + rest);
-    put_bytes(array, to, &first);
-    put_bytes(array, to + rest, &last);
+    put_bytes(array, to, first);
+    put_bytes(array, to + rest, last);
+}
+
+/// The same for `2 * K` to `4 * K` bytes.
+#[inline(always)]
+fn move_pairs<const N: usize, const K: usize>(
+    array: &mut [u8; N],
+    from: usize,
+    to: usize,
+    len: usize,
+)
+    requires source { from + len ≤ N }
+    requires target { to + len ≤ N }
+    requires least { K + K ≤ len }
+    requires most { len - (K + K) ≤ K + K }
+    ensures { array.new ≡ take to array.old ++ (take len (drop from array.old) ++ drop (to + len) array.old) }
+{
+    let rest = len - (K + K);
+    let front = bytes_at::<N, K>(array, from);
+    let after_front = bytes_at::<N, K>(array, from + K);
+    let before_end = bytes_at::<N, K>(array, from + rest);
+    let end = bytes_at::<N, K>(array, from + rest + K);
+    put_pair(array, to, front, after_front);
+    put_pair(array, to + rest, before_end, end);
+}
+
+/// Writes `given` over the bytes from `at` on. Up to 16 bytes cost no call.
+#[inline(always)]
+pub(crate) fn copy_run<const N: usize>(array: &mut [u8; N], at: usize, given: &[u8])
+    requires { at + length given.now ≤ N }
+    ensures { array.new ≡ take at array.old ++ (given.now ++ drop (at + length given.now) array.old) }
+{
+    let len = given.len();
+    if len > 16 {
+        let all = &mut array[..];
+        all[at..at + len].copy_from_slice(given);
+    } else if len >= 8 {
+        copy_ends::<N, 8>(array, at, given);
+    } else if len >= 4 {
+        copy_ends::<N, 4>(array, at, given);
+    } else if len >= 2 {
+        copy_ends::<N, 2>(array, at, given);
+    } else if len == 1 {
+        copy_ends::<N, 1>(array, at, given);
+    }
+}
+
+/// The same for `K` to `2 * K` bytes.
+#[inline(always)]
+fn copy_ends<const N: usize, const K: usize>(array: &mut [u8; N], at: usize, given: &[u8])
+    requires room { at + length given.now ≤ N }
+    requires least { K ≤ length given.now }
+    requires most { length given.now - K ≤ K }
+    ensures { array.new ≡ take at array.old ++ (given.now ++ drop (at + length given.now) array.old) }
+{
+    let rest = given.len() - K;
+    let first = bytes_of::<K>(given, 0);
+    let last = bytes_of::<K>(given, rest);
+    put_bytes(array, at, first);
+    put_bytes(array, at + rest, last);
 }
 
 /// The `K` bytes from `at` on.
 #[inline(always)]
-fn bytes_at<const N: usize, const K: usize>(array: &[u8; N], at: usize) -> [u8; K]
+fn bytes_at<const N: usize, const K: usize>(array: &[u8; N], at: usize) -> Simd<u8, K>
     requires { at + K ≤ N }
     ensures { result ≡ take K (drop at array.now) }
 {
-    let mut bytes = [0; K];
     let all = &array[..];
-    bytes.copy_from_slice(&all[at..at + K]);
-    bytes
+    bytes_of(all, at)
+}
+
+/// The `K` bytes of `given` from `at` on.
+#[inline(always)]
+fn bytes_of<const K: usize>(given: &[u8], at: usize) -> Simd<u8, K>
+    requires { at + K ≤ length given.now }
+    ensures { result ≡ take K (drop at given.now) }
+{
+    Simd::<u8, K>::from_slice(&given[at..at + K])
 }
 
 /// Writes `K` bytes from `at` on.
 #[inline(always)]
-fn put_bytes<const N: usize, const K: usize>(array: &mut [u8; N], at: usize, bytes: &[u8; K])
+fn put_bytes<const N: usize, const K: usize>(array: &mut [u8; N], at: usize, bytes: Simd<u8, K>)
     requires { at + K ≤ N }
-    ensures { array.new ≡ take at array.old ++ (bytes.now ++ drop (at + K) array.old) }
+    ensures { array.new ≡ take at array.old ++ (bytes.entry ++ drop (at + K) array.old) }
 {
     let all = &mut array[..];
-    all[at..at + K].copy_from_slice(bytes);
+    bytes.copy_to_slice(&mut all[at..at + K]);
+}
+
+/// Writes `2 * K` bytes from `at` on.
+#[inline(always)]
+fn put_pair<const N: usize, const K: usize>(
+    array: &mut [u8; N],
+    at: usize,
+    first: Simd<u8, K>,
+    second: Simd<u8, K>,
+)
+    requires { at + (K + K) ≤ N }
+    ensures { array.new ≡ take at array.old ++ ((first.entry ++ second.entry) ++ drop (at + (K + K)) array.old) }
+{
+    put_bytes(array, at, first);
+    put_bytes(array, at + K, second);
 }

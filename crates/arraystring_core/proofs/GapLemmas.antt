@@ -83,3 +83,15 @@ module _ (old gapped new given : List ℕ) (p q s e k : ℕ) (within : q + s + l
       ∙ ap (λ m. take s (drop p old) ++ (given ++ take k (drop m gapped))) sum
       ∙ ap (λ l. take s (drop p old) ++ (given ++ l)) tail
       ∙ ap (λ l. take s (drop p old) ++ (given ++ take k l)) (sym (drop-drop e p old))
+
+-- what was written from `at` on, said of 0 + at
+pub written-from-zero : (gapped new given : List ℕ) (at : ℕ) → new ≡ take at gapped ++ (given ++ drop (at + length given) gapped) → new ≡ take (0 + at) gapped ++ (given ++ drop (0 + at + length given) gapped)
+written-from-zero gapped new given at written =
+    let zero : 0 + at ≡ at = omega arith in
+    written ∙ sym (ap (λ m. take m gapped ++ (given ++ drop (m + length given) gapped)) zero)
+
+-- and of what comes after it
+pub tail-from-zero : (gapped rest : List ℕ) (at n k : ℕ) → take k (drop (at + n) gapped) ≡ rest → take k (drop (0 + (at + n)) gapped) ≡ rest
+tail-from-zero gapped rest at n k tail =
+    let zero : 0 + (at + n) ≡ at + n = omega arith in
+    ap (λ m. take k (drop m gapped)) zero ∙ tail

@@ -7,9 +7,11 @@ ghost use Rattle.arraystring_base.specs.Text.{size, width, bytes, cap, front, ba
 ghost use Rattle.arraystring_core.specs.Edits.{Makes, from_out_of_bounds, addition, addition_of_cut, popping};
 
 use crate::equal::equal;
-use crate::place::{copy_in, open_gap};
+use crate::place::{copy_in, open_gap, open_gap_at_start};
 use arraystring_base::error::OutOfBounds;
-use arraystring_base::utils::{Steps, encode, is_boundary, last_char, shift, truncate_str};
+use arraystring_base::utils::{
+    Steps, encode, is_boundary, last_char, shift_here, truncate_str, write_over,
+};
 use std::marker::Model;
 use std::{fmt, str};
 
@@ -124,8 +126,9 @@ impl<const N: usize> ArrayString<N> {
     pub fn try_push(&mut self, ch: char) -> Result<(), OutOfBounds>
         ensures { Makes (addition self.old.text (ch ∷ []) (cap N)) self.old.text (from_out_of_bounds result) self.new.text }
     {
-        if !Self::has_room(self.len() as usize, ch) {
-            return Err(OutOfBounds);
+        let end = self.start as usize + self.size as usize;
+        if end + 4 > Self::capacity() as usize {
+            return self.try_push_near_end(ch);
         }
         self.push_unchecked(ch);
         Ok(())
@@ -233,6 +236,25 @@ impl<const N: usize> ArrayString<N> {
         len + 4 <= capacity || len + ch.len_utf8() <= capacity
     }
 
+    /// `try_push` where there may be less room than for four bytes after the text.
+    #[cold]
+    #[inline(never)]
+    fn try_push_near_end(&mut self, ch: char) -> Result<(), OutOfBounds>
+        ensures { Makes (addition self.old.text (ch ∷ []) (cap N)) self.old.text (from_out_of_bounds result) self.new.text }
+    {
+        let len = ch.len_utf8();
+        let size = self.len() as usize;
+        if size + len > Self::capacity() as usize {
+            return Err(OutOfBounds);
+        }
+        if self.start as usize + size + len > Self::capacity() as usize {
+            self.put_char_at_start(size, ch);
+        } else {
+            self.push_unchecked(ch);
+        }
+        Ok(())
+    }
+
     /// Adds `ch` at the end of a text that has to move to the start of the array for it.
     #[cold]
     #[inline(never)]
@@ -241,7 +263,7 @@ impl<const N: usize> ArrayString<N> {
         ensures { self.new.text ≡ self.old.text ++ ch ∷ [] }
     {
         let len = self.len() as usize;
-        self.put_char(len, ch);
+        self.put_char_at_start(len, ch);
     }
 
     /// Adds `string` at the end of a text that has to move to the start of the array for it.
@@ -252,7 +274,7 @@ impl<const N: usize> ArrayString<N> {
         ensures { self.new.text ≡ self.old.text ++ chars string.now }
     {
         let len = self.len() as usize;
-        self.splice(len, len, string, &mut Steps::new());
+        self.splice_at_start(len, len, string, &mut Steps::new());
     }
 
     /// Puts `given` in place of the text between two boundaries. There must be room for it.
@@ -272,10 +294,36 @@ impl<const N: usize> ArrayString<N> {
     {
         let (place, size) = (self.start as usize, self.size as usize);
         let len = given.len();
-        let place = open_gap(&mut self.array, place, size, start, end, len, steps);
-        self.start = place as u8;
+        let tail = size - end;
+        if place + (start + (len + tail)) > Self::capacity() as usize {
+            return self.splice_at_start(start, end, given, steps);
+        }
+        self.size = (start + (len + tail)) as u8;
+        open_gap(&mut self.array, place, size, start, end, len, steps);
+        write_over(&mut self.array, place + start, given.as_bytes());
+    }
+
+    /// The same where the text moves to the start of the array for it.
+    #[cold]
+    #[inline(never)]
+    fn splice_at_start(&mut self, start: usize, end: usize, given: &str, steps: &mut Steps)
+        requires order { start ≤ end }
+        requires start { IsTrue (boundary self.old.text start) }
+        requires end { IsTrue (boundary self.old.text end) }
+        requires room { size self.old.text - (end - start) + size (chars given.now) ≤ cap N }
+        requires countable { steps.old.moved ≤ 2 ^ 63 }
+        ensures text { self.new.text ≡ front self.old.text start ++ (chars given.now ++ back self.old.text end) }
+        ensures most { steps.new.moved ≤ steps.old.moved + (start + (size self.old.text - end)) }
+        ensures least { end ≢ start + size (chars given.now) → steps.old.moved + min start (size self.old.text - end) ≤ steps.new.moved }
+        ensures counted { steps.old.moved ≤ steps.new.moved }
+        ensures looked { steps.new.looked ≡ steps.old.looked }
+    {
+        let (place, size) = (self.start as usize, self.size as usize);
+        let len = given.len();
+        self.start = 0;
         self.size = (start + (len + (size - end))) as u8;
-        copy_in(&mut self.array, place + start, given.as_bytes());
+        open_gap_at_start(&mut self.array, place, size, start, end, len, steps);
+        copy_in(&mut self.array, start, given.as_bytes());
     }
 
     /// Puts `ch` at a boundary. There must be room for it.
@@ -287,10 +335,38 @@ impl<const N: usize> ArrayString<N> {
     {
         let (place, size) = (self.start as usize, self.size as usize);
         let len = ch.len_utf8();
-        let place = open_gap(&mut self.array, place, size, at, at, len, &mut Steps::new());
-        self.start = place as u8;
+        if place + size + len > Self::capacity() as usize {
+            return self.insert_at_start(at, ch);
+        }
         self.size = (at + (len + (size - at))) as u8;
+        open_gap(&mut self.array, place, size, at, at, len, &mut Steps::new());
         encode(ch, &mut self.array, place + at);
+    }
+
+    /// The same where the text moves to the start of the array for it, as a call.
+    #[cold]
+    #[inline(never)]
+    fn insert_at_start(&mut self, at: usize, ch: char)
+        requires boundary { IsTrue (boundary self.old.text at) }
+        requires room { size self.old.text + width ch ≤ cap N }
+        ensures { self.new.text ≡ front self.old.text at ++ (ch ∷ back self.old.text at) }
+    {
+        self.put_char_at_start(at, ch);
+    }
+
+    /// The same without a call.
+    #[inline(always)]
+    fn put_char_at_start(&mut self, at: usize, ch: char)
+        requires boundary { IsTrue (boundary self.old.text at) }
+        requires room { size self.old.text + width ch ≤ cap N }
+        ensures { self.new.text ≡ front self.old.text at ++ (ch ∷ back self.old.text at) }
+    {
+        let (place, size) = (self.start as usize, self.size as usize);
+        let len = ch.len_utf8();
+        self.start = 0;
+        self.size = (at + (len + (size - at))) as u8;
+        open_gap_at_start(&mut self.array, place, size, at, at, len, &mut Steps::new());
+        encode(ch, &mut self.array, at);
     }
 
     /// Takes out the text between two boundaries, without a move where it begins at index 0.
@@ -312,7 +388,7 @@ impl<const N: usize> ArrayString<N> {
         let (place, size) = (self.start as usize, self.size as usize);
         let tail = size - end;
         self.size = (start + tail) as u8;
-        shift(&mut self.array, place + end, place + start, tail, steps);
+        shift_here(&mut self.array, place + end, place + start, tail, steps);
     }
 
     /// Drops the part before a boundary, without a move.

@@ -4,51 +4,14 @@ ghost use Rattle.std.specs.List.Retain.{IsFiltered};
 ghost use Rattle.arraystring_base.specs.Text.{cap, utf8, width};
 ghost use Rattle.arraystring_core.specs.Retain.{MayBeAsked};
 
-use arraystring_base::utils::{Steps, shift};
+use arraystring_base::utils::{Steps, shift, shift_here};
 use std::str;
 
 /// Opens a gap of `len` bytes in place of the bytes from `start` to `end` of a text, which is the
-/// `size` bytes of the array from the offset `place` on. Returns the text's offset afterwards. If
-/// there is room after the text, it keeps its offset, and only the bytes after the gap move. Else
-/// it moves to the start of the array. Each byte moves at most once.
+/// `size` bytes of the array from the offset `place` on. There must be room after the text: it keeps
+/// its offset, and only the bytes after the gap move.
+#[inline(always)]
 pub(crate) fn open_gap<const N: usize>(
-    array: &mut [u8; N],
-    place: usize,
-    size: usize,
-    start: usize,
-    end: usize,
-    len: usize,
-    steps: &mut Steps,
-) -> usize
-    requires order { start ≤ end }
-    requires within { end ≤ size }
-    requires held { place + size ≤ cap N }
-    requires room { start + (len + (size - end)) ≤ cap N }
-    requires countable { steps.old.moved ≤ 2 ^ 63 }
-    ensures len { length array.new ≡ N }
-    ensures held { result + (start + (len + (size - end))) ≤ cap N }
-    ensures front { take start (drop result array.new) ≡ take start (drop place array.old) }
-    ensures tail { take (size - end) (drop (result + (start + len)) array.new) ≡ take (size - end) (drop (place + end) array.old) }
-    ensures tail_alone { len ≤ end - start → steps.new.moved ≤ steps.old.moved + (size - end) }
-    ensures most { steps.new.moved ≤ steps.old.moved + (start + (size - end)) }
-    ensures least { end ≢ start + len → steps.old.moved + min start (size - end) ≤ steps.new.moved }
-    ensures counted { steps.old.moved ≤ steps.new.moved }
-    ensures looked { steps.new.looked ≡ steps.old.looked }
-{
-    let tail = size - end;
-    let capacity = if N < 255 { N } else { 255 };
-    if place + (start + (len + tail)) <= capacity {
-        shift(array, place + end, place + (start + len), tail, steps);
-        return place;
-    }
-    open_gap_at_start(array, place, size, start, end, len, steps);
-    0
-}
-
-/// The same where the bytes move to the start of the array.
-#[cold]
-#[inline(never)]
-fn open_gap_at_start<const N: usize>(
     array: &mut [u8; N],
     place: usize,
     size: usize,
@@ -59,19 +22,48 @@ fn open_gap_at_start<const N: usize>(
 )
     requires order { start ≤ end }
     requires within { end ≤ size }
-    requires held { place + size ≤ N }
-    requires room { start + (len + (size - end)) ≤ N }
-    requires away { 0 < place }
+    requires held { place + size ≤ cap N }
+    requires room { place + (start + (len + (size - end))) ≤ cap N }
+    requires countable { steps.old.moved ≤ 2 ^ 63 }
+    ensures len { length array.new ≡ N }
+    ensures front { take start (drop place array.new) ≡ take start (drop place array.old) }
+    ensures tail { take (size - end) (drop (place + (start + len)) array.new) ≡ take (size - end) (drop (place + end) array.old) }
+    ensures most { steps.new.moved ≤ steps.old.moved + (size - end) }
+    ensures least { end ≢ start + len → steps.old.moved + (size - end) ≤ steps.new.moved }
+    ensures counted { steps.old.moved ≤ steps.new.moved }
+    ensures looked { steps.new.looked ≡ steps.old.looked }
+{
+    let tail = size - end;
+    shift_here(array, place + end, place + (start + len), tail, steps);
+}
+
+/// The same for a text that moves to the start of the array. Each byte moves at most once.
+#[inline(always)]
+pub(crate) fn open_gap_at_start<const N: usize>(
+    array: &mut [u8; N],
+    place: usize,
+    size: usize,
+    start: usize,
+    end: usize,
+    len: usize,
+    steps: &mut Steps,
+)
+    requires order { start ≤ end }
+    requires within { end ≤ size }
+    requires held { place + size ≤ cap N }
+    requires room { start + (len + (size - end)) ≤ cap N }
     requires countable { steps.old.moved ≤ 2 ^ 63 }
     ensures len { length array.new ≡ N }
     ensures front { take start array.new ≡ take start (drop place array.old) }
     ensures tail { take (size - end) (drop (start + len) array.new) ≡ take (size - end) (drop (place + end) array.old) }
-    ensures moved { steps.new.moved ≡ steps.old.moved + (start + (if place + end == start + len then 0 else size - end)) }
+    ensures most { steps.new.moved ≤ steps.old.moved + (start + (size - end)) }
+    ensures least { end ≢ start + len → steps.old.moved + min start (size - end) ≤ steps.new.moved }
+    ensures counted { steps.old.moved ≤ steps.new.moved }
     ensures looked { steps.new.looked ≡ steps.old.looked }
 {
     let tail = size - end;
-    shift(array, place, 0, start, steps);
-    shift(array, place + end, start + len, tail, steps);
+    shift_here(array, place, 0, start, steps);
+    shift_here(array, place + end, start + len, tail, steps);
 }
 
 /// Calls `f` once with each character of a text, in order, and moves those for which it returns

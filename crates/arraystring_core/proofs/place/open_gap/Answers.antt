@@ -2,7 +2,7 @@ use Rattle.std.proofs.Common.{◌+◌, ◌-◌, arith}
 use Rattle.arraystring_core.proofs.GapLemmas.{shift-before}
 use Rattle.arraystring_core.proofs.place.open_gap.Goals as goal
 
-pub returns-then-place-start-clause-front : goal.returns-then-place-start-clause-front
-returns-then-place-start-clause-front g c =
+pub returns-clause-front : goal.returns-clause-front
+returns-clause-front g c =
     shift-before c.args.array.now _ (c.args.place + c.args.end) (c.args.place + (c.args.start + c.args.len)) (c.args.size - c.args.end)
-    (omega (arith, c.told-array)) (omega (arith, c.told-array)) c.shift.ensures.bytes c.args.place c.args.start (omega arith)
+    (omega (arith, c.told-array)) (omega (arith, c.told-array)) c.shift_here.ensures.bytes c.args.place c.args.start (omega arith)

@@ -3,8 +3,8 @@ use Rattle.arraystring_base.specs.Text.{size, boundary, front, back}
 use Rattle.arraystring_base.specs.BoundaryLaws.{boundary-end, front-end, back-end}
 use Rattle.arraystring_core.proofs.array_string.ArrayString.push_at_start.Goals as goal
 
-pub put_char-requires : goal.put_char-requires
-put_char-requires g c =
+pub put_char_at_start-requires : goal.put_char_at_start-requires
+put_char_at_start-requires g c =
     let t = c.args.self.now.text in
     let end : boundary t c.len-len.result ≡ true = ap (boundary t) c.len-len.ensures.value ∙ boundary-end t in
     (search rules, (end, c.requires))
@@ -13,5 +13,5 @@ pub returns : goal.returns
 returns g c =
     let t = c.args.self.now.text in
     let ch = c.args.ch in
-    c.put_char.ensures ∙ ap (λ n. front t n ++ (ch ∷ back t n)) c.len-len.ensures.value
+    c.put_char_at_start.ensures ∙ ap (λ n. front t n ++ (ch ∷ back t n)) c.len-len.ensures.value
     ∙ ap (λ l. l ++ (ch ∷ back t (size t))) (front-end t) ∙ ap (λ l. t ++ (ch ∷ l)) (back-end t)

@@ -4,8 +4,8 @@ use Rattle.arraystring_base.specs.Text.{size, cap, boundary, front, back}
 use Rattle.arraystring_base.specs.BoundaryLaws.{boundary-end, front-end, back-end}
 use Rattle.arraystring_core.proofs.array_string.ArrayString.push_str_at_start.Goals as goal
 
-pub splice-requires : goal.splice-requires
-splice-requires g c =
+pub splice_at_start-requires : goal.splice_at_start-requires
+splice_at_start-requires g c =
     let t = c.args.self.now.text in
     let n = c.len-len.result in
     let end : boundary t n ≡ true = ap (boundary t) c.len-len.ensures.value ∙ boundary-end t in
@@ -16,5 +16,5 @@ pub returns : goal.returns
 returns g c =
     let t = c.args.self.now.text in
     let s = chars c.args.string.now in
-    c.splice.ensures.text ∙ ap (λ n. front t n ++ (s ++ back t n)) c.len-len.ensures.value
+    c.splice_at_start.ensures.text ∙ ap (λ n. front t n ++ (s ++ back t n)) c.len-len.ensures.value
     ∙ ap (λ l. l ++ (s ++ back t (size t))) (front-end t) ∙ ap (λ l. t ++ (s ++ l)) (back-end t) ∙ ap (λ l. t ++ l) (append-nil s)

@@ -9,23 +9,37 @@ use Rattle.arraystring_core.proofs.GapLemmas.{gap-filled, written-length}
 use Rattle.arraystring_core.proofs.PlaceLemmas.{replaced-stored, replaced-chars}
 use Rattle.arraystring_core.proofs.array_string.ArrayString.put_char.Goals as goal
 
-pub open_gap-place-requires : goal.open_gap-place-requires
-open_gap-place-requires g c =
-    let wide : c.len_utf8-len.result ≡ width c.args.ch = c.len_utf8-len.ensures.value ∙ sym (width-is c.args.ch) in
+pub open_gap-requires : goal.open_gap-requires
+open_gap-requires g c =
     let long = opened-size g.row.N _ _ _ c.self.invariant _ c.self.view_is in
     let within : c.args.at ≤ c.self.inside.size = omega (arith, long, boundary-within c.args.self.now.text c.args.at c.requires.boundary) in
-    let room : c.args.at + (c.len_utf8-len.result + (c.self.inside.size - c.args.at)) ≤ cap g.row.N = omega (arith, long, within, wide, c.requires.room) in
+    let room : c.self.inside.start + (c.args.at + (c.len_utf8-len.result + (c.self.inside.size - c.args.at))) ≤ cap g.row.N = omega (arith, within) in
     (search rules, (omega arith, (within, (c.self.invariant.0, (room, omega arith)))))
 
 pub overflow_sub-self : goal.overflow_sub-self
 overflow_sub-self g c =
     omega (arith, opened-size g.row.N _ _ _ c.self.invariant _ c.self.view_is, boundary-within c.args.self.now.text c.args.at c.requires.boundary)
 
+pub overflow_add-self-2 : goal.overflow_add-self-2
+overflow_add-self-2 g c =
+    let long = opened-size g.row.N _ _ _ c.self.invariant _ c.self.view_is in
+    omega (arith, long, boundary-within c.args.self.now.text c.args.at c.requires.boundary)
+
+pub overflow_cast-self : goal.overflow_cast-self
+overflow_cast-self g c =
+    let long = opened-size g.row.N _ _ _ c.self.invariant _ c.self.view_is in
+    omega (arith, long, boundary-within c.args.self.now.text c.args.at c.requires.boundary)
+
+pub overflow_add-place-3 : goal.overflow_add-place-3
+overflow_add-place-3 g c =
+    let long = opened-size g.row.N _ _ _ c.self.invariant _ c.self.view_is in
+    omega (arith, long, boundary-within c.args.self.now.text c.args.at c.requires.boundary)
+
 pub encode-requires : goal.encode-requires
 encode-requires g c =
-    let gap = c.open_gap-place in
     let wide : c.len_utf8-len.result ≡ width c.args.ch = c.len_utf8-len.ensures.value ∙ sym (width-is c.args.ch) in
-    let within : gap.result + c.args.at + width c.args.ch ≤ g.row.N = omega (arith, gap.ensures.held, wide) in
+    let long = opened-size g.row.N _ _ _ c.self.invariant _ c.self.view_is in
+    let within : c.self.inside.start + c.args.at + width c.args.ch ≤ g.row.N = omega (arith, long, boundary-within c.args.self.now.text c.args.at c.requires.boundary, wide) in
     (search rules, within)
 
 pub invariant_of-self : goal.invariant_of-self
@@ -34,14 +48,14 @@ invariant_of-self g c =
     let t = c.args.self.now.text in
     let ch = c.args.ch in
     let at = c.args.at in
-    let gap = c.open_gap-place in
-    let q = gap.result in
+    let gap = c.open_gap in
+    let q = s.start in
     let wide : c.len_utf8-len.result ≡ length (utf8 ch) = c.len_utf8-len.ensures.value ∙ sym (width-is ch) ∙ sym (length-utf8 ch) in
+    let held : q + (at + (length (utf8 ch) + (s.size - at))) ≤ cap g.row.N = omega (arith, opened-size g.row.N _ _ _ c.self.invariant _ c.self.view_is, boundary-within t at c.requires.boundary, wide) in
     let u : IsUtf8 (utf8 ch) = rw (utf8-is ch) (IsUtf8-encode ch (search rules)) in
     let fits : size t - (at - at) + length (utf8 ch) ≤ cap g.row.N = omega (arith, c.requires.room, length-utf8 ch) in
-    let within : q + at + length (utf8 ch) ≤ length gap.new.array = omega (arith, gap.ensures.held, gap.ensures.len, wide) in
+    let within : q + at + length (utf8 ch) ≤ length gap.new.array = omega (arith, held, gap.ensures.len) in
     let tail = rw wide at gap.ensures.tail in
-    let held = rw wide at gap.ensures.held in
     let written = rw (← length-utf8 ch) at c.encode.ensures.bytes in
     let filled = gap-filled s.array gap.new.array c.encode.new.array (utf8 ch) s.start q at at (s.size - at) within gap.ensures.front tail written in
     let places = written-length gap.new.array c.encode.new.array (utf8 ch) (q + at) within written ∙ gap.ensures.len in
@@ -54,14 +68,14 @@ returns g c =
     let t = c.args.self.now.text in
     let ch = c.args.ch in
     let at = c.args.at in
-    let gap = c.open_gap-place in
-    let q = gap.result in
+    let gap = c.open_gap in
+    let q = s.start in
     let wide : c.len_utf8-len.result ≡ length (utf8 ch) = c.len_utf8-len.ensures.value ∙ sym (width-is ch) ∙ sym (length-utf8 ch) in
+    let held : q + (at + (length (utf8 ch) + (s.size - at))) ≤ cap g.row.N = omega (arith, opened-size g.row.N _ _ _ c.self.invariant _ c.self.view_is, boundary-within t at c.requires.boundary, wide) in
     let u : IsUtf8 (utf8 ch) = rw (utf8-is ch) (IsUtf8-encode ch (search rules)) in
     let fits : size t - (at - at) + length (utf8 ch) ≤ cap g.row.N = omega (arith, c.requires.room, length-utf8 ch) in
-    let within : q + at + length (utf8 ch) ≤ length gap.new.array = omega (arith, gap.ensures.held, gap.ensures.len, wide) in
+    let within : q + at + length (utf8 ch) ≤ length gap.new.array = omega (arith, held, gap.ensures.len) in
     let tail = rw wide at gap.ensures.tail in
-    let held = rw wide at gap.ensures.held in
     let written = rw (← length-utf8 ch) at c.encode.ensures.bytes in
     let filled = gap-filled s.array gap.new.array c.encode.new.array (utf8 ch) s.start q at at (s.size - at) within gap.ensures.front tail written in
     let places = written-length gap.new.array c.encode.new.array (utf8 ch) (q + at) within written ∙ gap.ensures.len in

@@ -6,57 +6,81 @@ use Rattle.arraystring_core.proofs.GapLemmas.{gap-filled, written-length}
 use Rattle.arraystring_core.proofs.PlaceLemmas.{replaced-within, replaced-room, replaced-stored, replaced-chars}
 use Rattle.arraystring_core.proofs.array_string.ArrayString.splice.Goals as goal
 
-pub open_gap-place-requires : goal.open_gap-place-requires
-open_gap-place-requires g c =
+pub open_gap-requires : goal.open_gap-requires
+open_gap-requires g c =
     let long = size-lent c.args.given.now c.utf8.given in
     let fits : size c.args.self.now.text - (c.args.end - c.args.start) + length c.args.given.now ≤ cap g.row.N = omega (arith, c.requires.room, long) in
     let within = replaced-within g.row.N _ _ _ c.self.invariant _ c.self.view_is _ _ c.args.given.now c.requires.order c.requires.start c.requires.end fits in
-    let room = replaced-room g.row.N _ _ _ c.self.invariant _ c.self.view_is _ _ c.args.given.now c.requires.order c.requires.start c.requires.end fits in
+    let room : c.self.inside.start + (c.args.start + (length c.args.given.now + (c.self.inside.size - c.args.end))) ≤ cap g.row.N = omega arith in
     (search rules, (c.requires.order, (within, (c.self.invariant.0, (room, c.requires.countable)))))
 
-pub overflow_sub-self : goal.overflow_sub-self
-overflow_sub-self g c =
+pub overflow_sub-tail : goal.overflow_sub-tail
+overflow_sub-tail g c =
     let long = size-lent c.args.given.now c.utf8.given in
     let fits : size c.args.self.now.text - (c.args.end - c.args.start) + length c.args.given.now ≤ cap g.row.N = omega (arith, c.requires.room, long) in
     replaced-within g.row.N _ _ _ c.self.invariant _ c.self.view_is _ _ c.args.given.now c.requires.order c.requires.start c.requires.end fits
+
+pub overflow_add-start : goal.overflow_add-start
+overflow_add-start g c =
+    let long = size-lent c.args.given.now c.utf8.given in
+    let fits : size c.args.self.now.text - (c.args.end - c.args.start) + length c.args.given.now ≤ cap g.row.N = omega (arith, c.requires.room, long) in
+    let room = replaced-room g.row.N _ _ _ c.self.invariant _ c.self.view_is _ _ c.args.given.now c.requires.order c.requires.start c.requires.end fits in
+    omega (arith, room)
+
+pub overflow_add-place : goal.overflow_add-place
+overflow_add-place g c =
+    let long = size-lent c.args.given.now c.utf8.given in
+    let fits : size c.args.self.now.text - (c.args.end - c.args.start) + length c.args.given.now ≤ cap g.row.N = omega (arith, c.requires.room, long) in
+    let room = replaced-room g.row.N _ _ _ c.self.invariant _ c.self.view_is _ _ c.args.given.now c.requires.order c.requires.start c.requires.end fits in
+    omega (arith, room)
+
+pub returns-then-place-start-clause-tail_alone : goal.returns-then-place-start-clause-tail_alone
+returns-then-place-start-clause-tail_alone g c small =
+    let long = size-lent c.args.given.now c.utf8.given in
+    let within = replaced-within g.row.N _ _ _ c.self.invariant _ c.self.view_is _ _ c.args.given.now c.requires.order c.requires.start c.requires.end
+    (omega (arith, c.requires.room, long)) in
+    omega (arith, small, long, within, c.self.invariant.0, c.requires.order)
 
 pub invariant_of-self : goal.invariant_of-self
 invariant_of-self g c =
     let s = c.self.inside in
     let given = c.args.given.now in
-    let gap = c.open_gap-place in
-    let q = gap.result in
+    let gap = c.open_gap in
+    let q = s.start in
     let long = size-lent given c.utf8.given in
     let fits : size c.args.self.now.text - (c.args.end - c.args.start) + length given ≤ cap g.row.N = omega (arith, c.requires.room, long) in
-    let within : q + c.args.start + length given ≤ length gap.new.array = omega (arith, gap.ensures.held, gap.ensures.len) in
-    let copied = rw c.as_bytes.ensures.value at c.copy_in.ensures in
-    let filled = gap-filled s.array gap.new.array c.copy_in.new.array given s.start q c.args.start c.args.end (s.size - c.args.end) within gap.ensures.front gap.ensures.tail copied in
-    let places = written-length gap.new.array c.copy_in.new.array given (q + c.args.start) within copied ∙ gap.ensures.len in
+    let held : q + (c.args.start + (length given + (s.size - c.args.end))) ≤ cap g.row.N = omega arith in
+    let within : q + c.args.start + length given ≤ length gap.new.array = omega (arith, held, gap.ensures.len) in
+    let copied = rw c.as_bytes.ensures.value at c.write_over.ensures in
+    let filled = gap-filled s.array gap.new.array c.write_over.new.array given s.start q c.args.start c.args.end (s.size - c.args.end) within gap.ensures.front gap.ensures.tail copied in
+    let places = written-length gap.new.array c.write_over.new.array given (q + c.args.start) within copied ∙ gap.ensures.len in
     replaced-stored g.row.N _ _ _ c.self.invariant _ c.self.view_is _ _ given c.requires.order c.requires.start c.requires.end fits c.utf8.given
-    c.copy_in.new.array q places gap.ensures.held filled
+    c.write_over.new.array q places held filled
 
 pub returns-clause-text : goal.returns-clause-text
 returns-clause-text g c =
     let s = c.self.inside in
     let given = c.args.given.now in
-    let gap = c.open_gap-place in
-    let q = gap.result in
+    let gap = c.open_gap in
+    let q = s.start in
     let long = size-lent given c.utf8.given in
     let fits : size c.args.self.now.text - (c.args.end - c.args.start) + length given ≤ cap g.row.N = omega (arith, c.requires.room, long) in
-    let within : q + c.args.start + length given ≤ length gap.new.array = omega (arith, gap.ensures.held, gap.ensures.len) in
-    let copied = rw c.as_bytes.ensures.value at c.copy_in.ensures in
-    let filled = gap-filled s.array gap.new.array c.copy_in.new.array given s.start q c.args.start c.args.end (s.size - c.args.end) within gap.ensures.front gap.ensures.tail copied in
-    let places = written-length gap.new.array c.copy_in.new.array given (q + c.args.start) within copied ∙ gap.ensures.len in
+    let held : q + (c.args.start + (length given + (s.size - c.args.end))) ≤ cap g.row.N = omega arith in
+    let within : q + c.args.start + length given ≤ length gap.new.array = omega (arith, held, gap.ensures.len) in
+    let copied = rw c.as_bytes.ensures.value at c.write_over.ensures in
+    let filled = gap-filled s.array gap.new.array c.write_over.new.array given s.start q c.args.start c.args.end (s.size - c.args.end) within gap.ensures.front gap.ensures.tail copied in
+    let places = written-length gap.new.array c.write_over.new.array given (q + c.args.start) within copied ∙ gap.ensures.len in
     replaced-chars g.row.N _ _ _ c.self.invariant _ c.self.view_is _ _ given c.requires.order c.requires.start c.requires.end fits c.utf8.given
-    c.copy_in.new.array q places gap.ensures.held filled
+    c.write_over.new.array q places held filled
 
 pub returns-clause-tail_alone : goal.returns-clause-tail_alone
-returns-clause-tail_alone g c =
-    rw (opened-size g.row.N _ _ _ c.self.invariant _ c.self.view_is, size-lent c.args.given.now c.utf8.given) c.open_gap-place.ensures.tail_alone
+returns-clause-tail_alone g c = rw (opened-size g.row.N _ _ _ c.self.invariant _ c.self.view_is) (λ _. c.open_gap.ensures.most)
 
 pub returns-clause-most : goal.returns-clause-most
-returns-clause-most g c = rw (opened-size g.row.N _ _ _ c.self.invariant _ c.self.view_is) c.open_gap-place.ensures.most
+returns-clause-most g c =
+    rw (opened-size g.row.N _ _ _ c.self.invariant _ c.self.view_is) (omega (arith, c.open_gap.ensures.most))
 
 pub returns-clause-least : goal.returns-clause-least
 returns-clause-least g c =
-    rw (opened-size g.row.N _ _ _ c.self.invariant _ c.self.view_is, size-lent c.args.given.now c.utf8.given) c.open_gap-place.ensures.least
+    rw (opened-size g.row.N _ _ _ c.self.invariant _ c.self.view_is, size-lent c.args.given.now c.utf8.given)
+    (λ is_not. let more = c.open_gap.ensures.least is_not in omega (arith, more))

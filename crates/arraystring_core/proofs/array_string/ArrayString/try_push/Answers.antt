@@ -1,0 +1,22 @@
+use Rattle.std.proofs.Common.{◌+◌, ◌≤◌, ◌∷◌, [], refl, arith, rules}
+use Rattle.arraystring_base.specs.Text.{cap, size, width}
+use Rattle.arraystring_base.specs.TextLaws.{width-bounds}
+use Rattle.arraystring_core.specs.Edits.{addition}
+use Rattle.arraystring_core.specs.EditLaws.{makes, addition-fits}
+use Rattle.arraystring_core.specs.StoredLaws.{opened-size}
+use Rattle.arraystring_core.proofs.array_string.ArrayString.try_push.Goals as goal
+
+pub push_unchecked-requires : goal.push_unchecked-requires
+push_unchecked-requires g c =
+    let long = opened-size g.row.N _ _ _ c.self.invariant _ c.self.view_is in
+    let fits : size c.args.self.now.text + width c.args.ch ≤ cap g.row.N = omega (arith, long, width-bounds c.args.ch) in
+    (search rules, fits)
+
+pub returns : goal.returns
+returns g c =
+    let t = c.args.self.now.text in
+    let ch = c.args.ch in
+    let long = opened-size g.row.N _ _ _ c.self.invariant _ c.self.view_is in
+    let fits : size t + size (ch ∷ []) ≤ cap g.row.N = omega (arith, long, width-bounds ch) in
+    makes (addition t (ch ∷ []) (cap g.row.N)) t tt c.push_unchecked.new.self.text (addition-fits t (ch ∷ []) (cap g.row.N) fits) refl
+    c.push_unchecked.ensures

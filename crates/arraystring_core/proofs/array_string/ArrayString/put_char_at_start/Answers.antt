@@ -1,0 +1,80 @@
+use Rattle.std.proofs.Common.{◌≡◌, ◌+◌, ◌-◌, ◌≤◌, ◌++◌, ◌∷◌, [], sym, ap, ◌∙◌, arith, chars, length, rules, IsUtf8}
+use Rattle.std.proofs.lemmas.Str.{IsUtf8-encode}
+use Rattle.std.proofs.lemmas.List.{append-nil}
+use Rattle.arraystring_base.specs.Text.{utf8, width, size, cap, front, back}
+use Rattle.arraystring_base.specs.TextLaws.{chars-bytes, utf8-is, width-is, length-utf8}
+use Rattle.arraystring_base.specs.BoundaryLaws.{boundary-within}
+use Rattle.arraystring_core.specs.StoredLaws.{opened-size}
+use Rattle.arraystring_core.proofs.GapLemmas.{gap-filled, written-length, written-from-zero, tail-from-zero}
+use Rattle.arraystring_core.proofs.PlaceLemmas.{replaced-stored, replaced-chars}
+use Rattle.arraystring_core.proofs.array_string.ArrayString.put_char_at_start.Goals as goal
+
+pub open_gap_at_start-requires : goal.open_gap_at_start-requires
+open_gap_at_start-requires g c =
+    let wide : c.len_utf8-len.result ≡ width c.args.ch = c.len_utf8-len.ensures.value ∙ sym (width-is c.args.ch) in
+    let long = opened-size g.row.N _ _ _ c.self.invariant _ c.self.view_is in
+    let within : c.args.at ≤ c.self.inside.size = omega (arith, long, boundary-within c.args.self.now.text c.args.at c.requires.boundary) in
+    let room : c.args.at + (c.len_utf8-len.result + (c.self.inside.size - c.args.at)) ≤ cap g.row.N = omega (arith, long, within, wide, c.requires.room) in
+    (search rules, (omega arith, (within, (c.self.invariant.0, (room, omega arith)))))
+
+pub overflow_sub-self : goal.overflow_sub-self
+overflow_sub-self g c =
+    omega (arith, opened-size g.row.N _ _ _ c.self.invariant _ c.self.view_is, boundary-within c.args.self.now.text c.args.at c.requires.boundary)
+
+pub overflow_add-self-2 : goal.overflow_add-self-2
+overflow_add-self-2 g c =
+    let wide : c.len_utf8-len.result ≡ width c.args.ch = c.len_utf8-len.ensures.value ∙ sym (width-is c.args.ch) in
+    let long = opened-size g.row.N _ _ _ c.self.invariant _ c.self.view_is in
+    omega (arith, long, boundary-within c.args.self.now.text c.args.at c.requires.boundary, wide, c.requires.room)
+
+pub overflow_cast-self : goal.overflow_cast-self
+overflow_cast-self g c =
+    let wide : c.len_utf8-len.result ≡ width c.args.ch = c.len_utf8-len.ensures.value ∙ sym (width-is c.args.ch) in
+    let long = opened-size g.row.N _ _ _ c.self.invariant _ c.self.view_is in
+    omega (arith, long, boundary-within c.args.self.now.text c.args.at c.requires.boundary, wide, c.requires.room)
+
+pub encode-requires : goal.encode-requires
+encode-requires g c =
+    let long = opened-size g.row.N _ _ _ c.self.invariant _ c.self.view_is in
+    let within : c.args.at + width c.args.ch ≤ g.row.N = omega (arith, long, boundary-within c.args.self.now.text c.args.at c.requires.boundary, c.requires.room) in
+    (search rules, within)
+
+pub invariant_of-self : goal.invariant_of-self
+invariant_of-self g c =
+    let s = c.self.inside in
+    let t = c.args.self.now.text in
+    let ch = c.args.ch in
+    let at = c.args.at in
+    let gap = c.open_gap_at_start in
+    let held : 0 + (at + (length (utf8 ch) + (s.size - at))) ≤ cap g.row.N = omega (arith, opened-size g.row.N _ _ _ c.self.invariant _ c.self.view_is, boundary-within t at c.requires.boundary, c.requires.room, length-utf8 ch) in
+    let wide : c.len_utf8-len.result ≡ length (utf8 ch) = c.len_utf8-len.ensures.value ∙ sym (width-is ch) ∙ sym (length-utf8 ch) in
+    let u : IsUtf8 (utf8 ch) = rw (utf8-is ch) (IsUtf8-encode ch (search rules)) in
+    let fits : size t - (at - at) + length (utf8 ch) ≤ cap g.row.N = omega (arith, c.requires.room, length-utf8 ch) in
+    let within : 0 + at + length (utf8 ch) ≤ length gap.new.array = omega (arith, held, gap.ensures.len) in
+    let tail = tail-from-zero gap.new.array _ at (length (utf8 ch)) (s.size - at) (rw wide at gap.ensures.tail) in
+    let written = written-from-zero gap.new.array c.encode.new.array (utf8 ch) at (rw (← length-utf8 ch) at c.encode.ensures.bytes) in
+    let filled = gap-filled s.array gap.new.array c.encode.new.array (utf8 ch) s.start 0 at at (s.size - at) within gap.ensures.front tail written in
+    let places = written-length gap.new.array c.encode.new.array (utf8 ch) (0 + at) within written ∙ gap.ensures.len in
+    rw wide (replaced-stored g.row.N _ _ _ c.self.invariant _ c.self.view_is at at (utf8 ch) (omega arith) c.requires.boundary c.requires.boundary fits u
+    c.encode.new.array 0 places held filled)
+
+pub returns : goal.returns
+returns g c =
+    let s = c.self.inside in
+    let t = c.args.self.now.text in
+    let ch = c.args.ch in
+    let at = c.args.at in
+    let gap = c.open_gap_at_start in
+    let held : 0 + (at + (length (utf8 ch) + (s.size - at))) ≤ cap g.row.N = omega (arith, opened-size g.row.N _ _ _ c.self.invariant _ c.self.view_is, boundary-within t at c.requires.boundary, c.requires.room, length-utf8 ch) in
+    let wide : c.len_utf8-len.result ≡ length (utf8 ch) = c.len_utf8-len.ensures.value ∙ sym (width-is ch) ∙ sym (length-utf8 ch) in
+    let u : IsUtf8 (utf8 ch) = rw (utf8-is ch) (IsUtf8-encode ch (search rules)) in
+    let fits : size t - (at - at) + length (utf8 ch) ≤ cap g.row.N = omega (arith, c.requires.room, length-utf8 ch) in
+    let within : 0 + at + length (utf8 ch) ≤ length gap.new.array = omega (arith, held, gap.ensures.len) in
+    let tail = tail-from-zero gap.new.array _ at (length (utf8 ch)) (s.size - at) (rw wide at gap.ensures.tail) in
+    let written = written-from-zero gap.new.array c.encode.new.array (utf8 ch) at (rw (← length-utf8 ch) at c.encode.ensures.bytes) in
+    let filled = gap-filled s.array gap.new.array c.encode.new.array (utf8 ch) s.start 0 at at (s.size - at) within gap.ensures.front tail written in
+    let places = written-length gap.new.array c.encode.new.array (utf8 ch) (0 + at) within written ∙ gap.ensures.len in
+    let one : chars (utf8 ch) ≡ ch ∷ [] = chars-bytes _ (ch ∷ []) u (sym (append-nil (utf8 ch))) in
+    rw wide (replaced-chars g.row.N _ _ _ c.self.invariant _ c.self.view_is at at (utf8 ch) (omega arith) c.requires.boundary c.requires.boundary fits u
+    c.encode.new.array 0 places held filled)
+    ∙ ap (λ l. front t at ++ (l ++ back t at)) one
