@@ -12,12 +12,14 @@ type SmallString = ArrayString<23>;
 
 const ZEROS_23: &str = "00000000000000000000000";
 
-/// The constructors that refuse a text which is too large, those that cut it, and those that are
-/// called where it fits.
+/// The constructors that refuse a text which is too large.
 const WHOLE: &str = "try_from_str parse try_from_chars try_from_iterator try_from_utf8";
 
+/// Those that cut it.
 const CUT: &str = "from_str_truncate from from_chars from_iterator from_utf8";
 
+/// Those that are called where it fits: the three of a text, its characters and its bytes, and that of
+/// pieces.
 const UNCHECKED: &str = "unchecked from_iterator_unchecked";
 
 /// Asserts what constructors make at one capacity. The columns of a row are
