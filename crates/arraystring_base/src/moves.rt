@@ -6,8 +6,8 @@ ghost use Rattle.std.specs.Prelude.{◌≡◌, ◌+◌, ◌-◌, ◌≤◌, ◌<
 
 use std::simd::Simd;
 
-/// Takes the `len` bytes from `from` on to `to`, overlapping or not. Up to four bytes
-/// cost no call.
+/// Takes the `len` bytes from `from` on to `to`, overlapping or not. It makes no call, so a function
+/// that makes no other has no register to save.
 #[inline(always)]
 pub(crate) fn move_run<const N: usize>(array: &mut [u8; N], from: usize, to: usize, len: usize)
     requires source { from + len ≤ N }
@@ -16,20 +16,6 @@ pub(crate) fn move_run<const N: usize>(array: &mut [u8; N], from: usize, to: usi
 {
     if len > 4 {
         move_long_run(array, from, to, len);
-    } else {
-        move_short_run(array, from, to, len);
-    }
-}
-
-/// The same without a call, for a function that has no other.
-#[inline(always)]
-pub(crate) fn move_run_here<const N: usize>(array: &mut [u8; N], from: usize, to: usize, len: usize)
-    requires source { from + len ≤ N }
-    requires target { to + len ≤ N }
-    ensures { array.new ≡ take to array.old ++ (take len (drop from array.old) ++ drop (to + len) array.old) }
-{
-    if len > 4 {
-        move_by_length(array, from, to, len);
     } else {
         move_short_run(array, from, to, len);
     }
@@ -50,20 +36,9 @@ fn move_short_run<const N: usize>(array: &mut [u8; N], from: usize, to: usize, l
     }
 }
 
-/// The same for more than four bytes, as a call.
-#[inline(never)]
-fn move_long_run<const N: usize>(array: &mut [u8; N], from: usize, to: usize, len: usize)
-    requires source { from + len ≤ N }
-    requires target { to + len ≤ N }
-    requires long { 4 < len }
-    ensures { array.new ≡ take to array.old ++ (take len (drop from array.old) ++ drop (to + len) array.old) }
-{
-    move_by_length(array, from, to, len);
-}
-
-/// The same without a call. What an array of `N` bytes can't have is not asked.
+/// The same for more than four bytes. What an array of `N` bytes can't have is not asked.
 #[inline(always)]
-fn move_by_length<const N: usize>(array: &mut [u8; N], from: usize, to: usize, len: usize)
+fn move_long_run<const N: usize>(array: &mut [u8; N], from: usize, to: usize, len: usize)
     requires source { from + len ≤ N }
     requires target { to + len ≤ N }
     requires long { 4 < len }

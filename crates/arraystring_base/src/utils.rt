@@ -3,7 +3,7 @@ ghost use Rattle.std.specs.Prelude.{◌≡◌, ◌+◌, ◌-◌, ◌^◌, ◌==�
 ghost use Rattle.arraystring_base.specs.Text.{bytes, cut, utf8, width, size, boundary};
 
 use crate::error::OutOfBounds;
-use crate::moves::{copy_run, move_run, move_run_here};
+use crate::moves::{copy_run, move_run};
 pub use crate::steps::{Steps, look};
 use std::char;
 
@@ -127,28 +127,6 @@ pub fn shift<const N: usize>(
 {
     if from != to {
         move_run(array, from, to, len);
-        steps.count_moves(len);
-    }
-}
-
-/// The same as `shift` without a call, for a function that makes no other.
-#[inline(always)]
-pub fn shift_here<const N: usize>(
-    array: &mut [u8; N],
-    from: usize,
-    to: usize,
-    len: usize,
-    steps: &mut Steps,
-)
-    requires source { from + len ≤ N }
-    requires target { to + len ≤ N }
-    requires countable { steps.old.moved + len < 2 ^ 64 }
-    ensures bytes { array.new ≡ take to array.old ++ (take len (drop from array.old) ++ drop (to + len) array.old) }
-    ensures moved { steps.new.moved ≡ steps.old.moved + (if from == to then 0 else len) }
-    ensures looked { steps.new.looked ≡ steps.old.looked }
-{
-    if from != to {
-        move_run_here(array, from, to, len);
         steps.count_moves(len);
     }
 }

@@ -10,7 +10,7 @@ use crate::equal::equal;
 use crate::place::{copy_in, open_gap, open_gap_at_start};
 use arraystring_base::error::OutOfBounds;
 use arraystring_base::utils::{
-    Steps, encode, is_boundary, last_char, shift_here, truncate_str, write_over,
+    Steps, encode, is_boundary, last_char, shift, truncate_str, write_over,
 };
 use std::marker::Model;
 use std::{fmt, str};
@@ -388,7 +388,7 @@ impl<const N: usize> ArrayString<N> {
         let (place, size) = (self.start as usize, self.size as usize);
         let tail = size - end;
         self.size = (start + tail) as u8;
-        shift_here(&mut self.array, place + end, place + start, tail, steps);
+        shift(&mut self.array, place + end, place + start, tail, steps);
     }
 
     /// Drops the part before a boundary, without a move.

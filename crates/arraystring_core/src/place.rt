@@ -4,7 +4,7 @@ ghost use Rattle.std.specs.List.Retain.{IsFiltered};
 ghost use Rattle.arraystring_base.specs.Text.{cap, utf8, width};
 ghost use Rattle.arraystring_core.specs.Retain.{MayBeAsked};
 
-use arraystring_base::utils::{Steps, shift, shift_here};
+use arraystring_base::utils::{Steps, shift};
 use std::str;
 
 /// Opens a gap of `len` bytes in place of the bytes from `start` to `end` of a text, which is the
@@ -34,7 +34,7 @@ pub(crate) fn open_gap<const N: usize>(
     ensures looked { steps.new.looked ≡ steps.old.looked }
 {
     let tail = size - end;
-    shift_here(array, place + end, place + (start + len), tail, steps);
+    shift(array, place + end, place + (start + len), tail, steps);
 }
 
 /// The same for a text that moves to the start of the array. Each byte moves at most once.
@@ -62,8 +62,8 @@ pub(crate) fn open_gap_at_start<const N: usize>(
     ensures looked { steps.new.looked ≡ steps.old.looked }
 {
     let tail = size - end;
-    shift_here(array, place, 0, start, steps);
-    shift_here(array, place + end, start + len, tail, steps);
+    shift(array, place, 0, start, steps);
+    shift(array, place + end, start + len, tail, steps);
 }
 
 /// Calls `f` once with each character of a text, in order, and moves those for which it returns
@@ -91,26 +91,39 @@ pub(crate) fn retain_at<const N: usize, F: FnMut(char) -> bool + Drop>(
     while read < size {
         let (ch, width) = char_at(array, place + read, place + size);
         if !f(ch) {
-            shift(
-                array,
-                place + run,
-                place + kept,
-                read - run,
-                &mut Steps::new(),
-            );
+            shift_run(array, place + run, place + kept, read - run);
             kept += read - run;
             run = read + width;
         }
         read += width;
     }
-    shift(
-        array,
-        place + run,
-        place + kept,
-        size - run,
-        &mut Steps::new(),
-    );
+    shift_run(array, place + run, place + kept, size - run);
     kept + (size - run)
+}
+
+/// `shift`, as a call where more than four bytes move: the loop over the characters is short without
+/// the code of a long move.
+#[inline(always)]
+fn shift_run<const N: usize>(array: &mut [u8; N], from: usize, to: usize, len: usize)
+    requires source { from + len ≤ N }
+    requires target { to + len ≤ N }
+    ensures { array.new ≡ take to array.old ++ (take len (drop from array.old) ++ drop (to + len) array.old) }
+{
+    if len > 4 {
+        shift_long_run(array, from, to, len);
+    } else {
+        shift(array, from, to, len, &mut Steps::new());
+    }
+}
+
+/// The same as a call.
+#[inline(never)]
+fn shift_long_run<const N: usize>(array: &mut [u8; N], from: usize, to: usize, len: usize)
+    requires source { from + len ≤ N }
+    requires target { to + len ≤ N }
+    ensures { array.new ≡ take to array.old ++ (take len (drop from array.old) ++ drop (to + len) array.old) }
+{
+    shift(array, from, to, len, &mut Steps::new());
 }
 
 /// The first character of the text in the bytes from `start` to `end`, and how many it takes.

@@ -34,7 +34,7 @@ loop-read-preserved g c =
       | then-not-f w ↦
           rw (w.array-is, w.kept-is, w.run-is, next)
           (retained-drop (goal.F-pre g) (goal.F-step g) g.row.N c.args.array.now c.args.f c.args.place c.args.size l.array l.f l.kept l.run l.read l.invariant within ch (search rules) c.char_at-ch.ensures.first.0 starts c.f.new.self
-          w.shift.new.array w.shift.ensures.bytes w.if-not-f.ensures)
+          w.shift_run.new.array w.shift_run.ensures w.if-not-f.ensures)
       | else-not-f w ↦
           rw (w.array-is, w.kept-is, w.run-is, next)
           (retained-keep (goal.F-pre g) (goal.F-step g) g.row.N c.args.array.now c.args.f c.args.place c.args.size l.array l.f l.kept l.run l.read l.invariant within ch (search rules) c.char_at-ch.ensures.first.0 starts c.f.new.self
@@ -46,7 +46,7 @@ returns-clause-text g c =
     let l = c.loop-read in
     let ended : c.args.size ≡ l.read = omega (arith, l.invariant.read_within) in
     let within : c.args.place + c.args.size ≤ length l.array = omega (arith, l.invariant.long) in
-    let together = moved-bytes l.array c.shift-2.new.array c.args.place l.kept l.run c.args.size c.args.size l.invariant.kept_first (omega (arith, l.invariant.run_next, ended)) (omega arith) within c.shift-2.ensures.bytes in
+    let together = moved-bytes l.array c.shift_run-2.new.array c.args.place l.kept l.run c.args.size c.args.size l.invariant.kept_first (omega (arith, l.invariant.run_next, ended)) (omega arith) within c.shift_run-2.ensures in
     rw (together ∙ ap (kept_bytes l.array c.args.place l.kept l.run) ended) l.invariant.kept_text
 
 pub returns-clause-filtered : goal.returns-clause-filtered
@@ -54,7 +54,7 @@ returns-clause-filtered g c =
     let l = c.loop-read in
     let ended : c.args.size ≡ l.read = omega (arith, l.invariant.read_within) in
     let within : c.args.place + c.args.size ≤ length l.array = omega (arith, l.invariant.long) in
-    let together = moved-bytes l.array c.shift-2.new.array c.args.place l.kept l.run c.args.size c.args.size l.invariant.kept_first (omega (arith, l.invariant.run_next, ended)) (omega arith) within c.shift-2.ensures.bytes in
+    let together = moved-bytes l.array c.shift_run-2.new.array c.args.place l.kept l.run c.args.size c.args.size l.invariant.kept_first (omega (arith, l.invariant.run_next, ended)) (omega arith) within c.shift_run-2.ensures in
     let over : chars (between l.array c.args.place l.read c.args.size) ≡ [] =
     ap (λ k. chars (between l.array c.args.place l.read k)) ended ∙ ap chars (none-between l.array c.args.place l.read) ∙ chars-nil in
     let told = rw over at l.invariant.told in

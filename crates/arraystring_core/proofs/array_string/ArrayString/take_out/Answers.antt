@@ -28,18 +28,18 @@ overflow_add-place-2 g c =
     let within = dropped-within g.row.N _ _ _ c.self.invariant _ c.self.view_is c.args.end c.requires.end in
     omega (arith, within, c.requires.order, c.self.invariant.0)
 
-pub shift_here-requires : goal.shift_here-requires
-shift_here-requires g c =
+pub shift-requires : goal.shift-requires
+shift-requires g c =
     let within = dropped-within g.row.N _ _ _ c.self.invariant _ c.self.view_is c.args.end c.requires.end in
     (search rules, (omega (arith, within, c.self.invariant.0), (omega (arith, within, c.requires.order, c.self.invariant.0), omega (arith, within, c.self.invariant.0, c.requires.countable))))
 
 pub invariant_of-self : goal.invariant_of-self
 invariant_of-self g c =
-    closed-stored g.row.N _ _ _ c.self.invariant _ c.self.view_is c.args.start c.args.end c.requires.order c.requires.start c.requires.end _ c.shift_here.ensures.bytes
+    closed-stored g.row.N _ _ _ c.self.invariant _ c.self.view_is c.args.start c.args.end c.requires.order c.requires.start c.requires.end _ c.shift.ensures.bytes
 
 pub returns-clause-text : goal.returns-clause-text
 returns-clause-text g c =
-    closed-chars g.row.N _ _ _ c.self.invariant _ c.self.view_is c.args.start c.args.end c.requires.order c.requires.start c.requires.end _ c.shift_here.ensures.bytes
+    closed-chars g.row.N _ _ _ c.self.invariant _ c.self.view_is c.args.start c.args.end c.requires.order c.requires.start c.requires.end _ c.shift.ensures.bytes
 
 pub returns-clause-tail_alone : goal.returns-clause-tail_alone
 returns-clause-tail_alone g c = rw (opened-size g.row.N _ _ _ c.self.invariant _ c.self.view_is) (search rules)
