@@ -106,3 +106,20 @@ fn bytes_are_shifted(rt: HostRuntime) {
     assert_eq!(rt; steps.moved(), 13);
     assert_eq!(rt; steps.looked(), 0);
 }
+
+#[test]
+fn bytes_are_written_over(rt: HostRuntime) {
+    for (given, wanted) in [
+        ("", ".................."),
+        ("a", ".a................"),
+        ("abc", ".abc.............."),
+        ("abcdefg", ".abcdefg.........."),
+        ("abcdefghijklmno", ".abcdefghijklmno.."),
+        ("abcdefghijklmnop", ".abcdefghijklmnop."),
+        ("abcdefghijklmnopq", ".abcdefghijklmnopq"),
+    ] {
+        let mut array = [b'.'; 18];
+        write_over(&mut array, 1, given.as_bytes());
+        assert_eq!(rt; array[..], *wanted.as_bytes(), "{given}");
+    }
+}
