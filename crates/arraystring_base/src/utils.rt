@@ -131,7 +131,8 @@ pub fn shift<const N: usize>(
     }
 }
 
-/// Writes `given` over the bytes from `at` on. Up to 16 bytes cost no call. No other byte changes.
+/// Writes `given` over the bytes of the array from the offset `at` on. Up to 16 bytes cost no call. It
+/// must fit into the array from there. No other byte changes.
 #[inline(always)]
 pub fn write_over<const N: usize>(array: &mut [u8; N], at: usize, given: &[u8])
     requires { at + length given.now ≤ N }
