@@ -23,7 +23,7 @@ use super::table::{
 use super::{MaxString, string};
 use crate::utils::is_char_boundary;
 use crate::{ArrayString, Drain};
-use arraystring_base::error::{Error, Utf8};
+use arraystring_base::error::Error;
 use arraystring_base::utils::Steps;
 use std::fmt::Write;
 use std::ops::{Bound, RangeBounds, RangeInclusive};
@@ -213,14 +213,17 @@ fn inserted<R: Abort, const N: usize>(
     text: &mut ArrayString<N>,
     row: &str,
 ) -> Option<MaxString> {
+    let Ok(index) = column(row, 2).parse() else {
+        return None;
+    };
     let given = column(row, 3);
     Some(told_done(match column(row, 1) {
-        "try_insert" => text.try_insert(number(rt, row, 2), character(rt, row, 3)),
-        "insert_str" => text.insert_str(number(rt, row, 2), given),
-        "try_insert_str" => text.try_insert_str(number(rt, row, 2), given),
+        "try_insert" => text.try_insert(index, character(rt, row, 3)),
+        "insert_str" => text.insert_str(index, given),
+        "try_insert_str" => text.try_insert_str(index, given),
         "try_insert_str_counted" => {
             let mut steps = Steps::new();
-            let answer = text.try_insert_str_counted(number(rt, row, 2), given, &mut steps);
+            let answer = text.try_insert_str_counted(index, given, &mut steps);
             agree(rt, row, steps.moved(), number(rt, row, 6) as u64);
             answer
         }
@@ -236,20 +239,22 @@ fn removed<R: Abort, const N: usize>(
 ) -> Option<MaxString>
     requires { N ≤ 300 }
 {
+    if column(row, 1) == "retain_in_turn" {
+        return Some(retain_in_turn(text, column(row, 3)));
+    }
+    let Ok(index) = column(row, 2).parse() else {
+        return None;
+    };
     Some(match column(row, 1) {
-        "remove" => told_character(text.remove(number(rt, row, 2))),
+        "remove" => told_character(text.remove(index)),
         "remove_counted" => {
             let mut steps = Steps::new();
-            let answer = text.remove_counted(number(rt, row, 2), &mut steps);
+            let answer = text.remove_counted(index, &mut steps);
             agree(rt, row, steps.moved(), number(rt, row, 6) as u64);
             told_character(answer)
         }
-        "truncate" => match text.truncate(number(rt, row, 2)) {
-            Ok(()) => string("ok"),
-            Err(Utf8) => string("Utf8"),
-        },
-        "split_off" => split(text, number(rt, row, 2)),
-        "retain_in_turn" => retain_in_turn(text, column(row, 3)),
+        "truncate" => told_utf8(text.truncate(index)),
+        "split_off" => split(text, index),
         _ => return None,
     })
 }
@@ -273,8 +278,8 @@ fn asked<R: Abort, const N: usize>(rt: &R, text: &ArrayString<N>, row: &str) -> 
     Some(match column(row, 1) {
         "as_bytes" => has_bytes(rt, text.as_bytes(), given),
         "is_char_boundary" => told_utf8(is_char_boundary(text, number(rt, row, 2))),
-        "cmp" => compared(rt, row, text, &ArrayString::from(given)),
-        "hash" => hashed(rt, row, text, &ArrayString::from(given)),
+        "cmp" => compared(rt, row, text),
+        "hash" => hashed(rt, row, text),
         "add" => string((*text + given).as_str()),
         "clone" => match text.clone() {
             Ok(copy) => string(copy.as_str()),
@@ -297,13 +302,11 @@ fn has_bytes(rt: &impl Abort, bytes: &[u8], digits: &str) -> MaxString {
     string(if rest.is_empty() { "ok" } else { "more bytes" })
 }
 
-/// The order of two strings, which each comparison has to tell.
-fn compared<const N: usize>(
-    rt: &impl Abort,
-    row: &str,
-    text: &ArrayString<N>,
-    other: &ArrayString<N>,
-) -> MaxString {
+/// The order of the string and of that which is given, which each comparison has to tell.
+fn compared<const N: usize>(rt: &impl Abort, row: &str, text: &ArrayString<N>) -> MaxString
+    requires { N ≤ 300 }
+{
+    let other = &ArrayString::from(column(row, 3));
     let order = text.cmp(other);
     agree(rt, row, text.partial_cmp(other), Some(order));
     agree(rt, row, *text == *other, order.is_eq());
@@ -311,13 +314,11 @@ fn compared<const N: usize>(
     told_order(order)
 }
 
-/// `ok` where the hash is that of the other string and that of its text.
-fn hashed<const N: usize>(
-    rt: &impl Abort,
-    row: &str,
-    text: &ArrayString<N>,
-    other: &ArrayString<N>,
-) -> MaxString {
+/// `ok` where the hash is that of the string which is given and that of its text.
+fn hashed<const N: usize>(rt: &impl Abort, row: &str, text: &ArrayString<N>) -> MaxString
+    requires { N ≤ 300 }
+{
+    let other = &ArrayString::<N>::from(column(row, 3));
     agree(rt, row, hash_of(text), hash_of(other));
     agree(rt, row, hash_of(text), hash_of(&other.as_str()));
     string("ok")
@@ -375,8 +376,8 @@ fn in_range<R: Abort, const N: usize>(rt: &R, text: &mut ArrayString<N>, row: &s
     let range = range_of(rt, row);
     match column(row, 1) {
         "slice" => told_text(sliced(text, range)),
-        "make_ascii_uppercase_in" => raised(text, range),
-        "make_ascii_lowercase_in" => lowered(text, range),
+        "make_ascii_uppercase_in" => recased(text, range, true),
+        "make_ascii_lowercase_in" => recased(text, range, false),
         _ => by_type(rt, text, row, range),
     }
 }
@@ -428,40 +429,28 @@ fn sliced<const N: usize>(text: &ArrayString<N>, range: Range) -> Option<&str> {
     }
 }
 
-/// Turns the letters of a part to upper case, where `get` finds it.
-fn raised<const N: usize>(text: &mut ArrayString<N>, range: Range) -> MaxString {
+/// Turns the letters of a part to upper case or to lower case, where `get` finds it.
+fn recased<const N: usize>(text: &mut ArrayString<N>, range: Range, to_upper: bool) -> MaxString {
     match range {
         Range::Between(start, end) => {
             if text.get(start..end).is_none() {
                 return string("None");
             }
-            text.make_ascii_uppercase_in(start..end);
+            if to_upper {
+                text.make_ascii_uppercase_in(start..end);
+            } else {
+                text.make_ascii_lowercase_in(start..end);
+            }
         }
         Range::FromThrough(start, last) => {
             if text.get(start..=last).is_none() {
                 return string("None");
             }
-            text.make_ascii_uppercase_in(start..=last);
-        }
-        _ => return string("no such range"),
-    }
-    string("ok")
-}
-
-/// Turns the letters of a part to lower case, where `get` finds it.
-fn lowered<const N: usize>(text: &mut ArrayString<N>, range: Range) -> MaxString {
-    match range {
-        Range::Between(start, end) => {
-            if text.get(start..end).is_none() {
-                return string("None");
+            if to_upper {
+                text.make_ascii_uppercase_in(start..=last);
+            } else {
+                text.make_ascii_lowercase_in(start..=last);
             }
-            text.make_ascii_lowercase_in(start..end);
-        }
-        Range::FromThrough(start, last) => {
-            if text.get(start..=last).is_none() {
-                return string("None");
-            }
-            text.make_ascii_lowercase_in(start..=last);
         }
         _ => return string("no such range"),
     }
@@ -516,48 +505,46 @@ fn range_of(rt: &impl Abort, row: &str) -> Range {
     }
     let (start, end) = given.split_once("..").expect(rt, "a range in the column");
     if let Some(end) = end.strip_suffix(" untold") {
-        return Range::Untold(lower(rt, start), upper(rt, end));
+        return Range::Untold(bound(rt, start), bound(rt, end));
     }
     if start.starts_with('(') || start.starts_with('[') {
-        return Range::Bounds(lower(rt, start), upper(rt, end));
+        return Range::Bounds(bound(rt, start), bound(rt, end));
     }
-    match (start, end) {
-        ("", "") => Range::Full,
-        (start, "") => Range::From(place(rt, start)),
-        ("", end) => match end.strip_prefix('=') {
-            Some(last) => Range::Through(place(rt, last)),
-            None => Range::To(place(rt, end)),
-        },
-        (start, end) => match end.strip_prefix('=') {
-            Some(last) => Range::FromThrough(place(rt, start), place(rt, last)),
-            None => Range::Between(place(rt, start), place(rt, end)),
-        },
+    rust_range(rt, start, end)
+}
+
+/// The range of Rust with these ends.
+fn rust_range(rt: &impl Abort, start: &str, end: &str) -> Range {
+    let first = place(rt, start);
+    let last = place(rt, end.trim_matches('='));
+    match (start.is_empty(), end.is_empty(), end.starts_with('=')) {
+        (true, true, _) => Range::Full,
+        (false, true, _) => Range::From(first),
+        (true, false, true) => Range::Through(last),
+        (true, false, false) => Range::To(last),
+        (false, false, true) => Range::FromThrough(first, last),
+        (false, false, false) => Range::Between(first, last),
     }
 }
 
-/// A place in a range.
+/// A place in a range, or any where none is written.
 fn place(rt: &impl Abort, digits: &str) -> u8 {
+    if digits.is_empty() {
+        return 0;
+    }
     digits.parse().expect(rt, "a place in the range")
 }
 
-/// The bound that `[3` or `(3` says.
-fn lower(rt: &impl Abort, start: &str) -> Bound<u8> {
-    match (start.strip_prefix('['), start.strip_prefix('(')) {
-        (Some(place_in), _) => Bound::Included(place(rt, place_in)),
-        (_, Some("")) => Bound::Unbounded,
-        (_, Some(place_out)) => Bound::Excluded(place(rt, place_out)),
-        (None, None) => Bound::Unbounded,
+/// The bound that is written with its bracket, as `[3` or `3)`.
+fn bound(rt: &impl Abort, written: &str) -> Bound<u8> {
+    let excluded = written.trim_matches('(').trim_matches(')');
+    if excluded.is_empty() {
+        return Bound::Unbounded;
     }
-}
-
-/// The bound that `3]` or `3)` says.
-fn upper(rt: &impl Abort, end: &str) -> Bound<u8> {
-    match (end.strip_suffix(']'), end.strip_suffix(')')) {
-        (Some(place_in), _) => Bound::Included(place(rt, place_in)),
-        (_, Some("")) => Bound::Unbounded,
-        (_, Some(place_out)) => Bound::Excluded(place(rt, place_out)),
-        (None, None) => Bound::Unbounded,
+    if excluded.len() < written.len() {
+        return Bound::Excluded(place(rt, excluded));
     }
+    Bound::Included(place(rt, written.trim_matches('[').trim_matches(']')))
 }
 
 /// Makes the call of a row on a range.

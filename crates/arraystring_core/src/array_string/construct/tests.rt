@@ -191,13 +191,12 @@ fn a_text_by_each_constructor(rt: HostRuntime) {
 
 #[test]
 fn many_pieces_and_many_bytes(rt: HostRuntime) {
-    let cut = told_room(SmallString::try_from_str(ZEROS_23));
     let pieces = SmallString::from_iterator(["000"; 400]);
-    agree(&rt, "400 pieces", pieces.as_str(), cut.as_str());
+    agree(&rt, "400 pieces", pieces.as_str(), ZEROS_23);
     let pieces = told_room(SmallString::try_from_iterator(["000"; 100]));
     agree(&rt, "100 pieces", pieces.as_str(), "OutOfBounds");
     let bytes = told_utf8(SmallString::from_utf8(&[b'0'; 300]));
-    agree(&rt, "300 bytes", bytes, cut);
+    agree(&rt, "300 bytes", bytes.as_str(), ZEROS_23);
     let bytes = told_made(SmallString::try_from_utf8(&[b'0'; 1600]));
     agree(&rt, "1600 bytes", bytes.as_str(), "OutOfBounds");
 }
@@ -246,50 +245,36 @@ fn lend<const N: usize>(rt: &impl Abort, table: &str)
 fn lent<const N: usize>(row: &str) -> (MaxString, MaxString)
     requires { N ≤ 300 }
 {
-    let given = column(row, 2);
-    match column(row, 0) {
-        "try_from_chars" => {
-            let mut lent = given.chars();
-            let made = ArrayString::<N>::try_from_chars(&mut lent);
-            (told_room(made), told_next(lent.next()))
+    let mut lent = column(row, 2).chars();
+    let made = match column(row, 0) {
+        "try_from_chars" => told_room(ArrayString::<N>::try_from_chars(&mut lent)),
+        "from_chars" => string(ArrayString::<N>::from_chars(&mut lent).as_str()),
+        "extend_chars" => {
+            let mut made = ArrayString::<N>::from(column(row, 1));
+            made.extend_chars(&mut lent);
+            string(made.as_str())
         }
-        "from_chars" => {
-            let mut lent = given.chars();
-            let made = ArrayString::<N>::from_chars(&mut lent);
-            (string(made.as_str()), told_next(lent.next()))
-        }
-        "try_from_iterator" => {
-            let mut lent = given.split(',');
-            let made = ArrayString::<N>::try_from_iterator(lent.by_ref());
-            (told_room(made), told_text(lent.next()))
-        }
-        "from_iterator" => {
-            let mut lent = given.split(',');
-            let made = ArrayString::<N>::from_iterator(lent.by_ref());
-            (string(made.as_str()), told_text(lent.next()))
-        }
-        call => added::<N>(call, column(row, 1), given),
-    }
+        _ => return lent_pieces::<N>(row),
+    };
+    (made, told_next(lent.next()))
 }
 
-/// The text with what is given added, and the next item.
-fn added<const N: usize>(call: &str, text: &str, given: &str) -> (MaxString, MaxString)
+/// The same of pieces.
+fn lent_pieces<const N: usize>(row: &str) -> (MaxString, MaxString)
     requires { N ≤ 300 }
 {
-    let mut made = ArrayString::<N>::from(text);
-    match call {
-        "extend_chars" => {
-            let mut lent = given.chars();
-            made.extend_chars(&mut lent);
-            (string(made.as_str()), told_next(lent.next()))
-        }
+    let mut lent = column(row, 2).split(',');
+    let made = match column(row, 0) {
+        "try_from_iterator" => told_room(ArrayString::<N>::try_from_iterator(lent.by_ref())),
+        "from_iterator" => string(ArrayString::<N>::from_iterator(lent.by_ref()).as_str()),
         "extend_strs" => {
-            let mut lent = given.split(',');
+            let mut made = ArrayString::<N>::from(column(row, 1));
             made.extend_strs(lent.by_ref());
-            (string(made.as_str()), told_text(lent.next()))
+            string(made.as_str())
         }
-        _ => (string("no such call"), string("None")),
-    }
+        _ => string("no such call"),
+    };
+    (made, told_text(lent.next()))
 }
 
 #[test]
