@@ -213,17 +213,14 @@ fn inserted<R: Abort, const N: usize>(
     text: &mut ArrayString<N>,
     row: &str,
 ) -> Option<MaxString> {
-    let Ok(index) = column(row, 2).parse() else {
-        return None;
-    };
     let given = column(row, 3);
     Some(told_done(match column(row, 1) {
-        "try_insert" => text.try_insert(index, character(rt, row, 3)),
-        "insert_str" => text.insert_str(index, given),
-        "try_insert_str" => text.try_insert_str(index, given),
+        "try_insert" => text.try_insert(number(rt, row, 2), character(rt, row, 3)),
+        "insert_str" => text.insert_str(number(rt, row, 2), given),
+        "try_insert_str" => text.try_insert_str(number(rt, row, 2), given),
         "try_insert_str_counted" => {
             let mut steps = Steps::new();
-            let answer = text.try_insert_str_counted(index, given, &mut steps);
+            let answer = text.try_insert_str_counted(number(rt, row, 2), given, &mut steps);
             agree(rt, row, steps.moved(), number(rt, row, 6) as u64);
             answer
         }
@@ -239,22 +236,17 @@ fn removed<R: Abort, const N: usize>(
 ) -> Option<MaxString>
     requires { N ≤ 300 }
 {
-    if column(row, 1) == "retain_in_turn" {
-        return Some(retain_in_turn(text, column(row, 3)));
-    }
-    let Ok(index) = column(row, 2).parse() else {
-        return None;
-    };
     Some(match column(row, 1) {
-        "remove" => told_character(text.remove(index)),
+        "remove" => told_character(text.remove(number(rt, row, 2))),
         "remove_counted" => {
             let mut steps = Steps::new();
-            let answer = text.remove_counted(index, &mut steps);
+            let answer = text.remove_counted(number(rt, row, 2), &mut steps);
             agree(rt, row, steps.moved(), number(rt, row, 6) as u64);
             told_character(answer)
         }
-        "truncate" => told_utf8(text.truncate(index)),
-        "split_off" => split(text, index),
+        "truncate" => told_utf8(text.truncate(number(rt, row, 2))),
+        "split_off" => split(text, number(rt, row, 2)),
+        "retain_in_turn" => retain_in_turn(text, column(row, 3)),
         _ => return None,
     })
 }
