@@ -1,13 +1,15 @@
 -- A character comes off the front, or off the back, of what is left.
 use Rattle.std.proofs.Common.{◌≡◌, ◌≢◌, ℕ, ◌+◌, ◌-◌, ◌/◌, ◌%◌, ◌<◌, ◌≤◌, List, [], ◌∷◌, ◌++◌, refl, sym, ap, subst, ◌∙◌, arith, true, inl, inr, length, length-append, append_assoc, get_or, chars, take, drop, IsUtf8}
 use Rattle.std.proofs.lemmas.Bool.{cases_lt, lt-ltb, le-ltb}
+use Rattle.std.proofs.lemmas.Str.{chars_past_char}
+use Rattle.std.specs.Char.{encode_utf8}
 use Rattle.std.proofs.lemmas.List.{append-nil, get_or-append-add, get_or-take, get_or-drop}
-use Rattle.arraystring_base.specs.Text.{width, size, utf8, bytes, front, back, boundary}
-use Rattle.arraystring_base.specs.TextLaws.{size-is, size-append, size-lent, bytes-append, empty-size}
-use Rattle.arraystring_base.specs.BoundaryLaws.{boundary-is, front-is, back-is, boundary-in_front}
+use Rattle.arraystring_base.specs.Text.{width, size, cap, utf8, bytes, front, back, boundary}
+use Rattle.arraystring_base.specs.TextLaws.{size-is, size-append, bytes-append, chars-bytes, empty-size}
+use Rattle.arraystring_base.specs.BoundaryLaws.{front-back, front-is, back-is, front-size, back-size, boundary-is, boundary-within, boundary-in_front, bytes-back, next-char}
 use Rattle.arraystring_core.specs.Stored.{Stored, stored, IsStored}
-use Rattle.arraystring_core.specs.StoredLaws.{stored-size, stored-bytes}
-use Rattle.arraystring_core.specs.Drained.{IsDrained, drained}
+use Rattle.arraystring_core.specs.StoredLaws.{stored-utf8, stored-size, stored-bytes}
+use Rattle.arraystring_core.specs.Drained.{IsDrained}
 use Rattle.arraystring_core.specs.Edits.{part}
 use Rattle.arraystring_core.proofs.PlaceLemmas.{dropped-stored, dropped-chars, kept-stored, kept-chars}
 
@@ -80,7 +82,7 @@ last-low t b some e lt =
           absurd (omega (arith, same, high.5))
     ]
 
--- the part between two boundaries of a stored text is drained
+-- the part between two boundaries of a stored text, where it is in the array
 module _ (places : ℕ) (array : List ℕ) (p n : ℕ) (is : IsStored places array p n) (v : Stored) (e : stored array p n ≡ v)
     (start end : ℕ) (order : start ≤ end) (b : boundary v.text start ≡ true) (d : boundary v.text end ≡ true) where
   kept : IsStored places array p end
@@ -89,140 +91,163 @@ module _ (places : ℕ) (array : List ℕ) (p n : ℕ) (is : IsStored places arr
   starts : boundary (stored array p end).text start ≡ true
   starts = rw (kept-chars places array p n is v e end d) (boundary-in_front v.text start end order b)
 
-  long : end - start ≡ p + end - (p + start)
-  long = omega arith
+  pub part-held : IsStored places array (p + start) (end - start)
+  part-held = dropped-stored places array p end kept (stored array p end) refl start starts
 
-  pub part-drained : IsDrained places array (p + start) (p + end)
-  part-drained = record {
-    order = omega arith;
-    held = subst (λ k. IsStored places array (p + start) k) long (dropped-stored places array p end kept (stored array p end) refl start starts);
-  }
-
-  pub part-left : (drained array (p + start) (p + end)).left ≡ part v.text start end
-  part-left =
-      ap (λ k. chars (take k (drop (p + start) array))) (sym long)
-      ∙ dropped-chars places array p end kept (stored array p end) refl start starts
+  pub part-text : (stored array (p + start) (end - start)).text ≡ part v.text start end
+  part-text =
+      dropped-chars places array p end kept (stored array p end) refl start starts
       ∙ ap (λ t. back t start) (kept-chars places array p n is v e end d)
 
-module _ (places : ℕ) (array : List ℕ) (f e : ℕ) (is : IsDrained places array f e) where
-  abbrev now : Stored
-  now = stored array f (e - f)
+module _ (places : ℕ) (array : List ℕ) (p n i : ℕ) (held : IsStored places array p n) (is : IsDrained places (stored array p n) i) where
+  abbrev removed : List ℕ
+  removed = (stored array p n).text
 
-  now-bytes : bytes now.text ≡ take (e - f) (drop f array)
-  now-bytes = stored-bytes places array f (e - f) is.held
+  abbrev left : List ℕ
+  left = back removed i
 
-  now-size : size now.text ≡ e - f
-  now-size = stored-size places array f (e - f) is.held
+  removed-size : size removed ≡ n
+  removed-size = stored-size places array p n held
 
-  pub none-left : f ≡ e → now.text ≡ []
-  none-left met = empty-size now.text (omega (arith, now-size))
+  pub given-within : i ≤ n
+  given-within = omega (arith, boundary-within removed i is.at, removed-size)
 
-  some-left : f ≢ e → now.text ≢ []
-  some-left apart none = apart (omega (arith, is.order, now-size, ap size none))
+  left-size : size left ≡ n - i
+  left-size = back-size removed i is.at ∙ ap (λ k. k - i) removed-size
+
+  left-bytes : bytes left ≡ drop i (take n (drop p array))
+  left-bytes = sym (bytes-back removed i is.at) ∙ ap (drop i) (stored-bytes places array p n held)
+
+  -- its bytes in the array
+  abbrev lent : List ℕ
+  lent = take (p + n - (p + i)) (drop (p + i) array)
+
+  lent-stored : IsStored places array (p + i) (n - i)
+  lent-stored = dropped-stored places array p n held (stored array p n) refl i is.at
+
+  lent-long : p + n - (p + i) ≡ n - i
+  lent-long = omega (arith, given-within)
+
+  pub lent-utf8 : IsUtf8 lent
+  lent-utf8 = rw lent-long (stored-utf8 places array (p + i) (n - i) lent-stored)
+
+  pub lent-bytes : lent ≡ bytes left
+  lent-bytes =
+      ap (λ k. take k (drop (p + i) array)) lent-long ∙ sym (stored-bytes places array (p + i) (n - i) lent-stored)
+      ∙ ap bytes (dropped-chars places array p n held (stored array p n) refl i is.at)
+
+  pub left-fits : size left ≤ cap places
+  left-fits = omega (arith, left-size, held.0)
+
+  pub none-left : i ≡ n → left ≡ []
+  none-left met = empty-size left (omega (arith, left-size))
+
+  some-left : i ≢ n → left ≢ []
+  some-left apart none = apart (omega (arith, given-within, left-size, ap size none))
 
   -- the first character is given
-  module _ (c : ℕ) (rest : List ℕ) (starts : now.text ≡ c ∷ rest) where
-    first-size : size (c ∷ []) ≡ width c
-    first-size = omega arith
+  module _ (c : ℕ) (rest : List ℕ) (starts : left ≡ c ∷ rest) where
+    pub front-given : IsDrained places (stored array p n) (i + width c)
+    front-given = record { fits = is.fits; at = (next-char removed i is.at c rest starts).0 }
 
-    first-ends : boundary now.text (width c) ≡ true
-    first-ends = rw starts (boundary-is (c ∷ []) rest (width c) first-size)
+    pub front-rest : back removed (i + width c) ≡ rest
+    front-rest = (next-char removed i is.at c rest starts).1
 
-    long-front : e - f - width c ≡ e - (f + width c)
-    long-front = omega arith
+  -- where what is left is known by its bytes
+  module _ (bs : List ℕ) (u : IsUtf8 bs) (shown : bs ≡ bytes left) (c : ℕ) (rest : List ℕ) (begins : bs ≡ encode_utf8 c ++ rest) where
+    begun : left ≡ c ∷ chars rest
+    begun = sym (chars-bytes bs left u shown) ∙ chars_past_char bs rest c u begins
 
-    pub front-within : f + width c ≤ e
-    front-within = omega (arith, is.order, now-size, ap size starts)
+    pub decoded-within : i + width c ≤ n
+    decoded-within = omega (arith, given-within, left-size, ap size begun)
 
-    pub front-given : IsDrained places array (f + width c) e
-    front-given = record {
-      order = front-within;
-      held = subst (λ k. IsStored places array (f + width c) k) long-front (dropped-stored places array f (e - f) is.held now refl (width c) first-ends);
-    }
+    pub decoded-given : IsDrained places (stored array p n) (i + width c)
+    decoded-given = front-given c (chars rest) begun
 
-    pub front-rest : (drained array (f + width c) e).left ≡ rest
-    front-rest =
-        ap (λ k. chars (take k (drop (f + width c) array))) (sym long-front)
-        ∙ dropped-chars places array f (e - f) is.held now refl (width c) first-ends
-        ∙ ap (λ t. back t (width c)) starts ∙ back-is (c ∷ []) rest (width c) first-size
-
-  -- where the text that is left after the first character is known by its bytes
-  module _ (c : ℕ) (bs : List ℕ) (starts : now.text ≡ c ∷ chars bs) (u : IsUtf8 bs) where
-    pub stepped-within : length bs ≤ e
-    stepped-within = omega (arith, is.order, now-size, ap size starts, size-lent bs u)
-
-    stepped : f + width c ≡ e - length bs
-    stepped = omega (arith, is.order, now-size, ap size starts, size-lent bs u)
-
-    pub stepped-given : IsDrained places array (e - length bs) e
-    stepped-given = rw (← stepped) (front-given c (chars bs) starts)
-
-    pub stepped-rest : now.text ≡ c ∷ (drained array (e - length bs) e).left
-    stepped-rest = starts ∙ ap (λ l. c ∷ l) (sym (front-rest c (chars bs) starts) ∙ ap (λ i. (drained array i e).left) stepped)
+    pub decoded-rest : left ≡ c ∷ back removed (i + width c)
+    decoded-rest = begun ∙ ap (λ l. c ∷ l) (sym (front-rest c (chars rest) begun))
 
   -- where it is ASCII
-  module _ (apart : f ≢ e) (low : get_or array f 0 < 128) where
-    first-byte : get_or (bytes now.text) 0 0 ≡ get_or array f 0
+  module _ (apart : i ≢ n) (low : get_or array (p + i) 0 < 128) where
+    first-byte : get_or (bytes left) 0 0 ≡ get_or array (p + i) 0
     first-byte =
-        let some : 0 < e - f = omega (arith, is.order, apart) in
-        let place : f + 0 ≡ f = omega arith in
-        ap (λ l. get_or l 0 0) now-bytes ∙ get_or-take (e - f) (drop f array) 0 0 some ∙ get_or-drop f array 0 0
-        ∙ ap (λ i. get_or array i 0) place
+        let some : i < n = omega (arith, given-within, apart) in
+        let same : i + 0 ≡ i = omega arith in
+        ap (λ l. get_or l 0 0) left-bytes ∙ get_or-drop i (take n (drop p array)) 0 0
+        ∙ ap (λ k. get_or (take n (drop p array)) k 0) same ∙ get_or-take n (drop p array) i 0 some ∙ get_or-drop p array i 0
 
-    abbrev first-is : (rest : List ℕ) × (now.text ≡ get_or array f 0 ∷ rest) × (width (get_or array f 0) ≡ 1)
-    first-is = first-low now.text (get_or array f 0) (some-left apart) first-byte low
+    abbrev first-is : (rest : List ℕ) × (left ≡ get_or array (p + i) 0 ∷ rest) × (width (get_or array (p + i) 0) ≡ 1)
+    first-is = first-low left (get_or array (p + i) 0) (some-left apart) first-byte low
 
-    pub first-given : IsDrained places array (f + 1) e
-    first-given = subst (λ w. IsDrained places array (f + w) e) first-is.2 (front-given (get_or array f 0) first-is.0 first-is.1)
+    pub first-given : IsDrained places (stored array p n) (i + 1)
+    first-given =
+        subst (λ w. IsDrained places (stored array p n) (i + w)) first-is.2 (front-given (get_or array (p + i) 0) first-is.0 first-is.1)
 
-    pub first-rest : now.text ≡ get_or array f 0 ∷ (drained array (f + 1) e).left
+    pub first-rest : left ≡ get_or array (p + i) 0 ∷ back removed (i + 1)
     first-rest =
         first-is.1
-        ∙ ap (λ l. get_or array f 0 ∷ l) (sym (front-rest (get_or array f 0) first-is.0 first-is.1) ∙ ap (λ w. (drained array (f + w) e).left) first-is.2)
+        ∙ ap (λ l. get_or array (p + i) 0 ∷ l) (sym (front-rest (get_or array (p + i) 0) first-is.0 first-is.1) ∙ ap (λ w. back removed (i + w)) first-is.2)
 
   -- the last character is given
-  module _ (c : ℕ) (rest : List ℕ) (ends : now.text ≡ rest ++ c ∷ []) where
-    last-starts : boundary now.text (size rest) ≡ true
-    last-starts = rw ends (boundary-is rest (c ∷ []) (size rest) refl)
+  module _ (c : ℕ) (rest : List ℕ) (ends : left ≡ rest ++ c ∷ []) where
+    abbrev before : List ℕ
+    before = front removed i
 
-    long-back : size rest ≡ f + size rest - f
-    long-back = omega arith
+    parts : removed ≡ (before ++ rest) ++ c ∷ []
+    parts = sym (front-back removed i) ∙ ap (λ l. before ++ l) ends ∙ sym (append_assoc before rest (c ∷ []))
 
-    pub back-given : IsDrained places array f (f + size rest)
+    shorter : size (before ++ rest) ≡ i + size rest
+    shorter = size-append before rest ∙ ap (λ k. k + size rest) (front-size removed i is.at)
+
+    last-starts : boundary removed (i + size rest) ≡ true
+    last-starts = ap (λ t. boundary t (i + size rest)) parts ∙ boundary-is (before ++ rest) (c ∷ []) (i + size rest) shorter
+
+    kept-text : (stored array p (i + size rest)).text ≡ before ++ rest
+    kept-text =
+        kept-chars places array p n held (stored array p n) refl (i + size rest) last-starts
+        ∙ ap (λ t. front t (i + size rest)) parts ∙ front-is (before ++ rest) (c ∷ []) (i + size rest) shorter
+
+    pub back-within : i + size rest ≤ n
+    back-within = omega (arith, boundary-within removed (i + size rest) last-starts, removed-size)
+
+    pub back-held : IsStored places array p (i + size rest)
+    back-held = kept-stored places array p n held (stored array p n) refl (i + size rest) last-starts
+
+    pub back-given : IsDrained places (stored array p (i + size rest)) i
     back-given = record {
-      order = omega arith;
-      held = subst (λ k. IsStored places array f k) long-back (kept-stored places array f (e - f) is.held now refl (size rest) last-starts);
+      fits = omega (arith, ap size kept-text, shorter, back-within, removed-size, is.fits);
+      at = ap (λ t. boundary t i) kept-text ∙ boundary-is before rest i (front-size removed i is.at);
     }
 
-    pub back-rest : (drained array f (f + size rest)).left ≡ rest
-    back-rest =
-        ap (λ k. chars (take k (drop f array))) (sym long-back)
-        ∙ kept-chars places array f (e - f) is.held now refl (size rest) last-starts
-        ∙ ap (λ t. front t (size rest)) ends ∙ front-is rest (c ∷ []) (size rest) refl
-
-    pub back-within : f + size rest ≤ e
-    back-within = omega (arith, is.order, now-size, ap size ends, size-append rest (c ∷ []))
+    pub back-rest : back (stored array p (i + size rest)).text i ≡ rest
+    back-rest = ap (λ t. back t i) kept-text ∙ back-is before rest i (front-size removed i is.at)
 
   -- where it is ASCII
-  module _ (apart : f ≢ e) (low : get_or array (e - 1) 0 < 128) where
-    last-place : get_or (bytes now.text) (length (bytes now.text) - 1) 0 ≡ get_or array (e - 1) 0
+  module _ (apart : i ≢ n) (low : get_or array (p + n - 1) 0 < 128) where
+    last-place : get_or (bytes left) (length (bytes left) - 1) 0 ≡ get_or array (p + n - 1) 0
     last-place =
-        let some : e - f - 1 < e - f = omega (arith, is.order, apart) in
-        let long : length (bytes now.text) - 1 ≡ e - f - 1 = omega (arith, size-is now.text, now-size) in
-        let place : f + (e - f - 1) ≡ e - 1 = omega (arith, is.order, apart) in
-        ap (λ i. get_or (bytes now.text) i 0) long ∙ ap (λ l. get_or l (e - f - 1) 0) now-bytes
-        ∙ get_or-take (e - f) (drop f array) (e - f - 1) 0 some ∙ get_or-drop f array (e - f - 1) 0 ∙ ap (λ i. get_or array i 0) place
+        let some : n - 1 < n = omega (arith, given-within, apart) in
+        let long : length (bytes left) - 1 ≡ n - i - 1 = omega (arith, size-is left, left-size) in
+        let whole : i + (n - i - 1) ≡ n - 1 = omega (arith, given-within, apart) in
+        let place : p + (n - 1) ≡ p + n - 1 = omega (arith, given-within, apart) in
+        ap (λ k. get_or (bytes left) k 0) long ∙ ap (λ l. get_or l (n - i - 1) 0) left-bytes
+        ∙ get_or-drop i (take n (drop p array)) (n - i - 1) 0 ∙ ap (λ k. get_or (take n (drop p array)) k 0) whole
+        ∙ get_or-take n (drop p array) (n - 1) 0 some ∙ get_or-drop p array (n - 1) 0 ∙ ap (λ k. get_or array k 0) place
 
-    abbrev last-is : (rest : List ℕ) × (now.text ≡ rest ++ get_or array (e - 1) 0 ∷ []) × (width (get_or array (e - 1) 0) ≡ 1)
-    last-is = last-low now.text (get_or array (e - 1) 0) (some-left apart) last-place low
+    abbrev last-is : (rest : List ℕ) × (left ≡ rest ++ get_or array (p + n - 1) 0 ∷ []) × (width (get_or array (p + n - 1) 0) ≡ 1)
+    last-is = last-low left (get_or array (p + n - 1) 0) (some-left apart) last-place low
 
-    ended : f + size last-is.0 ≡ e - 1
-    ended = omega (arith, is.order, now-size, ap size last-is.1, size-append last-is.0 (get_or array (e - 1) 0 ∷ []), last-is.2)
+    ended : i + size last-is.0 ≡ n - 1
+    ended = omega (arith, given-within, left-size, ap size last-is.1, size-append last-is.0 (get_or array (p + n - 1) 0 ∷ []), last-is.2)
 
-    pub last-given : IsDrained places array f (e - 1)
-    last-given = rw (← ended) (back-given (get_or array (e - 1) 0) last-is.0 last-is.1)
+    pub last-held : IsStored places array p (n - 1)
+    last-held = rw (← ended) (back-held (get_or array (p + n - 1) 0) last-is.0 last-is.1)
 
-    pub last-rest : now.text ≡ (drained array f (e - 1)).left ++ get_or array (e - 1) 0 ∷ []
+    pub last-given : IsDrained places (stored array p (n - 1)) i
+    last-given = rw (← ended) (back-given (get_or array (p + n - 1) 0) last-is.0 last-is.1)
+
+    pub last-rest : left ≡ back (stored array p (n - 1)).text i ++ get_or array (p + n - 1) 0 ∷ []
     last-rest =
         last-is.1
-        ∙ ap (λ l. l ++ get_or array (e - 1) 0 ∷ []) (sym (back-rest (get_or array (e - 1) 0) last-is.0 last-is.1) ∙ ap (λ i. (drained array f i).left) ended)
+        ∙ ap (λ l. l ++ get_or array (p + n - 1) 0 ∷ [])
+        (sym (back-rest (get_or array (p + n - 1) 0) last-is.0 last-is.1) ∙ ap (λ k. back (stored array p k).text i) ended)

@@ -1,44 +1,54 @@
 -- What a contract sees of a `Drain`.
-use Rattle.std.specs.Prelude.{◌≡◌, ℕ, ◌+◌, ◌-◌, ◌≤◌, List, [], ◌∷◌, Option, Some, None, Result, Ok, Err, drop}
-use Rattle.std.proofs.Common.{arith}
-use Rattle.arraystring_base.specs.Text.{size}
+use Rattle.std.specs.Prelude.{◌≡◌, ℕ, ◌≤◌, ◌++◌, List, [], ◌∷◌, Option, Some, None, Result, Ok, Err, IsTrue, drop}
+use Rattle.std.proofs.Common.{ap, ◌∙◌}
+use Rattle.arraystring_base.specs.Text.{size, cap, front, back, boundary}
+use Rattle.arraystring_base.specs.BoundaryLaws.{front-back, front-size}
 use Rattle.arraystring_base.specs.declared.error.Error.{Error}
-use Rattle.arraystring_core.specs.Stored.{Stored, stored, IsStored, start_of, array_of}
+use Rattle.arraystring_core.specs.Stored.{Stored, stored, IsStored, array_of}
 use Rattle.arraystring_core.specs.StoredLaws.{stored-size, stored-all}
 use Rattle.arraystring_core.specs.Edits.{first_of, last_of, all_but_last}
 
--- the characters that are left, and numbers that no public clause names
+-- the characters that are left, those that were given from the front, and numbers that no public clause names
 pub record Drained : Type 0 where
   pub left : List ℕ
+  pub yielded : List ℕ
   pub spare : List ℕ
 
--- the text of the bytes from `front` to `end` is left
-abbrev pub drained : List ℕ → ℕ → ℕ → Drained
-drained array front end = record {
-  left = (stored array front (end - front)).text;
-  spare = (stored array front (end - front)).spare;
-}
+-- the part of `removed` from the boundary i on is left
+abbrev pub drained : Stored → ℕ → Drained
+drained removed i = record { left = back removed.text i; yielded = front removed.text i; spare = removed.spare }
 
 -- the result of `drain`, seen as what is left
 abbrev pub with_left : Result Drained Error → Result (List ℕ) Error
 with_left (Ok d) = Ok d.left
 with_left (Err e) = Err e
 
--- an array of `places` bytes, of which those from `front` to `end` are UTF-8 and end within the capacity
-pub record IsDrained (places : ℕ) (array : List ℕ) (front end : ℕ) : Type 0 where
-  pub order : front ≤ end
-  pub held : IsStored places array front (end - front)
+-- `removed` is within the capacity of `places` bytes, and i is a boundary of it
+pub record IsDrained (places : ℕ) (removed : Stored) (i : ℕ) : Type 0 where
+  pub fits : size removed.text ≤ cap places
+  pub at : IsTrue (boundary removed.text i)
 
 -- nothing is forgotten
-abbrev pub put_back : Drained → Stored
-put_back d = record { text = d.left; spare = d.spare }
+module _ (places : ℕ) (removed : Stored) (i : ℕ) (is : IsDrained places removed i) where
+  abbrev pub put_back : Stored
+  put_back = record { text = (drained removed i).yielded ++ (drained removed i).left; spare = (drained removed i).spare }
 
-module _ (places : ℕ) (array : List ℕ) (front end : ℕ) (is : IsDrained places array front end) where
-  pub drained-array : array_of (put_back (drained array front end)) ≡ array
-  drained-array = stored-all places array front (end - front) is.held
+  pub drained-removed : put_back ≡ removed
+  drained-removed = ap with_spare (front-back removed.text i)
+    where
+      with_spare : List ℕ → Stored
+      with_spare t = record { text = t; spare = removed.spare }
 
-  pub drained-end : start_of (put_back (drained array front end)) + size (drained array front end).left ≡ end
-  drained-end = omega (arith, is.order, stored-size places array front (end - front) is.held)
+  pub drained-front : size (drained removed i).yielded ≡ i
+  drained-front = front-size removed.text i is.at
+
+-- nor is where the removed text lies: the n bytes of the array from `start` on
+module _ (places : ℕ) (array : List ℕ) (start n i : ℕ) (held : IsStored places array start n) (is : IsDrained places (stored array start n) i) where
+  pub drained-array : array_of (put_back places (stored array start n) i is) ≡ array
+  drained-array = ap array_of (drained-removed places (stored array start n) i is) ∙ stored-all places array start n held
+
+  pub drained-size : size (put_back places (stored array start n) i is).text ≡ n
+  drained-size = ap (λ r. size r.text) (drained-removed places (stored array start n) i is) ∙ stored-size places array start n held
 
 -- the end from which a character is asked for
 pub data End : Type 0 where

@@ -2,7 +2,7 @@
 ghost use Rattle.std.specs.Prelude.{◌≡◌, ◌≤◌, []};
 ghost use Rattle.std.specs.Iterator.{YieldsFirst, YieldsLast, item_count};
 ghost use Rattle.arraystring_base.specs.Text.{bytes, cap, size, IsText};
-ghost use Rattle.arraystring_core.specs.Drained.{IsDrained, drained};
+ghost use Rattle.arraystring_core.specs.Stored.{stored, IsStored};
 
 use arraystring_base::utils::{Steps, last_char};
 use std::iter::FusedIterator;
@@ -15,44 +15,53 @@ mod compare;
 /// back, each once; what is not given stays in its order.
 ///
 /// Contracts name the list of the characters that are left. It keeps a copy of the string's array,
-/// and where in it what is left begins and ends. It takes no memory.
+/// where in it the removed text is, without what was given from the back, and an index into that
+/// text. It takes no memory.
 #[derive(Clone, Copy)]
 pub struct Drain<const N: usize> {
-    // The offsets lie before the array, so that a read of it is known to be no read of them.
+    // These lie before the array, so that a read of it is known to be no read of them.
     front: u8,
-    end: u8,
+    start: u8,
+    size: u8,
     array: [u8; N],
 }
 
 impl<const N: usize> Model for Drain<N> {
-    ghost use Rattle.std.specs.Prelude.{◌+◌};
+    ghost use Rattle.std.specs.Prelude.{◌++◌};
     ghost use Rattle.arraystring_base.specs.Text.{size as text_size};
-    ghost use Rattle.arraystring_core.specs.Stored.{start_of, array_of};
-    ghost use Rattle.arraystring_core.specs.Drained.{Drained, IsDrained, drained, put_back, drained-array, drained-end};
+    ghost use Rattle.arraystring_core.specs.Stored.{Stored, stored, IsStored, start_of, array_of};
+    ghost use Rattle.arraystring_core.specs.Drained.{Drained, IsDrained, drained, drained-front, drained-array, drained-size};
 
     ghost Value = { Drained };
 
-    ghost view = { λ d. drained d.array d.front d.end };
+    ghost view = { λ d. drained (stored d.array d.start d.size) d.front };
 
-    ghost invariant = { λ d. IsDrained N d.array d.front d.end };
+    ghost invariant = { λ d. IsStored N d.array d.start d.size × IsDrained N (stored d.array d.start d.size) d.front };
 
-    ghost inverse = { λ v. record { array = array_of (put_back v); front = start_of (put_back v); end = start_of (put_back v) + text_size v.left } };
+    ghost inverse = { λ v. let removed : Stored = record { text = v.yielded ++ v.left; spare = v.spare } in
+        record { front = text_size v.yielded; start = start_of removed; size = text_size removed.text; array = array_of removed } };
 
     ghost inverse_ok = { λ d h i. record {
-      array = drained-array N d.array d.front d.end h i;
-      front = d.front;
-      end = drained-end N d.array d.front d.end h i;
+      front = drained-front N (stored d.array d.start d.size) d.front h.1 i;
+      start = d.start;
+      size = drained-size N d.array d.start d.size d.front h.0 h.1 i;
+      array = drained-array N d.array d.start d.size d.front h.0 h.1 i;
     } };
 }
 
 impl<const N: usize> Drain<N> {
-    /// The text of the bytes from `front` to `end` is left.
+    /// The `size` bytes from `start` on are left.
     #[inline(always)]
-    pub(crate) fn new(array: [u8; N], front: u8, end: u8) -> Self
-        requires { IsDrained N array front end }
-        ensures { result.left ≡ (drained array.entry front end).left }
+    pub(crate) fn new(array: [u8; N], start: u8, size: u8) -> Self
+        requires { IsStored N array start size }
+        ensures { result.left ≡ (stored array.entry start size).text }
     {
-        Drain { array, front, end }
+        Drain {
+            front: 0,
+            start,
+            size,
+            array,
+        }
     }
 
     /// What is left, borrowed without a copy.
@@ -63,7 +72,8 @@ impl<const N: usize> Drain<N> {
         ensures fits { size self.now.left ≤ cap N }
     {
         let all = &self.array[..];
-        unsafe { str::from_utf8_unchecked(&all[self.front as usize..self.end as usize]) }
+        let (front, end) = (self.start + self.front, self.start + self.size);
+        unsafe { str::from_utf8_unchecked(&all[front as usize..end as usize]) }
     }
 }
 
@@ -87,18 +97,17 @@ impl<const N: usize> Iterator for Drain<N> {
     /// The first character that is left; `None` where none is, and from then on.
     #[inline(always)]
     fn next(&mut self) -> Option<char> {
-        if self.front == self.end {
+        if self.front == self.size {
             return None;
         }
         // A byte of ASCII is its character; others take the decoder.
-        let first = self.array[self.front as usize];
+        let first = self.array[(self.start + self.front) as usize];
         if first < 0x80 {
             self.front += 1;
             return Some(first as char);
         }
-        let mut left = self.as_str().chars();
-        let ch = left.next()?;
-        self.front = self.end - left.as_str().len() as u8;
+        let ch = self.as_str().chars().next()?;
+        self.front += ch.len_utf8() as u8;
         Some(ch)
     }
 }
@@ -110,16 +119,16 @@ impl<const N: usize> DoubleEndedIterator for Drain<N> {
     /// The last character that is left; `None` where none is, and from then on.
     #[inline(always)]
     fn next_back(&mut self) -> Option<char> {
-        if self.front == self.end {
+        if self.front == self.size {
             return None;
         }
-        let last = self.array[self.end as usize - 1];
+        let last = self.array[(self.start + self.size) as usize - 1];
         if last < 0x80 {
-            self.end -= 1;
+            self.size -= 1;
             return Some(last as char);
         }
-        let (start, ch) = last_char(self.as_str(), &mut Steps::new())?;
-        self.end = self.front + start as u8;
+        let (kept, ch) = last_char(self.as_str(), &mut Steps::new())?;
+        self.size = self.front + kept as u8;
         Some(ch)
     }
 }

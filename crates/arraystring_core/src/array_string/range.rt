@@ -207,7 +207,7 @@ impl<const N: usize> ArrayString<N> {
         if !self.is_boundary(to) {
             return Err(Error::Utf8);
         }
-        let removed = Drain::new(self.array, self.start + start, self.start + end);
+        let removed = Drain::new(self.array, self.start + start, end - start);
         self.take_out(from, to, steps);
         Ok(removed)
     }

@@ -3,7 +3,7 @@ use Rattle.std.proofs.lemmas.Bool.{le-ltb}
 use Rattle.arraystring_base.specs.Text.{size}
 use Rattle.arraystring_core.specs.Edits.{Inside}
 use Rattle.arraystring_core.specs.StoredLaws.{opened-size}
-use Rattle.arraystring_core.proofs.DrainLemmas.{part-drained, part-left}
+use Rattle.arraystring_core.proofs.DrainLemmas.{part-held, part-text}
 use Rattle.arraystring_core.specs.EditLaws.{inside-so, inside-not, refuses, makes}
 use Rattle.arraystring_core.proofs.array_string.ArrayString.take_between.Goals as goal
 
@@ -26,15 +26,11 @@ pub overflow_add-self-inside : goal.overflow_add-self-inside
 overflow_add-self-inside g c =
     omega (arith, opened-size g.row.N _ _ _ c.self.invariant _ c.self.view_is, c.self.invariant.0)
 
-pub overflow_add-self-inside-2 : goal.overflow_add-self-inside-2
-overflow_add-self-inside-2 g c =
-    omega (arith, opened-size g.row.N _ _ _ c.self.invariant _ c.self.view_is, c.self.invariant.0)
-
 pub new-removed-requires : goal.new-removed-requires
 new-removed-requires g c =
     let at = sym c.is_boundary.ensures ∙ c.if-not-is_boundary.false in
     let to = sym c.is_boundary-2.ensures ∙ c.if-not-is_boundary-2.false in
-    (search rules, (search rules, part-drained g.row.N _ _ _ c.self.invariant _ c.self.view_is c.args.start c.args.end c.if-start-end.false at to))
+    (search rules, (search rules, part-held g.row.N _ _ _ c.self.invariant _ c.self.view_is c.args.start c.args.end c.if-start-end.false at to))
 
 pub take_out-requires : goal.take_out-requires
 take_out-requires g c =
@@ -48,7 +44,7 @@ returns-clause-edit g c =
     let reached : c.args.end ≤ size t = omega arith in
     let at = sym c.is_boundary.ensures ∙ c.if-not-is_boundary.false in
     let to = sym c.is_boundary-2.ensures ∙ c.if-not-is_boundary-2.false in
-    let taken = part-left g.row.N _ _ _ c.self.invariant _ c.self.view_is c.args.start c.args.end c.if-start-end.false at to in
+    let taken = part-text g.row.N _ _ _ c.self.invariant _ c.self.view_is c.args.start c.args.end c.if-start-end.false at to in
     makes _ _ _ _ (rw (le-ltb _ _ c.if-start-end.false, le-ltb _ _ reached, inside-not t c.args.start at, inside-not t c.args.end to))
     (c.new-removed.ensures ∙ taken)
     c.take_out.ensures.text

@@ -1,20 +1,34 @@
-use Rattle.std.proofs.Common.{sym, ◌∙◌, ap, arith, subst}
-use Rattle.arraystring_base.specs.Text.{bytes, size, IsText}
-use Rattle.arraystring_base.specs.TextLaws.{text-chars}
-use Rattle.arraystring_core.specs.StoredLaws.{stored-bytes, stored-size, stored-utf8}
+use Rattle.std.proofs.Common.{◌≤◌, refl, ap, ◌∙◌, arith, subst}
+use Rattle.arraystring_base.specs.Text.{bytes, size, cap, IsText}
+use Rattle.arraystring_base.specs.BoundaryLaws.{back-text}
+use Rattle.arraystring_core.specs.StoredLaws.{opened-text}
+use Rattle.arraystring_core.proofs.DrainLemmas.{given-within, lent-utf8, lent-bytes, left-fits}
 use Rattle.arraystring_core.proofs.drain.Drain.as_str.Goals as goal
 
+pub overflow_add-front : goal.overflow_add-front
+overflow_add-front g c =
+    omega (arith, given-within g.row.N _ _ _ _ c.self.invariant.0 c.self.invariant.1, c.self.invariant.0.0)
+
+pub slice_bounds-from_utf8_unchecked-start : goal.slice_bounds-from_utf8_unchecked-start
+slice_bounds-from_utf8_unchecked-start g c =
+    omega (arith, given-within g.row.N _ _ _ _ c.self.invariant.0 c.self.invariant.1)
+
+pub slice_bounds-from_utf8_unchecked-count : goal.slice_bounds-from_utf8_unchecked-count
+slice_bounds-from_utf8_unchecked-count g c =
+    omega (arith, given-within g.row.N _ _ _ _ c.self.invariant.0 c.self.invariant.1, c.self.invariant.0.0, c.self.told)
+
 pub from_utf8_unchecked-requires : goal.from_utf8_unchecked-requires
-from_utf8_unchecked-requires g c = stored-utf8 g.row.N _ _ _ c.self.invariant.held
+from_utf8_unchecked-requires g c = lent-utf8 g.row.N _ _ _ _ c.self.invariant.0 c.self.invariant.1
 
 pub returns-clause-bytes : goal.returns-clause-bytes
 returns-clause-bytes g c =
-    c.from_utf8_unchecked.ensures ∙ sym (stored-bytes g.row.N _ _ _ c.self.invariant.held) ∙ ap (λ d. bytes d.left) c.self.view_is
+    c.from_utf8_unchecked.ensures ∙ lent-bytes g.row.N _ _ _ _ c.self.invariant.0 c.self.invariant.1 ∙ ap (λ d. bytes d.left) c.self.view_is
 
 pub returns-clause-text : goal.returns-clause-text
 returns-clause-text g c =
-    subst (λ d. IsText d.left) c.self.view_is (text-chars _ (stored-utf8 g.row.N _ _ _ c.self.invariant.held))
+    let removed = opened-text g.row.N _ _ _ c.self.invariant.0 _ refl in
+    subst (λ d. IsText d.left) c.self.view_is (back-text _ c.self.inside.front removed)
 
 pub returns-clause-fits : goal.returns-clause-fits
 returns-clause-fits g c =
-    omega (arith, sym (ap (λ d. size d.left) c.self.view_is), stored-size g.row.N _ _ _ c.self.invariant.held, c.self.invariant.held.0)
+    subst (λ d. size d.left ≤ cap g.row.N) c.self.view_is (left-fits g.row.N _ _ _ _ c.self.invariant.0 c.self.invariant.1)

@@ -1,0 +1,16 @@
+use Rattle.std.proofs.Common.{[], refl, arith}
+use Rattle.arraystring_base.specs.BoundaryLaws.{boundary-is, back-start}
+use Rattle.arraystring_core.specs.StoredLaws.{stored-size}
+use Rattle.arraystring_core.proofs.drain.Drain.new.Goals as goal
+
+pub invariant_of-result : goal.invariant_of-result
+invariant_of-result g c = (
+  c.requires,
+  record {
+    fits = omega (arith, stored-size g.row.N _ _ _ c.requires, c.requires.0);
+    at = boundary-is [] _ 0 refl;
+  },
+)
+
+pub returns : goal.returns
+returns g c = back-start _
