@@ -5,7 +5,7 @@ use Rattle.std.proofs.lemmas.Str.{chars_past_char}
 use Rattle.std.specs.Char.{encode_utf8}
 use Rattle.std.proofs.lemmas.List.{append-nil, get_or-append-add, get_or-take, get_or-drop}
 use Rattle.arraystring_base.specs.Text.{width, size, cap, utf8, bytes, front, back, boundary}
-use Rattle.arraystring_base.specs.TextLaws.{size-is, size-append, bytes-append, chars-bytes, empty-size}
+use Rattle.arraystring_base.specs.TextLaws.{size-is, size-append, size-lent, bytes-append, chars-bytes, empty-size}
 use Rattle.arraystring_base.specs.BoundaryLaws.{front-back, front-is, back-is, front-size, back-size, boundary-is, boundary-within, boundary-in_front, bytes-back, next-char}
 use Rattle.arraystring_core.specs.Stored.{Stored, stored, IsStored}
 use Rattle.arraystring_core.specs.StoredLaws.{stored-utf8, stored-size, stored-bytes}
@@ -153,19 +153,25 @@ module _ (places : ℕ) (array : List ℕ) (p n i : ℕ) (held : IsStored places
     pub front-rest : back removed (i + width c) ≡ rest
     front-rest = (next-char removed i is.at c rest starts).1
 
-  -- where what is left is known by its bytes
-  module _ (bs : List ℕ) (u : IsUtf8 bs) (shown : bs ≡ bytes left) (c : ℕ) (rest : List ℕ) (begins : bs ≡ encode_utf8 c ++ rest) where
+  -- where what is left is known by its bytes, and by those after its first character
+  module _ (bs : List ℕ) (u : IsUtf8 bs) (shown : bs ≡ bytes left) (c : ℕ) (rest : List ℕ) (v : IsUtf8 rest) (begins : bs ≡ encode_utf8 c ++ rest) where
     begun : left ≡ c ∷ chars rest
     begun = sym (chars-bytes bs left u shown) ∙ chars_past_char bs rest c u begins
 
-    pub decoded-within : i + width c ≤ n
-    decoded-within = omega (arith, given-within, left-size, ap size begun)
+    stepped : i + width c + length rest ≡ n
+    stepped = omega (arith, given-within, left-size, ap size begun, size-lent rest v)
 
-    pub decoded-given : IsDrained places (stored array p n) (i + width c)
-    decoded-given = front-given c (chars rest) begun
+    next : i + width c ≡ n - length rest
+    next = omega (arith, stepped)
 
-    pub decoded-rest : left ≡ c ∷ back removed (i + width c)
-    decoded-rest = begun ∙ ap (λ l. c ∷ l) (sym (front-rest c (chars rest) begun))
+    pub decoded-within : length rest ≤ n
+    decoded-within = omega (arith, stepped)
+
+    pub decoded-given : IsDrained places (stored array p n) (n - length rest)
+    decoded-given = rw (← next) (front-given c (chars rest) begun)
+
+    pub decoded-rest : left ≡ c ∷ back removed (n - length rest)
+    decoded-rest = begun ∙ ap (λ l. c ∷ l) (sym (front-rest c (chars rest) begun) ∙ ap (back removed) next)
 
   -- where it is ASCII
   module _ (apart : i ≢ n) (low : get_or array (p + i) 0 < 128) where

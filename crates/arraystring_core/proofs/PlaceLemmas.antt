@@ -8,7 +8,7 @@ use Rattle.arraystring_base.specs.TextLaws.{chars-bytes, bytes-chars, bytes-appe
 use Rattle.arraystring_base.specs.BoundaryLaws.{boundary-within, boundary-end, front-end, back-end, bytes-front, bytes-back, boundary-to_bytes}
 use Rattle.arraystring_core.specs.Stored.{Stored, stored, IsStored}
 use Rattle.arraystring_core.specs.StoredLaws.{stored-utf8, opened-bytes, opened-size}
-use Rattle.arraystring_core.proofs.GapLemmas.{gap-filled, written-length, shift-before, shift-moved, shift-length}
+use Rattle.arraystring_core.proofs.GapLemmas.{gap-filled, written-length, written-from-zero, tail-from-zero, shift-before, shift-moved, shift-length}
 
 -- xs shows the text t in its first n bytes; `new` shows it with `given` in place of the part from start to end
 module _ (t xs : List ℕ) (n : ℕ) (is : bytes t ≡ take n xs) (u : IsUtf8 (take n xs)) (given : List ℕ) (g : IsUtf8 given)
@@ -70,6 +70,32 @@ module _ (places : ℕ) (array : List ℕ) (p n : ℕ) (is : IsStored places arr
     replaced-chars =
         let low : start ≤ n = omega (arith, replaced-within) in
         replaced-text v.text (drop p array) n (opened-bytes places array p n is v e) (stored-utf8 places array p n is) given u start end low replaced-within b d _ written
+
+  -- the text was moved to offset 0, and `given` was written into the gap
+  module _ (u : IsUtf8 given) (gapped after : List ℕ) (long : length gapped ≡ places)
+      (moved : take start gapped ≡ take start (drop p array))
+      (tail : take (n - end) (drop (start + length given) gapped) ≡ take (n - end) (drop (p + end) array))
+      (written : after ≡ take start gapped ++ (given ++ drop (start + length given) gapped)) where
+    held : 0 + (start + (length given + (n - end))) ≤ cap places
+    held = omega (arith, replaced-room)
+
+    within : 0 + start + length given ≤ length gapped
+    within = omega (arith, held, long)
+
+    copied : after ≡ take (0 + start) gapped ++ (given ++ drop (0 + start + length given) gapped)
+    copied = written-from-zero gapped after given start written
+
+    filled : take (start + (length given + (n - end))) (drop 0 after) ≡ take start (drop p array) ++ (given ++ take (n - end) (drop end (drop p array)))
+    filled = gap-filled array gapped after given p 0 start end (n - end) within moved (tail-from-zero gapped _ start (length given) (n - end) tail) copied
+
+    same : length after ≡ places
+    same = written-length gapped after given (0 + start) within copied ∙ long
+
+    pub moved-stored : IsStored places after 0 (start + (length given + (n - end)))
+    moved-stored = replaced-stored u after 0 same held filled
+
+    pub moved-chars : chars (take (start + (length given + (n - end))) (drop 0 after)) ≡ front v.text start ++ (chars given ++ back v.text end)
+    moved-chars = replaced-chars u after 0 same held filled
 
 -- `given` was written after the text
 module _ (places : ℕ) (array : List ℕ) (p n : ℕ) (is : IsStored places array p n) (v : Stored) (e : stored array p n ≡ v)

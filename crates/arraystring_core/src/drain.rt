@@ -72,8 +72,9 @@ impl<const N: usize> Drain<N> {
         ensures fits { size self.now.left ≤ cap N }
     {
         let all = &self.array[..];
-        let (front, end) = (self.start + self.front, self.start + self.size);
-        unsafe { str::from_utf8_unchecked(&all[front as usize..end as usize]) }
+        let start = self.start as usize;
+        let (front, end) = (start + self.front as usize, start + self.size as usize);
+        unsafe { str::from_utf8_unchecked(&all[front..end]) }
     }
 }
 
@@ -101,13 +102,14 @@ impl<const N: usize> Iterator for Drain<N> {
             return None;
         }
         // A byte of ASCII is its character; others take the decoder.
-        let first = self.array[(self.start + self.front) as usize];
+        let first = self.array[self.start as usize + self.front as usize];
         if first < 0x80 {
             self.front += 1;
             return Some(first as char);
         }
-        let ch = self.as_str().chars().next()?;
-        self.front += ch.len_utf8() as u8;
+        let mut left = self.as_str().chars();
+        let ch = left.next()?;
+        self.front = self.size - left.as_str().len() as u8;
         Some(ch)
     }
 }
@@ -122,7 +124,7 @@ impl<const N: usize> DoubleEndedIterator for Drain<N> {
         if self.front == self.size {
             return None;
         }
-        let last = self.array[(self.start + self.size) as usize - 1];
+        let last = self.array[self.start as usize + self.size as usize - 1];
         if last < 0x80 {
             self.size -= 1;
             return Some(last as char);

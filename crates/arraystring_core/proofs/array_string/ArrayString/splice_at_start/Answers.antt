@@ -1,9 +1,8 @@
-use Rattle.std.proofs.Common.{◌+◌, ◌-◌, ◌≤◌, length, ◌∙◌, arith, rules}
+use Rattle.std.proofs.Common.{◌+◌, ◌-◌, ◌≤◌, length, arith, rules}
 use Rattle.arraystring_base.specs.Text.{size, cap}
 use Rattle.arraystring_base.specs.TextLaws.{size-lent}
 use Rattle.arraystring_core.specs.StoredLaws.{opened-size}
-use Rattle.arraystring_core.proofs.GapLemmas.{gap-filled, written-length, written-from-zero, tail-from-zero}
-use Rattle.arraystring_core.proofs.PlaceLemmas.{replaced-within, replaced-room, replaced-stored, replaced-chars}
+use Rattle.arraystring_core.proofs.PlaceLemmas.{replaced-within, replaced-room, moved-stored, moved-chars}
 use Rattle.arraystring_core.proofs.array_string.ArrayString.splice_at_start.Goals as goal
 
 pub open_gap_at_start-requires : goal.open_gap_at_start-requires
@@ -43,37 +42,19 @@ copy_in-requires g c =
 
 pub invariant_of-self : goal.invariant_of-self
 invariant_of-self g c =
-    let s = c.self.inside in
     let given = c.args.given.now in
     let gap = c.open_gap_at_start in
-    let long = size-lent given c.utf8.given in
-    let fits : size c.args.self.now.text - (c.args.end - c.args.start) + length given ≤ cap g.row.N = omega (arith, c.requires.room, long) in
-    let room = replaced-room g.row.N _ _ _ c.self.invariant _ c.self.view_is _ _ given c.requires.order c.requires.start c.requires.end fits in
-    let held : 0 + (c.args.start + (length given + (s.size - c.args.end))) ≤ cap g.row.N = omega (arith, room) in
-    let within : 0 + c.args.start + length given ≤ length gap.new.array = omega (arith, held, gap.ensures.len) in
-    let copied = written-from-zero gap.new.array c.copy_in.new.array given c.args.start (rw c.as_bytes.ensures.value at c.copy_in.ensures) in
-    let tail = tail-from-zero gap.new.array _ c.args.start (length given) (s.size - c.args.end) gap.ensures.tail in
-    let filled = gap-filled s.array gap.new.array c.copy_in.new.array given s.start 0 c.args.start c.args.end (s.size - c.args.end) within gap.ensures.front tail copied in
-    let places = written-length gap.new.array c.copy_in.new.array given (0 + c.args.start) within copied ∙ gap.ensures.len in
-    replaced-stored g.row.N _ _ _ c.self.invariant _ c.self.view_is _ _ given c.requires.order c.requires.start c.requires.end fits c.utf8.given
-    c.copy_in.new.array 0 places held filled
+    let fits : size c.args.self.now.text - (c.args.end - c.args.start) + length given ≤ cap g.row.N = omega (arith, c.requires.room, size-lent given c.utf8.given) in
+    moved-stored g.row.N _ _ _ c.self.invariant _ c.self.view_is _ _ given c.requires.order c.requires.start c.requires.end fits c.utf8.given
+    gap.new.array c.copy_in.new.array gap.ensures.len gap.ensures.front gap.ensures.tail (rw c.as_bytes.ensures.value at c.copy_in.ensures)
 
 pub returns-clause-text : goal.returns-clause-text
 returns-clause-text g c =
-    let s = c.self.inside in
     let given = c.args.given.now in
     let gap = c.open_gap_at_start in
-    let long = size-lent given c.utf8.given in
-    let fits : size c.args.self.now.text - (c.args.end - c.args.start) + length given ≤ cap g.row.N = omega (arith, c.requires.room, long) in
-    let room = replaced-room g.row.N _ _ _ c.self.invariant _ c.self.view_is _ _ given c.requires.order c.requires.start c.requires.end fits in
-    let held : 0 + (c.args.start + (length given + (s.size - c.args.end))) ≤ cap g.row.N = omega (arith, room) in
-    let within : 0 + c.args.start + length given ≤ length gap.new.array = omega (arith, held, gap.ensures.len) in
-    let copied = written-from-zero gap.new.array c.copy_in.new.array given c.args.start (rw c.as_bytes.ensures.value at c.copy_in.ensures) in
-    let tail = tail-from-zero gap.new.array _ c.args.start (length given) (s.size - c.args.end) gap.ensures.tail in
-    let filled = gap-filled s.array gap.new.array c.copy_in.new.array given s.start 0 c.args.start c.args.end (s.size - c.args.end) within gap.ensures.front tail copied in
-    let places = written-length gap.new.array c.copy_in.new.array given (0 + c.args.start) within copied ∙ gap.ensures.len in
-    replaced-chars g.row.N _ _ _ c.self.invariant _ c.self.view_is _ _ given c.requires.order c.requires.start c.requires.end fits c.utf8.given
-    c.copy_in.new.array 0 places held filled
+    let fits : size c.args.self.now.text - (c.args.end - c.args.start) + length given ≤ cap g.row.N = omega (arith, c.requires.room, size-lent given c.utf8.given) in
+    moved-chars g.row.N _ _ _ c.self.invariant _ c.self.view_is _ _ given c.requires.order c.requires.start c.requires.end fits c.utf8.given
+    gap.new.array c.copy_in.new.array gap.ensures.len gap.ensures.front gap.ensures.tail (rw c.as_bytes.ensures.value at c.copy_in.ensures)
 
 pub returns-clause-most : goal.returns-clause-most
 returns-clause-most g c = rw (opened-size g.row.N _ _ _ c.self.invariant _ c.self.view_is) c.open_gap_at_start.ensures.most

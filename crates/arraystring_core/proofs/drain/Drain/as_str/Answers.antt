@@ -5,10 +5,6 @@ use Rattle.arraystring_core.specs.StoredLaws.{opened-text}
 use Rattle.arraystring_core.proofs.DrainLemmas.{given-within, lent-utf8, lent-bytes, left-fits}
 use Rattle.arraystring_core.proofs.drain.Drain.as_str.Goals as goal
 
-pub overflow_add-front : goal.overflow_add-front
-overflow_add-front g c =
-    omega (arith, given-within g.row.N _ _ _ _ c.self.invariant.0 c.self.invariant.1, c.self.invariant.0.0)
-
 pub slice_bounds-from_utf8_unchecked-start : goal.slice_bounds-from_utf8_unchecked-start
 slice_bounds-from_utf8_unchecked-start g c =
     omega (arith, given-within g.row.N _ _ _ _ c.self.invariant.0 c.self.invariant.1)
