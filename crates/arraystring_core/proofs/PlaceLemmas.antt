@@ -71,31 +71,46 @@ module _ (places : ℕ) (array : List ℕ) (p n : ℕ) (is : IsStored places arr
         let low : start ≤ n = omega (arith, replaced-within) in
         replaced-text v.text (drop p array) n (opened-bytes places array p n is v e) (stored-utf8 places array p n is) given u start end low replaced-within b d _ written
 
-  -- the text was moved to offset 0, and `given` was written into the gap
+  -- the text was moved to offset q, and `given` was written into the gap
+  module _ (u : IsUtf8 given) (gapped after : List ℕ) (q : ℕ) (long : length gapped ≡ places)
+      (held : q + (start + (length given + (n - end))) ≤ cap places)
+      (moved : take start (drop q gapped) ≡ take start (drop p array))
+      (tail : take (n - end) (drop (q + (start + length given)) gapped) ≡ take (n - end) (drop (p + end) array))
+      (written : after ≡ take (q + start) gapped ++ (given ++ drop (q + start + length given) gapped)) where
+    within : q + start + length given ≤ length gapped
+    within = omega (arith, held, long)
+
+    filled : take (start + (length given + (n - end))) (drop q after) ≡ take start (drop p array) ++ (given ++ take (n - end) (drop end (drop p array)))
+    filled = gap-filled array gapped after given p q start end (n - end) within moved tail written
+
+    same : length after ≡ places
+    same = written-length gapped after given (q + start) within written ∙ long
+
+    pub filled-stored : IsStored places after q (start + (length given + (n - end)))
+    filled-stored = replaced-stored u after q same held filled
+
+    pub filled-chars : chars (take (start + (length given + (n - end))) (drop q after)) ≡ front v.text start ++ (chars given ++ back v.text end)
+    filled-chars = replaced-chars u after q same held filled
+
+  -- and to offset 0
   module _ (u : IsUtf8 given) (gapped after : List ℕ) (long : length gapped ≡ places)
       (moved : take start gapped ≡ take start (drop p array))
       (tail : take (n - end) (drop (start + length given) gapped) ≡ take (n - end) (drop (p + end) array))
       (written : after ≡ take start gapped ++ (given ++ drop (start + length given) gapped)) where
-    held : 0 + (start + (length given + (n - end))) ≤ cap places
-    held = omega (arith, replaced-room)
+    from-zero : 0 + (start + (length given + (n - end))) ≤ cap places
+    from-zero = omega (arith, replaced-room)
 
-    within : 0 + start + length given ≤ length gapped
-    within = omega (arith, held, long)
+    abbrev tail-at : take (n - end) (drop (0 + (start + length given)) gapped) ≡ take (n - end) (drop (p + end) array)
+    tail-at = tail-from-zero gapped _ start (length given) (n - end) tail
 
-    copied : after ≡ take (0 + start) gapped ++ (given ++ drop (0 + start + length given) gapped)
-    copied = written-from-zero gapped after given start written
-
-    filled : take (start + (length given + (n - end))) (drop 0 after) ≡ take start (drop p array) ++ (given ++ take (n - end) (drop end (drop p array)))
-    filled = gap-filled array gapped after given p 0 start end (n - end) within moved (tail-from-zero gapped _ start (length given) (n - end) tail) copied
-
-    same : length after ≡ places
-    same = written-length gapped after given (0 + start) within copied ∙ long
+    abbrev written-at : after ≡ take (0 + start) gapped ++ (given ++ drop (0 + start + length given) gapped)
+    written-at = written-from-zero gapped after given start written
 
     pub moved-stored : IsStored places after 0 (start + (length given + (n - end)))
-    moved-stored = replaced-stored u after 0 same held filled
+    moved-stored = filled-stored u gapped after 0 long from-zero moved tail-at written-at
 
     pub moved-chars : chars (take (start + (length given + (n - end))) (drop 0 after)) ≡ front v.text start ++ (chars given ++ back v.text end)
-    moved-chars = replaced-chars u after 0 same held filled
+    moved-chars = filled-chars u gapped after 0 long from-zero moved tail-at written-at
 
 -- `given` was written after the text
 module _ (places : ℕ) (array : List ℕ) (p n : ℕ) (is : IsStored places array p n) (v : Stored) (e : stored array p n ≡ v)

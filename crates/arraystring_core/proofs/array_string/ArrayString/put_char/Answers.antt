@@ -5,8 +5,7 @@ use Rattle.arraystring_base.specs.Text.{utf8, width, size, cap, front, back}
 use Rattle.arraystring_base.specs.TextLaws.{chars-bytes, utf8-is, width-is, length-utf8}
 use Rattle.arraystring_base.specs.BoundaryLaws.{boundary-within}
 use Rattle.arraystring_core.specs.StoredLaws.{opened-size}
-use Rattle.arraystring_core.proofs.GapLemmas.{gap-filled, written-length}
-use Rattle.arraystring_core.proofs.PlaceLemmas.{replaced-stored, replaced-chars}
+use Rattle.arraystring_core.proofs.PlaceLemmas.{filled-stored, filled-chars}
 use Rattle.arraystring_core.proofs.array_string.ArrayString.put_char.Goals as goal
 
 pub open_gap-requires : goal.open_gap-requires
@@ -49,18 +48,12 @@ invariant_of-self g c =
     let ch = c.args.ch in
     let at = c.args.at in
     let gap = c.open_gap in
-    let q = s.start in
     let wide : c.len_utf8-len.result ≡ length (utf8 ch) = c.len_utf8-len.ensures.value ∙ sym (width-is ch) ∙ sym (length-utf8 ch) in
-    let held : q + (at + (length (utf8 ch) + (s.size - at))) ≤ cap g.row.N = omega (arith, opened-size g.row.N _ _ _ c.self.invariant _ c.self.view_is, boundary-within t at c.requires.boundary, wide) in
+    let held : s.start + (at + (length (utf8 ch) + (s.size - at))) ≤ cap g.row.N = omega (arith, opened-size g.row.N _ _ _ c.self.invariant _ c.self.view_is, boundary-within t at c.requires.boundary, wide) in
     let u : IsUtf8 (utf8 ch) = rw (utf8-is ch) (IsUtf8-encode ch (search rules)) in
     let fits : size t - (at - at) + length (utf8 ch) ≤ cap g.row.N = omega (arith, c.requires.room, length-utf8 ch) in
-    let within : q + at + length (utf8 ch) ≤ length gap.new.array = omega (arith, held, gap.ensures.len) in
-    let tail = rw wide at gap.ensures.tail in
-    let written = rw (← length-utf8 ch) at c.encode.ensures.bytes in
-    let filled = gap-filled s.array gap.new.array c.encode.new.array (utf8 ch) s.start q at at (s.size - at) within gap.ensures.front tail written in
-    let places = written-length gap.new.array c.encode.new.array (utf8 ch) (q + at) within written ∙ gap.ensures.len in
-    rw wide (replaced-stored g.row.N _ _ _ c.self.invariant _ c.self.view_is at at (utf8 ch) (omega arith) c.requires.boundary c.requires.boundary fits u
-    c.encode.new.array q places held filled)
+    rw wide (filled-stored g.row.N _ _ _ c.self.invariant _ c.self.view_is at at (utf8 ch) (omega arith) c.requires.boundary c.requires.boundary fits u
+    gap.new.array c.encode.new.array s.start gap.ensures.len held gap.ensures.front (rw wide at gap.ensures.tail) (rw (← length-utf8 ch) at c.encode.ensures.bytes))
 
 pub returns : goal.returns
 returns g c =
@@ -69,17 +62,11 @@ returns g c =
     let ch = c.args.ch in
     let at = c.args.at in
     let gap = c.open_gap in
-    let q = s.start in
     let wide : c.len_utf8-len.result ≡ length (utf8 ch) = c.len_utf8-len.ensures.value ∙ sym (width-is ch) ∙ sym (length-utf8 ch) in
-    let held : q + (at + (length (utf8 ch) + (s.size - at))) ≤ cap g.row.N = omega (arith, opened-size g.row.N _ _ _ c.self.invariant _ c.self.view_is, boundary-within t at c.requires.boundary, wide) in
+    let held : s.start + (at + (length (utf8 ch) + (s.size - at))) ≤ cap g.row.N = omega (arith, opened-size g.row.N _ _ _ c.self.invariant _ c.self.view_is, boundary-within t at c.requires.boundary, wide) in
     let u : IsUtf8 (utf8 ch) = rw (utf8-is ch) (IsUtf8-encode ch (search rules)) in
     let fits : size t - (at - at) + length (utf8 ch) ≤ cap g.row.N = omega (arith, c.requires.room, length-utf8 ch) in
-    let within : q + at + length (utf8 ch) ≤ length gap.new.array = omega (arith, held, gap.ensures.len) in
-    let tail = rw wide at gap.ensures.tail in
-    let written = rw (← length-utf8 ch) at c.encode.ensures.bytes in
-    let filled = gap-filled s.array gap.new.array c.encode.new.array (utf8 ch) s.start q at at (s.size - at) within gap.ensures.front tail written in
-    let places = written-length gap.new.array c.encode.new.array (utf8 ch) (q + at) within written ∙ gap.ensures.len in
     let one : chars (utf8 ch) ≡ ch ∷ [] = chars-bytes _ (ch ∷ []) u (sym (append-nil (utf8 ch))) in
-    rw wide (replaced-chars g.row.N _ _ _ c.self.invariant _ c.self.view_is at at (utf8 ch) (omega arith) c.requires.boundary c.requires.boundary fits u
-    c.encode.new.array q places held filled)
+    rw wide (filled-chars g.row.N _ _ _ c.self.invariant _ c.self.view_is at at (utf8 ch) (omega arith) c.requires.boundary c.requires.boundary fits u
+    gap.new.array c.encode.new.array s.start gap.ensures.len held gap.ensures.front (rw wide at gap.ensures.tail) (rw (← length-utf8 ch) at c.encode.ensures.bytes))
     ∙ ap (λ l. front t at ++ (l ++ back t at)) one

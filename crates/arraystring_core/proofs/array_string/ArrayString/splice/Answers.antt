@@ -1,9 +1,8 @@
-use Rattle.std.proofs.Common.{◌+◌, ◌-◌, ◌≤◌, length, ◌∙◌, arith, rules}
+use Rattle.std.proofs.Common.{◌+◌, ◌-◌, ◌≤◌, length, arith, rules}
 use Rattle.arraystring_base.specs.Text.{size, cap}
 use Rattle.arraystring_base.specs.TextLaws.{size-lent}
 use Rattle.arraystring_core.specs.StoredLaws.{opened-size}
-use Rattle.arraystring_core.proofs.GapLemmas.{gap-filled, written-length}
-use Rattle.arraystring_core.proofs.PlaceLemmas.{replaced-within, replaced-room, replaced-stored, replaced-chars}
+use Rattle.arraystring_core.proofs.PlaceLemmas.{replaced-within, replaced-room, filled-stored, filled-chars}
 use Rattle.arraystring_core.proofs.array_string.ArrayString.splice.Goals as goal
 
 pub open_gap-requires : goal.open_gap-requires
@@ -46,32 +45,20 @@ invariant_of-self g c =
     let s = c.self.inside in
     let given = c.args.given.now in
     let gap = c.open_gap in
-    let q = s.start in
-    let long = size-lent given c.utf8.given in
-    let fits : size c.args.self.now.text - (c.args.end - c.args.start) + length given ≤ cap g.row.N = omega (arith, c.requires.room, long) in
-    let held : q + (c.args.start + (length given + (s.size - c.args.end))) ≤ cap g.row.N = omega arith in
-    let within : q + c.args.start + length given ≤ length gap.new.array = omega (arith, held, gap.ensures.len) in
-    let copied = rw c.as_bytes.ensures.value at c.write_over.ensures in
-    let filled = gap-filled s.array gap.new.array c.write_over.new.array given s.start q c.args.start c.args.end (s.size - c.args.end) within gap.ensures.front gap.ensures.tail copied in
-    let places = written-length gap.new.array c.write_over.new.array given (q + c.args.start) within copied ∙ gap.ensures.len in
-    replaced-stored g.row.N _ _ _ c.self.invariant _ c.self.view_is _ _ given c.requires.order c.requires.start c.requires.end fits c.utf8.given
-    c.write_over.new.array q places held filled
+    let fits : size c.args.self.now.text - (c.args.end - c.args.start) + length given ≤ cap g.row.N = omega (arith, c.requires.room, size-lent given c.utf8.given) in
+    let held : s.start + (c.args.start + (length given + (s.size - c.args.end))) ≤ cap g.row.N = omega arith in
+    filled-stored g.row.N _ _ _ c.self.invariant _ c.self.view_is _ _ given c.requires.order c.requires.start c.requires.end fits c.utf8.given
+    gap.new.array c.write_over.new.array s.start gap.ensures.len held gap.ensures.front gap.ensures.tail (rw c.as_bytes.ensures.value at c.write_over.ensures)
 
 pub returns-clause-text : goal.returns-clause-text
 returns-clause-text g c =
     let s = c.self.inside in
     let given = c.args.given.now in
     let gap = c.open_gap in
-    let q = s.start in
-    let long = size-lent given c.utf8.given in
-    let fits : size c.args.self.now.text - (c.args.end - c.args.start) + length given ≤ cap g.row.N = omega (arith, c.requires.room, long) in
-    let held : q + (c.args.start + (length given + (s.size - c.args.end))) ≤ cap g.row.N = omega arith in
-    let within : q + c.args.start + length given ≤ length gap.new.array = omega (arith, held, gap.ensures.len) in
-    let copied = rw c.as_bytes.ensures.value at c.write_over.ensures in
-    let filled = gap-filled s.array gap.new.array c.write_over.new.array given s.start q c.args.start c.args.end (s.size - c.args.end) within gap.ensures.front gap.ensures.tail copied in
-    let places = written-length gap.new.array c.write_over.new.array given (q + c.args.start) within copied ∙ gap.ensures.len in
-    replaced-chars g.row.N _ _ _ c.self.invariant _ c.self.view_is _ _ given c.requires.order c.requires.start c.requires.end fits c.utf8.given
-    c.write_over.new.array q places held filled
+    let fits : size c.args.self.now.text - (c.args.end - c.args.start) + length given ≤ cap g.row.N = omega (arith, c.requires.room, size-lent given c.utf8.given) in
+    let held : s.start + (c.args.start + (length given + (s.size - c.args.end))) ≤ cap g.row.N = omega arith in
+    filled-chars g.row.N _ _ _ c.self.invariant _ c.self.view_is _ _ given c.requires.order c.requires.start c.requires.end fits c.utf8.given
+    gap.new.array c.write_over.new.array s.start gap.ensures.len held gap.ensures.front gap.ensures.tail (rw c.as_bytes.ensures.value at c.write_over.ensures)
 
 pub returns-clause-tail_alone : goal.returns-clause-tail_alone
 returns-clause-tail_alone g c = rw (opened-size g.row.N _ _ _ c.self.invariant _ c.self.view_is) (λ _. c.open_gap.ensures.most)
