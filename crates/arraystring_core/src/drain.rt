@@ -19,7 +19,8 @@ mod compare;
 /// text. It takes no memory.
 #[derive(Clone, Copy)]
 pub struct Drain<const N: usize> {
-    // These lie before the array, so that a read of it is known to be no read of them.
+    // The index at which what is left begins, and the offset and the size of the removed text. They
+    // lie before the array, so that a read of it is known to be no read of them.
     front: u8,
     start: u8,
     size: u8,
