@@ -139,11 +139,11 @@ module _ (places : ℕ) (array : List ℕ) (p n i : ℕ) (held : IsStored places
   pub left-fits : size left ≤ cap places
   left-fits = omega (arith, left-size, held.0)
 
-  pub none-left : i ≡ n → left ≡ []
-  none-left met = empty-size left (omega (arith, left-size))
+  pub none-left : n ≤ i → left ≡ []
+  none-left past = empty-size left (omega (arith, left-size))
 
-  some-left : i ≢ n → left ≢ []
-  some-left apart none = apart (omega (arith, given-within, left-size, ap size none))
+  some-left : i < n → left ≢ []
+  some-left some none = absurd (omega (arith, some, left-size, ap size none))
 
   -- the first character is given
   module _ (c : ℕ) (rest : List ℕ) (starts : left ≡ c ∷ rest) where
@@ -174,16 +174,15 @@ module _ (places : ℕ) (array : List ℕ) (p n i : ℕ) (held : IsStored places
     decoded-rest = begun ∙ ap (λ l. c ∷ l) (sym (front-rest c (chars rest) begun) ∙ ap (back removed) next)
 
   -- where it is ASCII
-  module _ (apart : i ≢ n) (low : get_or array (p + i) 0 < 128) where
+  module _ (some : i < n) (low : get_or array (p + i) 0 < 128) where
     first-byte : get_or (bytes left) 0 0 ≡ get_or array (p + i) 0
     first-byte =
-        let some : i < n = omega (arith, given-within, apart) in
         let same : i + 0 ≡ i = omega arith in
         ap (λ l. get_or l 0 0) left-bytes ∙ get_or-drop i (take n (drop p array)) 0 0
         ∙ ap (λ k. get_or (take n (drop p array)) k 0) same ∙ get_or-take n (drop p array) i 0 some ∙ get_or-drop p array i 0
 
     abbrev first-is : (rest : List ℕ) × (left ≡ get_or array (p + i) 0 ∷ rest) × (width (get_or array (p + i) 0) ≡ 1)
-    first-is = first-low left (get_or array (p + i) 0) (some-left apart) first-byte low
+    first-is = first-low left (get_or array (p + i) 0) (some-left some) first-byte low
 
     pub first-given : IsDrained places (stored array p n) (i + 1)
     first-given =
@@ -229,19 +228,19 @@ module _ (places : ℕ) (array : List ℕ) (p n i : ℕ) (held : IsStored places
     back-rest = ap (λ t. back t i) kept-text ∙ back-is before rest i (front-size removed i is.at)
 
   -- where it is ASCII
-  module _ (apart : i ≢ n) (low : get_or array (p + n - 1) 0 < 128) where
+  module _ (some : i < n) (low : get_or array (p + n - 1) 0 < 128) where
     last-place : get_or (bytes left) (length (bytes left) - 1) 0 ≡ get_or array (p + n - 1) 0
     last-place =
-        let some : n - 1 < n = omega (arith, given-within, apart) in
+        let within : n - 1 < n = omega (arith, some) in
         let long : length (bytes left) - 1 ≡ n - i - 1 = omega (arith, size-is left, left-size) in
-        let whole : i + (n - i - 1) ≡ n - 1 = omega (arith, given-within, apart) in
-        let place : p + (n - 1) ≡ p + n - 1 = omega (arith, given-within, apart) in
+        let whole : i + (n - i - 1) ≡ n - 1 = omega (arith, some) in
+        let place : p + (n - 1) ≡ p + n - 1 = omega (arith, some) in
         ap (λ k. get_or (bytes left) k 0) long ∙ ap (λ l. get_or l (n - i - 1) 0) left-bytes
         ∙ get_or-drop i (take n (drop p array)) (n - i - 1) 0 ∙ ap (λ k. get_or (take n (drop p array)) k 0) whole
-        ∙ get_or-take n (drop p array) (n - 1) 0 some ∙ get_or-drop p array (n - 1) 0 ∙ ap (λ k. get_or array k 0) place
+        ∙ get_or-take n (drop p array) (n - 1) 0 within ∙ get_or-drop p array (n - 1) 0 ∙ ap (λ k. get_or array k 0) place
 
     abbrev last-is : (rest : List ℕ) × (left ≡ rest ++ get_or array (p + n - 1) 0 ∷ []) × (width (get_or array (p + n - 1) 0) ≡ 1)
-    last-is = last-low left (get_or array (p + n - 1) 0) (some-left apart) last-place low
+    last-is = last-low left (get_or array (p + n - 1) 0) (some-left some) last-place low
 
     ended : i + size last-is.0 ≡ n - 1
     ended = omega (arith, given-within, left-size, ap size last-is.1, size-append last-is.0 (get_or array (p + n - 1) 0 ∷ []), last-is.2)

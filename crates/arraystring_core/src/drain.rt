@@ -122,7 +122,7 @@ impl<const N: usize> DoubleEndedIterator for Drain<N> {
     /// The last character that is left; `None` where none is, and from then on.
     #[inline(always)]
     fn next_back(&mut self) -> Option<char> {
-        if self.front == self.size {
+        if self.size == self.front {
             return None;
         }
         let last = self.array[self.start as usize + self.size as usize - 1];

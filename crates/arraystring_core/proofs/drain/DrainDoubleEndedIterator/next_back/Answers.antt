@@ -1,4 +1,4 @@
-use Rattle.std.proofs.Common.{◌≡◌, [], ◌∷◌, ◌++◌, ◌+◌, sym, ap, ◌∙◌, arith}
+use Rattle.std.proofs.Common.{◌<◌, ◌≤◌, ◌≡◌, [], ◌∷◌, ◌++◌, ◌+◌, sym, ap, ◌∙◌, arith}
 use Rattle.arraystring_base.specs.Text.{back}
 use Rattle.arraystring_base.specs.TextLaws.{chars-bytes}
 use Rattle.arraystring_core.specs.Stored.{stored}
@@ -7,7 +7,9 @@ use Rattle.arraystring_core.proofs.drain.DrainDoubleEndedIterator.next_back.Goal
 
 pub returns-then-self-clause-steps : goal.returns-then-self-clause-steps
 returns-then-self-clause-steps g c =
-    let none = sym (ap (λ d. d.left) c.self.view_is) ∙ none-left g.row.N _ _ _ _ c.self.invariant.0 c.self.invariant.1 c.if-self.true in (none, none)
+    let past : c.self.inside.size ≤ c.self.inside.front = omega (arith, c.if-self.true) in
+    let none = sym (ap (λ d. d.left) c.self.view_is) ∙ none-left g.row.N _ _ _ _ c.self.invariant.0 c.self.invariant.1 past in
+    (none, none)
 
 pub overflow_sub-last : goal.overflow_sub-last
 overflow_sub-last g c = omega (arith, given-within g.row.N _ _ _ _ c.self.invariant.0 c.self.invariant.1, c.if-self.false)
@@ -21,13 +23,15 @@ overflow_sub-self g c = omega (arith, given-within g.row.N _ _ _ _ c.self.invari
 
 pub invariant_of-self : goal.invariant_of-self
 invariant_of-self g c =
-    let held = last-held g.row.N _ _ _ _ c.self.invariant.0 c.self.invariant.1 c.if-self.false c.if-last-lt128.true in
-    let given = last-given g.row.N _ _ _ _ c.self.invariant.0 c.self.invariant.1 c.if-self.false c.if-last-lt128.true in
+    let some : c.self.inside.front < c.self.inside.size = omega (arith, given-within g.row.N _ _ _ _ c.self.invariant.0 c.self.invariant.1, c.if-self.false) in
+    let held = last-held g.row.N _ _ _ _ c.self.invariant.0 c.self.invariant.1 some c.if-last-lt128.true in
+    let given = last-given g.row.N _ _ _ _ c.self.invariant.0 c.self.invariant.1 some c.if-last-lt128.true in
     (held, given)
 
 pub returns-then-last-lt128-clause-steps : goal.returns-then-last-lt128-clause-steps
 returns-then-last-lt128-clause-steps g c =
-    sym (ap (λ d. d.left) c.self.view_is) ∙ last-rest g.row.N _ _ _ _ c.self.invariant.0 c.self.invariant.1 c.if-self.false c.if-last-lt128.true
+    let some : c.self.inside.front < c.self.inside.size = omega (arith, given-within g.row.N _ _ _ _ c.self.invariant.0 c.self.invariant.1, c.if-self.false) in
+    sym (ap (λ d. d.left) c.self.view_is) ∙ last-rest g.row.N _ _ _ _ c.self.invariant.0 c.self.invariant.1 some c.if-last-lt128.true
 
 pub returns-then-last-lt128-clause-goes : goal.returns-then-last-lt128-clause-goes
 returns-then-last-lt128-clause-goes g c =

@@ -1,4 +1,4 @@
-use Rattle.std.proofs.Common.{◌≡◌, ◌++◌, [], length, sym, ap, ◌∙◌, arith, chars}
+use Rattle.std.proofs.Common.{◌<◌, ◌≤◌, ◌≡◌, ◌++◌, [], length, sym, ap, ◌∙◌, arith, chars}
 use Rattle.std.proofs.lemmas.List.{nil_from_length}
 use Rattle.std.proofs.lemmas.Str.{chars-nil}
 use Rattle.arraystring_base.specs.Text.{bytes}
@@ -9,7 +9,9 @@ use Rattle.arraystring_core.proofs.drain.DrainIterator.next.Goals as goal
 
 pub returns-then-self-clause-steps : goal.returns-then-self-clause-steps
 returns-then-self-clause-steps g c =
-    let none = sym (ap (λ d. d.left) c.self.view_is) ∙ none-left g.row.N _ _ _ _ c.self.invariant.0 c.self.invariant.1 c.if-self.true in (none, none)
+    let past : c.self.inside.size ≤ c.self.inside.front = omega (arith, c.if-self.true) in
+    let none = sym (ap (λ d. d.left) c.self.view_is) ∙ none-left g.row.N _ _ _ _ c.self.invariant.0 c.self.invariant.1 past in
+    (none, none)
 
 pub bounds-self-inside-self-inside : goal.bounds-self-inside-self-inside
 bounds-self-inside-self-inside g c =
@@ -21,11 +23,13 @@ overflow_add-self g c =
 
 pub invariant_of-self : goal.invariant_of-self
 invariant_of-self g c =
-    (c.self.invariant.0, first-given g.row.N _ _ _ _ c.self.invariant.0 c.self.invariant.1 c.if-self.false c.if-first-lt128.true)
+    let some : c.self.inside.front < c.self.inside.size = omega (arith, given-within g.row.N _ _ _ _ c.self.invariant.0 c.self.invariant.1, c.if-self.false) in
+    (c.self.invariant.0, first-given g.row.N _ _ _ _ c.self.invariant.0 c.self.invariant.1 some c.if-first-lt128.true)
 
 pub returns-then-first-lt128-clause-steps : goal.returns-then-first-lt128-clause-steps
 returns-then-first-lt128-clause-steps g c =
-    sym (ap (λ d. d.left) c.self.view_is) ∙ first-rest g.row.N _ _ _ _ c.self.invariant.0 c.self.invariant.1 c.if-self.false c.if-first-lt128.true
+    let some : c.self.inside.front < c.self.inside.size = omega (arith, given-within g.row.N _ _ _ _ c.self.invariant.0 c.self.invariant.1, c.if-self.false) in
+    sym (ap (λ d. d.left) c.self.view_is) ∙ first-rest g.row.N _ _ _ _ c.self.invariant.0 c.self.invariant.1 some c.if-first-lt128.true
 
 pub returns-then-first-lt128-clause-goes : goal.returns-then-first-lt128-clause-goes
 returns-then-first-lt128-clause-goes g c =
