@@ -118,23 +118,22 @@ module _ (places : ℕ) (array : List ℕ) (p n i : ℕ) (held : IsStored places
   left-bytes : bytes left ≡ drop i (take n (drop p array))
   left-bytes = sym (bytes-back removed i is.at) ∙ ap (drop i) (stored-bytes places array p n held)
 
-  -- its bytes in the array
-  abbrev lent : List ℕ
-  lent = take (p + n - (p + i)) (drop (p + i) array)
-
   lent-stored : IsStored places array (p + i) (n - i)
   lent-stored = dropped-stored places array p n held (stored array p n) refl i is.at
 
-  lent-long : p + n - (p + i) ≡ n - i
-  lent-long = omega (arith, given-within)
+  -- its bytes are those of the array from f to e
+  module _ (f e : ℕ) (from : f ≡ p + i) (to : e ≡ p + n) where
+    long : e - f ≡ n - i
+    long = omega (arith, from, to, given-within)
 
-  pub lent-utf8 : IsUtf8 lent
-  lent-utf8 = rw lent-long (stored-utf8 places array (p + i) (n - i) lent-stored)
+    pub lent-utf8 : IsUtf8 (take (e - f) (drop f array))
+    lent-utf8 = rw (long, from) (stored-utf8 places array (p + i) (n - i) lent-stored)
 
-  pub lent-bytes : lent ≡ bytes left
-  lent-bytes =
-      ap (λ k. take k (drop (p + i) array)) lent-long ∙ sym (stored-bytes places array (p + i) (n - i) lent-stored)
-      ∙ ap bytes (dropped-chars places array p n held (stored array p n) refl i is.at)
+    pub lent-bytes : take (e - f) (drop f array) ≡ bytes left
+    lent-bytes =
+        ap (λ k. take k (drop f array)) long ∙ ap (λ k. take (n - i) (drop k array)) from
+        ∙ sym (stored-bytes places array (p + i) (n - i) lent-stored)
+        ∙ ap bytes (dropped-chars places array p n held (stored array p n) refl i is.at)
 
   pub left-fits : size left ≤ cap places
   left-fits = omega (arith, left-size, held.0)
