@@ -35,7 +35,7 @@ fn read<const N: usize>(
 }
 
 #[test]
-fn texts_as_values(rt: HostRuntime) {
+fn texts_and_their_values(rt: HostRuntime) {
     kept::<8>(&rt, "abcdefg");
     kept::<255>(&rt, MANY_LETTERS);
     // A text is cut to the capacity.
@@ -50,15 +50,12 @@ fn texts_as_values(rt: HostRuntime) {
     for json in "null true false 7 -7 0.5 1e300 [] [\"a\"] {}".split(' ') {
         read::<63>(&rt, json, Err(NotText));
     }
+    // The refusal is an error of std, and prints its name.
+    let refusal = as_std_error(NotText);
+    displays(&rt, &refusal, "NotText");
+    debugs(&rt, &refusal, "NotText|NotText|NotText|NotText|NotText");
 }
 
 fn as_std_error<E: Error>(error: E) -> E {
     error
-}
-
-#[test]
-fn the_refusal_prints_its_name(rt: HostRuntime) {
-    let refusal = as_std_error(NotText);
-    displays(&rt, &refusal, "NotText");
-    debugs(&rt, &refusal, "NotText|NotText|NotText|NotText|NotText");
 }

@@ -14,56 +14,46 @@ const ZEROS_23: &str = "00000000000000000000000";
 ///
 ///     text | the same in pieces | made whole | cut | next character | next piece
 ///
-/// with `,` between pieces. Made whole is what each `try_..` and `parse` make, which is the text or the
-/// name of the refusal, and the cut is what the others make. A character or a piece is next where an
-/// iterator that is lent was not taken to its end.
+/// with `,` between pieces. Each `try_..` and `parse` make the third, the text or the name of the
+/// refusal, and the others make the cut. The unchecked are called where the text fits. What is next in
+/// an iterator that is lent comes after the first item that does not fit, which is taken too.
 fn make<const N: usize>(rt: &impl Abort, table: &str)
     requires { N ≤ 300 }
 {
     for row in rows(table) {
-        let (whole, cut) = (make_whole::<N>(rt, row), make_cut::<N>(rt, row));
-        let text = column(row, 0);
-        agree(rt, row, of_text(text), (cut, [whole; 3]));
-        agree(rt, row, of_pieces(&[text]), (cut, whole));
+        make_each::<N>(rt, row);
     }
 }
 
-/// Asserts what the constructors make that refuse a text which is too large.
-fn make_whole<const N: usize>(rt: &impl Abort, row: &str) -> Option<ArrayString<N>>
+/// Asserts what each constructor makes of a row.
+fn make_each<const N: usize>(rt: &impl Abort, row: &str)
     requires { N ≤ 300 }
 {
-    let text = column(row, 0);
-    let (mut chars, mut pieces) = (text.chars(), column(row, 1).split(','));
-    let made = ArrayString::<N>::try_from_utf8(text.as_bytes());
-    agree(rt, row, told_made(&made).as_str(), column(row, 2));
+    let (text, pieces) = (column(row, 0), column(row, 1));
+    let whole = ArrayString::<N>::try_from_utf8(text.as_bytes());
+    agree(rt, row, told_made(&whole).as_str(), column(row, 2));
+    let (mut chars, mut rest) = (text.chars(), pieces.split(','));
     let others = [
-        ArrayString::try_from_str(text).ok(),
-        text.parse().ok(),
-        ArrayString::try_from_chars(&mut chars).ok(),
-        ArrayString::try_from_iterator(pieces.by_ref()).ok(),
+        ArrayString::try_from_str(text),
+        text.parse(),
+        ArrayString::try_from_chars(&mut chars),
+        ArrayString::try_from_iterator(rest.by_ref()),
     ];
-    agree(rt, row, others, [made.ok(); 4]);
-    next(rt, row, chars.next(), pieces.next());
-    made.ok()
-}
-
-/// Asserts what those make that cut it.
-fn make_cut<const N: usize>(rt: &impl Abort, row: &str) -> ArrayString<N>
-    requires { N ≤ 300 }
-{
-    let text = column(row, 0);
-    let (mut chars, mut pieces) = (text.chars(), column(row, 1).split(','));
-    let made = ArrayString::<N>::from_str_truncate(text);
-    agree(rt, row, made.as_str(), column(row, 3));
+    agree(rt, row, others, [whole.ok().ok_or(OutOfBounds); 4]);
+    next(rt, row, chars.next(), rest.next());
+    let cut = ArrayString::<N>::from_str_truncate(text);
+    agree(rt, row, cut.as_str(), column(row, 3));
+    let (mut chars, mut rest) = (text.chars(), pieces.split(','));
     let others = [
         Ok(text.into()),
         Ok(ArrayString::from_chars(&mut chars)),
-        Ok(ArrayString::from_iterator(pieces.by_ref())),
+        Ok(ArrayString::from_iterator(rest.by_ref())),
         ArrayString::from_utf8(text.as_bytes()),
     ];
-    agree(rt, row, others, [Ok(made); 4]);
-    next(rt, row, chars.next(), pieces.next());
-    made
+    agree(rt, row, others, [Ok(cut); 4]);
+    next(rt, row, chars.next(), rest.next());
+    agree(rt, row, of_text(text), (cut, [whole.ok(); 3]));
+    agree(rt, row, of_pieces(&[text]), (cut, whole.ok()));
 }
 
 /// Asserts what is next.
@@ -106,28 +96,26 @@ fn of_pieces<const N: usize>(pieces: &[&str]) -> (ArrayString<N>, Option<ArraySt
     }
 }
 
-/// Asserts what is added from iterators that are lent. The columns of a row are
+/// Asserts what is added from iterators that are lent. The columns of the row are
 ///
 ///     text before | characters | pieces | text after | next character | next piece
 ///
 /// where the text after is the same by the characters and by the pieces.
-fn extend<const N: usize>(rt: &impl Abort, table: &str)
+fn extend<const N: usize>(rt: &impl Abort, row: &str)
     requires { N ≤ 300 }
 {
-    for row in rows(table) {
-        let (mut chars, mut pieces) = (column(row, 1).chars(), column(row, 2).split(','));
-        let before = ArrayString::<N>::from(column(row, 0));
-        let (mut by_chars, mut by_pieces) = (before, before);
-        by_chars.extend_chars(&mut chars);
-        by_pieces.extend_strs(pieces.by_ref());
-        agree(rt, row, by_chars.as_str(), column(row, 3));
-        agree(rt, row, by_pieces, by_chars);
-        next(rt, row, chars.next(), pieces.next());
-    }
+    let (mut chars, mut pieces) = (column(row, 1).chars(), column(row, 2).split(','));
+    let before = ArrayString::<N>::from(column(row, 0));
+    let (mut by_chars, mut by_pieces) = (before, before);
+    by_chars.extend_chars(&mut chars);
+    by_pieces.extend_strs(pieces.by_ref());
+    agree(rt, row, by_chars.as_str(), column(row, 3));
+    agree(rt, row, by_pieces, by_chars);
+    next(rt, row, chars.next(), pieces.next());
 }
 
 #[test]
-fn what_each_constructor_makes(rt: HostRuntime) {
+fn what_is_made_and_what_is_added(rt: HostRuntime) {
     make::<23>(
         &rt,
         "
@@ -168,7 +156,6 @@ fn what_each_constructor_makes(rt: HostRuntime) {
         abc🤔de  | ab,c🤔,d,e | OutOfBounds | abc   | d    | d
         ",
     );
-    // The first item that does not fit is taken too.
     make::<255>(&rt, "255 x | 255 x | 255 x | 255 x | None | None");
     make::<300>(
         &rt,
@@ -177,42 +164,14 @@ fn what_each_constructor_makes(rt: HostRuntime) {
         256 x | 256 x | OutOfBounds | 255 x | None | None
         ",
     );
-}
-
-#[test]
-fn what_an_iterator_adds(rt: HostRuntime) {
-    extend::<5>(
-        &rt,
-        "
-        ab  | c🤔de   | c🤔,d,e    | abc   | d | d
-        abc | dexyz   | d,ex,y,z   | abcde | y | y
-        xyz | abc🤔de | ab,c🤔,d,e | xyzab | 🤔 | d
-        ",
-    );
-    extend::<6>(
-        &rt,
-        "
-        ab | c🤔d  | c,🤔,d  | abc  | d | d
-        ab | cd🤔e | cd,🤔,e | abcd | e | e
-        ",
-    );
-    extend::<7>(&rt, "xy | abc🤔de | ab,c🤔,d,e | xyabc | d | d");
+    // What an iterator adds, also to a full string, which takes one more item.
+    extend::<5>(&rt, "ab  | c🤔de   | c🤔,d,e    | abc   | d | d");
+    extend::<5>(&rt, "abc | dexyz   | d,ex,y,z   | abcde | y | y");
+    extend::<5>(&rt, "xyz | abc🤔de | ab,c🤔,d,e | xyzab | 🤔 | d");
+    extend::<6>(&rt, "ab  | c🤔d    | c,🤔,d     | abc   | d | d");
+    extend::<6>(&rt, "ab  | cd🤔e   | cd,🤔,e    | abcd  | e | e");
+    extend::<7>(&rt, "xy  | abc🤔de | ab,c🤔,d,e | xyabc | d | d");
     extend::<255>(&rt, "255 x | abc | a,b | 255 x | b | b");
-}
-
-/// Asserts what is made of bytes, whole and cut.
-fn read<const N: usize>(
-    rt: &impl Abort,
-    given: &[u8],
-    wanted: (Result<ArrayString<N>, Error>, Result<ArrayString<N>, Utf8>),
-)
-    requires { N ≤ 300 }
-{
-    let made = (
-        ArrayString::try_from_utf8(given),
-        ArrayString::from_utf8(given),
-    );
-    agree(rt, "of bytes", made, wanted);
 }
 
 /// Asserts what is made of the pieces of a slice, which are too large.
@@ -233,13 +192,21 @@ fn what_is_made_of_bytes_and_of_slices(rt: HostRuntime) {
         \x61\xF0\x9F\xA4\
         \x61\x62\xFF";
     for fault in faults.chunks(4) {
-        read::<23>(&rt, fault, (Err(Error::Utf8), Err(Utf8)));
-        read::<1>(&rt, fault, (Err(Error::Utf8), Err(Utf8)));
+        let made = (
+            ArrayString::<23>::try_from_utf8(fault),
+            ArrayString::<23>::from_utf8(fault),
+        );
+        agree(&rt, "all bytes", made, (Err(Error::Utf8), Err(Utf8)));
+        let made = (
+            ArrayString::<1>::try_from_utf8(fault),
+            ArrayString::<1>::from_utf8(fault),
+        );
+        agree(&rt, "one byte", made, (Err(Error::Utf8), Err(Utf8)));
     }
+    let whole = ArrayString::<23>::try_from_utf8(&[b'0'; 1600]);
+    let cut = ArrayString::<23>::from_utf8(&[b'0'; 300]);
     let wanted = (Err(Error::OutOfBounds), Ok(string(ZEROS_23)));
-    read::<23>(&rt, &[b'0'; 300], wanted);
-    let wanted = (Err(Error::OutOfBounds), Ok(string(ZEROS_23)));
-    read::<23>(&rt, &[b'0'; 1600], wanted);
+    agree(&rt, "many bytes", (whole, cut), wanted);
     cut_pieces::<5>(&rt, &["ab", "c🤔", "d"], "abc");
     cut_pieces::<23>(&rt, &["000"; 400], ZEROS_23);
     cut_pieces::<23>(&rt, &["000"; 100], ZEROS_23);

@@ -24,10 +24,8 @@ fn hold<const N: usize>(rt: &impl Abort, table: &str)
 fn units_of(rt: &impl Abort, written: &str) -> ([u16; 8], usize) {
     let mut units = [0; 8];
     let mut count = 0usize;
-    for digits in written.split(' ') {
-        if let Some(unit) = units.get_mut(count)
-            && !digits.is_empty()
-        {
+    for digits in written.split_whitespace() {
+        if let Some(unit) = units.get_mut(count) {
             *unit = u16::from_str_radix(digits, 16).expect(rt, "a unit in the column");
             count = count.wrapping_add(1);
         }
