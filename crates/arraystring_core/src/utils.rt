@@ -17,6 +17,3 @@ pub fn is_char_boundary<const N: usize>(s: &ArrayString<N>, idx: u8) -> Result<(
         Err(Utf8)
     }
 }
-
-#[cfg(test)]
-mod tests;

@@ -6,25 +6,25 @@ use crate::tests::string;
 use crate::tests::table::{column, rows};
 use std::process::Abort;
 
-/// The string of a text that begins at offset 2, and the one that was built anew. At 8 a
-/// text of six bytes fills the array up to its end, and one of four leaves two bytes after it.
-fn both(text: &str) -> [ArrayString<8>; 2] {
+/// The string of a text that begins at offset 2. At 8 a text of six bytes fills the array up to its
+/// end, and one of four leaves two bytes after it.
+fn behind(text: &str) -> ArrayString<8> {
     let mut behind: ArrayString<8> = string("..");
     behind.push_str(text);
     let _ = behind.drain(..2);
-    [behind, string(text)]
+    behind
 }
 
-/// Makes the calls of a table on a string whose text begins at offset 2, and on one that was
-/// built anew from the same text, and asserts that each returns and leaves what its row says.
+/// Makes the calls of a table on a string that was built anew from the text of its row, and on one
+/// whose text begins at offset 2, and asserts that each returns and leaves what its row says.
 fn hold_wherever_it_begins(rt: &impl Abort, table: &str) {
-    let [mut behind, mut anew] = both("");
+    hold::<8>(rt, table);
+    let mut text = behind("");
     for row in rows(table) {
         if !column(row, 0).is_empty() {
-            [behind, anew] = both(column(row, 0));
+            text = behind(column(row, 0));
         }
-        holds(rt, &mut behind, row);
-        holds(rt, &mut anew, row);
+        holds(rt, &mut text, row);
     }
 }
 
@@ -60,10 +60,7 @@ fn what_is_left_stays_where_it_is_until_it_grows(rt: HostRuntime) {
               | try_push |   | x | OutOfBounds | 255 x
         ",
     );
-}
-
-#[test]
-fn an_insertion_with_room_behind_the_text_moves_what_is_behind_it(rt: HostRuntime) {
+    // An insertion with room behind the text moves what is behind it.
     hold::<8>(
         &rt,
         "
@@ -75,10 +72,20 @@ fn an_insertion_with_room_behind_the_text_moves_what_is_behind_it(rt: HostRuntim
                | try_insert_str_counted | 4   | xy | ok | abcdxy | 0
         ",
     );
+    // A full text does not grow.
+    hold::<8>(
+        &rt,
+        "
+        abcdefé  | try_push_str   |   | € | OutOfBounds | abcdefé
+                 | try_push       |   | € | OutOfBounds | abcdefé
+        xyabcdef | try_insert_str | 1 | € | OutOfBounds | xyabcdef
+        ",
+    );
 }
 
 #[test]
-fn texts_and_their_parts_are_lent(rt: HostRuntime) {
+fn texts_are_the_same_wherever_they_begin(rt: HostRuntime) {
+    // Texts and their parts are lent.
     hold_wherever_it_begins(
         &rt,
         "
@@ -98,12 +105,16 @@ fn texts_and_their_parts_are_lent(rt: HostRuntime) {
         aBé    | get              | 1..  |                   | Bé      | aBé
                | get              | ..3  |                   | None    | aBé
                | slice            | 2..4 |                   | é       | aBé
+        A🤔    | is_char_boundary | 0    |                   | ok      | A🤔
+               | is_char_boundary | 1    |                   | ok      | A🤔
+               | is_char_boundary | 2    |                   | Utf8    | A🤔
+               | is_char_boundary | 4    |                   | Utf8    | A🤔
+               | is_char_boundary | 5    |                   | ok      | A🤔
+               | is_char_boundary | 6    |                   | Utf8    | A🤔
+               | is_char_boundary | 255  |                   | Utf8    | A🤔
         ",
     );
-}
-
-#[test]
-fn texts_grow(rt: HostRuntime) {
+    // Texts grow.
     hold_wherever_it_begins(
         &rt,
         "
@@ -143,22 +154,7 @@ fn texts_grow(rt: HostRuntime) {
         aBé    | extend_strs          |      | x,yz  | ok          | aBéxyz
         ",
     );
-}
-
-#[test]
-fn a_full_text_does_not_grow(rt: HostRuntime) {
-    hold::<8>(
-        &rt,
-        "
-        abcdefé  | try_push_str   |   | € | OutOfBounds | abcdefé
-                 | try_push       |   | € | OutOfBounds | abcdefé
-        xyabcdef | try_insert_str | 1 | € | OutOfBounds | xyabcdef
-        ",
-    );
-}
-
-#[test]
-fn texts_shrink_and_grow_again(rt: HostRuntime) {
+    // Texts shrink and grow again.
     hold_wherever_it_begins(
         &rt,
         "
@@ -216,26 +212,7 @@ fn texts_shrink_and_grow_again(rt: HostRuntime) {
                       | try_push_str |   | abcdefgh | ok          | abcdefgh
         ",
     );
-}
-
-#[test]
-fn a_trimmed_line_grows(rt: HostRuntime) {
-    for line in both("\n\u{A0}a") {
-        let mut text = line;
-        holds(&rt, &mut text, " | trim | | | ok | a");
-        holds(&rt, &mut text, " | push_str | | 12345678 | ok | a1234567");
-        text = line;
-        holds(&rt, &mut text, " | trim_spaces | | | ok | '\n\u{A0}a'");
-        holds(
-            &rt,
-            &mut text,
-            " | push_str | | 12345678 | ok | '\n\u{A0}a1234'",
-        );
-    }
-}
-
-#[test]
-fn parts_are_taken_out_and_replaced(rt: HostRuntime) {
+    // Parts are taken out and replaced.
     hold_wherever_it_begins(
         &rt,
         "
@@ -265,10 +242,7 @@ fn parts_are_taken_out_and_replaced(rt: HostRuntime) {
         aBCd   | retain_without |      | ad | ok          | BC
         ",
     );
-}
-
-#[test]
-fn letters_change_case(rt: HostRuntime) {
+    // Letters change case.
     hold_wherever_it_begins(
         &rt,
         "
@@ -290,4 +264,17 @@ fn letters_change_case(rt: HostRuntime) {
         AbcD   | make_ascii_lowercase_in | 1..3 | | ok | AbcD
         ",
     );
+    // A trimmed line grows.
+    for line in [behind("\n\u{A0}a"), string("\n\u{A0}a")] {
+        let mut text = line;
+        holds(&rt, &mut text, " | trim | | | ok | a");
+        holds(&rt, &mut text, " | push_str | | 12345678 | ok | a1234567");
+        text = line;
+        holds(&rt, &mut text, " | trim_spaces | | | ok | '\n\u{A0}a'");
+        holds(
+            &rt,
+            &mut text,
+            " | push_str | | 12345678 | ok | '\n\u{A0}a1234'",
+        );
+    }
 }

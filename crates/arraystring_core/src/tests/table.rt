@@ -1,6 +1,6 @@
 //! Tables of cases: a line of a text is a case, and `|` is between its columns. However many lines a
 //! table has, the test that walks over it is proved once.
-use super::{MaxString, string};
+use super::{ArrayString, MaxString, string};
 use arraystring_base::error::{Error, OutOfBounds, Utf8};
 use std::cmp::Ordering;
 use std::fmt::{self, Debug};
@@ -75,6 +75,14 @@ pub(crate) fn told(answer: Result<&str, Error>) -> MaxString {
         Err(Error::Utf8) => string("Utf8"),
         Err(Error::Utf16) => string("Utf16"),
         Err(Error::OutOfBounds) => string("OutOfBounds"),
+    }
+}
+
+/// The same of a string that was made.
+pub(crate) fn told_made<const N: usize>(made: &Result<ArrayString<N>, Error>) -> MaxString {
+    match made {
+        Ok(made) => string(made.as_str()),
+        Err(why) => told(Err(*why)),
     }
 }
 

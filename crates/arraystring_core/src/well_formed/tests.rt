@@ -16,25 +16,21 @@ fn as_std(rt: &impl Abort, bytes: &[u8; 160], len: usize)
     agree(rt, "the bytes", ours.ok(), str::from_utf8(given).ok());
 }
 
-/// Asserts it of sizes below 140 with a `pair` of bytes at each place among letters. At the last
-/// place the text ends after the first of them.
-fn with_each_pair(rt: &impl Abort, pair: [u8; 2]) {
-    let mut bytes = [b'a'; 160];
-    for len in 0..140 {
-        for at in 0..len {
-            bytes[at] = pair[0];
-            bytes[at + 1] = pair[1];
-            as_std(rt, &bytes, len);
-            bytes[at] = b'a';
-            bytes[at + 1] = b'a';
-        }
-        as_std(rt, &bytes, len);
-    }
-}
-
+/// Sizes below 140 with a pair of bytes at each place among letters. At the last place the text ends
+/// after the first of them.
 #[test]
 fn reads_what_std_reads(rt: HostRuntime) {
-    with_each_pair(&rt, [0x80, b'a']);
-    with_each_pair(&rt, [0xc3, 0xa9]);
-    with_each_pair(&rt, [0xc0, 0x80]);
+    let mut bytes = [b'a'; 160];
+    for pair in [[0x80, b'a'], [0xc3, 0xa9], [0xc0, 0x80]] {
+        for len in 0..140 {
+            for at in 0..len {
+                bytes[at] = pair[0];
+                bytes[at + 1] = pair[1];
+                as_std(&rt, &bytes, len);
+                bytes[at] = b'a';
+                bytes[at + 1] = b'a';
+            }
+            as_std(&rt, &bytes, len);
+        }
+    }
 }
