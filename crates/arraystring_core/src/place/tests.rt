@@ -17,7 +17,7 @@ fn both(text: &str) -> [ArrayString<8>; 2] {
 
 /// Makes the calls of a table on a string whose text begins at offset 2, and on one that was
 /// built anew from the same text, and asserts that each returns and leaves what its row says.
-fn hold_wherever_it_begins(rt: &impl Abort, table: &str) {
+fn hold_wherever_it_begins(rt: &(impl Abort + AllocGlobal), table: &str) {
     let [mut behind, mut anew] = both("");
     for row in rows(table) {
         if !column(row, 0).is_empty() {

@@ -50,6 +50,19 @@ fn letters(count: &str) -> Option<&str> {
     LETTERS.get(..count)
 }
 
+/// Which of some names the call of a row has, from 0; past them all where it is none of them.
+pub(crate) fn order_of(row: &str, names: &str) -> usize {
+    let call = column(row, 1);
+    let mut order: usize = 0;
+    for name in names.split(' ') {
+        if name == call {
+            return order;
+        }
+        order = order.saturating_add(1);
+    }
+    order
+}
+
 /// The number in a column.
 pub(crate) fn number(rt: &impl Abort, row: &str, at: usize) -> u8 {
     column(row, at).parse().expect(rt, "a number in the column")
@@ -66,6 +79,23 @@ pub(crate) fn character(rt: &impl Abort, row: &str, at: usize) -> char {
 /// much as a call.
 pub(crate) fn agree<T: PartialEq + Debug + Drop>(rt: &impl Abort, case: &str, gave: T, wanted: T) {
     assert_eq!(rt; gave, wanted, "{case}");
+}
+
+/// Asserts that a call returned what the row of a table says: a text or a character itself, `ok` for
+/// nothing, a refusal by its name, and all else as `{:?}` writes it.
+pub(crate) fn returned<T: Debug + Drop>(rt: &(impl Abort + AllocGlobal), row: &str, answer: T) {
+    let written = format!(in rt.alloc(); "{answer:?}").expect(rt, "memory for what is printed");
+    let written = written.as_str();
+    let name = written
+        .trim_start_matches("Err(")
+        .trim_start_matches("Error::")
+        .trim_end_matches(')');
+    let in_quotes = written.split('"').nth(1).or(written.split('\'').nth(1));
+    let wanted = column(row, 4);
+    match written {
+        "()" | "Ok(())" => agree(rt, row, "ok", wanted),
+        _ => agree(rt, row, in_quotes.unwrap_or(name), wanted),
+    }
 }
 
 /// What was returned as it is written in a table: a text itself, a refusal by its name.
