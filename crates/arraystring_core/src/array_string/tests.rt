@@ -92,11 +92,12 @@ fn many_calls_add_up(rt: HostRuntime) {
     agree(&rt, "A🤔", (steps.looked(), steps.moved()), (5, 0));
     let mut most: ArrayString<300> = ArrayString::default();
     for count in 0..255u8 {
-        agree(&rt, "a size", most.len(), count);
-        agree(&rt, "a letter", most.try_push('x'), Ok(()));
+        let size = most.len();
+        agree(&rt, "a letter", (size, most.try_push('x')), (count, Ok(())));
     }
-    agree(&rt, "one too many", most.try_push('x'), Err(OutOfBounds));
-    agree(&rt, "the size", most.len(), 255);
+    let answer = most.try_push('x');
+    let wanted = (Err(OutOfBounds), 255);
+    agree(&rt, "one too many", (answer, most.len()), wanted);
 }
 
 #[test]

@@ -28,11 +28,10 @@ use std::process::Abort;
 /// Makes the calls of a table in blocks. The line over a block is `# 8: what it shows`, where 8 is
 /// the capacity.
 pub(crate) fn hold_each(rt: &(impl Abort + AllocGlobal), table: &str) {
-    let blocks = table.trim().strip_prefix("# ").expect(rt, "a heading");
-    for block in blocks.split("# ") {
-        let (capacity, block) = block.split_once(':').expect(rt, "a capacity");
-        let (_, rows) = block.split_once('\n').expect(rt, "a row");
-        match capacity.parse::<u16>().expect(rt, "digits") {
+    for block in table.split('#') {
+        let (heading, rows) = block.split_once('\n').unwrap_or_default();
+        let capacity = heading.split(':').next().unwrap_or_default();
+        match capacity.trim().parse().unwrap_or(u16::MAX) {
             0 => hold::<0>(rt, rows),
             1 => hold::<1>(rt, rows),
             3 => hold::<3>(rt, rows),
@@ -45,7 +44,7 @@ pub(crate) fn hold_each(rt: &(impl Abort + AllocGlobal), table: &str) {
             32 => hold::<32>(rt, rows),
             255 => hold::<255>(rt, rows),
             300 => hold::<300>(rt, rows),
-            _ => agree(rt, capacity, "no such capacity", ""),
+            _ => agree(rt, "rows of no such capacity", block.trim(), ""),
         }
     }
 }
@@ -109,7 +108,8 @@ fn quiet<R: Abort + AllocGlobal, const N: usize>(
     let given = column(row, 3);
     match order_of(
         row,
-        "push_str extend_chars extend_strs trim trim_spaces clear retain_without make_ascii_uppercase make_ascii_lowercase len capacity",
+        "push_str extend_chars extend_strs trim trim_spaces clear retain_without \
+        make_ascii_uppercase make_ascii_lowercase len capacity",
     ) {
         0 => text.push_str(given),
         1 => text.extend_chars(given.chars()),
@@ -223,10 +223,10 @@ fn unchecked<R: Abort + AllocGlobal, const N: usize>(
         row,
         "push_unchecked push_str_unchecked insert_unchecked insert_str_unchecked",
     ) {
-        0 => pushed(text, character(rt, row, 3)),
-        1 => pushed_str(text, given),
-        2 => put_in(text, number(rt, row, 2), character(rt, row, 3)),
-        3 => put_str_in(text, number(rt, row, 2), given),
+        0 => put(text, None, character(rt, row, 3)),
+        1 => put_str(text, None, given),
+        2 => put(text, Some(number(rt, row, 2)), character(rt, row, 3)),
+        3 => put_str(text, Some(number(rt, row, 2)), given),
         _ => return false,
     };
     if was_made {
@@ -237,32 +237,17 @@ fn unchecked<R: Abort + AllocGlobal, const N: usize>(
     true
 }
 
-/// Adds `ch` by `push_unchecked`, where it fits.
-fn pushed<const N: usize>(text: &mut ArrayString<N>, ch: char) -> bool {
+/// Adds `ch` by `push_unchecked`, or puts it before an index by `insert_unchecked`, where the
+/// conditions hold.
+fn put<const N: usize>(text: &mut ArrayString<N>, index: Option<u8>, ch: char) -> bool {
     let size = text.len() as usize + ch.len_utf8();
     if size > ArrayString::<N>::capacity() as usize {
         return false;
     }
-    text.push_unchecked(ch);
-    true
-}
-
-/// Adds `given` by `push_str_unchecked`, where it fits.
-fn pushed_str<const N: usize>(text: &mut ArrayString<N>, given: &str) -> bool {
-    let size = text.len() as usize + given.len();
-    if size > ArrayString::<N>::capacity() as usize {
-        return false;
-    }
-    text.push_str_unchecked(given);
-    true
-}
-
-/// Puts `ch` before the index by `insert_unchecked`, where its conditions hold.
-fn put_in<const N: usize>(text: &mut ArrayString<N>, index: u8, ch: char) -> bool {
-    let size = text.len() as usize + ch.len_utf8();
-    if size > ArrayString::<N>::capacity() as usize {
-        return false;
-    }
+    let Some(index) = index else {
+        text.push_unchecked(ch);
+        return true;
+    };
     let Ok(()) = is_char_boundary(text, index) else {
         return false;
     };
@@ -270,12 +255,17 @@ fn put_in<const N: usize>(text: &mut ArrayString<N>, index: u8, ch: char) -> boo
     true
 }
 
-/// Puts `given` before the index by `insert_str_unchecked`, where its conditions hold.
-fn put_str_in<const N: usize>(text: &mut ArrayString<N>, index: u8, given: &str) -> bool {
+/// Adds `given` by `push_str_unchecked`, or puts it before an index by `insert_str_unchecked`, where
+/// the conditions hold.
+fn put_str<const N: usize>(text: &mut ArrayString<N>, index: Option<u8>, given: &str) -> bool {
     let size = text.len() as usize + given.len();
     if size > ArrayString::<N>::capacity() as usize {
         return false;
     }
+    let Some(index) = index else {
+        text.push_str_unchecked(given);
+        return true;
+    };
     let Ok(()) = is_char_boundary(text, index) else {
         return false;
     };
@@ -290,28 +280,32 @@ fn counted<R: Abort + AllocGlobal, const N: usize>(
     row: &str,
 ) -> bool {
     let given = column(row, 3);
-    let mut steps = Steps::new();
-    let mut count = steps.moved();
-    match order_of(
+    let call = order_of(
         row,
         "pop_counted trim_counted remove_counted try_insert_str_counted",
-    ) {
+    );
+    if call > 3 {
+        return false;
+    }
+    let mut steps = Steps::new();
+    let mut moved = number(rt, row, 6) as u64;
+    match call {
         0 => {
             returned(rt, row, text.pop_counted(&mut steps));
-            count = steps.looked();
+            agree(rt, row, steps.looked(), moved);
+            moved = 0;
         }
         1 => returned(rt, row, text.trim_counted(&mut steps)),
         2 => {
             let answer = text.remove_counted(number(rt, row, 2), &mut steps);
             returned(rt, row, answer);
         }
-        3 => {
+        _ => {
             let answer = text.try_insert_str_counted(number(rt, row, 2), given, &mut steps);
             returned(rt, row, answer);
         }
-        _ => return false,
     }
-    agree(rt, row, count + steps.moved(), number(rt, row, 6) as u64);
+    agree(rt, row, steps.moved(), moved);
     true
 }
 

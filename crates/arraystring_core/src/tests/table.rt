@@ -1,9 +1,9 @@
 //! Tables of cases: a line of a text is a case, and `|` is between its columns. However many lines a
 //! table has, the test that walks over it is proved once.
 use super::{MaxString, string};
-use arraystring_base::error::{Error, OutOfBounds, Utf8};
+use arraystring_base::error::Error;
 use std::cmp::Ordering;
-use std::fmt::{self, Debug};
+use std::fmt::Debug;
 use std::hash::{DefaultHasher, Hash, Hasher};
 use std::process::Abort;
 use std::str::Lines;
@@ -36,18 +36,12 @@ pub(crate) fn column(row: &str, at: usize) -> &str {
     if let Some(rest) = column.strip_prefix('\'') {
         return rest.strip_suffix('\'').unwrap_or(column);
     }
-    match column.strip_suffix(" x") {
-        Some(count) => letters(count).unwrap_or(column),
-        None => column,
-    }
-}
-
-/// As many letters as the digits say.
-fn letters(count: &str) -> Option<&str> {
-    let Ok(count) = count.parse::<usize>() else {
-        return None;
+    let Some(count) = column.strip_suffix(" x") else {
+        return column;
     };
-    LETTERS.get(..count)
+    LETTERS
+        .get(..count.parse().unwrap_or(usize::MAX))
+        .unwrap_or(column)
 }
 
 /// Which of some names the call of a row has, from 0; past them all where it is none of them.
@@ -86,15 +80,15 @@ pub(crate) fn agree<T: PartialEq + Debug + Drop>(rt: &impl Abort, case: &str, ga
 pub(crate) fn returned<T: Debug + Drop>(rt: &(impl Abort + AllocGlobal), row: &str, answer: T) {
     let written = format!(in rt.alloc(); "{answer:?}").expect(rt, "memory for what is printed");
     let written = written.as_str();
-    let name = written
-        .trim_start_matches("Err(")
-        .trim_start_matches("Error::")
-        .trim_end_matches(')');
+    let name = written.trim_end_matches(')');
+    let name = name.rsplit('(').next().unwrap_or(name);
+    let name = name.rsplit(':').next().unwrap_or(name);
     let in_quotes = written.split('"').nth(1).or(written.split('\'').nth(1));
     let wanted = column(row, 4);
-    match written {
-        "()" | "Ok(())" => agree(rt, row, "ok", wanted),
-        _ => agree(rt, row, in_quotes.unwrap_or(name), wanted),
+    if name.is_empty() {
+        agree(rt, row, "ok", wanted);
+    } else {
+        agree(rt, row, in_quotes.unwrap_or(name), wanted);
     }
 }
 
@@ -108,22 +102,6 @@ pub(crate) fn told(answer: Result<&str, Error>) -> MaxString {
     }
 }
 
-/// The same of a call that gives nothing back.
-pub(crate) fn told_done(answer: Result<(), Error>) -> MaxString {
-    match answer {
-        Ok(()) => string("ok"),
-        Err(why) => told(Err(why)),
-    }
-}
-
-/// The same of a call that can only want room.
-pub(crate) fn told_room(answer: Result<(), OutOfBounds>) -> MaxString {
-    match answer {
-        Ok(()) => string("ok"),
-        Err(OutOfBounds) => string("OutOfBounds"),
-    }
-}
-
 /// The same of a character.
 pub(crate) fn told_character(answer: Result<char, Error>) -> MaxString {
     match answer {
@@ -132,27 +110,11 @@ pub(crate) fn told_character(answer: Result<char, Error>) -> MaxString {
     }
 }
 
-/// The same of a call that writes.
-pub(crate) fn told_written(answer: fmt::Result) -> MaxString {
-    match answer {
-        Ok(()) => string("ok"),
-        Err(_) => string("Error"),
-    }
-}
-
 /// The same of a character that may not be there.
 pub(crate) fn told_next(answer: Option<char>) -> MaxString {
     match answer {
         Some(ch) => told_character(Ok(ch)),
         None => string("None"),
-    }
-}
-
-/// The same of a call that asks for a boundary.
-pub(crate) fn told_utf8(answer: Result<(), Utf8>) -> MaxString {
-    match answer {
-        Ok(()) => string("ok"),
-        Err(Utf8) => string("Utf8"),
     }
 }
 

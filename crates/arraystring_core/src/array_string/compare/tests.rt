@@ -44,6 +44,6 @@ fn texts_are_printed_and_written(rt: HostRuntime) {
     displays(&rt, &full, MANY_LETTERS);
     let mut three: ArrayString<3> = ArrayString::new();
     let written = write!(three, "{}{}", "ab", "cd");
-    agree(&rt, "ab and cd", written.is_err(), true);
-    agree(&rt, "the text", three.as_str(), "ab");
+    let told = (written.is_err(), three.as_str());
+    agree(&rt, "ab and cd", told, (true, "ab"));
 }
