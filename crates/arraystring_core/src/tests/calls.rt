@@ -12,8 +12,8 @@
 //! many bytes any other call that counts moved.
 //!
 //! A range is written as in Rust, or as two bounds in brackets: `(` and `)` exclude an index, `[`
-//! and `]` include it. With `untold` after it, it is of a type that does not tell its bounds, and
-//! `walked` is an inclusive range that was iterated to its end.
+//! and `]` include it. With `~` before them, it is of a type that does not tell its bounds, and
+//! `walked` is an inclusive range that was iterated to its end. `slice` has no row with `..=`.
 ghost use Rattle.std.specs.Prelude.{◌≤◌};
 
 use super::table::{agree, character, column, hash_of, number, order_of, returned, rows};
@@ -56,10 +56,12 @@ pub(crate) fn hold<const N: usize>(rt: &(impl Abort + AllocGlobal), table: &str)
 {
     let mut text = ArrayString::<N>::default();
     for row in rows(table) {
-        match column(row, 0) {
-            "" => {}
-            "new" => text = ArrayString::new(),
-            before => text = string(before),
+        let before = column(row, 0);
+        if !before.is_empty() {
+            text = string(before);
+        }
+        if before == "new" {
+            text.clear();
         }
         holds(rt, &mut text, row);
     }
@@ -76,7 +78,6 @@ pub(crate) fn holds<R: Abort + AllocGlobal, const N: usize>(
     let was_made = quiet(rt, text, row)
         || at_the_end(rt, text, row)
         || compared(rt, text, row)
-        || unchecked(rt, text, row)
         || counted(rt, text, row)
         || at_index(rt, text, row)
         || in_range(rt, text, row);
@@ -106,11 +107,12 @@ fn quiet<R: Abort + AllocGlobal, const N: usize>(
     row: &str,
 ) -> bool {
     let given = column(row, 3);
-    match order_of(
+    let call = order_of(
         row,
         "push_str extend_chars extend_strs trim trim_spaces clear retain_without \
         make_ascii_uppercase make_ascii_lowercase len capacity",
-    ) {
+    );
+    match call {
         0 => text.push_str(given),
         1 => text.extend_chars(given.chars()),
         2 => text.extend_strs(given.split(',')),
@@ -122,8 +124,11 @@ fn quiet<R: Abort + AllocGlobal, const N: usize>(
         }
         7 => text.make_ascii_uppercase(),
         8 => text.make_ascii_lowercase(),
-        9 => agree(rt, row, text.len(), number(rt, row, 6)),
-        10 => agree(rt, row, ArrayString::<N>::capacity(), number(rt, row, 6)),
+        9 | 10 => {
+            let capacity = ArrayString::<N>::capacity();
+            let told = if call == 9 { text.len() } else { capacity };
+            agree(rt, row, told, number(rt, row, 6));
+        }
         _ => return false,
     }
     returned(rt, row, ());
@@ -139,19 +144,22 @@ fn at_the_end<R: Abort + AllocGlobal, const N: usize>(
     let given = column(row, 3);
     match order_of(
         row,
-        "try_push try_push_str write_str pop add clone as_bytes retain_in_turn",
+        "try_push try_push_str write_str pop push_unchecked push_str_unchecked add clone as_bytes \
+        retain_in_turn",
     ) {
         0 => returned(rt, row, text.try_push(character(rt, row, 3))),
         1 => returned(rt, row, text.try_push_str(given)),
         2 => returned(rt, row, text.write_str(given)),
         3 => returned(rt, row, text.pop()),
-        4 => returned(rt, row, *text + given),
-        5 => {
+        4 => returned(rt, row, put(text, None, character(rt, row, 3))),
+        5 => returned(rt, row, put_str(text, None, given)),
+        6 => returned(rt, row, *text + given),
+        7 => {
             let copy: Result<_, _> = text.clone();
             returned(rt, row, copy);
         }
-        6 => has_bytes(rt, row, text.as_bytes()),
-        7 => returned(rt, row, retained(text, given, "")),
+        8 => has_bytes(rt, row, text.as_bytes()),
+        9 => returned(rt, row, retained(text, given, "")),
         _ => return false,
     }
     true
@@ -212,65 +220,44 @@ fn compared<R: Abort + AllocGlobal, const N: usize>(
     true
 }
 
-/// The calls whose conditions are not checked.
-fn unchecked<R: Abort + AllocGlobal, const N: usize>(
-    rt: &R,
-    text: &mut ArrayString<N>,
-    row: &str,
-) -> bool {
-    let given = column(row, 3);
-    let was_made = match order_of(
-        row,
-        "push_unchecked push_str_unchecked insert_unchecked insert_str_unchecked",
-    ) {
-        0 => put(text, None, character(rt, row, 3)),
-        1 => put_str(text, None, given),
-        2 => put(text, Some(number(rt, row, 2)), character(rt, row, 3)),
-        3 => put_str(text, Some(number(rt, row, 2)), given),
-        _ => return false,
-    };
-    if was_made {
-        returned(rt, row, ());
-    } else {
-        returned(rt, row, None::<&str>);
-    }
-    true
-}
-
 /// Adds `ch` by `push_unchecked`, or puts it before an index by `insert_unchecked`, where the
 /// conditions hold.
-fn put<const N: usize>(text: &mut ArrayString<N>, index: Option<u8>, ch: char) -> bool {
+fn put<const N: usize>(text: &mut ArrayString<N>, index: Option<u8>, ch: char) -> Option<()> {
     let size = text.len() as usize + ch.len_utf8();
     if size > ArrayString::<N>::capacity() as usize {
-        return false;
+        return None;
     }
     let Some(index) = index else {
         text.push_unchecked(ch);
-        return true;
+        return Some(());
     };
     let Ok(()) = is_char_boundary(text, index) else {
-        return false;
+        return None;
     };
     text.insert_unchecked(index, ch);
-    true
+    Some(())
 }
 
 /// Adds `given` by `push_str_unchecked`, or puts it before an index by `insert_str_unchecked`, where
 /// the conditions hold.
-fn put_str<const N: usize>(text: &mut ArrayString<N>, index: Option<u8>, given: &str) -> bool {
+fn put_str<const N: usize>(
+    text: &mut ArrayString<N>,
+    index: Option<u8>,
+    given: &str,
+) -> Option<()> {
     let size = text.len() as usize + given.len();
     if size > ArrayString::<N>::capacity() as usize {
-        return false;
+        return None;
     }
     let Some(index) = index else {
         text.push_str_unchecked(given);
-        return true;
+        return Some(());
     };
     let Ok(()) = is_char_boundary(text, index) else {
-        return false;
+        return None;
     };
     text.insert_str_unchecked(index, given);
-    true
+    Some(())
 }
 
 /// The calls that count, but those on a range.
@@ -323,7 +310,8 @@ fn at_index<R: Abort + AllocGlobal, const N: usize>(
     let given = column(row, 3);
     match order_of(
         row,
-        "try_insert insert_str try_insert_str remove truncate split_off is_char_boundary",
+        "try_insert insert_str try_insert_str remove truncate split_off is_char_boundary \
+        insert_unchecked insert_str_unchecked",
     ) {
         0 => returned(rt, row, text.try_insert(index, character(rt, row, 3))),
         1 => returned(rt, row, text.insert_str(index, given)),
@@ -332,6 +320,8 @@ fn at_index<R: Abort + AllocGlobal, const N: usize>(
         4 => returned(rt, row, text.truncate(index)),
         5 => returned(rt, row, text.split_off(index)),
         6 => returned(rt, row, is_char_boundary(text, index)),
+        7 => returned(rt, row, put(text, Some(index), character(rt, row, 3))),
+        8 => returned(rt, row, put_str(text, Some(index), given)),
         _ => return false,
     }
     true
@@ -346,17 +336,18 @@ fn in_range<R: Abort + AllocGlobal, const N: usize>(
     requires { N ≤ 300 }
 {
     let given = column(row, 2);
-    if given == "walked" {
+    let sign = given.chars().next().unwrap_or(' ');
+    if sign == 'w' {
         return of_range(rt, text, row, walked());
     }
     let (start, end) = given.split_once("..").expect(rt, "a range in the column");
-    if start.starts_with('(') || start.starts_with('[') {
-        let first = bound(rt, start);
-        let last = bound(rt, end.trim_end_matches(" untold"));
-        if end.ends_with('d') {
+    let call = order_of(row, "slice make_ascii_uppercase_in make_ascii_lowercase_in");
+    if sign == '~' || sign == '(' || sign == '[' {
+        let (first, last) = (bound(rt, start), bound(rt, end));
+        if sign == '~' {
             return of_range(rt, text, row, Untold { first, last });
         }
-        if column(row, 1) != "slice" {
+        if call != 0 {
             return of_range(rt, text, row, (first, last));
         }
         match text.get((first, last)) {
@@ -365,27 +356,27 @@ fn in_range<R: Abort + AllocGlobal, const N: usize>(
         }
         return true;
     }
-    part(rt, text, row, start, end) || in_rust_range(rt, text, row, start, end)
+    if call > 2 {
+        return in_rust_range(rt, text, row, start, end);
+    }
+    part(rt, text, row, call, start, end);
+    true
 }
 
-/// The calls that want a part of the text, on a range of Rust: they are made where `get` finds one.
+/// The calls that want a part of the text, on a range of Rust: `slice`, and for 1 and 2 those that
+/// turn letters to upper case and to lower case. They are made where `get` finds a part.
 fn part<R: Abort + AllocGlobal, const N: usize>(
     rt: &R,
     text: &mut ArrayString<N>,
     row: &str,
+    call: usize,
     start: &str,
     end: &str,
-) -> bool {
-    let call = order_of(row, "slice make_ascii_uppercase_in make_ascii_lowercase_in");
-    if call > 2 {
-        return false;
-    }
-    let first = place(rt, start);
-    let last = place(rt, end.trim_matches('='));
+) {
+    let (first, last) = (place(rt, start), place(rt, end));
     if end.is_empty() {
         if text.get(..).is_some() {
-            returned(rt, row, Some(text.slice(..)));
-            return true;
+            return returned(rt, row, Some(text.slice(..)));
         }
     } else if end.starts_with('=') {
         if text.get(first..=last).is_some() {
@@ -393,19 +384,17 @@ fn part<R: Abort + AllocGlobal, const N: usize>(
                 1 => text.make_ascii_uppercase_in(first..=last),
                 _ => text.make_ascii_lowercase_in(first..=last),
             }
-            returned(rt, row, ());
-            return true;
+            return returned(rt, row, ());
         }
     } else if text.get(first..last).is_some() {
         match call {
-            0 => returned(rt, row, Some(text.slice(first..last))),
-            1 => returned(rt, row, text.make_ascii_uppercase_in(first..last)),
-            _ => returned(rt, row, text.make_ascii_lowercase_in(first..last)),
+            0 => return returned(rt, row, Some(text.slice(first..last))),
+            1 => text.make_ascii_uppercase_in(first..last),
+            _ => text.make_ascii_lowercase_in(first..last),
         }
-        return true;
+        return returned(rt, row, ());
     }
     returned(rt, row, None::<&str>);
-    true
 }
 
 /// The calls on a range of Rust with these ends.
@@ -418,8 +407,7 @@ fn in_rust_range<R: Abort + AllocGlobal, const N: usize>(
 ) -> bool
     requires { N ≤ 300 }
 {
-    let first = place(rt, start);
-    let last = place(rt, end.trim_matches('='));
+    let (first, last) = (place(rt, start), place(rt, end));
     match (start.is_empty(), end.is_empty(), end.starts_with('=')) {
         (true, true, _) => of_range(rt, text, row, ..),
         (false, true, _) => of_range(rt, text, row, first..),
@@ -439,25 +427,25 @@ fn of_range<R: Abort + AllocGlobal, B: RangeBounds<u8> + Drop, const N: usize>(
 ) -> bool
     requires { N ≤ 300 }
 {
-    let given = column(row, 3);
     let mut steps = Steps::new();
-    match order_of(
+    let given = column(row, 3);
+    let call = order_of(
         row,
         "get drain replace_range drain_counted replace_range_counted",
-    ) {
+    );
+    match call {
         0 => returned(rt, row, text.get(range)),
         1 => returned(rt, row, text.drain(range)),
         2 => returned(rt, row, text.replace_range(range, given)),
-        3 => {
-            returned(rt, row, text.drain_counted(range, &mut steps));
-            agree(rt, row, steps.moved(), number(rt, row, 6) as u64);
-        }
+        3 => returned(rt, row, text.drain_counted(range, &mut steps)),
         4 => {
             let answer = text.replace_range_counted(range, given, &mut steps);
             returned(rt, row, answer);
-            agree(rt, row, steps.moved(), number(rt, row, 6) as u64);
         }
         _ => return false,
+    }
+    if call > 2 {
+        agree(rt, row, steps.moved(), number(rt, row, 6) as u64);
     }
     true
 }
@@ -489,7 +477,8 @@ fn walked() -> RangeInclusive<u8> {
 }
 
 /// A place in a range, or any where none is written.
-fn place(rt: &impl Abort, digits: &str) -> u8 {
+fn place(rt: &impl Abort, written: &str) -> u8 {
+    let digits = written.trim_start_matches('=');
     if digits.is_empty() {
         return 0;
     }
@@ -498,6 +487,7 @@ fn place(rt: &impl Abort, digits: &str) -> u8 {
 
 /// The bound that is written with its bracket, as `[3` or `3)`.
 fn bound(rt: &impl Abort, written: &str) -> Bound<u8> {
+    let written = written.trim_start_matches('~');
     let excluded = written.trim_matches('(').trim_matches(')');
     if excluded.is_empty() {
         return Bound::Unbounded;

@@ -137,26 +137,26 @@ fn ranges(rt: HostRuntime) {
             | drain                   | ..    |   |             |
             | drain                   | ..=0  |   | OutOfBounds |
         # 23: bounds that a range does not tell
-        ABCD🤔 | get                   | [1..3) untold |    | BC          | ABCD🤔
-              | drain                 | [1..3) untold |    | BC          | AD🤔
-        ABCD🤔 | replace_range         | [1..3) untold | x  | ok          | AxD🤔
-        ABCD🤔 | get                   | (0..2] untold |    | BC          | ABCD🤔
-              | drain                 | (0..2] untold |    | BC          | AD🤔
-        ABCD🤔 | replace_range         | (0..2] untold | x  | ok          | AxD🤔
-        ABCD🤔 | get                   | [4..) untold  |    | 🤔           | ABCD🤔
-              | drain                 | [4..) untold  |    | 🤔           | ABCD
-        ABCD🤔 | replace_range         | [4..) untold  | x  | ok          | ABCDx
-        ABCD🤔 | get                   | (..0] untold  |    | A           | ABCD🤔
-              | drain                 | (..0] untold  |    | A           | BCD🤔
-        ABCD🤔 | replace_range         | (..0] untold  | x  | ok          | xBCD🤔
-        ABCD🤔 | get                   | [5..) untold  |    | None        | ABCD🤔
-              | drain                 | [5..) untold  |    | Utf8        | ABCD🤔
-              | replace_range         | [5..) untold  | x  | Utf8        | ABCD🤔
-        ABCD🤔 | get                   | [3..2) untold |    | None        | ABCD🤔
-              | drain                 | [3..2) untold |    | OutOfBounds | ABCD🤔
-              | replace_range         | [3..2) untold | x  | OutOfBounds | ABCD🤔
-        ABCD🤔 | drain_counted         | [1..2] untold |    | BC          | AD🤔      | 5
-              | replace_range_counted | [1..2] untold |    | Utf8        | AD🤔      | 0
+        ABCD🤔 | get                   | ~[1..3)       |    | BC          | ABCD🤔
+              | drain                 | ~[1..3)       |    | BC          | AD🤔
+        ABCD🤔 | replace_range         | ~[1..3)       | x  | ok          | AxD🤔
+        ABCD🤔 | get                   | ~(0..2]       |    | BC          | ABCD🤔
+              | drain                 | ~(0..2]       |    | BC          | AD🤔
+        ABCD🤔 | replace_range         | ~(0..2]       | x  | ok          | AxD🤔
+        ABCD🤔 | get                   | ~[4..)        |    | 🤔           | ABCD🤔
+              | drain                 | ~[4..)        |    | 🤔           | ABCD
+        ABCD🤔 | replace_range         | ~[4..)        | x  | ok          | ABCDx
+        ABCD🤔 | get                   | ~(..0]        |    | A           | ABCD🤔
+              | drain                 | ~(..0]        |    | A           | BCD🤔
+        ABCD🤔 | replace_range         | ~(..0]        | x  | ok          | xBCD🤔
+        ABCD🤔 | get                   | ~[5..)        |    | None        | ABCD🤔
+              | drain                 | ~[5..)        |    | Utf8        | ABCD🤔
+              | replace_range         | ~[5..)        | x  | Utf8        | ABCD🤔
+        ABCD🤔 | get                   | ~[3..2)       |    | None        | ABCD🤔
+              | drain                 | ~[3..2)       |    | OutOfBounds | ABCD🤔
+              | replace_range         | ~[3..2)       | x  | OutOfBounds | ABCD🤔
+        ABCD🤔 | drain_counted         | ~[1..2]       |    | BC          | AD🤔      | 5
+              | replace_range_counted | ~[1..2]       |    | Utf8        | AD🤔      | 0
         ABCD🤔 | get                   | walked        |    |             | ABCD🤔
               | drain                 | walked        |    |             | ABCD🤔
               | drain_counted         | walked        |    |             | ABCD🤔    | 0
