@@ -56,12 +56,10 @@ pub(crate) fn hold<const N: usize>(rt: &(impl Abort + AllocGlobal), table: &str)
 {
     let mut text = ArrayString::<N>::default();
     for row in rows(table) {
-        let before = column(row, 0);
-        if !before.is_empty() {
-            text = string(before);
-        }
-        if before == "new" {
-            text.clear();
+        match column(row, 0) {
+            "" => {}
+            "new" => text = ArrayString::new(),
+            before => text = string(before),
         }
         holds(rt, &mut text, row);
     }

@@ -82,13 +82,12 @@ pub(crate) fn returned<T: Debug + Drop>(rt: &(impl Abort + AllocGlobal), row: &s
     let written = written.as_str();
     let name = written.trim_end_matches(')');
     let name = name.rsplit('(').next().unwrap_or(name);
-    let name = name.rsplit(':').next().unwrap_or(name);
-    let in_quotes = written.split('"').nth(1).or(written.split('\'').nth(1));
+    let name = name.trim_start_matches("Error::").trim_matches('\'');
     let wanted = column(row, 4);
     if name.is_empty() {
         agree(rt, row, "ok", wanted);
     } else {
-        agree(rt, row, in_quotes.unwrap_or(name), wanted);
+        agree(rt, row, name.split('"').nth(1).unwrap_or(name), wanted);
     }
 }
 

@@ -2,7 +2,6 @@
 use crate::tests::calls::{hold_each, holds};
 use crate::tests::table::agree;
 use crate::tests::{MaxString, string};
-use std::process::Abort;
 
 /// Each character with the property White_Space, in the order of the Unicode Standard's list.
 const WHITE_SPACE: &str = "\u{9}\u{A}\u{B}\u{C}\u{D}\u{20}\u{85}\u{A0}\u{1680}\
@@ -61,10 +60,12 @@ fn trimmed_texts(rt: HostRuntime) {
     );
 }
 
-/// Asserts whether each of some characters is trimmed from `a`: after it, before it, and on both
-/// sides. `trim_spaces` trims the space alone.
-fn trimmed_from_a(rt: &impl Abort, ends: &str, is_trimmed: bool) {
-    for end in ends.chars() {
+/// Each character is after `a`, before it, and on both sides. `trim_spaces` trims the space alone.
+#[test]
+fn each_white_space_is_trimmed_and_nothing_beside_it(rt: HostRuntime) {
+    let counts = (WHITE_SPACE.chars().count(), BESIDE.chars().count());
+    agree(&rt, "white space, and beside it", counts, (25, 20));
+    for end in WHITE_SPACE.chars().chain(BESIDE.chars()) {
         for (is_before, is_after) in [(true, false), (false, true), (true, true)] {
             let mut text = MaxString::new();
             if is_before {
@@ -79,19 +80,12 @@ fn trimmed_from_a(rt: &impl Abort, ends: &str, is_trimmed: bool) {
             without_spaces.trim_spaces();
             let left = (trimmed.as_str(), without_spaces.as_str());
             let text = text.as_str();
+            let is_trimmed = WHITE_SPACE.contains(end);
             let wanted = if is_trimmed { "a" } else { text };
             let without_spaces = if end == ' ' { "a" } else { text };
-            agree(rt, text, left, (wanted, without_spaces));
+            agree(&rt, text, left, (wanted, without_spaces));
         }
     }
-}
-
-#[test]
-fn each_white_space_is_trimmed_and_nothing_beside_it(rt: HostRuntime) {
-    let counts = (WHITE_SPACE.chars().count(), BESIDE.chars().count());
-    agree(&rt, "white space, and beside it", counts, (25, 20));
-    trimmed_from_a(&rt, WHITE_SPACE, true);
-    trimmed_from_a(&rt, BESIDE, false);
     let mut line: MaxString = string(" a  b\n");
     holds(&rt, &mut line, " | trim_spaces | | | ok | 'a  b\n'");
     line = string(" a  b\n");
