@@ -17,7 +17,7 @@ fn behind(text: &str) -> ArrayString<8> {
 
 /// Makes the calls of a table on a string that was built anew from the text of its row, and on one
 /// whose text begins at offset 2, and asserts that each returns and leaves what its row says.
-fn hold_wherever_it_begins(rt: &impl Abort, table: &str) {
+fn hold_wherever_it_begins(rt: &(impl Abort + AllocGlobal), table: &str) {
     hold::<8>(rt, table);
     let mut text = behind("");
     for row in rows(table) {

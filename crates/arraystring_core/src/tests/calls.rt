@@ -12,471 +12,456 @@
 //! many bytes any other call that counts moved.
 //!
 //! A range is written as in Rust, or as two bounds in brackets: `(` and `)` exclude an index, `[`
-//! and `]` include it. With `untold` after it, it is of a type that does not tell its bounds, and
-//! `walked` is an inclusive range that was iterated to its end.
+//! and `]` include it. With `~` before them, it is of a type that does not tell its bounds, and
+//! `walked` is an inclusive range that was iterated to its end. `slice` has no row with `..=`.
 ghost use Rattle.std.specs.Prelude.{◌≤◌};
 
-use super::table::{
-    agree, character, column, hash_of, number, rows, told, told_character, told_done, told_next,
-    told_order, told_room, told_text, told_utf8, told_written,
-};
+use super::table::{agree, character, column, hash_of, number, order_of, returned, rows};
 use super::{MaxString, string};
+use crate::ArrayString;
 use crate::utils::is_char_boundary;
-use crate::{ArrayString, Drain};
-use arraystring_base::error::Error;
 use arraystring_base::utils::Steps;
 use std::fmt::Write;
 use std::ops::{Bound, RangeBounds, RangeInclusive};
 use std::process::Abort;
 
+/// Makes the calls of a table in blocks. The line over a block is `# 8: what it shows`, where 8 is
+/// the capacity.
+pub(crate) fn hold_each(rt: &(impl Abort + AllocGlobal), table: &str) {
+    for block in table.split('#') {
+        let (heading, rows) = block.split_once('\n').unwrap_or_default();
+        let capacity = heading.split(':').next().unwrap_or_default();
+        match capacity.trim().parse().unwrap_or(u16::MAX) {
+            0 => hold::<0>(rt, rows),
+            1 => hold::<1>(rt, rows),
+            3 => hold::<3>(rt, rows),
+            4 => hold::<4>(rt, rows),
+            5 => hold::<5>(rt, rows),
+            8 => hold::<8>(rt, rows),
+            9 => hold::<9>(rt, rows),
+            10 => hold::<10>(rt, rows),
+            23 => hold::<23>(rt, rows),
+            32 => hold::<32>(rt, rows),
+            255 => hold::<255>(rt, rows),
+            300 => hold::<300>(rt, rows),
+            _ => agree(rt, "rows of no such capacity", block.trim(), ""),
+        }
+    }
+}
+
 /// Makes the calls of a table on strings of one capacity, the first on a default string where its row
 /// says no other, and asserts what each returns and leaves.
-pub(crate) fn hold<const N: usize>(rt: &impl Abort, table: &str)
+pub(crate) fn hold<const N: usize>(rt: &(impl Abort + AllocGlobal), table: &str)
     requires { N ≤ 300 }
 {
     let mut text = ArrayString::<N>::default();
     for row in rows(table) {
-        if !column(row, 0).is_empty() {
-            text = string(text_of(row));
+        match column(row, 0) {
+            "" => {}
+            "new" => text = ArrayString::new(),
+            before => text = string(before),
         }
         holds(rt, &mut text, row);
     }
 }
 
 /// Makes the call of a row, and asserts what it returns and leaves.
-pub(crate) fn holds<R: Abort, const N: usize>(rt: &R, text: &mut ArrayString<N>, row: &str)
+pub(crate) fn holds<R: Abort + AllocGlobal, const N: usize>(
+    rt: &R,
+    text: &mut ArrayString<N>,
+    row: &str,
+)
     requires { N ≤ 300 }
 {
-    let answer = called(rt, text, row);
+    let was_made = quiet(rt, text, row)
+        || at_the_end(rt, text, row)
+        || compared(rt, text, row)
+        || counted(rt, text, row)
+        || at_index(rt, text, row)
+        || in_range(rt, text, row);
     let after = column(row, 5);
     agree(
         rt,
         row,
-        (answer.as_str(), text.as_str()),
-        (column(row, 4), after),
+        (
+            was_made,
+            (text.as_str(), text.as_bytes()),
+            (text.len() as usize, text.is_empty()),
+        ),
+        (
+            true,
+            (after, after.as_bytes()),
+            (after.len(), after.is_empty()),
+        ),
     );
-    agree(rt, row, text.as_bytes(), after.as_bytes());
-    agree(
-        rt,
-        row,
-        (text.len() as usize, text.is_empty()),
-        (after.len(), after.is_empty()),
-    );
 }
 
-/// The text before a call, which is empty in a new string.
-fn text_of(row: &str) -> &str {
-    match column(row, 0) {
-        "new" => "",
-        text => text,
-    }
-}
-
-/// Makes the call of a row.
-fn called<R: Abort, const N: usize>(rt: &R, text: &mut ArrayString<N>, row: &str) -> MaxString
-    requires { N ≤ 300 }
-{
-    if row.split('|').count() < 6 {
-        return string("a row of too few columns");
-    }
-    if let Some(answer) = at_the_end(rt, text, row) {
-        return answer;
-    }
-    if let Some(answer) = unchecked(rt, text, row) {
-        return answer;
-    }
-    if let Some(answer) = inserted(rt, text, row) {
-        return answer;
-    }
-    if let Some(answer) = removed(rt, text, row) {
-        return answer;
-    }
-    if let Some(answer) = asked(rt, text, row) {
-        return answer;
-    }
-    if added(text, column(row, 1), column(row, 3))
-        || changed(rt, text, row)
-        || told_number(rt, text, row)
-    {
-        return string("ok");
-    }
-    in_range(rt, text, row)
-}
-
-/// The calls at the end of the text.
-fn at_the_end<R: Abort, const N: usize>(
+/// The calls that return nothing, and the numbers of a string. Like each function below, it makes
+/// the call of a row, asserts what it returns, and tells whether it has such a call. The arms are in
+/// the order of the names: a number costs a proof less than a name does.
+fn quiet<R: Abort + AllocGlobal, const N: usize>(
     rt: &R,
     text: &mut ArrayString<N>,
     row: &str,
-) -> Option<MaxString> {
+) -> bool {
     let given = column(row, 3);
-    Some(match column(row, 1) {
-        "try_push" => told_room(text.try_push(character(rt, row, 3))),
-        "try_push_str" => told_room(text.try_push_str(given)),
-        "write_str" => told_written(text.write_str(given)),
-        "pop" => told_next(text.pop()),
-        "pop_counted" => pop_counted(rt, text, row),
-        _ => return None,
-    })
+    let call = order_of(
+        row,
+        "push_str extend_chars extend_strs trim trim_spaces clear retain_without \
+        make_ascii_uppercase make_ascii_lowercase len capacity",
+    );
+    match call {
+        0 => text.push_str(given),
+        1 => text.extend_chars(given.chars()),
+        2 => text.extend_strs(given.split(',')),
+        3 => text.trim(),
+        4 => text.trim_spaces(),
+        5 => text.clear(),
+        6 => {
+            let _ = retained(text, "", given);
+        }
+        7 => text.make_ascii_uppercase(),
+        8 => text.make_ascii_lowercase(),
+        9 | 10 => {
+            let capacity = ArrayString::<N>::capacity();
+            let told = if call == 9 { text.len() } else { capacity };
+            agree(rt, row, told, number(rt, row, 6));
+        }
+        _ => return false,
+    }
+    returned(rt, row, ());
+    true
 }
 
-/// Makes a call that counts what it looks at.
-fn pop_counted<R: Abort, const N: usize>(
+/// The calls at the end of the text, and those on all of it.
+fn at_the_end<R: Abort + AllocGlobal, const N: usize>(
     rt: &R,
     text: &mut ArrayString<N>,
     row: &str,
-) -> MaxString {
-    let mut steps = Steps::new();
-    let answer = text.pop_counted(&mut steps);
-    let counted = (steps.looked(), steps.moved());
-    agree(rt, row, counted, (number(rt, row, 6) as u64, 0));
-    told_next(answer)
-}
-
-/// Adds at the end what fits, and tells whether there is such a call.
-fn added<const N: usize>(text: &mut ArrayString<N>, call: &str, given: &str) -> bool {
-    match call {
-        "push_str" => text.push_str(given),
-        "extend_chars" => text.extend_chars(given.chars()),
-        "extend_strs" => text.extend_strs(given.split(',')),
+) -> bool {
+    let given = column(row, 3);
+    match order_of(
+        row,
+        "try_push try_push_str write_str pop push_unchecked push_str_unchecked add clone as_bytes \
+        retain_in_turn",
+    ) {
+        0 => returned(rt, row, text.try_push(character(rt, row, 3))),
+        1 => returned(rt, row, text.try_push_str(given)),
+        2 => returned(rt, row, text.write_str(given)),
+        3 => returned(rt, row, text.pop()),
+        4 => returned(rt, row, put(text, None, character(rt, row, 3))),
+        5 => returned(rt, row, put_str(text, None, given)),
+        6 => returned(rt, row, *text + given),
+        7 => {
+            let copy: Result<_, _> = text.clone();
+            returned(rt, row, copy);
+        }
+        8 => has_bytes(rt, row, text.as_bytes()),
+        9 => returned(rt, row, retained(text, given, "")),
         _ => return false,
     }
     true
 }
 
-/// The calls whose conditions are not checked.
-fn unchecked<R: Abort, const N: usize>(
-    rt: &R,
-    text: &mut ArrayString<N>,
-    row: &str,
-) -> Option<MaxString> {
-    let given = column(row, 3);
-    let was_made = match column(row, 1) {
-        "push_unchecked" => pushed(text, character(rt, row, 3)),
-        "push_str_unchecked" => pushed_str(text, given),
-        "insert_unchecked" => put_in(text, number(rt, row, 2), character(rt, row, 3)),
-        "insert_str_unchecked" => put_str_in(text, number(rt, row, 2), given),
-        _ => return None,
-    };
-    Some(string(if was_made { "ok" } else { "None" }))
-}
-
-/// Adds `ch` by `push_unchecked`, where it fits.
-fn pushed<const N: usize>(text: &mut ArrayString<N>, ch: char) -> bool {
-    let size = text.len() as usize + ch.len_utf8();
-    if size > ArrayString::<N>::capacity() as usize {
-        return false;
-    }
-    text.push_unchecked(ch);
-    true
-}
-
-/// Adds `given` by `push_str_unchecked`, where it fits.
-fn pushed_str<const N: usize>(text: &mut ArrayString<N>, given: &str) -> bool {
-    let size = text.len() as usize + given.len();
-    if size > ArrayString::<N>::capacity() as usize {
-        return false;
-    }
-    text.push_str_unchecked(given);
-    true
-}
-
-/// Puts `ch` before the index by `insert_unchecked`, where its conditions hold.
-fn put_in<const N: usize>(text: &mut ArrayString<N>, index: u8, ch: char) -> bool {
-    let size = text.len() as usize + ch.len_utf8();
-    if size > ArrayString::<N>::capacity() as usize {
-        return false;
-    }
-    let Ok(()) = is_char_boundary(text, index) else {
-        return false;
-    };
-    text.insert_unchecked(index, ch);
-    true
-}
-
-/// Puts `given` before the index by `insert_str_unchecked`, where its conditions hold.
-fn put_str_in<const N: usize>(text: &mut ArrayString<N>, index: u8, given: &str) -> bool {
-    let size = text.len() as usize + given.len();
-    if size > ArrayString::<N>::capacity() as usize {
-        return false;
-    }
-    let Ok(()) = is_char_boundary(text, index) else {
-        return false;
-    };
-    text.insert_str_unchecked(index, given);
-    true
-}
-
-/// The calls that insert.
-fn inserted<R: Abort, const N: usize>(
-    rt: &R,
-    text: &mut ArrayString<N>,
-    row: &str,
-) -> Option<MaxString> {
-    let given = column(row, 3);
-    Some(told_done(match column(row, 1) {
-        "try_insert" => text.try_insert(number(rt, row, 2), character(rt, row, 3)),
-        "insert_str" => text.insert_str(number(rt, row, 2), given),
-        "try_insert_str" => text.try_insert_str(number(rt, row, 2), given),
-        "try_insert_str_counted" => {
-            let mut steps = Steps::new();
-            let answer = text.try_insert_str_counted(number(rt, row, 2), given, &mut steps);
-            agree(rt, row, steps.moved(), number(rt, row, 6) as u64);
-            answer
-        }
-        _ => return None,
-    }))
-}
-
-/// The calls that remove at a place.
-fn removed<R: Abort, const N: usize>(
-    rt: &R,
-    text: &mut ArrayString<N>,
-    row: &str,
-) -> Option<MaxString>
-    requires { N ≤ 300 }
-{
-    Some(match column(row, 1) {
-        "remove" => told_character(text.remove(number(rt, row, 2))),
-        "remove_counted" => {
-            let mut steps = Steps::new();
-            let answer = text.remove_counted(number(rt, row, 2), &mut steps);
-            agree(rt, row, steps.moved(), number(rt, row, 6) as u64);
-            told_character(answer)
-        }
-        "truncate" => told_utf8(text.truncate(number(rt, row, 2))),
-        "split_off" => split(text, number(rt, row, 2)),
-        "retain_in_turn" => retain_in_turn(text, column(row, 3)),
-        _ => return None,
-    })
-}
-
-/// Keeps the characters at whose turn no `-` is given, and returns all that were asked about.
-fn retain_in_turn<const N: usize>(text: &mut ArrayString<N>, answers: &str) -> MaxString {
+/// Keeps the characters at whose turn no `-` is given and that are not among the dropped ones, and
+/// returns all that were asked about.
+fn retained<const N: usize>(text: &mut ArrayString<N>, answers: &str, dropped: &str) -> MaxString {
     let mut asked = MaxString::new();
     let mut answers = answers.chars();
     text.retain(|ch| {
-        asked.push_str(ch.encode_utf8(&mut [0; 4]));
-        answers.next() != Some('-')
+        let _ = asked.try_push(ch);
+        answers.next() != Some('-') && !dropped.contains(ch)
     });
     asked
 }
 
-/// The calls that leave the text as it was.
-fn asked<R: Abort, const N: usize>(rt: &R, text: &ArrayString<N>, row: &str) -> Option<MaxString>
-    requires { N ≤ 300 }
-{
-    let given = column(row, 3);
-    Some(match column(row, 1) {
-        "as_bytes" => has_bytes(rt, text.as_bytes(), given),
-        "is_char_boundary" => told_utf8(is_char_boundary(text, number(rt, row, 2))),
-        "cmp" => compared(rt, row, text),
-        "hash" => hashed(rt, row, text),
-        "add" => string((*text + given).as_str()),
-        "clone" => match text.clone() {
-            Ok(copy) => string(copy.as_str()),
-            Err(_) => string("Error"),
-        },
-        _ => return None,
-    })
-}
-
-/// `ok` where these are the bytes that the digits say.
-fn has_bytes(rt: &impl Abort, bytes: &[u8], digits: &str) -> MaxString {
-    let mut rest = bytes;
-    for byte in digits.split(' ') {
-        let byte = u8::from_str_radix(byte, 16).expect(rt, "two digits of a byte");
-        match rest.split_first() {
-            Some((first, later)) if *first == byte => rest = later,
-            _ => return string("other bytes"),
-        }
+/// Asserts that these are the bytes that the digits of a row say.
+fn has_bytes(rt: &(impl Abort + AllocGlobal), row: &str, bytes: &[u8]) {
+    let mut rest = bytes.iter();
+    for digits in column(row, 3).split(' ') {
+        let byte = u8::from_str_radix(digits, 16).expect(rt, "two digits of a byte");
+        agree(rt, row, rest.next(), Some(&byte));
     }
-    string(if rest.is_empty() { "ok" } else { "more bytes" })
+    agree(rt, row, rest.next(), None);
+    returned(rt, row, ());
 }
 
-/// The order of the string and of that which is given, which each comparison has to tell.
-fn compared<const N: usize>(rt: &impl Abort, row: &str, text: &ArrayString<N>) -> MaxString
-    requires { N ≤ 300 }
-{
-    let other = &ArrayString::from(column(row, 3));
-    let order = text.cmp(other);
-    agree(rt, row, text.partial_cmp(other), Some(order));
-    agree(rt, row, *text == *other, order.is_eq());
-    agree(rt, row, *text != *other, order.is_ne());
-    told_order(order)
-}
-
-/// `ok` where the hash is that of the string which is given and that of its text.
-fn hashed<const N: usize>(rt: &impl Abort, row: &str, text: &ArrayString<N>) -> MaxString
+/// The calls that compare the string with that which is given: each comparison has to tell their
+/// order, and each hash has to be that of the text.
+fn compared<R: Abort + AllocGlobal, const N: usize>(
+    rt: &R,
+    text: &ArrayString<N>,
+    row: &str,
+) -> bool
     requires { N ≤ 300 }
 {
     let other = &ArrayString::<N>::from(column(row, 3));
-    agree(rt, row, hash_of(text), hash_of(other));
-    agree(rt, row, hash_of(text), hash_of(&other.as_str()));
-    string("ok")
-}
-
-/// Asserts the number that a call returns, and tells whether there is such a call.
-fn told_number<R: Abort, const N: usize>(rt: &R, text: &ArrayString<N>, row: &str) -> bool {
-    let told = match column(row, 1) {
-        "len" => text.len(),
-        "capacity" => ArrayString::<N>::capacity(),
-        _ => return false,
-    };
-    agree(rt, row, told, number(rt, row, 6));
-    true
-}
-
-/// Makes a call that returns nothing, and whether there is such a call.
-fn changed<R: Abort, const N: usize>(rt: &R, text: &mut ArrayString<N>, row: &str) -> bool {
-    match column(row, 1) {
-        "trim" => text.trim(),
-        "trim_spaces" => text.trim_spaces(),
-        "trim_counted" => {
-            let mut steps = Steps::new();
-            text.trim_counted(&mut steps);
-            agree(rt, row, steps.moved(), number(rt, row, 6) as u64);
+    match order_of(row, "cmp hash") {
+        0 => {
+            let order = text.cmp(other);
+            let told = (text.partial_cmp(other), *text == *other, *text != *other);
+            agree(rt, row, told, (Some(order), order.is_eq(), order.is_ne()));
+            returned(rt, row, order);
         }
-        "clear" => text.clear(),
-        "retain_without" => retain_without(text, column(row, 3)),
-        "make_ascii_uppercase" => text.make_ascii_uppercase(),
-        "make_ascii_lowercase" => text.make_ascii_lowercase(),
+        1 => {
+            let hash = hash_of(text);
+            agree(
+                rt,
+                row,
+                (hash, hash),
+                (hash_of(other), hash_of(&other.as_str())),
+            );
+            returned(rt, row, ());
+        }
         _ => return false,
     }
     true
 }
 
-/// Keeps the characters that are not among those which are given, by `retain`.
-fn retain_without<const N: usize>(text: &mut ArrayString<N>, dropped: &str) {
-    text.retain(|ch| !dropped.contains(ch));
-}
-
-/// What `split_off` returns.
-fn split<const N: usize>(text: &mut ArrayString<N>, at: u8) -> MaxString
-    requires { N ≤ 300 }
-{
-    match text.split_off(at) {
-        Ok(rest) => string(rest.as_str()),
-        Err(why) => told(Err(why)),
+/// Adds `ch` by `push_unchecked`, or puts it before an index by `insert_unchecked`, where the
+/// conditions hold.
+fn put<const N: usize>(text: &mut ArrayString<N>, index: Option<u8>, ch: char) -> Option<()> {
+    let size = text.len() as usize + ch.len_utf8();
+    if size > ArrayString::<N>::capacity() as usize {
+        return None;
     }
+    let Some(index) = index else {
+        text.push_unchecked(ch);
+        return Some(());
+    };
+    let Ok(()) = is_char_boundary(text, index) else {
+        return None;
+    };
+    text.insert_unchecked(index, ch);
+    Some(())
 }
 
-/// The calls on a range.
-fn in_range<R: Abort, const N: usize>(rt: &R, text: &mut ArrayString<N>, row: &str) -> MaxString
-    requires { N ≤ 300 }
-{
-    let range = range_of(rt, row);
-    match column(row, 1) {
-        "slice" => told_text(sliced(text, range)),
-        "make_ascii_uppercase_in" => recased(text, range, true),
-        "make_ascii_lowercase_in" => recased(text, range, false),
-        _ => by_type(rt, text, row, range),
+/// Adds `given` by `push_str_unchecked`, or puts it before an index by `insert_str_unchecked`, where
+/// the conditions hold.
+fn put_str<const N: usize>(
+    text: &mut ArrayString<N>,
+    index: Option<u8>,
+    given: &str,
+) -> Option<()> {
+    let size = text.len() as usize + given.len();
+    if size > ArrayString::<N>::capacity() as usize {
+        return None;
     }
+    let Some(index) = index else {
+        text.push_str_unchecked(given);
+        return Some(());
+    };
+    let Ok(()) = is_char_boundary(text, index) else {
+        return None;
+    };
+    text.insert_str_unchecked(index, given);
+    Some(())
 }
 
-/// Makes the call of a row on a value of the range's own type.
-fn by_type<R: Abort, const N: usize>(
+/// The calls that count, but those on a range.
+fn counted<R: Abort + AllocGlobal, const N: usize>(
     rt: &R,
     text: &mut ArrayString<N>,
     row: &str,
-    range: Range,
-) -> MaxString
+) -> bool {
+    let given = column(row, 3);
+    let call = order_of(
+        row,
+        "pop_counted trim_counted remove_counted try_insert_str_counted",
+    );
+    if call > 3 {
+        return false;
+    }
+    let mut steps = Steps::new();
+    let mut moved = number(rt, row, 6) as u64;
+    match call {
+        0 => {
+            returned(rt, row, text.pop_counted(&mut steps));
+            agree(rt, row, steps.looked(), moved);
+            moved = 0;
+        }
+        1 => returned(rt, row, text.trim_counted(&mut steps)),
+        2 => {
+            let answer = text.remove_counted(number(rt, row, 2), &mut steps);
+            returned(rt, row, answer);
+        }
+        _ => {
+            let answer = text.try_insert_str_counted(number(rt, row, 2), given, &mut steps);
+            returned(rt, row, answer);
+        }
+    }
+    agree(rt, row, steps.moved(), moved);
+    true
+}
+
+/// The calls at an index.
+fn at_index<R: Abort + AllocGlobal, const N: usize>(
+    rt: &R,
+    text: &mut ArrayString<N>,
+    row: &str,
+) -> bool
     requires { N ≤ 300 }
 {
-    match range {
-        Range::Full => of_range(rt, text, row, ..),
-        Range::From(start) => of_range(rt, text, row, start..),
-        Range::To(end) => of_range(rt, text, row, ..end),
-        Range::Through(last) => of_range(rt, text, row, ..=last),
-        Range::Between(start, end) => of_range(rt, text, row, start..end),
-        Range::FromThrough(start, last) => of_range(rt, text, row, start..=last),
-        Range::Bounds(start, end) => of_range(rt, text, row, (start, end)),
-        Range::Untold(start, end) => of_range(rt, text, row, Untold { start, end }),
-        Range::Walked => of_range(rt, text, row, walked()),
+    let Ok(index) = column(row, 2).parse::<u8>() else {
+        return false;
+    };
+    let given = column(row, 3);
+    match order_of(
+        row,
+        "try_insert insert_str try_insert_str remove truncate split_off is_char_boundary \
+        insert_unchecked insert_str_unchecked",
+    ) {
+        0 => returned(rt, row, text.try_insert(index, character(rt, row, 3))),
+        1 => returned(rt, row, text.insert_str(index, given)),
+        2 => returned(rt, row, text.try_insert_str(index, given)),
+        3 => returned(rt, row, text.remove(index)),
+        4 => returned(rt, row, text.truncate(index)),
+        5 => returned(rt, row, text.split_off(index)),
+        6 => returned(rt, row, is_char_boundary(text, index)),
+        7 => returned(rt, row, put(text, Some(index), character(rt, row, 3))),
+        8 => returned(rt, row, put_str(text, Some(index), given)),
+        _ => return false,
+    }
+    true
+}
+
+/// The calls on a range.
+fn in_range<R: Abort + AllocGlobal, const N: usize>(
+    rt: &R,
+    text: &mut ArrayString<N>,
+    row: &str,
+) -> bool
+    requires { N ≤ 300 }
+{
+    let given = column(row, 2);
+    let sign = given.chars().next().unwrap_or(' ');
+    if sign == 'w' {
+        return of_range(rt, text, row, walked());
+    }
+    let (start, end) = given.split_once("..").expect(rt, "a range in the column");
+    let call = order_of(row, "slice make_ascii_uppercase_in make_ascii_lowercase_in");
+    if sign == '~' || sign == '(' || sign == '[' {
+        let (first, last) = (bound(rt, start), bound(rt, end));
+        if sign == '~' {
+            return of_range(rt, text, row, Untold { first, last });
+        }
+        if call != 0 {
+            return of_range(rt, text, row, (first, last));
+        }
+        match text.get((first, last)) {
+            Some(_) => returned(rt, row, Some(text.slice((first, last)))),
+            None => returned(rt, row, None::<&str>),
+        }
+        return true;
+    }
+    if call > 2 {
+        return in_rust_range(rt, text, row, start, end);
+    }
+    part(rt, text, row, call, start, end);
+    true
+}
+
+/// The calls that want a part of the text, on a range of Rust: `slice`, and for 1 and 2 those that
+/// turn letters to upper case and to lower case. They are made where `get` finds a part.
+fn part<R: Abort + AllocGlobal, const N: usize>(
+    rt: &R,
+    text: &mut ArrayString<N>,
+    row: &str,
+    call: usize,
+    start: &str,
+    end: &str,
+) {
+    let (first, last) = (place(rt, start), place(rt, end));
+    if end.is_empty() {
+        if text.get(..).is_some() {
+            return returned(rt, row, Some(text.slice(..)));
+        }
+    } else if end.starts_with('=') {
+        if text.get(first..=last).is_some() {
+            match call {
+                1 => text.make_ascii_uppercase_in(first..=last),
+                _ => text.make_ascii_lowercase_in(first..=last),
+            }
+            return returned(rt, row, ());
+        }
+    } else if text.get(first..last).is_some() {
+        match call {
+            0 => return returned(rt, row, Some(text.slice(first..last))),
+            1 => text.make_ascii_uppercase_in(first..last),
+            _ => text.make_ascii_lowercase_in(first..last),
+        }
+        return returned(rt, row, ());
+    }
+    returned(rt, row, None::<&str>);
+}
+
+/// The calls on a range of Rust with these ends.
+fn in_rust_range<R: Abort + AllocGlobal, const N: usize>(
+    rt: &R,
+    text: &mut ArrayString<N>,
+    row: &str,
+    start: &str,
+    end: &str,
+) -> bool
+    requires { N ≤ 300 }
+{
+    let (first, last) = (place(rt, start), place(rt, end));
+    match (start.is_empty(), end.is_empty(), end.starts_with('=')) {
+        (true, true, _) => of_range(rt, text, row, ..),
+        (false, true, _) => of_range(rt, text, row, first..),
+        (true, false, true) => of_range(rt, text, row, ..=last),
+        (true, false, false) => of_range(rt, text, row, ..last),
+        (false, false, true) => of_range(rt, text, row, first..=last),
+        (false, false, false) => of_range(rt, text, row, first..last),
     }
 }
 
-/// The part by `slice`, where `get` finds it.
-fn sliced<const N: usize>(text: &ArrayString<N>, range: Range) -> Option<&str> {
-    match range {
-        Range::Full => {
-            if text.get(..).is_none() {
-                return None;
-            }
-            Some(text.slice(..))
+/// Makes the call of a row on a range.
+fn of_range<R: Abort + AllocGlobal, B: RangeBounds<u8> + Drop, const N: usize>(
+    rt: &R,
+    text: &mut ArrayString<N>,
+    row: &str,
+    range: B,
+) -> bool
+    requires { N ≤ 300 }
+{
+    let mut steps = Steps::new();
+    let given = column(row, 3);
+    let call = order_of(
+        row,
+        "get drain replace_range drain_counted replace_range_counted",
+    );
+    match call {
+        0 => returned(rt, row, text.get(range)),
+        1 => returned(rt, row, text.drain(range)),
+        2 => returned(rt, row, text.replace_range(range, given)),
+        3 => returned(rt, row, text.drain_counted(range, &mut steps)),
+        4 => {
+            let answer = text.replace_range_counted(range, given, &mut steps);
+            returned(rt, row, answer);
         }
-        Range::Between(start, end) => {
-            if text.get(start..end).is_none() {
-                return None;
-            }
-            Some(text.slice(start..end))
-        }
-        Range::Bounds(start, end) => {
-            if text.get((start, end)).is_none() {
-                return None;
-            }
-            Some(text.slice((start, end)))
-        }
-        _ => Some("no such range"),
+        _ => return false,
     }
-}
-
-/// Turns the letters of a part to upper case or to lower case, where `get` finds it.
-fn recased<const N: usize>(text: &mut ArrayString<N>, range: Range, to_upper: bool) -> MaxString {
-    match range {
-        Range::Between(start, end) => {
-            if text.get(start..end).is_none() {
-                return string("None");
-            }
-            if to_upper {
-                text.make_ascii_uppercase_in(start..end);
-            } else {
-                text.make_ascii_lowercase_in(start..end);
-            }
-        }
-        Range::FromThrough(start, last) => {
-            if text.get(start..=last).is_none() {
-                return string("None");
-            }
-            if to_upper {
-                text.make_ascii_uppercase_in(start..=last);
-            } else {
-                text.make_ascii_lowercase_in(start..=last);
-            }
-        }
-        _ => return string("no such range"),
+    if call > 2 {
+        agree(rt, row, steps.moved(), number(rt, row, 6) as u64);
     }
-    string("ok")
-}
-
-/// A range of a table.
-#[derive(Clone, Copy)]
-enum Range {
-    Full,
-    From(u8),
-    To(u8),
-    Through(u8),
-    Between(u8, u8),
-    FromThrough(u8, u8),
-    Bounds(Bound<u8>, Bound<u8>),
-    Untold(Bound<u8>, Bound<u8>),
-    Walked,
+    true
 }
 
 /// A range type that does not tell contracts which bounds it has.
-#[derive(Clone, Copy)]
+#[derive(Drop)]
 struct Untold {
-    start: Bound<u8>,
-    end: Bound<u8>,
+    first: Bound<u8>,
+    last: Bound<u8>,
 }
 
 impl RangeBounds<u8> for Untold {
     fn start_bound(&self) -> Bound<&u8> {
-        self.start.as_ref()
+        self.first.as_ref()
     }
 
     fn end_bound(&self) -> Bound<&u8> {
-        self.end.as_ref()
+        self.last.as_ref()
     }
 }
 
@@ -489,38 +474,9 @@ fn walked() -> RangeInclusive<u8> {
     range
 }
 
-/// The range of a row.
-fn range_of(rt: &impl Abort, row: &str) -> Range {
-    let given = column(row, 2);
-    if given == "walked" {
-        return Range::Walked;
-    }
-    let (start, end) = given.split_once("..").expect(rt, "a range in the column");
-    if let Some(end) = end.strip_suffix(" untold") {
-        return Range::Untold(bound(rt, start), bound(rt, end));
-    }
-    if start.starts_with('(') || start.starts_with('[') {
-        return Range::Bounds(bound(rt, start), bound(rt, end));
-    }
-    rust_range(rt, start, end)
-}
-
-/// The range of Rust with these ends.
-fn rust_range(rt: &impl Abort, start: &str, end: &str) -> Range {
-    let first = place(rt, start);
-    let last = place(rt, end.trim_matches('='));
-    match (start.is_empty(), end.is_empty(), end.starts_with('=')) {
-        (true, true, _) => Range::Full,
-        (false, true, _) => Range::From(first),
-        (true, false, true) => Range::Through(last),
-        (true, false, false) => Range::To(last),
-        (false, false, true) => Range::FromThrough(first, last),
-        (false, false, false) => Range::Between(first, last),
-    }
-}
-
 /// A place in a range, or any where none is written.
-fn place(rt: &impl Abort, digits: &str) -> u8 {
+fn place(rt: &impl Abort, written: &str) -> u8 {
+    let digits = written.trim_start_matches('=');
     if digits.is_empty() {
         return 0;
     }
@@ -529,6 +485,7 @@ fn place(rt: &impl Abort, digits: &str) -> u8 {
 
 /// The bound that is written with its bracket, as `[3` or `3)`.
 fn bound(rt: &impl Abort, written: &str) -> Bound<u8> {
+    let written = written.trim_start_matches('~');
     let excluded = written.trim_matches('(').trim_matches(')');
     if excluded.is_empty() {
         return Bound::Unbounded;
@@ -537,41 +494,4 @@ fn bound(rt: &impl Abort, written: &str) -> Bound<u8> {
         return Bound::Excluded(place(rt, excluded));
     }
     Bound::Included(place(rt, written.trim_matches('[').trim_matches(']')))
-}
-
-/// Makes the call of a row on a range.
-fn of_range<R: Abort, B: RangeBounds<u8> + Drop, const N: usize>(
-    rt: &R,
-    text: &mut ArrayString<N>,
-    row: &str,
-    range: B,
-) -> MaxString
-    requires { N ≤ 300 }
-{
-    match column(row, 1) {
-        "get" => told_text(text.get(range)),
-        "drain" => drained(text.drain(range)),
-        "replace_range" => told_done(text.replace_range(range, column(row, 3))),
-        "drain_counted" => {
-            let mut steps = Steps::new();
-            let answer = drained(text.drain_counted(range, &mut steps));
-            agree(rt, row, steps.moved(), number(rt, row, 6) as u64);
-            answer
-        }
-        "replace_range_counted" => {
-            let mut steps = Steps::new();
-            let answer = text.replace_range_counted(range, column(row, 3), &mut steps);
-            agree(rt, row, steps.moved(), number(rt, row, 6) as u64);
-            told_done(answer)
-        }
-        _ => string("no such call"),
-    }
-}
-
-/// What `drain` returns.
-fn drained<const N: usize>(answer: Result<Drain<N>, Error>) -> MaxString {
-    match answer {
-        Ok(drain) => string(drain.as_str()),
-        Err(why) => told(Err(why)),
-    }
 }

@@ -1,7 +1,8 @@
 //! The least and the greatest capacities, on values worked out by hand.
-use super::MaxString;
-use super::calls::hold;
+use super::calls::hold_each;
 use super::table::{LETTERS, agree};
+use super::{MaxString, string};
+use crate::ArrayString;
 
 /// 254 letters, and a character of two bytes.
 const A_WIDER_LAST: &str = "xxxxxxxxxxxxxxxxxxxxxxxxxxxxxxxxxxxxxxxxxxxxxxxxxxxxxxxxxxxxxxxx\
@@ -10,59 +11,24 @@ const A_WIDER_LAST: &str = "xxxxxxxxxxxxxxxxxxxxxxxxxxxxxxxxxxxxxxxxxxxxxxxxxxxx
     xxxxxxxxxxxxxxxxxxxxxxxxxxxxxxxxxxxxxxxxxxxxxxxxxxxxxxxxxxxxxx\u{E9}";
 
 #[test]
-fn a_string_of_no_bytes_takes_the_empty_text_alone(rt: HostRuntime) {
-    hold::<0>(
+fn the_least_and_the_greatest_capacities(rt: HostRuntime) {
+    hold_each(
         &rt,
         "
+        # 0: a string of no bytes takes the empty text alone
         new | try_push_str | |   | ok          |
             | try_push_str | | x | OutOfBounds |
-        ",
-    );
-}
-
-#[test]
-fn a_string_of_one_byte_ends_at_a_wider_character(rt: HostRuntime) {
-    hold::<1>(&rt, "new | push_str | | éa | ok |");
-}
-
-#[test]
-fn a_wider_character_does_not_fill_the_last_byte(rt: HostRuntime) {
-    agree(&rt, "letters", LETTERS.len(), 256);
-    agree(
-        &rt,
-        "letters, and a wider character",
-        A_WIDER_LAST.len(),
-        256,
-    );
-    let cut = MaxString::from_str_truncate(A_WIDER_LAST);
-    agree(&rt, "the text", LETTERS.get(..254), Some(cut.as_str()));
-}
-
-#[test]
-fn letters_past_255_are_refused(rt: HostRuntime) {
-    hold::<255>(
-        &rt,
-        "
+        # 1: a string of one byte ends at a wider character
+        new | push_str | | éa | ok |
+        # 255: letters past 255 are refused
         new | try_push_str   |      | 256 x | OutOfBounds |
             | try_insert_str | 0    | 256 x | OutOfBounds |
             | replace_range  | 0..0 | 256 x | OutOfBounds |
-        ",
-    );
-    hold::<300>(
-        &rt,
-        "
+        # 300: letters past 255 are refused
         new   | capacity |  |   | ok          |       | 255
         255 x | len      |  |   | ok          | 255 x | 255
               | try_push |  | a | OutOfBounds | 255 x
-        ",
-    );
-}
-
-#[test]
-fn the_end_of_a_full_string_is_a_place(rt: HostRuntime) {
-    hold::<255>(
-        &rt,
-        "
+        # 255: the end of a full string is a place
         255 x | insert_str | 255 | x | ok          | 255 x
               | try_insert | 255 | x | OutOfBounds | 255 x
               | truncate   | 255 |   | ok          | 255 x
@@ -70,4 +36,16 @@ fn the_end_of_a_full_string_is_a_place(rt: HostRuntime) {
               | remove     | 255 |   | OutOfBounds | 255 x
         ",
     );
+}
+
+#[test]
+fn the_last_byte(rt: HostRuntime) {
+    let sizes = (LETTERS.len(), A_WIDER_LAST.len());
+    agree(&rt, "the letters", sizes, (256, 256));
+    let cut = MaxString::from_str_truncate(A_WIDER_LAST);
+    agree(&rt, "a text", LETTERS.get(..254), Some(cut.as_str()));
+    let mut most: ArrayString<300> = string(LETTERS);
+    let answer = most.replace_range(254.., "y");
+    let wanted = (Ok(()), Some("y"));
+    agree(&rt, "from 254", (answer, most.get(254..)), wanted);
 }

@@ -1,9 +1,9 @@
 //! Tables of cases: a line of a text is a case, and `|` is between its columns. However many lines a
 //! table has, the test that walks over it is proved once.
 use super::{ArrayString, MaxString, string};
-use arraystring_base::error::{Error, OutOfBounds, Utf8};
+use arraystring_base::error::Error;
 use std::cmp::Ordering;
-use std::fmt::{self, Debug};
+use std::fmt::Debug;
 use std::hash::{DefaultHasher, Hash, Hasher};
 use std::process::Abort;
 use std::str::Lines;
@@ -36,18 +36,25 @@ pub(crate) fn column(row: &str, at: usize) -> &str {
     if let Some(rest) = column.strip_prefix('\'') {
         return rest.strip_suffix('\'').unwrap_or(column);
     }
-    match column.strip_suffix(" x") {
-        Some(count) => letters(count).unwrap_or(column),
-        None => column,
-    }
+    let Some(count) = column.strip_suffix(" x") else {
+        return column;
+    };
+    LETTERS
+        .get(..count.parse().unwrap_or(usize::MAX))
+        .unwrap_or(column)
 }
 
-/// As many letters as the digits say.
-fn letters(count: &str) -> Option<&str> {
-    let Ok(count) = count.parse::<usize>() else {
-        return None;
-    };
-    LETTERS.get(..count)
+/// Which of some names the call of a row has, from 0; past them all where it is none of them.
+pub(crate) fn order_of(row: &str, names: &str) -> usize {
+    let call = column(row, 1);
+    let mut order: usize = 0;
+    for name in names.split(' ') {
+        if name == call {
+            return order;
+        }
+        order = order.saturating_add(1);
+    }
+    order
 }
 
 /// The number in a column.
@@ -68,6 +75,22 @@ pub(crate) fn agree<T: PartialEq + Debug + Drop>(rt: &impl Abort, case: &str, ga
     assert_eq!(rt; gave, wanted, "{case}");
 }
 
+/// Asserts that a call returned what the row of a table says: a text or a character itself, `ok` for
+/// nothing, a refusal by its name, and all else as `{:?}` writes it.
+pub(crate) fn returned<T: Debug + Drop>(rt: &(impl Abort + AllocGlobal), row: &str, answer: T) {
+    let written = format!(in rt.alloc(); "{answer:?}").expect(rt, "memory for what is printed");
+    let written = written.as_str();
+    let name = written.trim_end_matches(')');
+    let name = name.rsplit('(').next().unwrap_or(name);
+    let name = name.trim_start_matches("Error::").trim_matches('\'');
+    let wanted = column(row, 4);
+    if name.is_empty() {
+        agree(rt, row, "ok", wanted);
+    } else {
+        agree(rt, row, name.split('"').nth(1).unwrap_or(name), wanted);
+    }
+}
+
 /// What was returned as it is written in a table: a text itself, a refusal by its name.
 pub(crate) fn told(answer: Result<&str, Error>) -> MaxString {
     match answer {
@@ -86,22 +109,6 @@ pub(crate) fn told_made<const N: usize>(made: &Result<ArrayString<N>, Error>) ->
     }
 }
 
-/// The same of a call that gives nothing back.
-pub(crate) fn told_done(answer: Result<(), Error>) -> MaxString {
-    match answer {
-        Ok(()) => string("ok"),
-        Err(why) => told(Err(why)),
-    }
-}
-
-/// The same of a call that can only want room.
-pub(crate) fn told_room(answer: Result<(), OutOfBounds>) -> MaxString {
-    match answer {
-        Ok(()) => string("ok"),
-        Err(OutOfBounds) => string("OutOfBounds"),
-    }
-}
-
 /// The same of a character.
 pub(crate) fn told_character(answer: Result<char, Error>) -> MaxString {
     match answer {
@@ -110,27 +117,11 @@ pub(crate) fn told_character(answer: Result<char, Error>) -> MaxString {
     }
 }
 
-/// The same of a call that writes.
-pub(crate) fn told_written(answer: fmt::Result) -> MaxString {
-    match answer {
-        Ok(()) => string("ok"),
-        Err(_) => string("Error"),
-    }
-}
-
 /// The same of a character that may not be there.
 pub(crate) fn told_next(answer: Option<char>) -> MaxString {
     match answer {
         Some(ch) => told_character(Ok(ch)),
         None => string("None"),
-    }
-}
-
-/// The same of a call that asks for a boundary.
-pub(crate) fn told_utf8(answer: Result<(), Utf8>) -> MaxString {
-    match answer {
-        Ok(()) => string("ok"),
-        Err(Utf8) => string("Utf8"),
     }
 }
 

@@ -1,11 +1,12 @@
 //! What is put into a string, on values worked out by hand.
-use crate::tests::calls::hold;
+use crate::tests::calls::hold_each;
 
 #[test]
-fn characters_and_texts_are_inserted(rt: HostRuntime) {
-    hold::<23>(
+fn insertions(rt: HostRuntime) {
+    hold_each(
         &rt,
         "
+        # 23: characters and texts are inserted
         ABCD🤔                   | try_insert           | 1  | A                       | ok          | AABCD🤔
                                 | try_insert           | 2  | B                       | ok          | AABBCD🤔
                                 | try_insert           | 20 | C                       | OutOfBounds | AABBCD🤔
@@ -28,25 +29,13 @@ fn characters_and_texts_are_inserted(rt: HostRuntime) {
         abcdefghijklmnopqrstuvw | len                  |    |                         | ok          | abcdefghijklmnopqrstuvw | 23
                                 | try_insert           | 0  | C                       | OutOfBounds | abcdefghijklmnopqrstuvw
         00000000000000000000000 | try_insert           | 0  | C                       | OutOfBounds | 00000000000000000000000
-        ",
-    );
-}
-
-#[test]
-fn what_does_not_fit_is_cut(rt: HostRuntime) {
-    hold::<10>(&rt, "AB | insert_str | 1 | 🤔🤔🤔 | ok | A🤔🤔B");
-    hold::<9>(&rt, "AB | insert_str | 1 | 🤔🤔🤔 | ok | A🤔B");
-    hold::<23>(
-        &rt,
-        "new | insert_str | 0 | 000000000000000000000000000000000 | ok | 00000000000000000000000",
-    );
-}
-
-#[test]
-fn moves_of_insertions(rt: HostRuntime) {
-    hold::<23>(
-        &rt,
-        "
+        # 10: what does not fit is cut
+        AB | insert_str | 1 | 🤔🤔🤔 | ok | A🤔🤔B
+        # 9: what does not fit is cut
+        AB | insert_str | 1 | 🤔🤔🤔 | ok | A🤔B
+        # 23: what does not fit is cut
+        new | insert_str | 0 | 000000000000000000000000000000000 | ok | 00000000000000000000000
+        # 23: moves of insertions
         ABCD | try_insert_str_counted | 1 | xy                      | ok          | AxyBCD | 3
         ABCD | try_insert_str_counted | 0 | xy                      | ok          | xyABCD | 4
         ABCD | try_insert_str_counted | 4 | xy                      | ok          | ABCDxy | 0
@@ -54,15 +43,7 @@ fn moves_of_insertions(rt: HostRuntime) {
         ABCD | try_insert_str_counted | 5 | xy                      | OutOfBounds | ABCD   | 0
         ABCD | try_insert_str_counted | 1 | 00000000000000000000000 | OutOfBounds | ABCD   | 0
         🤔   | try_insert_str_counted | 2 | xy                      | Utf8        | 🤔     | 0
-        ",
-    );
-}
-
-#[test]
-fn a_full_string_takes_the_empty_text_alone(rt: HostRuntime) {
-    hold::<4>(
-        &rt,
-        "
+        # 4: a full string takes the empty text alone
         abcd | try_insert           | 0 | x | OutOfBounds | abcd
              | try_insert           | 1 | x | OutOfBounds | abcd
              | try_insert           | 2 | x | OutOfBounds | abcd
@@ -106,49 +87,21 @@ fn a_full_string_takes_the_empty_text_alone(rt: HostRuntime) {
              | try_insert_str       | 3 | x | OutOfBounds | 🤔
              | try_insert_str       | 3 |   | Utf8        | 🤔
              | insert_str           | 3 | x | Utf8        | 🤔
-        ",
-    );
-}
-
-#[test]
-fn capacities(rt: HostRuntime) {
-    hold::<0>(
-        &rt,
-        "
+        # 0: capacities
         new | try_insert     | 0 | x | OutOfBounds |
             | try_insert_str | 0 |   | ok          |
             | insert_str     | 0 | x | ok          |
             | insert_str     | 1 |   | OutOfBounds |
-        ",
-    );
-    hold::<1>(
-        &rt,
-        "
+        # 1: capacities
         new | insert_str | 0 | éa | ok          |
             | try_insert | 0 | é  | OutOfBounds |
             | try_insert | 0 | a  | ok          | a
-        ",
-    );
-}
-
-#[test]
-fn a_string_of_the_most_letters(rt: HostRuntime) {
-    hold::<300>(
-        &rt,
-        "
+        # 300: a string of the most letters
         255 x | insert_str     | 255 | x | ok          | 255 x
               | try_insert_str | 255 |   | ok          | 255 x
               | try_insert     | 255 | x | OutOfBounds | 255 x
               | try_insert     | 0   | x | OutOfBounds | 255 x
-        ",
-    );
-}
-
-#[test]
-fn more_letters_than_fit(rt: HostRuntime) {
-    hold::<255>(
-        &rt,
-        "
+        # 255: more letters than fit
         new | try_insert_str | 0 | 256 x | OutOfBounds |
             | insert_str     | 0 | 256 x | ok          | 255 x
         ",

@@ -1,14 +1,12 @@
 //! Parts of a string, on values worked out by hand.
-use crate::ArrayString;
-use crate::tests::calls::hold;
-use crate::tests::string;
-use crate::tests::table::{LETTERS, agree};
+use crate::tests::calls::hold_each;
 
 #[test]
-fn parts_are_lent(rt: HostRuntime) {
-    hold::<23>(
+fn ranges(rt: HostRuntime) {
+    hold_each(
         &rt,
         "
+        # 23: parts are lent
         ABCD🤔 | get   | ..     | | ABCD🤔 | ABCD🤔
                | get   | 3..    | | D🤔    | ABCD🤔
                | get   | ..3    | | ABC    | ABCD🤔
@@ -40,26 +38,14 @@ fn parts_are_lent(rt: HostRuntime) {
                | slice | (8..)  | | None   | ABCD🤔
                | get   | [4..3) | | None   | ABCD🤔
                | slice | [4..3) | | None   | ABCD🤔
-        ",
-    );
-}
-
-#[test]
-fn letters_change_case_in_a_range(rt: HostRuntime) {
-    hold::<4>(
-        &rt,
-        "
+        # 4: letters change case in a range
         abcd | make_ascii_uppercase_in | 1..=2 | | ok   | aBCd
         abcd | make_ascii_lowercase_in | 1..=2 | | ok   | abcd
         abcd | make_ascii_uppercase_in | 0..=3 | | ok   | ABCD
         abcd | make_ascii_lowercase_in | 0..=3 | | ok   | abcd
         abcd | make_ascii_uppercase_in | 0..=4 | | None | abcd
         abcd | make_ascii_lowercase_in | 0..=4 | | None | abcd
-        ",
-    );
-    hold::<23>(
-        &rt,
-        "
+        # 23: letters change case in a range
         aZéZaé | make_ascii_uppercase_in | 1..=4 | | ok   | aZéZaé
         aZéZaé | make_ascii_lowercase_in | 1..=4 | | ok   | azézaé
         aZéZaé | make_ascii_uppercase_in | 1..=3 | | ok   | aZéZaé
@@ -68,26 +54,14 @@ fn letters_change_case_in_a_range(rt: HostRuntime) {
         aZéZaé | make_ascii_lowercase_in | 4..=5 | | ok   | aZézaé
         aZéZaé | make_ascii_uppercase_in | 1..=2 | | None | aZéZaé
         aZéZaé | make_ascii_lowercase_in | 1..=2 | | None | aZéZaé
-        ",
-    );
-}
-
-#[test]
-fn parts_are_drained(rt: HostRuntime) {
-    hold::<23>(
-        &rt,
-        "
+        # 23: parts are drained
         ABCD🤔 | drain | ..3  | | ABC         | D🤔
                | drain | 3..  | | Utf8        | D🤔
                | drain | ..3  | | Utf8        | D🤔
                | drain | 10.. | | OutOfBounds | D🤔
                | drain | ..6  | | OutOfBounds | D🤔
                | drain | 3..2 | | OutOfBounds | D🤔
-        ",
-    );
-    hold::<4>(
-        &rt,
-        "
+        # 4: parts are drained
         abcd | drain | [1..3) | | bc   | ad
         abcd | drain | [1..1] | | b    | acd
         abcd | drain | (..2]  | | abc  | d
@@ -99,15 +73,7 @@ fn parts_are_drained(rt: HostRuntime) {
         abcd | drain | ..=2   | | abc  | d
         abcd | drain | 2..    | | cd   | ab
         abcd | drain | ..     | | abcd |
-        ",
-    );
-}
-
-#[test]
-fn parts_are_replaced(rt: HostRuntime) {
-    hold::<23>(
-        &rt,
-        "
+        # 23: parts are replaced
         ABCD🤔 | replace_range | 2..4   | EFGHI                   | ok          | ABEFGHI🤔
                | replace_range | 9..    | J                       | Utf8        | ABEFGHI🤔
                | replace_range | ..9    | J                       | Utf8        | ABEFGHI🤔
@@ -121,15 +87,7 @@ fn parts_are_replaced(rt: HostRuntime) {
                | replace_range | ..     | y                       | ok          | y
         ABCD🤔 | replace_range | 1..4   | é€                      | ok          | Aé€🤔
                | replace_range | 1..6   | BCD                     | ok          | ABCD🤔
-        ",
-    );
-}
-
-#[test]
-fn moves_of_drains_and_replacements(rt: HostRuntime) {
-    hold::<23>(
-        &rt,
-        "
+        # 23: moves of drains and replacements
         ABCD🤔 | drain_counted         | 0..2 |                        | AB          | CD🤔    | 0
         ABCD🤔 | drain_counted         | 1..3 |                        | BC          | AD🤔    | 5
         ABCD🤔 | drain_counted         | 3..8 |                        | D🤔          | ABC    | 0
@@ -144,15 +102,7 @@ fn moves_of_drains_and_replacements(rt: HostRuntime) {
         ABCD🤔 | replace_range_counted | 2..5 |                        | Utf8        | ABCD🤔  | 0
         ABCD🤔 | replace_range_counted | 2..9 |                        | OutOfBounds | ABCD🤔  | 0
         ABCD🤔 | replace_range_counted | 2..4 | 0000000000000000000000 | OutOfBounds | ABCD🤔  | 0
-        ",
-    );
-}
-
-#[test]
-fn the_size_of_the_result_decides(rt: HostRuntime) {
-    hold::<4>(
-        &rt,
-        "
+        # 4: the size of the result decides
         abcd | replace_range | 0..0 | xy     | OutOfBounds | abcd
              | replace_range | 1..2 | xy     | OutOfBounds | abcd
              | replace_range | 1..3 | xy     | ok          | axyd
@@ -163,15 +113,7 @@ fn the_size_of_the_result_decides(rt: HostRuntime) {
              | replace_range | 0..3 | xy     | Utf8        | 🤔
              | replace_range | 3..2 |        | OutOfBounds | 🤔
              | replace_range | 3..2 | xyzxyz | OutOfBounds | 🤔
-        ",
-    );
-}
-
-#[test]
-fn the_last_places(rt: HostRuntime) {
-    hold::<255>(
-        &rt,
-        "
+        # 255: the last places
         255 x | get           | 0..=255   |       | None        | 255 x
               | get           | 0..=254   |       | 255 x       | 255 x
               | get           | 255..255  |       |             | 255 x
@@ -183,22 +125,9 @@ fn the_last_places(rt: HostRuntime) {
               | drain         | 0..=255   |       | 255 x       |
         255 x | replace_range | 0..=255   | x     | ok          | x
         new   | replace_range | 0..0      | 256 x | OutOfBounds |
-        ",
-    );
-    hold::<300>(
-        &rt,
-        "255 x | replace_range | 255.. | x | OutOfBounds | 255 x",
-    );
-    let mut most: ArrayString<300> = string(LETTERS);
-    agree(&rt, "from 254", most.replace_range(254.., "y"), Ok(()));
-    agree(&rt, "the last", most.get(254..), Some("y"));
-}
-
-#[test]
-fn no_capacity(rt: HostRuntime) {
-    hold::<0>(
-        &rt,
-        "
+        # 300: the last places
+        255 x | replace_range | 255.. | x | OutOfBounds | 255 x
+        # 0: a string of no bytes
         new | replace_range           | 0..0  |   | ok          |
             | replace_range           | ..    | x | OutOfBounds |
             | get                     | ..    |   |             |
@@ -207,35 +136,27 @@ fn no_capacity(rt: HostRuntime) {
             | make_ascii_lowercase_in | 0..=0 |   | None        |
             | drain                   | ..    |   |             |
             | drain                   | ..=0  |   | OutOfBounds |
-        ",
-    );
-}
-
-#[test]
-fn bounds_that_a_range_does_not_tell(rt: HostRuntime) {
-    hold::<23>(
-        &rt,
-        "
-        ABCD🤔 | get                   | [1..3) untold |    | BC          | ABCD🤔
-              | drain                 | [1..3) untold |    | BC          | AD🤔
-        ABCD🤔 | replace_range         | [1..3) untold | x  | ok          | AxD🤔
-        ABCD🤔 | get                   | (0..2] untold |    | BC          | ABCD🤔
-              | drain                 | (0..2] untold |    | BC          | AD🤔
-        ABCD🤔 | replace_range         | (0..2] untold | x  | ok          | AxD🤔
-        ABCD🤔 | get                   | [4..) untold  |    | 🤔           | ABCD🤔
-              | drain                 | [4..) untold  |    | 🤔           | ABCD
-        ABCD🤔 | replace_range         | [4..) untold  | x  | ok          | ABCDx
-        ABCD🤔 | get                   | (..0] untold  |    | A           | ABCD🤔
-              | drain                 | (..0] untold  |    | A           | BCD🤔
-        ABCD🤔 | replace_range         | (..0] untold  | x  | ok          | xBCD🤔
-        ABCD🤔 | get                   | [5..) untold  |    | None        | ABCD🤔
-              | drain                 | [5..) untold  |    | Utf8        | ABCD🤔
-              | replace_range         | [5..) untold  | x  | Utf8        | ABCD🤔
-        ABCD🤔 | get                   | [3..2) untold |    | None        | ABCD🤔
-              | drain                 | [3..2) untold |    | OutOfBounds | ABCD🤔
-              | replace_range         | [3..2) untold | x  | OutOfBounds | ABCD🤔
-        ABCD🤔 | drain_counted         | [1..2] untold |    | BC          | AD🤔      | 5
-              | replace_range_counted | [1..2] untold |    | Utf8        | AD🤔      | 0
+        # 23: bounds that a range does not tell
+        ABCD🤔 | get                   | ~[1..3)       |    | BC          | ABCD🤔
+              | drain                 | ~[1..3)       |    | BC          | AD🤔
+        ABCD🤔 | replace_range         | ~[1..3)       | x  | ok          | AxD🤔
+        ABCD🤔 | get                   | ~(0..2]       |    | BC          | ABCD🤔
+              | drain                 | ~(0..2]       |    | BC          | AD🤔
+        ABCD🤔 | replace_range         | ~(0..2]       | x  | ok          | AxD🤔
+        ABCD🤔 | get                   | ~[4..)        |    | 🤔           | ABCD🤔
+              | drain                 | ~[4..)        |    | 🤔           | ABCD
+        ABCD🤔 | replace_range         | ~[4..)        | x  | ok          | ABCDx
+        ABCD🤔 | get                   | ~(..0]        |    | A           | ABCD🤔
+              | drain                 | ~(..0]        |    | A           | BCD🤔
+        ABCD🤔 | replace_range         | ~(..0]        | x  | ok          | xBCD🤔
+        ABCD🤔 | get                   | ~[5..)        |    | None        | ABCD🤔
+              | drain                 | ~[5..)        |    | Utf8        | ABCD🤔
+              | replace_range         | ~[5..)        | x  | Utf8        | ABCD🤔
+        ABCD🤔 | get                   | ~[3..2)       |    | None        | ABCD🤔
+              | drain                 | ~[3..2)       |    | OutOfBounds | ABCD🤔
+              | replace_range         | ~[3..2)       | x  | OutOfBounds | ABCD🤔
+        ABCD🤔 | drain_counted         | ~[1..2]       |    | BC          | AD🤔      | 5
+              | replace_range_counted | ~[1..2]       |    | Utf8        | AD🤔      | 0
         ABCD🤔 | get                   | walked        |    |             | ABCD🤔
               | drain                 | walked        |    |             | ABCD🤔
               | drain_counted         | walked        |    |             | ABCD🤔    | 0

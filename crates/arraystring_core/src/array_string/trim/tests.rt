@@ -1,9 +1,7 @@
 //! Trimmed strings, on values worked out by hand.
-use super::*;
-use crate::tests::calls::hold;
+use crate::tests::calls::{hold_each, holds};
 use crate::tests::table::agree;
 use crate::tests::{MaxString, string};
-use std::process::Abort;
 
 /// Each character with the property White_Space, in the order of the Unicode Standard's list.
 const WHITE_SPACE: &str = "\u{9}\u{A}\u{B}\u{C}\u{D}\u{20}\u{85}\u{A0}\u{1680}\
@@ -15,32 +13,12 @@ const BESIDE: &str = "\u{8}\u{E}\u{1F}\u{21}\u{84}\u{86}\u{9F}\u{A1}\u{167F}\
     \u{1681}\u{1FFF}\u{200B}\u{2027}\u{202A}\u{202E}\u{2030}\u{205E}\
     \u{2060}\u{2FFF}\u{3001}";
 
-/// What `trim` leaves of a text, and what `trim_spaces` does.
-fn trims<const N: usize>(text: &str) -> [ArrayString<N>; 2] {
-    let mut trimmed: ArrayString<N> = string(text);
-    let mut without_spaces = trimmed;
-    trimmed.trim();
-    without_spaces.trim_spaces();
-    [trimmed, without_spaces]
-}
-
-/// `a` after a character, before it, and between it and itself.
-fn beside(end: char) -> [MaxString; 3] {
-    let mut behind = MaxString::new();
-    let _ = behind.try_push(end);
-    behind.push_str("a");
-    let mut before: MaxString = string("a");
-    let _ = before.try_push(end);
-    let mut between = behind;
-    let _ = between.try_push(end);
-    [behind, before, between]
-}
-
 #[test]
-fn texts_are_trimmed(rt: HostRuntime) {
-    hold::<255>(
+fn trimmed_texts(rt: HostRuntime) {
+    hold_each(
         &rt,
         "
+        # 255: texts are trimmed
         '   🤔'                 | trim        | | | ok | 🤔
         '   🤔'                 | trim_spaces | | | ok | 🤔
         '   '                   | trim        | | | ok |
@@ -65,38 +43,7 @@ fn texts_are_trimmed(rt: HostRuntime) {
         '   to be trimmed     ' | trim_spaces | | | ok | to be trimmed
         new                     | trim        | | | ok |
         new                     | trim_spaces | | | ok |
-        ",
-    );
-    let trimmed = trims::<255>(" a  b\n");
-    agree(&rt, "a line", trimmed, [string("a  b"), string("a  b\n")]);
-}
-
-/// Asserts whether each of some characters is trimmed from `a`. `trim_spaces` trims the space alone.
-fn trimmed_from_a(rt: &impl Abort, ends: &str, is_trimmed: bool) {
-    let a: MaxString = string("a");
-    for end in ends.chars() {
-        for text in beside(end) {
-            let trimmed = if is_trimmed { a } else { text };
-            let without_spaces = if end == ' ' { a } else { text };
-            let left = trims(text.as_str());
-            agree(rt, text.as_str(), left, [trimmed, without_spaces]);
-        }
-    }
-}
-
-#[test]
-fn each_white_space_is_trimmed_and_nothing_beside_it(rt: HostRuntime) {
-    agree(&rt, "white space", WHITE_SPACE.chars().count(), 25);
-    trimmed_from_a(&rt, WHITE_SPACE, true);
-    agree(&rt, "beside it", BESIDE.chars().count(), 20);
-    trimmed_from_a(&rt, BESIDE, false);
-}
-
-#[test]
-fn full_texts_are_trimmed(rt: HostRuntime) {
-    hold::<4>(
-        &rt,
-        "
+        # 4: full texts are trimmed
         '  ab' | trim        | | | ok | ab
         '  ab' | trim_spaces | | | ok | ab
         'ab  ' | trim        | | | ok | ab
@@ -105,18 +52,42 @@ fn full_texts_are_trimmed(rt: HostRuntime) {
         ' ab ' | trim_spaces | | | ok | ab
         ab     | trim        | | | ok | ab
         ab     | trim_spaces | | | ok | ab
-        ",
-    );
-}
-
-#[test]
-fn a_trim_moves_nothing(rt: HostRuntime) {
-    hold::<8>(
-        &rt,
-        "
+        # 8: a trim moves nothing
         '  abcdef'          | trim_counted | | | ok | abcdef | 0
         '\t🤔\u{A0}'        | trim_counted | | | ok | 🤔     | 0
         '\u{2003} \u{3000}' | trim_counted | | | ok |        | 0
         ",
     );
+}
+
+/// Each character is after `a`, before it, and on both sides. `trim_spaces` trims the space alone.
+#[test]
+fn each_white_space_is_trimmed_and_nothing_beside_it(rt: HostRuntime) {
+    let counts = (WHITE_SPACE.chars().count(), BESIDE.chars().count());
+    agree(&rt, "white space, and beside it", counts, (25, 20));
+    for end in WHITE_SPACE.chars().chain(BESIDE.chars()) {
+        for (is_before, is_after) in [(true, false), (false, true), (true, true)] {
+            let mut text = MaxString::new();
+            if is_before {
+                let _ = text.try_push(end);
+            }
+            text.push_str("a");
+            if is_after {
+                let _ = text.try_push(end);
+            }
+            let [mut trimmed, mut without_spaces] = [text, text];
+            trimmed.trim();
+            without_spaces.trim_spaces();
+            let left = (trimmed.as_str(), without_spaces.as_str());
+            let text = text.as_str();
+            let is_trimmed = WHITE_SPACE.contains(end);
+            let wanted = if is_trimmed { "a" } else { text };
+            let without_spaces = if end == ' ' { "a" } else { text };
+            agree(&rt, text, left, (wanted, without_spaces));
+        }
+    }
+    let mut line: MaxString = string(" a  b\n");
+    holds(&rt, &mut line, " | trim_spaces | | | ok | 'a  b\n'");
+    line = string(" a  b\n");
+    holds(&rt, &mut line, " | trim | | | ok | a  b");
 }
