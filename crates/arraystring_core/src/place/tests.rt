@@ -210,6 +210,10 @@ fn texts_are_the_same_wherever_they_begin(rt: HostRuntime) {
         ' aé'         | trim         |   |          | ok          | aé
                       | clear        |   |          | ok          |
                       | try_push_str |   | abcdefgh | ok          | abcdefgh
+        '\r\u{A0}a'   | trim         |   |          | ok          | a
+                      | push_str     |   | 12345678 | ok          | a1234567
+        '\r\u{A0}a'   | trim_spaces  |   |          | ok          | '\r\u{A0}a'
+                      | push_str     |   | 12345678 | ok          | '\r\u{A0}a1234'
         ",
     );
     // Parts are taken out and replaced.
@@ -264,17 +268,4 @@ fn texts_are_the_same_wherever_they_begin(rt: HostRuntime) {
         AbcD   | make_ascii_lowercase_in | 1..3 | | ok | AbcD
         ",
     );
-    // A trimmed line grows.
-    for line in [behind("\n\u{A0}a"), string("\n\u{A0}a")] {
-        let mut text = line;
-        holds(&rt, &mut text, " | trim | | | ok | a");
-        holds(&rt, &mut text, " | push_str | | 12345678 | ok | a1234567");
-        text = line;
-        holds(&rt, &mut text, " | trim_spaces | | | ok | '\n\u{A0}a'");
-        holds(
-            &rt,
-            &mut text,
-            " | push_str | | 12345678 | ok | '\n\u{A0}a1234'",
-        );
-    }
 }
