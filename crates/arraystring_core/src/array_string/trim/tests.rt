@@ -2,6 +2,7 @@
 use crate::tests::calls::{hold_each, holds};
 use crate::tests::table::agree;
 use crate::tests::{MaxString, string};
+use std::process::Abort;
 
 /// Each character with the property White_Space, in the order of the Unicode Standard's list.
 const WHITE_SPACE: &str = "\u{9}\u{A}\u{B}\u{C}\u{D}\u{20}\u{85}\u{A0}\u{1680}\
@@ -58,6 +59,22 @@ fn trimmed_texts(rt: HostRuntime) {
         '\u{2003} \u{3000}' | trim_counted | | | ok |        | 0
         ",
     );
+    let mut line: MaxString = string(" a  b\n");
+    holds(&rt, &mut line, " | trim_spaces | | | ok | 'a  b\n'");
+    line = string(" a  b\n");
+    holds(&rt, &mut line, " | trim | | | ok | a  b");
+}
+
+/// Asserts whether `trim` leaves `a` of a text or all of it, and whether `trim_spaces` does.
+fn trims(rt: &impl Abort, text: MaxString, is_trimmed: bool, is_trimmed_of_spaces: bool) {
+    let [mut trimmed, mut without_spaces] = [text, text];
+    trimmed.trim();
+    without_spaces.trim_spaces();
+    let (text, a) = (text.as_str(), "a");
+    let wanted = if is_trimmed { a } else { text };
+    let wanted_of_spaces = if is_trimmed_of_spaces { a } else { text };
+    let left = (trimmed.as_str(), without_spaces.as_str());
+    agree(rt, text, left, (wanted, wanted_of_spaces));
 }
 
 /// Each character is after `a`, before it, and on both sides. `trim_spaces` trims the space alone.
@@ -66,28 +83,15 @@ fn each_white_space_is_trimmed_and_nothing_beside_it(rt: HostRuntime) {
     let counts = (WHITE_SPACE.chars().count(), BESIDE.chars().count());
     agree(&rt, "white space, and beside it", counts, (25, 20));
     for end in WHITE_SPACE.chars().chain(BESIDE.chars()) {
-        for (is_before, is_after) in [(true, false), (false, true), (true, true)] {
-            let mut text = MaxString::new();
-            if is_before {
-                let _ = text.try_push(end);
-            }
-            text.push_str("a");
-            if is_after {
-                let _ = text.try_push(end);
-            }
-            let [mut trimmed, mut without_spaces] = [text, text];
-            trimmed.trim();
-            without_spaces.trim_spaces();
-            let left = (trimmed.as_str(), without_spaces.as_str());
-            let text = text.as_str();
-            let is_trimmed = WHITE_SPACE.contains(end);
-            let wanted = if is_trimmed { "a" } else { text };
-            let without_spaces = if end == ' ' { "a" } else { text };
-            agree(&rt, text, left, (wanted, without_spaces));
-        }
+        let is_trimmed = WHITE_SPACE.contains(end);
+        let mut text: MaxString = string("a");
+        let _ = text.try_push(end);
+        trims(&rt, text, is_trimmed, end == ' ');
+        text = MaxString::new();
+        let _ = text.try_push(end);
+        text.push_str("a");
+        trims(&rt, text, is_trimmed, end == ' ');
+        let _ = text.try_push(end);
+        trims(&rt, text, is_trimmed, end == ' ');
     }
-    let mut line: MaxString = string(" a  b\n");
-    holds(&rt, &mut line, " | trim_spaces | | | ok | 'a  b\n'");
-    line = string(" a  b\n");
-    holds(&rt, &mut line, " | trim | | | ok | a  b");
 }
