@@ -3,7 +3,6 @@ ghost use Rattle.std.specs.Prelude.{◌≤◌};
 
 use super::*;
 use crate::tests::table::{agree, column, rows, told_made};
-use crate::tests::{MaxString, string};
 use std::process::Abort;
 
 /// Asserts what the constructors make of units at one capacity. The columns of a row are
@@ -39,10 +38,7 @@ fn read<const N: usize>(rt: &impl Abort, units: &[u16], row: &str)
 {
     let made = told_made(&ArrayString::<N>::try_from_utf16(units));
     agree(rt, row, made.as_str(), column(row, 1));
-    let cut: MaxString = match ArrayString::<N>::from_utf16(units) {
-        Ok(made) => string(made.as_str()),
-        Err(Utf16) => string("Utf16"),
-    };
+    let cut = told_made(&ArrayString::<N>::from_utf16(units).map_err(Error::from));
     agree(rt, row, cut.as_str(), column(row, 2));
     let lossy = ArrayString::<N>::from_utf16_lossy(units);
     agree(rt, row, lossy.as_str(), column(row, 3));
