@@ -73,7 +73,7 @@ fn hold<const N: usize>(rt: &impl Abort, table: &str)
 }
 
 #[test]
-fn both_ends_in_turn(rt: HostRuntime) {
+fn steps_from_both_ends(rt: HostRuntime) {
     hold::<23>(
         &rt,
         "
@@ -90,10 +90,7 @@ fn both_ends_in_turn(rt: HostRuntime) {
                  | next      | None |
         ",
     );
-}
-
-#[test]
-fn a_drain_of_nothing(rt: HostRuntime) {
+    // Nothing was taken out.
     hold::<4>(
         &rt,
         "
@@ -108,15 +105,13 @@ fn a_drain_of_nothing(rt: HostRuntime) {
            | next_back | None |
         ",
     );
-}
-
-#[test]
-fn a_copy_keeps_what_it_had(rt: HostRuntime) {
+    // A copy keeps what it had.
     let mut drain = taken_out::<23>("[A🤔B]");
     let mut copy = drain;
-    agree(&rt, "the front", drain.next(), Some('A'));
-    agree(&rt, "the copy", copy.as_str(), "A🤔B");
-    agree(&rt, "the back of the copy", copy.next_back(), Some('B'));
+    let steps = (drain.next(), copy.next_back());
+    agree(&rt, "the front, the back", steps, (Some('A'), Some('B')));
+    let left = (drain.as_str(), copy.as_str());
+    agree(&rt, "what is left of both", left, ("🤔B", "A🤔"));
 }
 
 #[test]

@@ -22,19 +22,33 @@ fn left(written: &str) -> Drain<8> {
     drain
 }
 
-/// Asserts that each comparison tells one order, and that what is equal has one hash.
-fn compared(rt: &impl Abort, row: &str, wanted: &str) {
+/// Asserts that each comparison tells one order, that what is equal has one hash, and that this is the
+/// hash of the text.
+fn compared(rt: &impl Abort, row: &str) {
     let (one, other) = (left(column(row, 0)), left(column(row, 1)));
     let order = Ord::cmp(&one, &other);
-    agree(rt, row, told_order(order).as_str(), wanted);
-    agree(rt, row, PartialOrd::partial_cmp(&one, &other), Some(order));
-    agree(rt, row, one == other, order.is_eq());
-    agree(rt, row, one != other, order.is_ne());
-    agree(rt, row, hash_of(&one), hash_of(&one.as_str()));
+    let (hash, other_hash) = (hash_of(&one), hash_of(&other));
+    agree(rt, row, told_order(order).as_str(), column(row, 2));
+    agree(
+        rt,
+        row,
+        (
+            PartialOrd::partial_cmp(&one, &other),
+            one == other,
+            one != other,
+        ),
+        (Some(order), order.is_eq(), order.is_ne()),
+    );
+    agree(
+        rt,
+        row,
+        (hash == other_hash, hash),
+        (order.is_eq(), hash_of(&one.as_str())),
+    );
 }
 
 #[test]
-fn what_is_left_is_compared(rt: HostRuntime) {
+fn what_is_left_is_compared_and_printed(rt: HostRuntime) {
     let table = "
         a[bc]d    | x[bc]      | Equal
         a[bc]d    | [abcd]     | Greater
@@ -42,16 +56,8 @@ fn what_is_left_is_compared(rt: HostRuntime) {
         [a]       | [ab]       | Less
         ";
     for row in rows(table) {
-        compared(&rt, row, column(row, 2));
+        compared(&rt, row);
     }
-    let (one, other) = (left("a[bc]d"), left("x[bc]"));
-    agree(&rt, "the hash", hash_of(&one), hash_of(&other));
-    agree(&rt, "the hash of a text", hash_of(&one), hash_of(&"bc"));
-}
-
-#[test]
-fn what_is_left_is_printed(rt: HostRuntime) {
-    let drain = left("a[bc]");
     let wanted = "Drain(\"bc\")|Drain(\n    \"bc\",\n)|Drain(\"bc\")|Drain(\"bc\")|Drain(\"bc\")";
-    debugs(&rt, &drain, wanted);
+    debugs(&rt, &left("a[bc]"), wanted);
 }
