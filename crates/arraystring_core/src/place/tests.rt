@@ -89,11 +89,11 @@ fn texts_are_the_same_wherever_they_begin(rt: HostRuntime) {
     hold_wherever_it_begins(
         &rt,
         "
-        abCDef | as_bytes         |      | 61 62 43 44 65 66 | ok      | abCDef
+        abCDef | as_bytes         |      |                   | [97, 98, 67, 68, 101, 102] | abCDef
                | len              |      |                   | ok      | abCDef | 6
                | cmp              |      | abCDef            | Equal   | abCDef
                | cmp              |      | abCDe             | Greater | abCDef
-        aBé    | as_bytes         |      | 61 42 C3 A9       | ok      | aBé
+        aBé    | as_bytes         |      |                   | [97, 66, 195, 169] | aBé
                | cmp              |      | aBé               | Equal   | aBé
                | is_char_boundary | 2    |                   | ok      | aBé
                | is_char_boundary | 3    |                   | Utf8    | aBé

@@ -4,12 +4,12 @@
 //!
 //! With no text before, the call goes on with the string that the row above left; `new` is a new
 //! string. A text in quotes keeps its spaces, and `255 x` is a text of so many letters. Pieces are
-//! written with `,` between them, and bytes as hexadecimal digits.
+//! written with `,` between them.
 //!
 //! The result is a text or a character itself, `ok` for a call that returns nothing, `None`, or the
-//! name of the refusal. An unchecked call is made where its conditions hold, and else gives `None`.
-//! The number is what `len` and `capacity` return, how many bytes `pop_counted` looked at, and how
-//! many bytes any other call that counts moved.
+//! name of the refusal; bytes are as `{:?}` writes them. An unchecked call is made where its
+//! conditions hold, and else gives `None`. The number is what `len` and `capacity` return, how many
+//! bytes `pop_counted` looked at, and how many bytes any other call that counts moved.
 //!
 //! A range is written as in Rust, or as two bounds in brackets: `(` and `)` exclude an index, `[`
 //! and `]` include it. With `~` before them, it is of a type that does not tell its bounds, and
@@ -156,7 +156,7 @@ fn at_the_end<R: Abort + AllocGlobal, const N: usize>(
             let copy: Result<_, _> = text.clone();
             returned(rt, row, copy);
         }
-        8 => has_bytes(rt, row, text.as_bytes()),
+        8 => returned(rt, row, text.as_bytes()),
         9 => returned(rt, row, retained(text, given, "")),
         _ => return false,
     }
@@ -173,17 +173,6 @@ fn retained<const N: usize>(text: &mut ArrayString<N>, answers: &str, dropped: &
         answers.next() != Some('-') && !dropped.contains(ch)
     });
     asked
-}
-
-/// Asserts that these are the bytes that the digits of a row say.
-fn has_bytes(rt: &(impl Abort + AllocGlobal), row: &str, bytes: &[u8]) {
-    let mut rest = bytes.iter();
-    for digits in column(row, 3).split(' ') {
-        let byte = u8::from_str_radix(digits, 16).expect(rt, "two digits of a byte");
-        agree(rt, row, rest.next(), Some(&byte));
-    }
-    agree(rt, row, rest.next(), None);
-    returned(rt, row, ());
 }
 
 /// The calls that compare the string with that which is given: each comparison has to tell their

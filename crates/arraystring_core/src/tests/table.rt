@@ -91,37 +91,13 @@ pub(crate) fn returned<T: Debug + Drop>(rt: &(impl Abort + AllocGlobal), row: &s
     }
 }
 
-/// What was returned as it is written in a table: a text itself, a refusal by its name.
-pub(crate) fn told(answer: Result<&str, Error>) -> MaxString {
-    match answer {
-        Ok(text) => string(text),
-        Err(Error::Utf8) => string("Utf8"),
-        Err(Error::Utf16) => string("Utf16"),
-        Err(Error::OutOfBounds) => string("OutOfBounds"),
-    }
-}
-
-/// The same of a string that was made.
+/// What was made as it is written in a table: the text itself, a refusal by its name.
 pub(crate) fn told_made<const N: usize>(made: &Result<ArrayString<N>, Error>) -> MaxString {
     match made {
         Ok(made) => string(made.as_str()),
-        Err(why) => told(Err(*why)),
-    }
-}
-
-/// The same of a character.
-pub(crate) fn told_character(answer: Result<char, Error>) -> MaxString {
-    match answer {
-        Ok(ch) => string(ch.encode_utf8(&mut [0; 4])),
-        Err(why) => told(Err(why)),
-    }
-}
-
-/// The same of a character that may not be there.
-pub(crate) fn told_next(answer: Option<char>) -> MaxString {
-    match answer {
-        Some(ch) => told_character(Ok(ch)),
-        None => string("None"),
+        Err(Error::Utf8) => string("Utf8"),
+        Err(Error::Utf16) => string("Utf16"),
+        Err(Error::OutOfBounds) => string("OutOfBounds"),
     }
 }
 
@@ -139,9 +115,4 @@ pub(crate) fn hash_of<T: Hash>(value: &T) -> u64 {
     let mut state = DefaultHasher::new();
     value.hash(&mut state);
     state.finish()
-}
-
-/// The same of what may not be there.
-pub(crate) fn told_text(answer: Option<&str>) -> MaxString {
-    string(answer.unwrap_or("None"))
 }

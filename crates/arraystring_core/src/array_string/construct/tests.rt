@@ -5,7 +5,7 @@ ghost use Rattle.arraystring_core.specs.Taken.{joined_pieces};
 
 use super::*;
 use crate::tests::string;
-use crate::tests::table::{agree, column, rows, told_made, told_next, told_text};
+use crate::tests::table::{agree, column, rows, told_made};
 use std::process::Abort;
 
 const ZEROS_23: &str = "00000000000000000000000";
@@ -16,7 +16,8 @@ const ZEROS_23: &str = "00000000000000000000000";
 ///
 /// with `,` between pieces. Each `try_..` and `parse` make the third, the text or the name of the
 /// refusal, and the others make the cut. The unchecked are called where the text fits. What is next in
-/// an iterator that is lent comes after the first item that does not fit, which is taken too.
+/// an iterator that is lent comes after the first item that does not fit, which is taken too: no
+/// character where the column is empty, no piece where it is `None`.
 fn make<const N: usize>(rt: &impl Abort, table: &str)
     requires { N ≤ 300 }
 {
@@ -58,8 +59,8 @@ fn make_each<const N: usize>(rt: &impl Abort, row: &str)
 
 /// Asserts what is next.
 fn next(rt: &impl Abort, row: &str, ch: Option<char>, piece: Option<&str>) {
-    agree(rt, row, told_next(ch).as_str(), column(row, 4));
-    agree(rt, row, told_text(piece).as_str(), column(row, 5));
+    let wanted = (column(row, 4).chars().next(), column(row, 5));
+    agree(rt, row, (ch, piece.unwrap_or("None")), wanted);
 }
 
 /// What a caller knows of the characters of a text, and what the unchecked constructors make of a text
@@ -119,26 +120,26 @@ fn what_is_made_and_what_is_added(rt: HostRuntime) {
     make::<23>(
         &rt,
         "
-        My String                | My, String               | My String               | My String               | None | None
-                                 |                          |                         |                         | None | None
-        🤔🤔🤔🤔🤔               | 🤔🤔🤔,🤔🤔              | 🤔🤔🤔🤔🤔              | 🤔🤔🤔🤔🤔              | None | None
-        00000000000000000000000  | 00000000000000000000000  | 00000000000000000000000 | 00000000000000000000000 | None | None
-        000000000000000000000000 | 000000000000000000000000 | OutOfBounds             | 00000000000000000000000 | None | None
-        abcde                    | a,bcd,e                  | abcde                   | abcde                   | None | None
-        abc🤔de                  | ab,c🤔,d,e               | abc🤔de                 | abc🤔de                 | None | None
+        My String                | My, String               | My String               | My String               |      | None
+                                 |                          |                         |                         |      | None
+        🤔🤔🤔🤔🤔               | 🤔🤔🤔,🤔🤔              | 🤔🤔🤔🤔🤔              | 🤔🤔🤔🤔🤔              |      | None
+        00000000000000000000000  | 00000000000000000000000  | 00000000000000000000000 | 00000000000000000000000 |      | None
+        000000000000000000000000 | 000000000000000000000000 | OutOfBounds             | 00000000000000000000000 |      | None
+        abcde                    | a,bcd,e                  | abcde                   | abcde                   |      | None
+        abc🤔de                  | ab,c🤔,d,e               | abc🤔de                 | abc🤔de                 |      | None
         ",
     );
     make::<0>(
         &rt,
         "
-          |   |             | | None | None
-        x | x | OutOfBounds | | None | None
+          |   |             | |      | None
+        x | x | OutOfBounds | |      | None
         ",
     );
     make::<1>(
         &rt,
         "
-        ab  | a,b  | OutOfBounds | a | None | None
+        ab  | a,b  | OutOfBounds | a |      | None
         🤔x | 🤔,x | OutOfBounds |   | x    | x
         éa  | é,a  | OutOfBounds |   | a    | a
         ",
@@ -149,19 +150,19 @@ fn what_is_made_and_what_is_added(rt: HostRuntime) {
     make::<5>(
         &rt,
         "
-        a🤔b     | a,🤔b      | OutOfBounds | a🤔   | None | None
+        a🤔b     | a,🤔b      | OutOfBounds | a🤔   |      | None
         abc🤔d   | ab,c🤔,d   | OutOfBounds | abc   | d    | d
         ab🤔cd   | a,b🤔,c,d  | OutOfBounds | ab    | c    | c
         abcdexyz | ab,cdex,yz | OutOfBounds | abcde | y    | yz
         abc🤔de  | ab,c🤔,d,e | OutOfBounds | abc   | d    | d
         ",
     );
-    make::<255>(&rt, "255 x | 255 x | 255 x | 255 x | None | None");
+    make::<255>(&rt, "255 x | 255 x | 255 x | 255 x |      | None");
     make::<300>(
         &rt,
         "
-        255 x | 255 x | 255 x       | 255 x | None | None
-        256 x | 256 x | OutOfBounds | 255 x | None | None
+        255 x | 255 x | 255 x       | 255 x |      | None
+        256 x | 256 x | OutOfBounds | 255 x |      | None
         ",
     );
     // What an iterator adds, also to a full string, which takes one more item.

@@ -5,7 +5,8 @@ use crate::tests::prints::debugs;
 use crate::tests::table::{agree, column, hash_of, rows, told_order};
 use std::process::Abort;
 
-/// A drain of a text, of which `[ ]` has in it what is left after steps from both ends.
+/// A drain of a text, of which `[ ]` has in it what is left after a step from each end where there is
+/// a character before or after it.
 fn left(written: &str) -> Drain<8> {
     let (before, rest) = written.split_once('[').unwrap_or_default();
     let (inside, after) = rest.split_once(']').unwrap_or_default();
@@ -13,10 +14,10 @@ fn left(written: &str) -> Drain<8> {
     text.push_str(inside);
     text.push_str(after);
     let mut drain = text.drain(..).unwrap_or_default();
-    for _ in before.chars() {
+    if !before.is_empty() {
         drain.next();
     }
-    for _ in after.chars() {
+    if !after.is_empty() {
         drain.next_back();
     }
     drain
