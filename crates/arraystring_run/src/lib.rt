@@ -11,6 +11,8 @@ mod runs;
 mod scarce;
 mod script;
 mod steps;
+#[cfg(test)]
+mod table;
 
 pub use commands::{Command, Reply};
 pub use player::{PlayFault, names_capacity, play, serve};

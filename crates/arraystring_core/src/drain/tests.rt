@@ -1,37 +1,11 @@
 //! Walks over what was taken out, on values worked out by hand.
-ghost use Rattle.std.specs.Prelude.{◌≡◌, ◌≤◌, map, if◌then◌else◌};
-ghost use Rattle.arraystring_base.specs.Text.{cap, size};
-ghost use Rattle.arraystring_core.specs.Drained.{Front, Back, walked};
+ghost use Rattle.std.specs.Prelude.{◌≤◌};
 
 use super::*;
 use crate::ArrayString;
 use crate::tests::string;
 use crate::tests::table::{agree, column, number, rows};
 use std::process::Abort;
-
-/// Walks by one end after the other, the front where true, and returns what came from the front and
-/// what came from the back.
-fn walk<const N: usize>(drain: &mut Drain<N>, ends: &[bool]) -> (ArrayString<N>, ArrayString<N>)
-    requires { size drain.old.left ≤ cap N }
-    ensures fronts { result.0.text ≡ (walked (map (λ front. if front then Front else Back) ends.now) drain.old.left).fronts }
-    ensures left { drain.new.left ≡ (walked (map (λ front. if front then Front else Back) ends.now) drain.old.left).left }
-    ensures backs { result.1.text ≡ (walked (map (λ front. if front then Front else Back) ends.now) drain.old.left).backs }
-{
-    let mut fronts = ArrayString::new();
-    let mut backs = ArrayString::new();
-    let mut rest = ends;
-    while let Some((front, later)) = rest.split_first() {
-        if *front {
-            if let Some(ch) = drain.next() {
-                fronts.push_unchecked(ch);
-            }
-        } else if let Some(ch) = drain.next_back() {
-            backs.push_unchecked(ch);
-        }
-        rest = later;
-    }
-    (fronts, backs)
-}
 
 /// What `[ ]` has in it of a text, taken out of it.
 fn taken_out<const N: usize>(written: &str) -> Drain<N> {
@@ -112,21 +86,6 @@ fn steps_from_both_ends(rt: HostRuntime) {
     agree(&rt, "the front, the back", steps, (Some('A'), Some('B')));
     let left = (drain.as_str(), copy.as_str());
     agree(&rt, "what is left of both", left, ("🤔B", "A🤔"));
-}
-
-#[test]
-fn both_ends_in_a_walk(rt: HostRuntime) {
-    let mut drain = taken_out::<23>("[aé€🤔bé]");
-    if drain.as_str().len() > 23 {
-        return agree(&rt, "more is taken out than was there", true, false);
-    }
-    let (fronts, backs) = walk(&mut drain, &[true, false, false, true]);
-    agree(
-        &rt,
-        "from the front, what is left, from the back",
-        (fronts.as_str(), drain.as_str(), backs.as_str()),
-        ("aé", "€🤔", "éb"),
-    );
 }
 
 /// Walks all of a text by one choice of ends: the back where the choice has a bit.

@@ -1,6 +1,11 @@
 //! Runs of commands, on values worked out by hand.
+ghost use Rattle.std.specs.Prelude.{◌≤◌};
+
 use super::*;
+use crate::line::command;
+use crate::printing::write_all_replies;
 use crate::scarce::{Scarce, TIMES};
+use crate::table::{agree, column, printed, rows};
 use arraystring::error::Error::{OutOfBounds, Utf8};
 use std::process::Abort;
 use std::test::Fail;
@@ -13,7 +18,7 @@ fn text_of<const N: usize>(text: &str) -> ArrayString<N> {
 }
 
 #[test]
-fn each_command_is_answered(rt: HostRuntime) -> Result<(), Fail> {
+fn each_command_is_answered(rt: HostRuntime) {
     let mut text: ArrayString<5> = ArrayString::new();
     let commands = [
         Command::PushStr("a🤔b"),
@@ -39,55 +44,22 @@ fn each_command_is_answered(rt: HostRuntime) -> Result<(), Fail> {
         Reply::Char('a'),
         Reply::NoChar,
     ];
-    let outcome = run(rt.alloc(), &mut text, &commands)?;
-    assert_eq!(rt; outcome.replies.as_slice(), wanted.as_slice());
-    assert_eq!(rt; outcome.first_tight, Some(0));
-    assert_eq!(rt; text.as_str(), "");
-    Ok(())
+    let outcome = run(rt.alloc(), &mut text, &commands).expect(&rt, "memory");
+    agree(
+        &rt,
+        "the replies",
+        outcome.replies.as_slice(),
+        wanted.as_slice(),
+    );
+    agree(&rt, "the first tight command", outcome.first_tight, Some(0));
+    agree(&rt, "the text", text.as_str(), "");
 }
 
 #[test]
-fn the_text_runs_out(rt: HostRuntime) -> Result<(), Fail> {
-    let mut text: ArrayString<23> = text_of("A🤔");
-    let outcome = run(rt.alloc(), &mut text, &[Command::Pop; 3])?;
-    let wanted = [Reply::Char('🤔'), Reply::Char('A'), Reply::NoChar];
-    assert_eq!(rt; outcome.replies.as_slice(), wanted.as_slice());
-    assert_eq!(rt; outcome.first_tight, None);
-    Ok(())
-}
-
-#[test]
-fn nothing_fits_into_no_bytes(rt: HostRuntime) -> Result<(), Fail> {
-    let mut text: ArrayString<0> = ArrayString::new();
-    let commands = [
-        Command::TryPushStr(""),
-        Command::PushStr(""),
-        Command::PushStr("x"),
-        Command::TryPush('x'),
-        Command::Pop,
-        Command::Len,
-        Command::Capacity,
-    ];
-    let wanted = [
-        Reply::Done,
-        Reply::Done,
-        Reply::Done,
-        Reply::Refused(OutOfBounds),
-        Reply::NoChar,
-        Reply::Number(0),
-        Reply::Number(0),
-    ];
-    let outcome = run(rt.alloc(), &mut text, &commands)?;
-    assert_eq!(rt; outcome.replies.as_slice(), wanted.as_slice());
-    assert_eq!(rt; outcome.first_tight, Some(2));
-    Ok(())
-}
-
-#[test]
-fn no_more_than_255_bytes_fit(rt: HostRuntime) -> Result<(), Fail> {
+fn no_more_than_255_bytes_fit(rt: HostRuntime) {
     let mut letters = String::new(rt.alloc());
     for _ in 0..256u16 {
-        letters.push('a')?;
+        letters.push('a').expect(&rt, "memory");
     }
     let mut text: ArrayString<300> = ArrayString::new();
     let commands = [
@@ -104,581 +76,384 @@ fn no_more_than_255_bytes_fit(rt: HostRuntime) -> Result<(), Fail> {
         Reply::Number(255),
         Reply::Number(255),
     ];
-    let outcome = run(rt.alloc(), &mut text, &commands)?;
-    assert_eq!(rt; outcome.replies.as_slice(), wanted.as_slice());
+    let outcome = run(rt.alloc(), &mut text, &commands).expect(&rt, "memory");
+    agree(
+        &rt,
+        "the replies",
+        outcome.replies.as_slice(),
+        wanted.as_slice(),
+    );
     letters.pop();
-    assert_eq!(rt; text.as_str(), letters.as_str());
-    Ok(())
+    agree(&rt, "the text", text.as_str(), letters.as_str());
 }
 
-/// Whether the character fits into `N` bytes, comes back whole, and is as long as it should be.
-fn holds<const N: usize>(
-    rt: &impl Abort,
-    mut text: ArrayString<N>,
-    alloc: Global,
-    ch: char,
-    width: u8,
-) -> Result<bool, Fail> {
+/// Asserts that a character fits into `N` bytes where it is no wider, comes back whole, and is as
+/// long as it should be.
+fn holds<const N: usize>(rt: &(impl Abort + AllocGlobal), row: &str, ch: char, width: u8)
+    requires { N ≤ 300 }
+{
+    let mut text = ArrayString::<N>::new();
     let commands = [Command::TryPush(ch), Command::Len, Command::Pop];
-    let outcome = run(alloc, &mut text, &commands)?;
-    let held = [Reply::Done, Reply::Number(width), Reply::Char(ch)];
-    let refused = [Reply::Refused(OutOfBounds), Reply::Number(0), Reply::NoChar];
-    let replies = outcome.replies.as_slice();
-    assert!(rt; replies == held.as_slice() || replies == refused.as_slice());
-    Ok(replies == held.as_slice())
+    let outcome = run(rt.alloc(), &mut text, &commands).expect(rt, "memory");
+    let wanted = if width <= ArrayString::<N>::capacity() {
+        [Reply::Done, Reply::Number(width), Reply::Char(ch)]
+    } else {
+        [Reply::Refused(OutOfBounds), Reply::Number(0), Reply::NoChar]
+    };
+    agree(rt, row, outcome.replies.as_slice(), wanted.as_slice());
 }
 
 #[test]
-fn each_width_at_its_edges(rt: HostRuntime) -> Result<(), Fail> {
-    for (ch, width) in [
-        ('\u{0}', 1),
-        ('\u{7F}', 1),
-        ('\u{80}', 2),
-        ('\u{7FF}', 2),
-        ('\u{800}', 3),
-        ('\u{FFFF}', 3),
-        ('\u{10000}', 4),
-        ('\u{10FFFF}', 4),
-    ] {
-        assert_eq!(rt;
-            holds(&rt, ArrayString::<1>::new(), rt.alloc(), ch, width)?,
-            width <= 1
-        );
-        assert_eq!(rt;
-            holds(&rt, ArrayString::<2>::new(), rt.alloc(), ch, width)?,
-            width <= 2
-        );
-        assert_eq!(rt;
-            holds(&rt, ArrayString::<3>::new(), rt.alloc(), ch, width)?,
-            width <= 3
-        );
-        assert_eq!(rt;
-            holds(&rt, ArrayString::<4>::new(), rt.alloc(), ch, width)?,
-            width <= 4
-        );
+fn each_width_at_its_edges(rt: HostRuntime) {
+    let table = "
+        \0 | 1
+        \u{7F} | 1
+        \u{80} | 2
+        \u{7FF} | 2
+        \u{800} | 3
+        \u{FFFF} | 3
+        \u{10000} | 4
+        \u{10FFFF} | 4
+        ";
+    for row in rows(table) {
+        let ch = column(row, 0).parse().expect(&rt, "a character");
+        let width = column(row, 1).parse().expect(&rt, "a width");
+        holds::<1>(&rt, row, ch, width);
+        holds::<2>(&rt, row, ch, width);
+        holds::<3>(&rt, row, ch, width);
+        holds::<4>(&rt, row, ch, width);
     }
-    Ok(())
 }
 
-#[test]
-fn no_commands_leave_the_text(rt: HostRuntime) -> Result<(), Fail> {
-    let mut text: ArrayString<4> = text_of("🤔");
-    let outcome = run(rt.alloc(), &mut text, &[])?;
-    assert_eq!(rt; outcome.replies.len(), 0);
-    assert_eq!(rt; outcome.first_tight, None);
-    assert_eq!(rt; text.as_str(), "🤔");
-    Ok(())
-}
-
-/// Makes each command on the text `before`, and compares the reply, the text and whether it is
-/// tight.
-fn answers<const N: usize>(
-    rt: &impl Abort,
-    before: ArrayString<N>,
-    alloc: Global,
-    rows: &[(Command<'_>, Reply<N>, &str, bool)],
-) -> Result<(), Fail> {
-    for (row, (command, reply, after, is_tight)) in rows.iter().enumerate() {
+/// Makes the runs of a table. The columns of a row are
+///
+///     text before | commands as in scripts | printed replies | text after | first tight position
+///
+/// with `; ` between commands and `, ` between replies. With no text before, it is that of the row
+/// above, and in the first row the empty text.
+fn hold<const N: usize>(rt: &(impl Abort + AllocGlobal), table: &str)
+    requires { N ≤ 300 }
+{
+    let mut before = ArrayString::<N>::new();
+    for row in rows(table) {
+        if !column(row, 0).is_empty() {
+            before = text_of(column(row, 0));
+        }
         let mut text = before;
-        let outcome = run(alloc, &mut text, &[*command])?;
-        let tight = if *is_tight { Some(0usize) } else { None };
-        assert_eq!(rt; outcome.replies.as_slice(), [*reply].as_slice(), "at {row}");
-        assert_eq!(rt; text.as_str(), *after, "at {row}");
-        assert_eq!(rt; outcome.first_tight, tight, "at {row}");
+        let commands = commands_of(rt, column(row, 1));
+        let outcome = run(rt.alloc(), &mut text, &commands).expect(rt, "memory");
+        let mut output = Vec::new(rt.alloc());
+        let written = write_all_replies(&mut output, &outcome.replies, &text);
+        let wanted = printed(rt, column(row, 2), column(row, 3));
+        let gave = (written.is_ok(), output.as_slice());
+        agree(rt, row, gave, (true, wanted.as_bytes()));
+        agree(rt, row, outcome.first_tight, column(row, 4).parse().ok());
     }
-    Ok(())
+}
+
+/// The commands of a column.
+fn commands_of<'a>(rt: &(impl Abort + AllocGlobal), lines: &'a str) -> Vec<Command<'a>> {
+    let mut commands = Vec::new(rt.alloc());
+    for line in lines.split_terminator("; ") {
+        let command = command(line.as_bytes()).expect(rt, "a command");
+        commands.push(command).expect(rt, "memory");
+    }
+    commands
 }
 
 #[test]
-fn places_are_judged(rt: HostRuntime) -> Result<(), Fail> {
-    let before = "ABCD🤔";
-    let rows: [(Command, Reply<23>, &str, bool); 21] = [
-        (Command::Truncate(4), Reply::Done, "ABCD", false),
-        (Command::Truncate(5), Reply::Refused(Utf8), before, false),
-        (Command::Truncate(8), Reply::Done, before, false),
-        (Command::Truncate(9), Reply::Done, before, false),
-        (Command::Remove(0), Reply::Char('A'), "BCD🤔", false),
-        (Command::Remove(4), Reply::Char('🤔'), "ABCD", false),
-        (Command::Remove(6), Reply::Refused(Utf8), before, false),
-        (
-            Command::Remove(8),
-            Reply::Refused(OutOfBounds),
-            before,
-            false,
-        ),
-        (Command::TryInsert(1, 'é'), Reply::Done, "AéBCD🤔", false),
-        (Command::TryInsert(8, '!'), Reply::Done, "ABCD🤔!", false),
-        (
-            Command::TryInsert(9, 'x'),
-            Reply::Refused(OutOfBounds),
-            before,
-            false,
-        ),
-        (
-            Command::TryInsert(7, 'x'),
-            Reply::Refused(Utf8),
-            before,
-            false,
-        ),
-        (
-            Command::TryInsertStr(4, "xy"),
-            Reply::Done,
-            "ABCDxy🤔",
-            false,
-        ),
-        (
-            Command::TryInsertStr(20, ""),
-            Reply::Refused(OutOfBounds),
-            before,
-            false,
-        ),
-        (
-            Command::TryInsertStr(5, ""),
-            Reply::Refused(Utf8),
-            before,
-            false,
-        ),
-        (Command::InsertStr(0, "xy"), Reply::Done, "xyABCD🤔", false),
-        (
-            Command::InsertStr(20, "x"),
-            Reply::Refused(OutOfBounds),
-            before,
-            false,
-        ),
-        (
-            Command::InsertStr(5, "x"),
-            Reply::Refused(Utf8),
-            before,
-            false,
-        ),
-        (
-            Command::SplitOff(4),
-            Reply::Text(text_of("🤔")),
-            "ABCD",
-            false,
-        ),
-        (
-            Command::SplitOff(9),
-            Reply::Refused(OutOfBounds),
-            before,
-            false,
-        ),
-        (Command::SplitOff(6), Reply::Refused(Utf8), before, false),
-    ];
-    answers(&rt, text_of(before), rt.alloc(), &rows)
+fn each_command_by_itself(rt: HostRuntime) {
+    // An index is judged.
+    hold::<23>(
+        &rt,
+        "
+        ABCD🤔 | truncate 4           | done                | ABCD    |
+              | truncate 5           | refused Utf8        | ABCD🤔   |
+              | truncate 8           | done                | ABCD🤔   |
+              | truncate 9           | done                | ABCD🤔   |
+              | remove 0             | char A              | BCD🤔    |
+              | remove 4             | char 🤔              | ABCD    |
+              | remove 6             | refused Utf8        | ABCD🤔   |
+              | remove 8             | refused OutOfBounds | ABCD🤔   |
+              | try_insert 1 é       | done                | AéBCD🤔  |
+              | try_insert 8 !       | done                | ABCD🤔!  |
+              | try_insert 9 x       | refused OutOfBounds | ABCD🤔   |
+              | try_insert 7 x       | refused Utf8        | ABCD🤔   |
+              | try_insert_str 4 xy  | done                | ABCDxy🤔 |
+              | 'try_insert_str 20 ' | refused OutOfBounds | ABCD🤔   |
+              | 'try_insert_str 5 '  | refused Utf8        | ABCD🤔   |
+              | insert_str 0 xy      | done                | xyABCD🤔 |
+              | insert_str 20 x      | refused OutOfBounds | ABCD🤔   |
+              | insert_str 5 x       | refused Utf8        | ABCD🤔   |
+              | split_off 4          | text 🤔              | ABCD    |
+              | split_off 9          | refused OutOfBounds | ABCD🤔   |
+              | split_off 6          | refused Utf8        | ABCD🤔   |
+        ",
+    );
+    // A range is judged.
+    hold::<23>(
+        &rt,
+        "
+        ABCD🤔 | drain 0 3               | text ABC            | D🤔       |
+              | drain 8 8               | 'text '             | ABCD🤔    |
+              | drain 3 2               | refused OutOfBounds | ABCD🤔    |
+              | drain 5 9               | refused OutOfBounds | ABCD🤔    |
+              | drain 5 8               | refused Utf8        | ABCD🤔    |
+              | drain 3 5               | refused Utf8        | ABCD🤔    |
+              | drain_through 1 2       | text BC             | AD🤔      |
+              | drain_through 3 2       | 'text '             | ABCD🤔    |
+              | drain_through 0 8       | refused OutOfBounds | ABCD🤔    |
+              | drain_through 4 4       | refused Utf8        | ABCD🤔    |
+              | drain_back 2 8          | text 🤔DC            | AB       |
+              | drain_back 2 9          | refused OutOfBounds | ABCD🤔    |
+              | drain_back 2 7          | refused Utf8        | ABCD🤔    |
+              | replace_range 2 4 EFGHI | done                | ABEFGHI🤔 |
+              | 'replace_range 2 4 '    | done                | AB🤔      |
+              | replace_range 9 9 J     | refused OutOfBounds | ABCD🤔    |
+              | replace_range 4 3 K     | refused OutOfBounds | ABCD🤔    |
+              | replace_range 5 8 L     | refused Utf8        | ABCD🤔    |
+              | get 3 8                 | text D🤔             | ABCD🤔    |
+              | get 3 2                 | no text             | ABCD🤔    |
+              | get 0 9                 | no text             | ABCD🤔    |
+        ",
+    );
+    // A whole text is changed.
+    hold::<9>(
+        &rt,
+        "
+        '  aB cé ' | trim           | done | aB cé      |
+                   | 'retain_not  ' | done | aBcé       |
+                   | upper          | done | '  AB Cé ' |
+                   | lower          | done | '  ab cé ' |
+                   | clear          | done |            |
+        ",
+    );
+    // A refusal because of the capacity is tight, and so is a text that was cut. A refusal of an index
+    // is not.
+    hold::<9>(
+        &rt,
+        "
+        abcd🤔 | try_push é            | refused OutOfBounds | abcd🤔  | 0
+              | try_push_str xy       | refused OutOfBounds | abcd🤔  | 0
+              | push_str xy           | done                | abcd🤔x | 0
+              | push_str x            | done                | abcd🤔x |
+              | try_insert 4 é        | refused OutOfBounds | abcd🤔  | 0
+              | try_insert 5 é        | refused OutOfBounds | abcd🤔  | 0
+              | try_insert 9 é        | refused OutOfBounds | abcd🤔  |
+              | try_insert_str 6 xy   | refused OutOfBounds | abcd🤔  | 0
+              | try_insert_str 6 x    | refused Utf8        | abcd🤔  |
+              | insert_str 4 éx       | done                | abcd🤔  | 0
+              | insert_str 4 xé       | done                | abcdx🤔 | 0
+              | insert_str 5 xy       | refused Utf8        | abcd🤔  |
+              | insert_str 9 xy       | refused OutOfBounds | abcd🤔  |
+              | replace_range 5 6 xyz | refused OutOfBounds | abcd🤔  | 0
+              | replace_range 5 6 xy  | refused Utf8        | abcd🤔  |
+              | replace_range 3 9 xyz | refused OutOfBounds | abcd🤔  |
+        ",
+    );
 }
 
 #[test]
-fn ranges_are_judged(rt: HostRuntime) -> Result<(), Fail> {
-    let before = "ABCD🤔";
-    let rows: [(Command, Reply<23>, &str, bool); 21] = [
-        (
-            Command::Drain { start: 0, end: 3 },
-            Reply::Text(text_of("ABC")),
-            "D🤔",
-            false,
-        ),
-        (
-            Command::Drain { start: 8, end: 8 },
-            Reply::Text(text_of("")),
-            before,
-            false,
-        ),
-        (
-            Command::Drain { start: 3, end: 2 },
-            Reply::Refused(OutOfBounds),
-            before,
-            false,
-        ),
-        (
-            Command::Drain { start: 5, end: 9 },
-            Reply::Refused(OutOfBounds),
-            before,
-            false,
-        ),
-        (
-            Command::Drain { start: 5, end: 8 },
-            Reply::Refused(Utf8),
-            before,
-            false,
-        ),
-        (
-            Command::Drain { start: 3, end: 5 },
-            Reply::Refused(Utf8),
-            before,
-            false,
-        ),
-        (
-            Command::DrainThrough { start: 1, last: 2 },
-            Reply::Text(text_of("BC")),
-            "AD🤔",
-            false,
-        ),
-        (
-            Command::DrainThrough { start: 3, last: 2 },
-            Reply::Text(text_of("")),
-            before,
-            false,
-        ),
-        (
-            Command::DrainThrough { start: 0, last: 8 },
-            Reply::Refused(OutOfBounds),
-            before,
-            false,
-        ),
-        (
-            Command::DrainThrough { start: 4, last: 4 },
-            Reply::Refused(Utf8),
-            before,
-            false,
-        ),
-        (
-            Command::DrainBack { start: 2, end: 8 },
-            Reply::Text(text_of("🤔DC")),
-            "AB",
-            false,
-        ),
-        (
-            Command::DrainBack { start: 2, end: 9 },
-            Reply::Refused(OutOfBounds),
-            before,
-            false,
-        ),
-        (
-            Command::DrainBack { start: 2, end: 7 },
-            Reply::Refused(Utf8),
-            before,
-            false,
-        ),
-        (replace(2, 4, "EFGHI"), Reply::Done, "ABEFGHI🤔", false),
-        (replace(2, 4, ""), Reply::Done, "AB🤔", false),
-        (
-            replace(9, 9, "J"),
-            Reply::Refused(OutOfBounds),
-            before,
-            false,
-        ),
-        (
-            replace(4, 3, "K"),
-            Reply::Refused(OutOfBounds),
-            before,
-            false,
-        ),
-        (replace(5, 8, "L"), Reply::Refused(Utf8), before, false),
-        (
-            Command::Get { start: 3, end: 8 },
-            Reply::Text(text_of("D🤔")),
-            before,
-            false,
-        ),
-        (
-            Command::Get { start: 3, end: 2 },
-            Reply::NoText,
-            before,
-            false,
-        ),
-        (
-            Command::Get { start: 0, end: 9 },
-            Reply::NoText,
-            before,
-            false,
-        ),
-    ];
-    answers(&rt, text_of(before), rt.alloc(), &rows)
-}
-
-/// The command that replaces a part.
-fn replace(start: u8, end: u8, given: &str) -> Command<'_> {
-    Command::ReplaceRange { start, end, given }
+fn each_on_what_the_one_before_left(rt: HostRuntime) {
+    hold::<23>(
+        &rt,
+        "
+              | push_str ABCD🤔; try_insert 1 A                 | done, done                      | AABCD🤔 |
+        A🤔    | pop; pop; pop                                  | char 🤔, char A, no char         |        |
+        ABCD🤔 | retain_not B; get 3 7; get 4 7; drain_back 0 3 | done, text 🤔, no text, text DCA | 🤔      |
+        ",
+    );
+    hold::<8>(
+        &rt,
+        "
+         | push_str ABCD🤔; try_insert 1 A | done, refused OutOfBounds | ABCD🤔 | 1
+        ",
+    );
+    hold::<0>(
+        &rt,
+        "
+         | try_push_str ; push_str ; push_str x; try_push x; pop; len; capacity | done, done, done, refused OutOfBounds, no char, number 0, number 0 |  | 2
+        ",
+    );
+    // No command leaves the text.
+    hold::<4>(
+        &rt,
+        "
+        🤔 |  |  | 🤔 |
+        ",
+    );
 }
 
 #[test]
-fn whole_texts_are_changed(rt: HostRuntime) -> Result<(), Fail> {
-    let rows: [(Command, Reply<9>, &str, bool); 5] = [
-        (Command::Trim, Reply::Done, "aB cé", false),
-        (Command::RetainNot(' '), Reply::Done, "aBcé", false),
-        (Command::Upper, Reply::Done, "  AB Cé ", false),
-        (Command::Lower, Reply::Done, "  ab cé ", false),
-        (Command::Clear, Reply::Done, "", false),
-    ];
-    answers(&rt, text_of("  aB cé "), rt.alloc(), &rows)
-}
-
-/// A refusal because of the capacity is tight, and so is a text that was cut. A refusal of an index
-/// is not.
-#[test]
-fn room_is_judged(rt: HostRuntime) -> Result<(), Fail> {
-    let before = "abcd🤔";
-    let rows: [(Command, Reply<9>, &str, bool); 16] = [
-        (
-            Command::TryPush('é'),
-            Reply::Refused(OutOfBounds),
-            before,
-            true,
-        ),
-        (
-            Command::TryPushStr("xy"),
-            Reply::Refused(OutOfBounds),
-            before,
-            true,
-        ),
-        (Command::PushStr("xy"), Reply::Done, "abcd🤔x", true),
-        (Command::PushStr("x"), Reply::Done, "abcd🤔x", false),
-        (
-            Command::TryInsert(4, 'é'),
-            Reply::Refused(OutOfBounds),
-            before,
-            true,
-        ),
-        (
-            Command::TryInsert(5, 'é'),
-            Reply::Refused(OutOfBounds),
-            before,
-            true,
-        ),
-        (
-            Command::TryInsert(9, 'é'),
-            Reply::Refused(OutOfBounds),
-            before,
-            false,
-        ),
-        (
-            Command::TryInsertStr(6, "xy"),
-            Reply::Refused(OutOfBounds),
-            before,
-            true,
-        ),
-        (
-            Command::TryInsertStr(6, "x"),
-            Reply::Refused(Utf8),
-            before,
-            false,
-        ),
-        (Command::InsertStr(4, "éx"), Reply::Done, before, true),
-        (Command::InsertStr(4, "xé"), Reply::Done, "abcdx🤔", true),
-        (
-            Command::InsertStr(5, "xy"),
-            Reply::Refused(Utf8),
-            before,
-            false,
-        ),
-        (
-            Command::InsertStr(9, "xy"),
-            Reply::Refused(OutOfBounds),
-            before,
-            false,
-        ),
-        (
-            replace(5, 6, "xyz"),
-            Reply::Refused(OutOfBounds),
-            before,
-            true,
-        ),
-        (replace(5, 6, "xy"), Reply::Refused(Utf8), before, false),
-        (
-            replace(3, 9, "xyz"),
-            Reply::Refused(OutOfBounds),
-            before,
-            false,
-        ),
-    ];
-    answers(&rt, text_of(before), rt.alloc(), &rows)
-}
-
-/// One run at the capacity `N`, from the empty text.
-fn inserted<const N: usize>(
-    alloc: Global,
-    mut text: ArrayString<N>,
-) -> Result<(Outcome<N>, ArrayString<N>), Fail> {
-    let commands = [Command::PushStr("ABCD🤔"), Command::TryInsert(1, 'A')];
-    let outcome = run(alloc, &mut text, &commands)?;
-    Ok((outcome, text))
-}
-
-#[test]
-fn two_capacities(rt: HostRuntime) -> Result<(), Fail> {
-    let (small, text) = inserted(rt.alloc(), ArrayString::<8>::new())?;
-    let wanted = [Reply::Done, Reply::Refused(OutOfBounds)];
-    assert_eq!(rt; small.replies.as_slice(), wanted.as_slice());
-    assert_eq!(rt; small.first_tight, Some(1));
-    assert_eq!(rt; text.as_str(), "ABCD🤔");
-    let (large, text) = inserted(rt.alloc(), ArrayString::<23>::new())?;
-    let wanted = [Reply::Done, Reply::Done];
-    assert_eq!(rt; large.replies.as_slice(), wanted.as_slice());
-    assert_eq!(rt; large.first_tight, None);
-    assert_eq!(rt; text.as_str(), "AABCD🤔");
-    Ok(())
-}
-
-#[test]
-fn all_of_255_bytes_are_drained(rt: HostRuntime) -> Result<(), Fail> {
+fn all_of_255_bytes_are_drained(rt: HostRuntime) {
     let mut full: ArrayString<255> = ArrayString::new();
     for _ in 0..255u8 {
         full.push_str("a");
     }
-    assert_eq!(rt; full.len(), 255);
-    let rows = [
-        (
-            Command::DrainThrough {
-                start: 0,
-                last: 255,
-            },
-            Reply::Text(full),
-            "",
-            false,
-        ),
-        (
-            Command::Drain { start: 0, end: 255 },
-            Reply::Text(full),
-            "",
-            false,
-        ),
-    ];
-    answers(&rt, full, rt.alloc(), &rows)
+    agree(&rt, "the size", full.len(), 255);
+    let (start, end) = (0, 255);
+    for command in [
+        Command::DrainThrough { start, last: end },
+        Command::Drain { start, end },
+    ] {
+        let mut text = full;
+        let outcome = run(rt.alloc(), &mut text, &[command]).expect(&rt, "memory");
+        agree(
+            &rt,
+            "the replies",
+            outcome.replies.as_slice(),
+            [Reply::Text(full)].as_slice(),
+        );
+        agree(
+            &rt,
+            "the first tight command",
+            (text.as_str(), outcome.first_tight),
+            ("", None),
+        );
+    }
 }
 
-#[test]
-fn each_on_what_the_one_before_left(rt: HostRuntime) -> Result<(), Fail> {
-    let mut text: ArrayString<23> = text_of("ABCD🤔");
-    let commands = [
-        Command::RetainNot('B'),
-        Command::Get { start: 3, end: 7 },
-        Command::Get { start: 4, end: 7 },
-        Command::DrainBack { start: 0, end: 3 },
-    ];
-    let wanted = [
-        Reply::Done,
-        Reply::Text(text_of("🤔")),
-        Reply::NoText,
-        Reply::Text(text_of("DCA")),
-    ];
-    let outcome = run(rt.alloc(), &mut text, &commands)?;
-    assert_eq!(rt; outcome.replies.as_slice(), wanted.as_slice());
-    assert_eq!(rt; outcome.first_tight, None);
-    assert_eq!(rt; text.as_str(), "🤔");
-    Ok(())
-}
-
-/// Runs the commands on a text at two capacities, and says whether the replies are the wanted ones.
-/// Returns the two first tight positions and the two last texts.
+/// Runs commands on a text at two capacities, and asserts the replies at each, and the first tight
+/// position and the last text at each.
 fn at_two_capacities<const N: usize, const M: usize>(
-    rt: &impl Abort,
-    alloc: Global,
+    rt: &(impl Abort + AllocGlobal),
     text: &str,
     commands: &[Command<'_>],
-    wanted: (&[Reply<N>], &[Reply<M>]),
-) -> Result<
-    (
-        (Option<usize>, ArrayString<N>),
-        (Option<usize>, ArrayString<M>),
-    ),
-    Fail,
-> {
+    small: (&[Reply<N>], Option<usize>, &str),
+    large: (&[Reply<M>], Option<usize>, &str),
+)
+    requires small { N ≤ 300 }
+    requires large { M ≤ 300 }
+{
     let mut first: ArrayString<N> = text_of(text);
     let mut second: ArrayString<M> = text_of(text);
-    let (small, large) = run_both(alloc, &mut first, &mut second, commands)?;
-    assert_eq!(rt; small.replies.as_slice(), wanted.0);
-    assert_eq!(rt; large.replies.as_slice(), wanted.1);
-    Ok(((small.first_tight, first), (large.first_tight, second)))
+    let (least, most) = run_both(rt.alloc(), &mut first, &mut second, commands).expect(
+        rt, "memory",
+    );
+    agree(rt, text, least.replies.as_slice(), small.0);
+    agree(rt, text, most.replies.as_slice(), large.0);
+    agree(
+        rt,
+        text,
+        (least.first_tight, first.as_str()),
+        (small.1, small.2),
+    );
+    agree(
+        rt,
+        text,
+        (most.first_tight, second.as_str()),
+        (large.1, large.2),
+    );
 }
 
 #[test]
-fn an_insertion_that_fits_at_one_capacity(rt: HostRuntime) -> Result<(), Fail> {
+fn what_fits_at_one_capacity(rt: HostRuntime) {
     let commands = [Command::PushStr("ABCD🤔"), Command::TryInsert(1, 'A')];
     let small = [Reply::Done, Reply::Refused(OutOfBounds)];
-    let large = [Reply::Done, Reply::Done];
-    let wanted = (small.as_slice(), large.as_slice());
-    let (first, second) = at_two_capacities(&rt, rt.alloc(), "", &commands, wanted)?;
-    assert_eq!(rt; first, (Some(1), text_of::<8>("ABCD🤔")));
-    assert_eq!(rt; second, (None, text_of::<23>("AABCD🤔")));
-    let wanted = ([Reply::Done], [Reply::Done]);
-    let wanted = (wanted.0.as_slice(), wanted.1.as_slice());
-    let (first, second) = at_two_capacities(&rt, rt.alloc(), "", &commands[..1], wanted)?;
-    assert_eq!(rt; first, (None, text_of::<8>("ABCD🤔")));
-    assert_eq!(rt; second, (None, text_of::<23>("ABCD🤔")));
-    Ok(())
+    at_two_capacities::<8, 23>(
+        &rt,
+        "",
+        &commands,
+        (&small, Some(1), "ABCD🤔"),
+        (&[Reply::Done; 2], None, "AABCD🤔"),
+    );
+    at_two_capacities::<8, 23>(
+        &rt,
+        "",
+        &commands[..1],
+        (&small[..1], None, "ABCD🤔"),
+        (&[Reply::Done], None, "ABCD🤔"),
+    );
+    // A refusal for room hides one for an index.
+    at_two_capacities::<4, 8>(
+        &rt,
+        "🤔",
+        &[Command::ReplaceRange {
+            start: 1,
+            end: 1,
+            given: "x",
+        }],
+        (&[Reply::Refused(OutOfBounds)], Some(0), "🤔"),
+        (&[Reply::Refused(Utf8)], None, "🤔"),
+    );
 }
 
 #[test]
-fn a_refusal_for_room_hides_one_for_a_place(rt: HostRuntime) -> Result<(), Fail> {
-    let (start, end) = (1, 1);
-    let commands = [Command::ReplaceRange {
-        start,
-        end,
-        given: "x",
-    }];
-    let small = [Reply::Refused(OutOfBounds)];
-    let large = [Reply::Refused(Utf8)];
-    let wanted = (small.as_slice(), large.as_slice());
-    let (first, second) = at_two_capacities(&rt, rt.alloc(), "🤔", &commands, wanted)?;
-    assert_eq!(rt; first, (Some(0), text_of::<4>("🤔")));
-    assert_eq!(rt; second, (None, text_of::<8>("🤔")));
-    Ok(())
-}
-
-#[test]
-fn a_refusal_for_a_place_is_not_tight(rt: HostRuntime) -> Result<(), Fail> {
-    let commands = [Command::Remove(9), Command::Capacity, Command::TryPush('c')];
-    let small = [Reply::Refused(OutOfBounds), Reply::Number(4), Reply::Done];
-    let large = [Reply::Refused(OutOfBounds), Reply::Number(23), Reply::Done];
-    let wanted = (small.as_slice(), large.as_slice());
-    let (first, second) = at_two_capacities(&rt, rt.alloc(), "ab", &commands, wanted)?;
-    assert_eq!(rt; first, (None, text_of::<4>("abc")));
-    assert_eq!(rt; second, (None, text_of::<23>("abc")));
-    Ok(())
-}
-
-#[test]
-fn replies_may_differ_behind_a_tight_command(rt: HostRuntime) -> Result<(), Fail> {
-    let commands = [
-        Command::PushStr("ab"),
-        Command::PushStr("cdef"),
-        Command::Pop,
-    ];
-    let small = [Reply::Done, Reply::Done, Reply::Char('e')];
-    let large = [Reply::Done, Reply::Done, Reply::Char('f')];
-    let wanted = (small.as_slice(), large.as_slice());
-    let (first, second) = at_two_capacities(&rt, rt.alloc(), "", &commands, wanted)?;
-    assert_eq!(rt; first, (Some(1), text_of::<5>("abcd")));
-    assert_eq!(rt; second, (None, text_of::<23>("abcde")));
-    Ok(())
+fn what_is_tight_at_one_capacity(rt: HostRuntime) {
+    // A refusal for an index is not tight.
+    at_two_capacities::<4, 23>(
+        &rt,
+        "ab",
+        &[Command::Remove(9), Command::Capacity, Command::TryPush('c')],
+        (
+            &[Reply::Refused(OutOfBounds), Reply::Number(4), Reply::Done],
+            None,
+            "abc",
+        ),
+        (
+            &[Reply::Refused(OutOfBounds), Reply::Number(23), Reply::Done],
+            None,
+            "abc",
+        ),
+    );
+    // Replies may differ after a tight command.
+    at_two_capacities::<5, 23>(
+        &rt,
+        "",
+        &[
+            Command::PushStr("ab"),
+            Command::PushStr("cdef"),
+            Command::Pop,
+        ],
+        (
+            &[Reply::Done, Reply::Done, Reply::Char('e')],
+            Some(1),
+            "abcd",
+        ),
+        (&[Reply::Done, Reply::Done, Reply::Char('f')], None, "abcde"),
+    );
 }
 
 /// Says how many of 300 letters fit, each being pushed by a command of its own.
 fn pushed<const N: usize>(rt: &impl Abort, outcome: &Outcome<N>, fit: usize) {
-    assert_eq!(rt; outcome.replies.len(), 300);
+    agree(rt, "the replies", outcome.replies.len(), 300);
     for (position, reply) in outcome.replies.iter().enumerate() {
         let wanted = if position < fit {
             Reply::Done
         } else {
             Reply::Refused(OutOfBounds)
         };
-        assert_eq!(rt; *reply, wanted, "at {position}");
+        agree(rt, "the reply", *reply, wanted);
     }
-    assert_eq!(rt; outcome.first_tight, Some(fit));
+    agree(
+        rt,
+        "the first tight command",
+        outcome.first_tight,
+        Some(fit),
+    );
 }
 
 #[test]
-fn long_runs_are_made(rt: HostRuntime) -> Result<(), Fail> {
+fn long_runs_are_made(rt: HostRuntime) {
     let commands = [Command::TryPush('a'); 300];
     let mut text: ArrayString<255> = ArrayString::new();
-    let outcome = run(rt.alloc(), &mut text, &commands)?;
+    let outcome = run(rt.alloc(), &mut text, &commands).expect(&rt, "memory");
     pushed(&rt, &outcome, 255);
-    assert_eq!(rt; text.len(), 255);
-    Ok(())
+    agree(&rt, "the text", text.len(), 255);
 }
 
 /// The capacity of the first string may be the greater one.
 #[test]
-fn long_runs_are_made_on_both(rt: HostRuntime) -> Result<(), Fail> {
+fn long_runs_are_made_on_both(rt: HostRuntime) {
     let commands = [Command::TryPush('a'); 300];
     let mut first: ArrayString<255> = ArrayString::new();
     let mut second: ArrayString<120> = ArrayString::new();
-    let (large, small) = run_both(rt.alloc(), &mut first, &mut second, &commands)?;
+    let (large, small) = run_both(rt.alloc(), &mut first, &mut second, &commands).expect(
+        &rt, "memory",
+    );
     pushed(&rt, &large, 255);
     pushed(&rt, &small, 120);
-    assert_eq!(rt; (first.len(), second.len()), (255, 120));
-    Ok(())
+    agree(&rt, "the size", (first.len(), second.len()), (255, 120));
 }
 
 /// Where ever more memory is left, from none up, a refused growth of `run` leaves the text.
