@@ -33,14 +33,4 @@ pub mod prelude {
 }
 
 #[cfg(test)]
-mod examples;
-#[cfg(test)]
-mod parity;
-#[cfg(test)]
-mod printed;
-#[cfg(test)]
-mod surface;
-#[cfg(test)]
-mod table;
-#[cfg(test)]
 mod tests;

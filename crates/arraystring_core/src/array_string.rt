@@ -442,6 +442,3 @@ impl<const N: usize> fmt::Debug for ArrayString<N> {
             .finish()
     }
 }
-
-#[cfg(test)]
-mod tests;

@@ -137,6 +137,3 @@ impl<const N: usize> DoubleEndedIterator for Drain<N> {
 }
 
 impl<const N: usize> FusedIterator for Drain<N> {}
-
-#[cfg(test)]
-mod tests;

@@ -56,6 +56,3 @@ impl<const N: usize> ArrayString<N> {
         Ok(Self::from_str_truncate(text))
     }
 }
-
-#[cfg(test)]
-mod tests;

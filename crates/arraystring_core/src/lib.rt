@@ -14,6 +14,3 @@ mod well_formed;
 
 pub use array_string::ArrayString;
 pub use drain::Drain;
-
-#[cfg(test)]
-mod tests;

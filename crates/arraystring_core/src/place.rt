@@ -153,6 +153,3 @@ pub(crate) fn copy_in<const N: usize>(array: &mut [u8; N], at: usize, given: &[u
     let all = &mut array[..];
     all[at..at + given.len()].copy_from_slice(given);
 }
-
-#[cfg(test)]
-mod tests;

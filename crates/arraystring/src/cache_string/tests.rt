@@ -4,9 +4,8 @@ ghost use Rattle.std.specs.Cmp.Lexicographic.{pointwise, slice_cmp};
 ghost use Rattle.std.specs.Ordering.{nat_cmp};
 
 use super::*;
-use crate::integration::NotText;
-use crate::table::{agree, hash_of};
-use std::alloc::{AllocError, Global};
+use crate::tests::table::{agree, hash_of};
+use std::alloc::AllocError;
 use std::cmp::Ordering;
 use std::fmt::Write;
 use std::process::Abort;
@@ -206,62 +205,6 @@ fn texts_are_compared_and_hashed(rt: HostRuntime) -> Result<(), Fail> {
     agree(&rt, "a clone", is_same_text(&low, &clone), true);
     agree(&rt, "no clone", is_same_text(&low, &high), false);
     agree(&rt, "the hash", hash_of(&low), hash_of(&"\u{FFFF}"));
-    Ok(())
-}
-
-#[test]
-fn texts_are_printed(rt: HostRuntime) -> Result<(), Fail> {
-    let abc = CacheString::from_str_truncate("abc");
-    let printed = format!(in rt.alloc(); "{abc}|{abc:5}|{abc:?}")?;
-    let wanted = "abc|abc|CacheString(ArrayString { array: \"abc\", size: 3 })";
-    agree(&rt, "abc", printed.as_str(), wanted);
-    Ok(())
-}
-
-/// Asserts that a text is printed as it is, and so also in each form that would pad or cut it.
-fn not_padded(rt: &impl Abort, alloc: Global, text: &str) -> Result<(), Fail> {
-    let string = CacheString::from_str_truncate(text);
-    let printed = format!(in alloc; "{string}|{string:2}|{string:>70}|{string:^70}|{string:.1}")?;
-    let wanted = format!(in alloc; "{text}|{text}|{text}|{text}|{text}")?;
-    agree(rt, text, printed.as_str(), wanted.as_str());
-    Ok(())
-}
-
-#[test]
-fn no_text_is_padded(rt: HostRuntime) -> Result<(), Fail> {
-    not_padded(&rt, rt.alloc(), "")?;
-    not_padded(&rt, rt.alloc(), ZEROS_63)?;
-    not_padded(&rt, rt.alloc(), "aé€🤔")?;
-    Ok(())
-}
-
-#[test]
-fn a_debug_text_on_lines_of_its_own(rt: HostRuntime) -> Result<(), Fail> {
-    let string = CacheString::from_str_truncate("aé€🤔");
-    let printed = format!(in rt.alloc(); "{string:#?}")?;
-    let wanted =
-        "CacheString(\n    ArrayString {\n        array: \"aé€🤔\",\n        size: 10,\n    },\n)";
-    agree(&rt, "on lines", printed.as_str(), wanted);
-    // A width is handed on to the fields, as derived forms do.
-    let abc = CacheString::from_str_truncate("abc");
-    let printed = format!(in rt.alloc(); "{abc:5?}")?;
-    let wanted = "CacheString(ArrayString { array: \"abc\", size:     3 })";
-    agree(&rt, "in a width", printed.as_str(), wanted);
-    Ok(())
-}
-
-#[test]
-fn refusals_print_their_name_in_each_form(rt: HostRuntime) -> Result<(), Fail> {
-    let error = Error::OutOfBounds;
-    let printed = format!(in rt.alloc(); "{error}|{error:20}|{error:?}|{error:#?}|{error:>20?}")?;
-    let wanted = "OutOfBounds|OutOfBounds|Error::OutOfBounds|Error::OutOfBounds|Error::OutOfBounds";
-    agree(&rt, "an error", printed.as_str(), wanted);
-    let refusal = NotText;
-    let printed = format!(in rt.alloc();
-        "{refusal}|{refusal:12}|{refusal:?}|{refusal:#?}|{refusal:>12?}"
-    )?;
-    let wanted = "NotText|NotText|NotText|NotText|NotText";
-    agree(&rt, "no text", printed.as_str(), wanted);
     Ok(())
 }
 

@@ -1,14 +1,33 @@
 //! Strings to JSON values and back, worked out by hand.
+ghost use Rattle.std.specs.Prelude.{◌≤◌};
+
 use super::*;
-use crate::table::agree;
+use crate::tests::table::{MANY_LETTERS, agree};
 use std::process::Abort;
 use std::test::Fail;
 
 /// As many letters as fit.
 const LETTERS: &str = "abcdefghijklmnopqrstuvwxyzABCDEFGHIJKLMNOPQRSTUVWXYZabcdefghijk";
 
+/// Asserts that a text which fits is a JSON text of its characters, and is read back.
+fn kept<const N: usize>(rt: &(impl Abort + AllocGlobal), text: &str)
+    requires { N ≤ 300 }
+{
+    let string = ArrayString::<N>::from(text);
+    let value = string
+        .to_value(rt.alloc())
+        .expect(rt, "memory for the value");
+    agree(rt, text, value.as_str(), Some(text));
+    agree(rt, text, ArrayString::from_value(&value), Ok(string));
+    let printed = value.to_string(rt.alloc()).expect(rt, "memory for it");
+    let inside = printed.as_str().strip_prefix('"').unwrap_or_default();
+    agree(rt, text, inside.strip_suffix('"'), Some(text));
+}
+
 #[test]
 fn a_string_is_read_back(rt: HostRuntime) -> Result<(), Fail> {
+    kept::<8>(&rt, "abcdefg");
+    kept::<255>(&rt, MANY_LETTERS);
     let string = CacheString::from_str_truncate("abcdefg");
     let value = string.to_value(rt.alloc())?;
     agree(&rt, "the value", value.as_str(), Some("abcdefg"));
@@ -19,18 +38,31 @@ fn a_string_is_read_back(rt: HostRuntime) -> Result<(), Fail> {
 
 #[test]
 fn a_text_is_cut_to_63_bytes(rt: HostRuntime) -> Result<(), Fail> {
-    let letters = "abcdefghij".repeat(rt.alloc(), 7)?;
-    let string = CacheString::from_value(&Value::String(letters))?;
+    let json = "\"abcdefghijabcdefghijabcdefghijabcdefghijabcdefghijabcdefghijabcdefghij\"";
+    let value = Value::from_str(rt.alloc(), json)?;
     let cut = "abcdefghijabcdefghijabcdefghijabcdefghijabcdefghijabcdefghijabc";
-    agree(&rt, "the text", string.0.as_str(), cut);
+    let string = ArrayString::<63>::from_value(&value)?;
+    agree(&rt, "the text", string.as_str(), cut);
+    let cached = CacheString::from_value(&value)?;
+    agree(&rt, "the cached text", cached.0, string);
+    Ok(())
+}
+
+#[test]
+fn escapes_are_characters(rt: HostRuntime) -> Result<(), Fail> {
+    let value = Value::from_str(rt.alloc(), "\"a\\u00e9\\n\"")?;
+    let string = ArrayString::<8>::from_value(&value)?;
+    agree(&rt, "a, é and the end of a line", string.as_str(), "aé\n");
     Ok(())
 }
 
 #[test]
 fn other_values_are_not_texts(rt: HostRuntime) -> Result<(), Fail> {
-    for text in "null true 7 0.5 [] {}".split(' ') {
-        let value = Value::from_str(rt.alloc(), text)?;
-        agree(&rt, text, CacheString::from_value(&value), Err(NotText));
+    for json in "null true false 7 -7 0.5 1e300 [] [\"a\"] {}".split(' ') {
+        let value = Value::from_str(rt.alloc(), json)?;
+        let string = ArrayString::<63>::from_value(&value);
+        agree(&rt, json, string, Err(NotText));
+        agree(&rt, json, CacheString::from_value(&value), Err(NotText));
     }
     Ok(())
 }

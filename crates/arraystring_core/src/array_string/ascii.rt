@@ -63,6 +63,3 @@ fn lowercase_bytes<const N: usize>(array: &mut [u8; N], start: usize, end: usize
     let all = &mut array[..];
     all[start..end].make_ascii_lowercase();
 }
-
-#[cfg(test)]
-mod tests;

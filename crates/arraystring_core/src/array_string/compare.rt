@@ -93,6 +93,3 @@ impl<const N: usize> fmt::Write for ArrayString<N> {
         }
     }
 }
-
-#[cfg(test)]
-mod tests;

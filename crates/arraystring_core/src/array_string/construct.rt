@@ -217,6 +217,3 @@ impl<const N: usize> FromStr for ArrayString<N> {
         Self::try_from_str(string)
     }
 }
-
-#[cfg(test)]
-mod tests;

@@ -111,6 +111,3 @@ impl<const N: usize> ArrayString<N> {
         self.splice(start, start, string, &mut Steps::new());
     }
 }
-
-#[cfg(test)]
-mod tests;

@@ -250,6 +250,3 @@ impl<const N: usize> ArrayString<N> {
         Ok(())
     }
 }
-
-#[cfg(test)]
-mod tests;

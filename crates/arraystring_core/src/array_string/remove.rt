@@ -124,6 +124,3 @@ impl<const N: usize> ArrayString<N> {
         (ch, text.len() - rest.as_str().len())
     }
 }
-
-#[cfg(test)]
-mod tests;

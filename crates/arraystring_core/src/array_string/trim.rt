@@ -87,6 +87,3 @@ fn is_space(ch: char) -> bool
 {
     ch == ' '
 }
-
-#[cfg(test)]
-mod tests;

@@ -88,6 +88,3 @@ fn shown(item: Unit16) -> char
         Unit16::Lone(_) => char::REPLACEMENT_CHARACTER,
     }
 }
-
-#[cfg(test)]
-mod tests;

@@ -74,6 +74,3 @@ impl<const N: usize> fmt::Debug for Drain<N> {
         f.debug_tuple("Drain").field(&self.as_str()).finish()
     }
 }
-
-#[cfg(test)]
-mod tests;

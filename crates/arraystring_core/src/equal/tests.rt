@@ -3,7 +3,6 @@
 ghost use Rattle.std.specs.Prelude.{◌≤◌};
 
 use super::equal;
-use crate::tests::table::agree;
 use std::process::Abort;
 use std::str;
 
@@ -13,7 +12,7 @@ fn as_std(rt: &impl Abort, bytes: &[u8; 300], other: &[u8; 300], len: usize)
 {
     let (text, other) = (str::from_utf8(&bytes[..len]), str::from_utf8(&other[..len]));
     if let (Ok(text), Ok(other)) = (text, other) {
-        agree(rt, text, equal(text, other), text == other);
+        assert_eq!(rt; equal(text, other), text == other);
     }
 }
 
@@ -32,5 +31,5 @@ fn equal_as_in_std(rt: HostRuntime) {
         as_std(&rt, &bytes, &other, len);
     }
     let longer = equal("0123456789abcdef", "0123456789abcdefg");
-    agree(&rt, "a longer one", longer, false);
+    assert!(rt; !longer, "a longer one");
 }

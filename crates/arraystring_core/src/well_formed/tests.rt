@@ -3,7 +3,6 @@
 ghost use Rattle.std.specs.Prelude.{◌≤◌};
 
 use super::read_utf8;
-use crate::tests::table::agree;
 use std::process::Abort;
 use std::str;
 
@@ -12,8 +11,7 @@ fn as_std(rt: &impl Abort, bytes: &[u8; 160], len: usize)
     requires { len ≤ 160 }
 {
     let given = &bytes[..len];
-    let ours = read_utf8(given);
-    agree(rt, "the bytes", ours.ok(), str::from_utf8(given).ok());
+    assert_eq!(rt; read_utf8(given).ok(), str::from_utf8(given).ok());
 }
 
 /// Sizes below 140 with a pair of bytes at each place among letters. At the last place the text ends

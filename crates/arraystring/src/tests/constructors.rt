@@ -1,0 +1,222 @@
+//! Each constructor, and what is added from an iterator, on values worked out by hand.
+ghost use Rattle.std.specs.Prelude.{◌≡◌, ◌≤◌, IfSome, chars};
+ghost use Rattle.arraystring_base.specs.Text.{cap, cut};
+ghost use Rattle.arraystring_core.specs.Taken.{joined_pieces};
+
+use super::string;
+use super::table::{agree, column, rows, told_made};
+use crate::ArrayString;
+use crate::error::{Error, OutOfBounds, Utf8};
+use std::process::Abort;
+
+const ZEROS_23: &str = "00000000000000000000000";
+
+/// Asserts what constructors make at one capacity. The columns of a row are
+///
+///     text | the same in pieces | made whole | cut | next character | next piece
+///
+/// with `,` between pieces. Each `try_..` and `parse` make the third, the text or the name of the
+/// refusal, and the others make the cut. The unchecked are called where the text fits. What is next in
+/// an iterator that is lent comes after the first item that does not fit, which is taken too: no
+/// character where the column is empty, no piece where it is `None`.
+pub(super) fn make<const N: usize>(rt: &impl Abort, table: &str)
+    requires { N ≤ 300 }
+{
+    for row in rows(table) {
+        make_each::<N>(rt, row);
+    }
+}
+
+/// Asserts what each constructor makes of a row.
+fn make_each<const N: usize>(rt: &impl Abort, row: &str)
+    requires { N ≤ 300 }
+{
+    let (text, pieces) = (column(row, 0), column(row, 1));
+    let whole = ArrayString::<N>::try_from_utf8(text.as_bytes());
+    agree(rt, row, told_made(&whole).as_str(), column(row, 2));
+    let (mut chars, mut rest) = (text.chars(), pieces.split(','));
+    let others = [
+        ArrayString::try_from_str(text),
+        text.parse(),
+        ArrayString::try_from_chars(&mut chars),
+        ArrayString::try_from_iterator(rest.by_ref()),
+    ];
+    agree(rt, row, others, [whole.ok().ok_or(OutOfBounds); 4]);
+    next(rt, row, chars.next(), rest.next());
+    let cut = ArrayString::<N>::from_str_truncate(text);
+    agree(rt, row, cut.as_str(), column(row, 3));
+    let (mut chars, mut rest) = (text.chars(), pieces.split(','));
+    let others = [
+        Ok(text.into()),
+        Ok(ArrayString::from_chars(&mut chars)),
+        Ok(ArrayString::from_iterator(rest.by_ref())),
+        ArrayString::from_utf8(text.as_bytes()),
+    ];
+    agree(rt, row, others, [Ok(cut); 4]);
+    next(rt, row, chars.next(), rest.next());
+    agree(rt, row, of_text(text), (cut, [whole.ok(); 3]));
+    agree(rt, row, of_pieces(&[text]), (cut, whole.ok()));
+}
+
+/// Asserts what is next.
+fn next<'a>(rt: &impl Abort, row: &'a str, ch: Option<char>, piece: Option<&'a str>) {
+    agree(rt, row, ch, column(row, 4).chars().next());
+    agree(rt, row, piece.unwrap_or("None"), column(row, 5));
+}
+
+/// What a caller knows of the characters of a text, and what the unchecked constructors make of a text
+/// that fits.
+fn of_text<const N: usize>(text: &str) -> (ArrayString<N>, [Option<ArrayString<N>>; 3])
+    ensures { result.0.text ≡ cut (chars text.now) (cap N) }
+{
+    let cut = ArrayString::from_chars(text.chars());
+    match ArrayString::<N>::try_from_str(text) {
+        Ok(_) => {
+            let made = [
+                Some(ArrayString::from_str_unchecked(text)),
+                Some(ArrayString::from_chars_unchecked(text.chars())),
+                Some(ArrayString::from_utf8_unchecked(text.as_bytes())),
+            ];
+            (cut, made)
+        }
+        Err(OutOfBounds) => (cut, [None; 3]),
+    }
+}
+
+/// The same of the pieces of a slice.
+fn of_pieces<const N: usize>(pieces: &[&str]) -> (ArrayString<N>, Option<ArrayString<N>>)
+    ensures cut { result.0.text ≡ cut (joined_pieces pieces.now) (cap N) }
+    ensures unchecked { IfSome result.1 (λ made. made.text ≡ joined_pieces pieces.now) }
+{
+    let cut = ArrayString::from_iterator(pieces.iter().copied());
+    match ArrayString::<N>::try_from_iterator(pieces.iter().copied()) {
+        Ok(_) => {
+            let made = ArrayString::from_iterator_unchecked(pieces.iter().copied());
+            (cut, Some(made))
+        }
+        Err(OutOfBounds) => (cut, None),
+    }
+}
+
+/// Asserts what is added from iterators that are lent. The columns of the row are
+///
+///     text before | characters | pieces | text after | next character | next piece
+///
+/// where the text after is the same by the characters and by the pieces.
+fn extend<const N: usize>(rt: &impl Abort, row: &str)
+    requires { N ≤ 300 }
+{
+    let (mut chars, mut pieces) = (column(row, 1).chars(), column(row, 2).split(','));
+    let before = ArrayString::<N>::from(column(row, 0));
+    let (mut by_chars, mut by_pieces) = (before, before);
+    by_chars.extend_chars(&mut chars);
+    by_pieces.extend_strs(pieces.by_ref());
+    agree(rt, row, by_chars.as_str(), column(row, 3));
+    agree(rt, row, by_pieces, by_chars);
+    next(rt, row, chars.next(), pieces.next());
+}
+
+#[test]
+fn what_is_made_and_what_is_added(rt: HostRuntime) {
+    make::<23>(
+        &rt,
+        "
+        My String                | My, String               | My String               | My String               |      | None
+                                 |                          |                         |                         |      | None
+        🤔🤔🤔🤔🤔               | 🤔🤔🤔,🤔🤔              | 🤔🤔🤔🤔🤔              | 🤔🤔🤔🤔🤔              |      | None
+        00000000000000000000000  | 00000000000000000000000  | 00000000000000000000000 | 00000000000000000000000 |      | None
+        000000000000000000000000 | 000000000000000000000000 | OutOfBounds             | 00000000000000000000000 |      | None
+        abcde                    | a,bcd,e                  | abcde                   | abcde                   |      | None
+        abc🤔de                  | ab,c🤔,d,e               | abc🤔de                 | abc🤔de                 |      | None
+        ",
+    );
+    make::<0>(
+        &rt,
+        "
+          |   |             | |      | None
+        x | x | OutOfBounds | |      | None
+        ",
+    );
+    make::<1>(
+        &rt,
+        "
+        ab  | a,b  | OutOfBounds | a |      | None
+        🤔x | 🤔,x | OutOfBounds |   | x    | x
+        éa  | é,a  | OutOfBounds |   | a    | a
+        ",
+    );
+    make::<2>(&rt, "abcd | a,b,c,d | OutOfBounds | ab | d | d");
+    make::<3>(&rt, "abcdef | ab,cd,ef | OutOfBounds | abc | e | ef");
+    make::<4>(&rt, "a🤔b | a,🤔b | OutOfBounds | a | b | None");
+    make::<5>(
+        &rt,
+        "
+        a🤔b     | a,🤔b      | OutOfBounds | a🤔   |      | None
+        abc🤔d   | ab,c🤔,d   | OutOfBounds | abc   | d    | d
+        ab🤔cd   | a,b🤔,c,d  | OutOfBounds | ab    | c    | c
+        abcdexyz | ab,cdex,yz | OutOfBounds | abcde | y    | yz
+        abc🤔de  | ab,c🤔,d,e | OutOfBounds | abc   | d    | d
+        ",
+    );
+    make::<255>(&rt, "255 x | 255 x | 255 x | 255 x |      | None");
+    make::<300>(
+        &rt,
+        "
+        255 x | 255 x | 255 x       | 255 x |      | None
+        256 x | 256 x | OutOfBounds | 255 x |      | None
+        ",
+    );
+    // What an iterator adds, also to a full string, which takes one more item.
+    extend::<5>(&rt, "ab  | c🤔de   | c🤔,d,e    | abc   | d | d");
+    extend::<5>(&rt, "abc | dexyz   | d,ex,y,z   | abcde | y | y");
+    extend::<5>(&rt, "xyz | abc🤔de | ab,c🤔,d,e | xyzab | 🤔 | d");
+    extend::<6>(&rt, "ab  | c🤔d    | c,🤔,d     | abc   | d | d");
+    extend::<6>(&rt, "ab  | cd🤔e   | cd,🤔,e    | abcd  | e | e");
+    extend::<7>(&rt, "xy  | abc🤔de | ab,c🤔,d,e | xyabc | d | d");
+    extend::<255>(&rt, "255 x | abc | a,b | 255 x | b | b");
+}
+
+/// Asserts that bytes are refused.
+fn faulty<const N: usize>(rt: &impl Abort, bytes: &[u8])
+    requires { N ≤ 300 }
+{
+    let made = ArrayString::<N>::try_from_utf8(bytes);
+    agree(rt, "whole", made, Err(Error::Utf8));
+    agree(rt, "cut", ArrayString::<N>::from_utf8(bytes), Err(Utf8));
+}
+
+/// Asserts what is made of the pieces of a slice, which are too large.
+fn cut_pieces<const N: usize>(rt: &impl Abort, pieces: &[&str], wanted: &str)
+    requires { N ≤ 300 }
+{
+    agree(rt, wanted, of_pieces::<N>(pieces), (string(wanted), None));
+}
+
+#[test]
+fn what_is_made_of_bytes_and_of_slices(rt: HostRuntime) {
+    // A lone continuation byte, an overlong form, a surrogate, what is past the last scalar value, a
+    // character cut short, and a fault past the first byte, which all bytes are judged by.
+    let faults = b"\x00\x9F\x92\x96\
+        \x61\x61\xC0\x80\
+        \x61\xED\xA0\x80\
+        \xF4\x90\x80\x80\
+        \x61\xF0\x9F\xA4\
+        \x61\x62\xFF";
+    for fault in faults.chunks(4) {
+        faulty::<23>(&rt, fault);
+        faulty::<1>(&rt, fault);
+    }
+    let whole = ArrayString::<23>::try_from_utf8(&[b'0'; 1600]);
+    agree(&rt, "1600 bytes", whole, Err(Error::OutOfBounds));
+    let cut = ArrayString::<23>::from_utf8(&[b'0'; 300]);
+    agree(&rt, "300 bytes", cut, Ok(string(ZEROS_23)));
+    cut_pieces::<5>(&rt, &["ab", "c🤔", "d"], "abc");
+    cut_pieces::<23>(&rt, &["000"; 400], ZEROS_23);
+    cut_pieces::<23>(&rt, &["000"; 100], ZEROS_23);
+    cut_pieces::<23>(&rt, &[ZEROS_23, "0"], ZEROS_23);
+    let letters = column("255 x", 0);
+    cut_pieces::<300>(&rt, &[letters, "x"], letters);
+    let joined = string("My String My other String");
+    let made = of_pieces::<255>(&["My String", " My other String"]);
+    agree(&rt, "two pieces", made, (joined, Some(joined)));
+}

@@ -1,0 +1,120 @@
+//! Strings from units, worked out by hand by the rules of the Unicode Standard, section 3.9.
+ghost use Rattle.std.specs.Prelude.{◌≤◌};
+
+use super::table::{agree, column, rows, told_made};
+use crate::{ArrayString, Error};
+use std::process::Abort;
+
+/// Asserts what the constructors make of units at one capacity. The columns of a row are
+///
+///     units in hexadecimal | `try_from_utf16` | `from_utf16` | `from_utf16_lossy`
+///
+/// where the last three are texts, or the names of refusals.
+fn hold<const N: usize>(rt: &impl Abort, table: &str)
+    requires { N ≤ 300 }
+{
+    for row in rows(table) {
+        let (units, count) = units_of(rt, column(row, 0));
+        read::<N>(rt, units.get(..count).unwrap_or_default(), row);
+    }
+}
+
+/// The units that are written in a column, and how many they are.
+fn units_of(rt: &impl Abort, written: &str) -> ([u16; 8], usize) {
+    let mut units = [0; 8];
+    let mut count = 0usize;
+    for digits in written.split_whitespace() {
+        if let Some(unit) = units.get_mut(count) {
+            *unit = u16::from_str_radix(digits, 16).expect(rt, "a unit in the column");
+            count = count.wrapping_add(1);
+        }
+    }
+    (units, count)
+}
+
+/// Asserts what a row says of these units.
+fn read<const N: usize>(rt: &impl Abort, units: &[u16], row: &str)
+    requires { N ≤ 300 }
+{
+    let made = told_made(&ArrayString::<N>::try_from_utf16(units));
+    agree(rt, row, made.as_str(), column(row, 1));
+    let cut = told_made(&ArrayString::<N>::from_utf16(units).map_err(Error::from));
+    agree(rt, row, cut.as_str(), column(row, 2));
+    let lossy = ArrayString::<N>::from_utf16_lossy(units);
+    agree(rt, row, lossy.as_str(), column(row, 3));
+}
+
+#[test]
+fn what_is_made_of_units(rt: HostRuntime) {
+    hold::<23>(
+        &rt,
+        "
+        D834 DD1E 6D 75 73 69 63    | 𝄞music | 𝄞music | 𝄞music
+        D834 DD1E 6D 75 D800 69 63  | Utf16  | Utf16  | 𝄞mu\u{FFFD}ic
+        D800 D834 DD1E              | Utf16  | Utf16  | \u{FFFD}𝄞
+        61 D83E                     | Utf16  | Utf16  | a\u{FFFD}
+        D83E D83E DD14              | Utf16  | Utf16  | \u{FFFD}🤔
+        DD14 D83E                   | Utf16  | Utf16  | \u{FFFD}\u{FFFD}
+        ",
+    );
+    hold::<0>(
+        &rt,
+        "
+                |             |       |
+        D800    | Utf16       | Utf16 |
+        61 D800 | OutOfBounds |       |
+        ",
+    );
+    hold::<1>(&rt, "D800 | Utf16 | Utf16 |");
+    hold::<2>(
+        &rt,
+        "
+        D800          | Utf16       | Utf16 |
+        61 62 D800    | Utf16       | Utf16 | ab
+        61 62 63 D800 | OutOfBounds | ab    | ab
+        ",
+    );
+    hold::<3>(
+        &rt,
+        "
+        D800       | Utf16       | Utf16 | \u{FFFD}
+        61 D800 62 | Utf16       | Utf16 | a
+        D800 DC00  | OutOfBounds |       |
+        DBFF DFFF  | OutOfBounds |       |
+        ",
+    );
+    hold::<4>(
+        &rt,
+        "
+        61 D800 62 | Utf16      | Utf16      | a\u{FFFD}
+        D800 DC00  | \u{10000}  | \u{10000}  | \u{10000}
+        DBFF DFFF  | \u{10FFFF} | \u{10FFFF} | \u{10FFFF}
+        ",
+    );
+    // The first stop decides: a character that does not fit, or a lone surrogate.
+    hold::<5>(
+        &rt,
+        "
+        D834 DD1E E9 D800 | OutOfBounds | 𝄞 | 𝄞
+        D834 DD1E E9 61   | OutOfBounds | 𝄞 | 𝄞
+        ",
+    );
+    hold::<6>(&rt, "D834 DD1E E9 D800 | Utf16 | Utf16 | 𝄞é");
+    hold::<8>(
+        &rt,
+        "D7FF E000 FFFF | OutOfBounds | \u{D7FF}\u{E000} | \u{D7FF}\u{E000}",
+    );
+    hold::<9>(
+        &rt,
+        "
+        D7FF E000 FFFF       | \u{D7FF}\u{E000}\u{FFFF} | \u{D7FF}\u{E000}\u{FFFF} | \u{D7FF}\u{E000}\u{FFFF}
+        61 E9 20AC D83E DD14 | OutOfBounds | aé€ | aé€
+        ",
+    );
+    hold::<10>(&rt, "61 E9 20AC D83E DD14 | aé€🤔 | aé€🤔 | aé€🤔");
+    // A long list.
+    let row = "300 units | OutOfBounds | \0\0\0\0\0\0\0\0\0\0\0\0\0\0\0\0\0\0\0\0\0\0\0 \
+        | \0\0\0\0\0\0\0\0\0\0\0\0\0\0\0\0\0\0\0\0\0\0\0";
+    agree(&rt, "the size", column(row, 2).len(), 23);
+    read::<23>(&rt, &[0; 300], row);
+}
