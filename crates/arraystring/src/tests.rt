@@ -1,15 +1,17 @@
-//! Tests of the calls that callers list, on values worked out by hand. Those of the crate below are
-//! here too: one table of calls serves all of them.
+//! Tests of the calls that callers list, on values worked out by hand. Those of the two crates below
+//! are here too: one table of calls serves all of them.
 ghost use Rattle.std.specs.Prelude.{◌≡◌, chars};
 ghost use Rattle.arraystring_base.specs.Text.{cap, cut};
 
 use crate::ArrayString;
 
+mod blocks;
 mod calls;
 mod constructors;
 mod doors;
 mod drains;
 mod edges;
+mod errors;
 mod examples;
 mod insertions;
 mod letters;
@@ -24,6 +26,7 @@ pub(crate) mod table;
 mod texts;
 mod trims;
 mod units;
+mod utils;
 
 /// A string of `text`, or of the longest leading run of its characters that fits.
 fn string<const N: usize>(text: &str) -> ArrayString<N>

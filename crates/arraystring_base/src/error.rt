@@ -191,6 +191,3 @@ impl From<OutOfBounds> for Error {
         Error::OutOfBounds
     }
 }
-
-#[cfg(test)]
-mod tests;

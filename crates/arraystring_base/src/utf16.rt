@@ -111,6 +111,3 @@ fn single_item(unit: u16) -> Unit16
         None => Unit16::Lone(unit),
     }
 }
-
-#[cfg(test)]
-mod tests;

@@ -202,6 +202,3 @@ fn char_before_end(text: &str, steps: &mut Steps) -> (usize, char)
     let code = front + (second - 0x80) * 64 + (last - 0x80);
     (end - 4, unsafe { char::from_u32_unchecked(code) })
 }
-
-#[cfg(test)]
-mod tests;

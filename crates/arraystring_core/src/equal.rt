@@ -83,6 +83,3 @@ fn equal_block<const K: usize>(a: &[u8], b: &[u8]) -> bool
     let apart = Simd::<u8, K>::from_slice(a).simd_ne(Simd::from_slice(b));
     apart.to_bitmask() == 0
 }
-
-#[cfg(test)]
-mod tests;

@@ -65,6 +65,3 @@ fn is_ascii_block<const K: usize>(given: &[u8], at: usize) -> bool
     let block = Simd::<u8, K>::from_slice(&given[at..]);
     block.simd_ge(Simd::splat(128)).to_bitmask() == 0
 }
-
-#[cfg(test)]
-mod tests;

@@ -1,8 +1,7 @@
 //! How values are printed; for debugging, as Rust's derived forms print the same fields.
 use super::table::{MANY_LETTERS, agree};
-use crate::integration::NotText;
+use crate::ArrayString;
 use crate::prelude::*;
-use crate::{ArrayString, Error};
 use std::fmt::{Debug, Display};
 use std::process::Abort;
 
@@ -41,16 +40,6 @@ fn texts_are_printed_as_they_are(rt: HostRuntime) {
         &cached,
         "abcdeabcdeabcdeabcdeabcdeabcdeabcdeabcdeabcdeabcdeabcdeabcdeabc",
     );
-}
-
-#[test]
-fn refusals_print_their_name_in_each_form(rt: HostRuntime) {
-    displays(&rt, &Error::OutOfBounds, "OutOfBounds");
-    let wanted = "Error::OutOfBounds|Error::OutOfBounds|\
-        Error::OutOfBounds|Error::OutOfBounds|Error::OutOfBounds";
-    debugs(&rt, &Error::OutOfBounds, wanted);
-    displays(&rt, &NotText, "NotText");
-    debugs(&rt, &NotText, "NotText|NotText|NotText|NotText|NotText");
 }
 
 #[test]

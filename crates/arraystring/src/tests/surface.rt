@@ -4,11 +4,7 @@ use crate::drain::Drain;
 use crate::error::{OutOfBounds, Utf8, Utf16};
 use crate::integration::NotText;
 use crate::utf16::{Unit16, Units};
-use crate::utils::Steps;
-use crate::{
-    ArrayString, CacheString, Error, MaxString, SmallString, drain, error, laws, prelude, utf16,
-    utils,
-};
+use crate::{ArrayString, CacheString, Error, MaxString, SmallString, drain, error, laws, prelude};
 use std::error::Error as StdError;
 use std::fmt::{Debug, Display, Write};
 use std::hash::Hash;
@@ -100,33 +96,6 @@ fn each_path_names_the_same(rt: HostRuntime) {
     agree(&rt, "UTF-16", error::Utf16, prelude::Utf16);
     agree(&rt, "bounds", error::OutOfBounds, prelude::OutOfBounds);
     agree(&rt, "an error", error::Error::Utf8, Error::from(Utf8));
-}
-
-#[test]
-#[tactic(auto, unfolding(arraystring_base::specs::Text::width))]
-fn the_calls_on_bytes_are_at_hand(rt: HostRuntime) {
-    let mut array = [0; 4];
-    let mut steps = Steps::new();
-    agree(&rt, "encode", utils::encode('é', &mut array, 0), 2);
-    utils::shift(&mut array, 0, 2, 2, &mut steps);
-    agree(&rt, "shift", array, [0xC3, 0xA9, 0xC3, 0xA9]);
-    agree(&rt, "look", utils::look(&array, 1, &mut steps), 0xA9);
-    agree(&rt, "steps", (steps.looked(), steps.moved()), (1, 2));
-}
-
-#[test]
-fn the_calls_on_texts_are_at_hand(rt: HostRuntime) {
-    agree(&rt, "a boundary", utils::is_boundary("é", 2), true);
-    let past = utils::is_inside_boundary(3, 2);
-    agree(&rt, "past", past, Err(OutOfBounds));
-    agree(&rt, "cut", utils::truncate_str("aé", 2), "a");
-    let mut steps = Steps::new();
-    let cut = utils::truncate_str_counted("aé", 2, &mut steps);
-    agree(&rt, "cut and counted", cut, "a");
-    let inside = utils::is_char_boundary(&ArrayString::<5>::from("é"), 1);
-    agree(&rt, "inside", inside, Err(Utf8));
-    let unit = utf16::Units::new(&[0xD800]).next();
-    agree(&rt, "a unit", unit, Some(utf16::Unit16::Lone(0xD800)));
 }
 
 /// Each law is called by its path; it does nothing.

@@ -1,7 +1,9 @@
-//! Strings from units, worked out by hand by the rules of the Unicode Standard, section 3.9.
+//! Units, and strings of units, worked out by hand by the rules of the Unicode Standard, section 3.9: a
+//! pair is 10000 + (high - D800) * 400 + (low - DC00) in hexadecimal, and any other surrogate is lone.
 ghost use Rattle.std.specs.Prelude.{◌≤◌};
 
 use super::table::{agree, column, rows, told_made};
+use crate::utf16::{Unit16, Units};
 use crate::{ArrayString, Error};
 use std::process::Abort;
 
@@ -42,6 +44,35 @@ fn read<const N: usize>(rt: &impl Abort, units: &[u16], row: &str)
     agree(rt, row, cut.as_str(), column(row, 2));
     let lossy = ArrayString::<N>::from_utf16_lossy(units);
     agree(rt, row, lossy.as_str(), column(row, 3));
+}
+
+/// The columns are units in hexadecimal, and what they are read as: a character, or a lone surrogate in
+/// hexadecimal. After the last of these nothing is read any more.
+#[test]
+fn units_are_read(rt: HostRuntime) {
+    let table = "
+                                                |
+        D834 DD1E 6D 75                         | 𝄞 m u
+        D800 DC00 D800 DFFF DBFF DC00 DBFF DFFF | \u{10000} \u{103FF} \u{10FC00} \u{10FFFF}
+        0 D7FF E000 FFFF                        | \0 \u{D7FF} \u{E000} \u{FFFF}
+        D800 E000 DFFF D7FF DC00                | D800 \u{E000} DFFF \u{D7FF} DC00
+        D800 61 DC00 D834                       | D800 a DC00 D834
+        D800 DBFF DFFF                          | D800 \u{10FFFF}
+        DC00 D800                               | DC00 D800
+        D800 DC00 DC00                          | \u{10000} DC00
+        ";
+    for row in rows(table) {
+        let (units, count) = units_of(&rt, column(row, 0));
+        let mut walk = Units::new(units.get(..count).unwrap_or_default());
+        for word in column(row, 1).split_whitespace() {
+            let wanted = match word.parse::<char>() {
+                Ok(ch) => Unit16::Char(ch),
+                Err(_) => Unit16::Lone(u16::from_str_radix(word, 16).unwrap_or_default()),
+            };
+            agree(&rt, row, walk.next(), Some(wanted));
+        }
+        agree(&rt, row, (walk.next(), walk.next()), (None, None));
+    }
 }
 
 #[test]
