@@ -1,5 +1,5 @@
 //! Tests of the calls that callers list, on values worked out by hand. Those of the two crates below
-//! are here too: one table of calls serves all of them.
+//! are here too: one table of calls serves all strings.
 ghost use Rattle.std.specs.Prelude.{◌≡◌, chars};
 ghost use Rattle.arraystring_base.specs.Text.{cap, cut};
 
