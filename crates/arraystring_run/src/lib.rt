@@ -7,13 +7,10 @@ mod line;
 mod player;
 mod printing;
 mod runs;
-#[cfg(test)]
-mod scarce;
 mod script;
 mod steps;
-#[cfg(test)]
-mod table;
 
 pub use commands::{Command, Reply};
+pub use line::command;
 pub use player::{PlayFault, names_capacity, play, serve};
 pub use runs::{Outcome, run, run_both};

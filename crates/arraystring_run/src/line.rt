@@ -8,8 +8,10 @@ use crate::Command;
 use memchr::memchr;
 use std::str;
 
-/// The command of a line without its end.
-pub(crate) fn command(line: &[u8]) -> Option<Command<'_>>
+/// The command of a line of a script, given as UTF-8 without its line feed, which borrows its text
+/// from the line. `None` where the line is no command: it is not UTF-8, has another word or number,
+/// or more or less than its word asks for.
+pub fn command(line: &[u8]) -> Option<Command<'_>>
     ensures some { IfSome result (λ c. IsLineOf line.now c) }
     ensures none { IfNone result ((c : Edit) → IsLineOf line.now c → ⊥) }
 {

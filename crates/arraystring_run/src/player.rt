@@ -168,6 +168,3 @@ fn read_all<I: Read>(alloc: Global, input: &mut I) -> Result<Vec<u8>, PlayFault>
     }
     Err(PlayFault::Read)
 }
-
-#[cfg(test)]
-mod tests;

@@ -137,6 +137,3 @@ fn earlier(first: Option<usize>, is_tight: bool, position: usize) -> Option<usiz
         None => { if is_tight { Some(position) } else { None } }
     }
 }
-
-#[cfg(test)]
-mod tests;

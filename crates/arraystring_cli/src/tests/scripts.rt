@@ -1,8 +1,10 @@
 //! Scripts over memory, and readers and writers that fail.
-use super::*;
-use crate::scarce::{Scarce, TIMES};
-use crate::table::{agree, column, printed, rows};
+use super::scarce::{Scarce, TIMES};
+use super::table::{agree, column, printed, rows};
+use arraystring_run::{PlayFault, names_capacity, play, serve};
+use std::alloc::Global;
 use std::io;
+use std::io::{ErrorKind, Read, Write};
 use std::process::Abort;
 use std::test::Fail;
 

@@ -9,11 +9,11 @@ const RATION: usize = 65536;
 const STEP: usize = 16;
 
 /// How many times more can be left.
-pub(crate) const TIMES: u32 = 4000;
+pub(super) const TIMES: u32 = 4000;
 
 /// All the memory that there is, but for what is left.
 #[derive(Drop)]
-pub(crate) struct Scarce {
+pub(super) struct Scarce {
     blocks: Vec<Vec<u8>>,
     ration: Vec<u8>,
     left: usize,
@@ -21,7 +21,7 @@ pub(crate) struct Scarce {
 
 impl Scarce {
     /// Takes all memory, in blocks of ever smaller sizes.
-    pub(crate) fn new(alloc: Global) -> Result<Scarce, Fail> {
+    pub(super) fn new(alloc: Global) -> Result<Scarce, Fail> {
         let ration = Vec::with_capacity(alloc, RATION)?;
         let mut blocks = Vec::with_capacity(alloc, 200000)?;
         let mut size = 1usize << 46;
@@ -42,7 +42,7 @@ impl Scarce {
     }
 
     /// Leaves a little more memory, the first time none.
-    pub(crate) fn leave_more(&mut self, alloc: Global) -> Result<(), Fail> {
+    pub(super) fn leave_more(&mut self, alloc: Global) -> Result<(), Fail> {
         self.ration = Vec::new(alloc);
         self.ration = Vec::with_capacity(alloc, RATION.saturating_sub(self.left))?;
         self.left = self.left.saturating_add(STEP);

@@ -5,12 +5,12 @@ use std::process::Abort;
 use std::str::Lines;
 
 /// The rows of a table.
-pub(crate) fn rows(table: &str) -> Lines {
+pub(super) fn rows(table: &str) -> Lines {
     table.trim().lines()
 }
 
 /// A column of a row, without the spaces round it and without the quotes in which a text may be.
-pub(crate) fn column(row: &str, at: usize) -> &str {
+pub(super) fn column(row: &str, at: usize) -> &str {
     let column = row
         .split('|')
         .nth(at)
@@ -24,13 +24,13 @@ pub(crate) fn column(row: &str, at: usize) -> &str {
 
 /// Asserts that a case gave what it wants. An `assert_eq!` costs the proof of a test three times as
 /// much as a call.
-pub(crate) fn agree<T: PartialEq + Debug + Drop>(rt: &impl Abort, case: &str, gave: T, wanted: T) {
+pub(super) fn agree<T: PartialEq + Debug + Drop>(rt: &impl Abort, case: &str, gave: T, wanted: T) {
     assert_eq!(rt; gave, wanted, "{case}");
 }
 
 /// What is printed of a run: the replies, which are written with `, ` between them, and the last
 /// text.
-pub(crate) fn printed(rt: &(impl Abort + AllocGlobal), replies: &str, last: &str) -> String {
+pub(super) fn printed(rt: &(impl Abort + AllocGlobal), replies: &str, last: &str) -> String {
     let mut lines = String::new(rt.alloc());
     for reply in replies.split_terminator(", ") {
         writeln!(lines, "{reply}").expect(rt, "memory for a reply");

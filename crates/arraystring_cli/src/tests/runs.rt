@@ -1,12 +1,12 @@
 //! Runs of commands, on values worked out by hand.
 ghost use Rattle.std.specs.Prelude.{◌≤◌};
 
-use super::*;
-use crate::line::command;
-use crate::printing::write_all_replies;
-use crate::scarce::{Scarce, TIMES};
-use crate::table::{agree, column, printed, rows};
+use super::scarce::{Scarce, TIMES};
+use super::table::{agree, column, printed, rows};
+use arraystring::ArrayString;
 use arraystring::error::Error::{OutOfBounds, Utf8};
+use arraystring_run::{Command, Outcome, Reply, command, play, run, run_both};
+use std::fmt::Write;
 use std::process::Abort;
 use std::test::Fail;
 
@@ -125,7 +125,7 @@ fn each_width_at_its_edges(rt: HostRuntime) {
     }
 }
 
-/// Makes the runs of a table. The columns of a row are
+/// Plays the scripts of a table, and makes their runs. The columns of a row are
 ///
 ///     text before | commands as in scripts | printed replies | text after | first tight position
 ///
@@ -139,16 +139,32 @@ fn hold<const N: usize>(rt: &(impl Abort + AllocGlobal), table: &str)
         if !column(row, 0).is_empty() {
             before = text_of(column(row, 0));
         }
+        prints(rt, &before, row);
         let mut text = before;
         let commands = commands_of(rt, column(row, 1));
         let outcome = run(rt.alloc(), &mut text, &commands).expect(rt, "memory");
-        let mut output = Vec::new(rt.alloc());
-        let written = write_all_replies(&mut output, &outcome.replies, &text);
-        let wanted = printed(rt, column(row, 2), column(row, 3));
-        let gave = (written.is_ok(), output.as_slice());
-        agree(rt, row, gave, (true, wanted.as_bytes()));
+        agree(rt, row, text.as_str(), column(row, 3));
         agree(rt, row, outcome.first_tight, column(row, 4).parse().ok());
     }
+}
+
+/// Plays the commands of a row after one that adds the text before, and compares what is printed.
+fn prints<const N: usize>(rt: &(impl Abort + AllocGlobal), before: &ArrayString<N>, row: &str) {
+    let mut script = format!(in rt.alloc(); "push_str {before}\n").expect(rt, "memory");
+    for line in column(row, 1).split_terminator("; ") {
+        writeln!(script, "{line}").expect(rt, "memory");
+    }
+    let replies = printed(rt, column(row, 2), column(row, 3));
+    let wanted = format!(in rt.alloc(); "done\n{replies}").expect(rt, "memory");
+    let mut input = script.as_bytes();
+    let mut output = Vec::new(rt.alloc());
+    let played = play::<N, &[u8], Vec<u8>>(rt.alloc(), &mut input, &mut output);
+    agree(
+        rt,
+        row,
+        (played, output.as_slice()),
+        (Ok(()), wanted.as_bytes()),
+    );
 }
 
 /// The commands of a column.
