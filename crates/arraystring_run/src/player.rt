@@ -1,12 +1,12 @@
 //! A script played from a reader to a writer.
 ghost use Rattle.std.specs.Prelude.{◌≡◌, ◌≢◌, ◌≤◌, ◌⊎◌, ℕ, None, is_some, IfOk, IfErr, IfSome, OnOk};
-ghost use Rattle.std.specs.Io.KnownBytes.{IsAtEnd};
+ghost use Rattle.std.specs.Io.KnownBytes.{Appends, IsAtEnd};
 ghost use Rattle.arraystring.specs.Text.{cap};
-ghost use Rattle.arraystring_run.specs.Script.{lines, IsBadAt, IfBadLine, IsPlayed, IsPartPlayed, AppendsFront, capacity_named, status_of, told_of, fault_line, usage_line};
+ghost use Rattle.arraystring_run.specs.Script.{lines, IsBadAt, IfBadLine, IsPlayed, IsPartPlayed, AppendsFront, run_printed, capacity_named, status_of, told_of, fault_line, usage_line};
 
 use crate::printing::{put, put_shown, write_all_replies};
-use crate::run;
 use crate::script::commands;
+use crate::{Command, run};
 use arraystring::ArrayString;
 use std::alloc::Global;
 use std::io::{ErrorKind, Read, Write};
@@ -54,18 +54,7 @@ pub fn play<const N: usize, I: Read, O: Write>(
 {
     let script = read_all(alloc, input)?;
     let commands = commands(alloc, &script)?;
-    if N > LARGEST {
-        return Err(PlayFault::Memory);
-    }
-    let mut text = ArrayString::<N>::new();
-    let outcome = match run(alloc, &mut text, &commands) {
-        Ok(outcome) => outcome,
-        Err(_) => return Err(PlayFault::Memory),
-    };
-    match write_all_replies(output, &outcome.replies, &text) {
-        Ok(()) => Ok(()),
-        Err(_) => Err(PlayFault::Write),
-    }
+    play_commands::<N, O>(alloc, &commands, output)
 }
 
 /// The program: plays a script at the capacity of a word, `small` (23), `cache` (63) or `max`
@@ -139,6 +128,31 @@ fn told<E: Write>(played: Result<(), PlayFault>, errors: &mut E) -> u8
             let _ = put(errors, "write failed\n");
             4
         }
+    }
+}
+
+/// Makes the run of commands from the empty text, and writes its lines.
+fn play_commands<const N: usize, O: Write>(
+    alloc: Global,
+    commands: &[Command<'_>],
+    output: &mut O,
+) -> Result<(), PlayFault>
+    ensures whole { OnOk result (Appends (O.contents output.old) (O.contents output.new) (run_printed commands.now (cap N))) }
+    ensures part { IfErr result (λ e. e ≡ PlayFault.Write → AppendsFront (O.contents output.old) (O.contents output.new) (run_printed commands.now (cap N))) }
+    ensures unwritten { IfErr result (λ e. e ≢ PlayFault.Write → output.new ≡ output.old) }
+    ensures no_line { IfErr result (λ e. IfBadLine e (λ _. ⊥)) }
+{
+    if N > LARGEST {
+        return Err(PlayFault::Memory);
+    }
+    let mut text = ArrayString::<N>::new();
+    let outcome = match run(alloc, &mut text, commands) {
+        Ok(outcome) => outcome,
+        Err(_) => return Err(PlayFault::Memory),
+    };
+    match write_all_replies(output, &outcome.replies, &text) {
+        Ok(()) => Ok(()),
+        Err(_) => Err(PlayFault::Write),
     }
 }
 
