@@ -10,16 +10,12 @@ use std::str;
 pub(crate) fn read_utf8(given: &[u8]) -> Result<&str, Utf8>
     ensures { MatchResult result (λ string. (string.now ≡ given.now) × IsUtf8 given.now) (λ _. ¬ (IsUtf8 given.now)) }
 {
-    if given.len() < 16 {
-        return match str::from_utf8(given) {
-            Ok(string) => Ok(string),
-            Err(_) => Err(Utf8),
-        };
+    if given.len() >= 16 && is_ascii(given) {
+        return Ok(unsafe { str::from_utf8_unchecked(given) });
     }
-    if is_ascii(given) || simdutf8::is_utf8(given) {
-        Ok(unsafe { str::from_utf8_unchecked(given) })
-    } else {
-        Err(Utf8)
+    match str::from_utf8(given) {
+        Ok(string) => Ok(string),
+        Err(_) => Err(Utf8),
     }
 }
 

@@ -1,5 +1,5 @@
 //! The ends of a string are trimmed.
-ghost use Rattle.std.specs.Prelude.{◌≡◌, ◌+◌, ◌-◌, ◌^◌, ◌≤◌, ℕ, Bool, min, Ok, length};
+ghost use Rattle.std.specs.Prelude.{◌≡◌, ◌+◌, ◌-◌, ◌*◌, ◌^◌, ◌≤◌, ℕ, Bool, min, Ok, length};
 ghost use Rattle.arraystring_core.specs.Retain.{AnswersAs};
 ghost use Rattle.arraystring_core.specs.Edits.{Makes, trimming, is_space, is_white_space, without_leading, without_trailing};
 
@@ -15,13 +15,15 @@ impl<const N: usize> ArrayString<N> {
         self.trim_counted(&mut Steps::new());
     }
 
-    /// The same as `trim`. It moves no byte, and looks at least at each character that it drops at
-    /// the end and at the character before them. Both counts must be at most 2^63.
+    /// The same as `trim`. It moves no byte. It looks at each character that it drops at the end and
+    /// at the character before them: at each at least once, and at most four times. Both counts must
+    /// be at most 2^63.
     pub fn trim_counted(&mut self, steps: &mut Steps)
         requires looks { steps.old.looked ≤ 2 ^ 63 }
         requires moves { steps.old.moved ≤ 2 ^ 63 }
         ensures edit { Makes (trimming is_white_space self.old.text) self.old.text (Ok result) self.new.text }
         ensures moved { steps.new.moved ≡ steps.old.moved }
+        ensures looked { steps.new.looked ≤ steps.old.looked + 4 * (length self.old.text - length (without_trailing is_white_space self.old.text) + 1) }
         ensures least { steps.old.looked + min (length self.old.text) (length self.old.text - length (without_trailing is_white_space self.old.text) + 1) ≤ steps.new.looked }
         ensures counted { steps.old.looked ≤ steps.new.looked }
     {
@@ -29,7 +31,7 @@ impl<const N: usize> ArrayString<N> {
         self.drop_leading(is_white_space);
     }
 
-    /// Drops all spaces (U+0020) at both ends, and nothing else. Like `trim` it moves no byte.
+    /// Drops all spaces (U+0020) at both ends, and nothing else.
     pub fn trim_spaces(&mut self)
         ensures { Makes (trimming is_space self.old.text) self.old.text (Ok result) self.new.text }
     {
@@ -38,13 +40,14 @@ impl<const N: usize> ArrayString<N> {
     }
 
     /// Drops the characters at the end for which `drops` returns true, back to the last for which
-    /// it does not. It moves no byte. It looks at least at each character that it drops and at the
-    /// one before them.
+    /// it does not. It moves no byte. It looks at each character that it drops and at the one before
+    /// them: at each at least once, and at most four times.
     fn drop_trailing<F: Fn(char) -> bool + Drop>(&mut self, drops: F, steps: &mut Steps)
         requires asked { F.IsAlwaysCallable drops }
         requires looks { steps.old.looked ≤ 2 ^ 63 }
         ensures text { (passes : ℕ → Bool) → AnswersAs F.post drops passes → self.new.text ≡ without_trailing passes self.old.text }
         ensures moved { steps.new.moved ≡ steps.old.moved }
+        ensures looked { steps.new.looked ≤ steps.old.looked + 4 * (length self.old.text - length self.new.text + 1) }
         ensures least { steps.old.looked + min (length self.old.text) (length self.old.text - length self.new.text + 1) ≤ steps.new.looked }
         ensures counted { steps.old.looked ≤ steps.new.looked }
     {
@@ -59,7 +62,7 @@ impl<const N: usize> ArrayString<N> {
     }
 
     /// Drops the characters at the start for which `drops` returns true, up to the first for which
-    /// it does not. It moves no byte.
+    /// it does not.
     fn drop_leading<F: Fn(char) -> bool + Drop>(&mut self, drops: F)
         requires asked { F.IsAlwaysCallable drops }
         ensures { (passes : ℕ → Bool) → AnswersAs F.post drops passes → self.new.text ≡ without_leading passes self.old.text }

@@ -11,7 +11,7 @@ use Rattle.arraystring_core.proofs.array_string.ArrayString.drop_trailing.Goals.
 pub loop-start-init : goal.loop-start-init
 loop-start-init g c =
     let long = opened-size g.row.N _ _ _ c.self.invariant _ c.self.view_is in
-    record { same = λ passes tells. refl; looked = omega arith; fits = omega (arith, long, c.self.invariant.0); least = omega arith; counted = omega arith; moved = refl }
+    record { same = λ passes tells. refl; looked = omega arith; few = omega arith; fits = omega (arith, long, c.self.invariant.0); least = omega arith; counted = omega arith; moved = refl }
 
 pub last_char-requires : goal.last_char-requires
 last_char-requires g c =
@@ -63,6 +63,7 @@ loop-start-preserved g c =
       same = λ passes tells. ap (without_trailing passes) kept
           ∙ sym (ap (without_trailing passes) parts ∙ without_trailing-passes passes found.0 ch (sym (tells.at ch c.drops.result c.drops.ensures) ∙ c.if-not-drops.false)) ∙ inv.same passes tells;
       looked = omega (arith, inv.looked, told.looked, ap size parts, ap size kept, size-append found.0 (ch ∷ []), width-bounds ch);
+      few = omega (arith, inv.few, told.looked, ap length parts, ap length kept, length-append found.0 (ch ∷ []));
       fits = inv.fits;
       least = omega (arith, inv.least, rw c.in-Some.is at told.least, ap length parts, ap length kept, length-append found.0 (ch ∷ []));
       counted = omega (arith, inv.counted, told.counted);
@@ -95,3 +96,6 @@ returns-clause-least g c =
           let none : text ≡ [] = sym lent ∙ (rw w.in_default.is at c.last_char.ensures.none) in
           omega (arith, inv.least, c.last_char.ensures.counted, ap length none)
     ]
+
+pub returns-clause-looked : goal.returns-clause-looked
+returns-clause-looked g c = let inv = c.loop-start.invariant in omega (arith, inv.few, inv.counted, c.last_char.ensures.looked)

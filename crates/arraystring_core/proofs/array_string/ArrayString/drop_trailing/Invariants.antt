@@ -9,6 +9,7 @@ invariant-loop-start g l = record {
   same : (passes : ℕ → Bool) → AnswersAs (goal.F-post g) l.fn.drops passes
       → without_trailing passes l.self.text ≡ without_trailing passes l.initial.self.text;
   looked : l.steps.looked + 4 * size l.self.text ≤ l.initial.steps.looked + 4 * size l.initial.self.text;
+  few : l.steps.looked + 4 * length l.self.text ≤ l.initial.steps.looked + 4 * length l.initial.self.text;
   fits : size l.initial.self.text ≤ 255;
   least : l.initial.steps.looked + length l.initial.self.text ≤ l.steps.looked + length l.self.text;
   counted : l.initial.steps.looked ≤ l.steps.looked;
