@@ -1,10 +1,6 @@
 -- The first space of a line, as a search finds it.
 use Rattle.std.proofs.Common.{◌≡◌, ◌≢◌, ℕ, suc, zero, ◌+◌, ◌<◌, ◌≤◌, ◌==◌, List, [], ◌∷◌, ◌++◌, length, take, drop, slice_index, ap, arith}
-use Rattle.memchr.specs.Find.{Passes, is_byte}
 use Rattle.arraystring_run.specs.Grammar.{IsOneWord, space}
-
-pub not_space : (bs : List ℕ) (i : ℕ) → ¬ Passes (is_byte space) bs i → slice_index bs i ≢ space
-not_space bs i other is = other (ap (λ b. b == space) is)
 
 -- the bytes before the first space are one word
 pub word-before : (bs : List ℕ) (n : ℕ) → n ≤ length bs → ((i : ℕ) → i < n → slice_index bs i ≢ space) → IsOneWord (take n bs)

@@ -1,5 +1,5 @@
 -- Scripts, which are lines of bytes, and what is printed of a run.
-use Rattle.std.specs.Prelude.{◌≡◌, ◌≢◌, ℕ, ◌+◌, ◌==◌, ⊤, length, List, [], ◌∷◌, ◌++◌, if◌then◌else◌, Option, Some, None, Result, Ok, Err, codes, decimal, nat_eq}
+use Rattle.std.specs.Prelude.{◌≡◌, ◌≢◌, ◌≤◌, ◌⊎◌, ℕ, ◌+◌, ◌==◌, ⊤, length, List, [], ◌∷◌, ◌++◌, if◌then◌else◌, Option, Some, None, IfSome, Result, Ok, Err, codes, decimal, nat_eq}
 use Rattle.std.specs.Borrow.{Bor}
 use Rattle.std.specs.Cmp.Lexicographic.{pointwise}
 use Rattle.std.specs.Io.KnownBytes.{Appends}
@@ -134,3 +134,20 @@ fault_line Write = ended (codes "write failed")
 abbrev pub told_of : {A : Type 0} → Result A PlayFault → List ℕ
 told_of (Ok _) = []
 told_of (Err e) = fault_line e
+
+-- what a program did that was given a word: the bytes of its input, those of its output and of its errors before and after,
+-- whether each of the three is as it was, and the exit status
+pub record IsServed (word : Option (Bor (List ℕ))) (given old new errors_old errors_new : Option (List ℕ))
+    (SameInput SameOutput SameErrors : Type 0) (status : ℕ) : Type 0 where
+  pub other_word : capacity_named word ≡ None → (status ≡ 2) × SameInput × SameOutput × AppendsFront errors_old errors_new usage_line
+  pub played : IfSome (capacity_named word) (λ n. status ≡ 0 → IfSome given (λ input. IsPlayed input n old new))
+  pub bad_line : IfSome (capacity_named word) (λ _. status ≡ 2
+      → (k : ℕ) × IfSome given (λ input. IsBadAt (lines input) k) × AppendsFront errors_old errors_new (fault_line (BadLine k)))
+  pub no_memory : status ≡ 3 → AppendsFront errors_old errors_new (fault_line Memory)
+  pub failed : IfSome (capacity_named word) (λ n. status ≡ 4
+      → (SameOutput × AppendsFront errors_old errors_new (fault_line Read))
+      ⊎ (IfSome given (λ input. IsPartPlayed input n old new) × AppendsFront errors_old errors_new (fault_line Write)))
+  pub quiet : status ≡ 0 → SameErrors
+  pub unwritten : status ≢ 0 → status ≢ 4 → SameOutput
+  -- 0, 2, 3 or 4
+  pub known : (status ≤ 4) × (status ≢ 1)

@@ -2,6 +2,7 @@
 #![tactic(auto)]
 
 mod commands;
+mod find;
 pub mod laws;
 mod line;
 mod player;

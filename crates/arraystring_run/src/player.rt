@@ -1,8 +1,8 @@
 //! A script played from a reader to a writer.
-ghost use Rattle.std.specs.Prelude.{◌≡◌, ◌≢◌, ◌≤◌, ◌⊎◌, ℕ, None, is_some, IfOk, IfErr, IfSome, OnOk};
+ghost use Rattle.std.specs.Prelude.{◌≡◌, ◌≢◌, is_some, IfOk, IfErr, IfSome, OnOk};
 ghost use Rattle.std.specs.Io.KnownBytes.{Appends, IsAtEnd};
 ghost use Rattle.arraystring.specs.Text.{cap};
-ghost use Rattle.arraystring_run.specs.Script.{lines, IsBadAt, IfBadLine, IsPlayed, IsPartPlayed, AppendsFront, run_printed, capacity_named, status_of, told_of, fault_line, usage_line};
+ghost use Rattle.arraystring_run.specs.Script.{lines, IsBadAt, IfBadLine, IsPlayed, IsPartPlayed, IsServed, AppendsFront, run_printed, capacity_named, status_of, told_of};
 
 use crate::printing::{put, put_shown, write_all_replies};
 use crate::script::commands;
@@ -70,21 +70,8 @@ pub fn serve<I: Read, O: Write, E: Write>(
     output: &mut O,
     errors: &mut E,
 ) -> u8
-    ensures other_word { capacity_named word.entry ≡ None → (result ≡ 2) × (input.new ≡ input.old) × (output.new ≡ output.old)
-        × AppendsFront (E.contents errors.old) (E.contents errors.new) usage_line }
-    ensures played { IfSome (capacity_named word.entry) (λ n. result ≡ 0
-        → IfSome (I.remaining input.old) (λ given. IsPlayed given n (O.contents output.old) (O.contents output.new))) }
-    ensures bad_line { IfSome (capacity_named word.entry) (λ _. result ≡ 2
-        → (k : ℕ) × IfSome (I.remaining input.old) (λ given. IsBadAt (lines given) k) × AppendsFront (E.contents errors.old) (E.contents errors.new) (fault_line (PlayFault.BadLine k))) }
-    ensures no_memory { result ≡ 3 → AppendsFront (E.contents errors.old) (E.contents errors.new) (fault_line PlayFault.Memory) }
-    ensures failed { IfSome (capacity_named word.entry) (λ n. result ≡ 4
-        → ((output.new ≡ output.old) × AppendsFront (E.contents errors.old) (E.contents errors.new) (fault_line PlayFault.Read))
-        ⊎ (IfSome (I.remaining input.old) (λ given. IsPartPlayed given n (O.contents output.old) (O.contents output.new))
-        × AppendsFront (E.contents errors.old) (E.contents errors.new) (fault_line PlayFault.Write))) }
-    ensures quiet { result ≡ 0 → errors.new ≡ errors.old }
-    ensures unwritten { result ≢ 0 → result ≢ 4 → output.new ≡ output.old }
-    // 0, 2, 3 or 4
-    ensures status { (result ≤ 4) × (result ≢ 1) }
+    ensures { IsServed word.entry (I.remaining input.old) (O.contents output.old) (O.contents output.new) (E.contents errors.old) (E.contents errors.new)
+        (input.new ≡ input.old) (output.new ≡ output.old) (errors.new ≡ errors.old) result }
 {
     match word {
         Some("small") => told(play::<23, I, O>(alloc, input, output), errors),

@@ -1,11 +1,11 @@
 //! The commands of a script.
-ghost use Rattle.std.specs.Prelude.{◌≡◌, ◌≢◌, ◌≤◌, ◌<◌, ◌+◌, ℕ, length, drop, slice_index, IfOk, IfErr};
-ghost use Rattle.arraystring_run.specs.Script.{lines, line_feed, AreLinesOf, IsBadAt, IfBadLine};
+ghost use Rattle.std.specs.Prelude.{◌≡◌, ◌≢◌, ◌≤◌, ◌+◌, length, drop, IfOk, IfErr};
+ghost use Rattle.arraystring_run.specs.Script.{lines, AreLinesOf, IsBadAt, IfBadLine};
 
 use crate::Command;
+use crate::find::find_byte;
 use crate::line::command;
 use crate::player::PlayFault;
-use memchr::memchr;
 use std::alloc::Global;
 
 /// The commands of a whole script, one a line, which borrow their texts from it.
@@ -19,7 +19,7 @@ pub(crate) fn commands(alloc: Global, script: &[u8]) -> Result<Vec<Command<'_>>,
     let mut number = 0usize;
     while !rest.is_empty() {
         number += 1;
-        let end = line_end(rest);
+        let end = find_byte(b'\n', rest);
         let Some(command) = command(&rest[..end]) else {
             return Err(PlayFault::BadLine(number));
         };
@@ -29,15 +29,6 @@ pub(crate) fn commands(alloc: Global, script: &[u8]) -> Result<Vec<Command<'_>>,
         rest = past_line(rest, end);
     }
     Ok(commands)
-}
-
-/// Where the first line ends.
-fn line_end(text: &[u8]) -> usize
-    ensures at_most { result ≤ length text.now }
-    ensures ended { result < length text.now → slice_index text.now result ≡ line_feed }
-    ensures one_line { (i : ℕ) → i < result → slice_index text.now i ≢ line_feed }
-{
-    memchr(b'\n', text).unwrap_or(text.len())
 }
 
 /// What follows a line that ends at `end`.
