@@ -1,11 +1,11 @@
 //! Plays a script of commands from standard input to standard output.
 #![tactic(auto)]
 
-ghost use Rattle.std.specs.Prelude.{◌≡◌, ◌≢◌, ◌≤◌, ℕ, List, length, take, None, Ok, Err, IfSome, IsSome};
-ghost use Rattle.std.specs.declared.env.FillError.TheVariants.{NotPresent};
-ghost use Rattle.arraystring_run.specs.Text.{IsText, size, bytes};
+ghost use Rattle.std.specs.Prelude.{◌≡◌, ◌≢◌, ◌≤◌, ℕ, ⊤, List, None, Result, IfSome};
+ghost use Rattle.std.specs.declared.env.FillError.{FillError as Fault};
 ghost use Rattle.arraystring_run.specs.Script.{lines, IsBadAt, AppendsFront, capacity_named, fault_line, usage_line};
-ghost use Rattle.arraystring_run.specs.declared.player.PlayFault.{PlayFault as Fault};
+ghost use Rattle.arraystring_run.specs.declared.player.PlayFault.{PlayFault};
+ghost use Rattle.arraystring_cli.specs.Word.{IsOnlyWord};
 
 use arraystring::MaxString;
 use arraystring_run::{names_capacity, serve};
@@ -22,12 +22,36 @@ fn main(rt: HostRuntime) -> ExitCode {
     ExitCode::from(serve_buffered(rt.alloc(), word, input, output, errors))
 }
 
+/// The arguments of a program. The kit's `Env` does not say what its calls return; this trait names
+/// it, so that a contract can speak of it.
+trait Arguments {
+    /// What may be returned for the argument of an index, and what is in the buffer then.
+    ghost gives: { Self → ℕ → Result ℕ Fault → List ℕ → Type 0 };
+
+    /// Copies the argument `index` into the buffer and returns its length. Argument 0 is the
+    /// program's name.
+    fn argument(&self, index: usize, buffer: &mut [u8]) -> Result<usize, FillError>
+        ensures { gives self.now index result buffer.new };
+}
+
+/// Whatever the environment returns.
+impl<E: Env> Arguments for E {
+    ghost gives = { λ _ _ _ _. ⊤ };
+
+    fn argument(&self, index: usize, buffer: &mut [u8]) -> Result<usize, FillError> {
+        self.arg(index, buffer)
+    }
+}
+
 /// The word that the program was given: its only argument, where that is UTF-8. It takes no memory,
 /// so an argument of more than 255 bytes counts as none. No capacity has so long a name.
-fn given_word<E: Env>(env: &E) -> Option<MaxString> {
+fn given_word<A: Arguments>(arguments: &A) -> Option<MaxString>
+    ensures { (count : Result ℕ Fault) × (first : List ℕ) × (second : Result ℕ Fault) × (rest : List ℕ) × A.gives arguments.now 1 count first
+        × A.gives arguments.now 2 second rest × IsOnlyWord count first second result }
+{
     let mut first = [0u8; 255];
-    let count = env.arg(1, &mut first);
-    let second = env.arg(2, &mut [0u8; 1]);
+    let count = arguments.argument(1, &mut first);
+    let second = arguments.argument(2, &mut [0u8; 1]);
     only_word(count, &first, second)
 }
 
@@ -37,10 +61,7 @@ fn only_word(
     first: &[u8],
     second: Result<usize, FillError>,
 ) -> Option<MaxString>
-    ensures text { IfSome result (λ word. (n : ℕ) × (count ≡ Ok n) × (bytes word.text ≡ take n first.now)) }
-    ensures alone { IsSome result → second ≡ Err NotPresent }
-    ensures whole { (t : List ℕ) → IsText t → size t ≤ 255 → (n : ℕ) → count ≡ Ok n → n ≤ length first.now
-        → bytes t ≡ take n first.now → second ≡ Err NotPresent → IsSome result }
+    ensures { IsOnlyWord count first.now second result }
 {
     let (Ok(count), Err(FillError::NotPresent)) = (count, second) else {
         return None;
@@ -61,8 +82,8 @@ fn serve_buffered<I: Read, O: Write, E: Write>(
     ensures other_word { capacity_named word.entry ≡ None → (result ≡ 2) × (input.new ≡ input.old) × (output.new ≡ output.old)
         × AppendsFront (E.contents errors.old) (E.contents errors.new) usage_line }
     ensures bad_line { IfSome (capacity_named word.entry) (λ _. result ≡ 2
-        → (k : ℕ) × IfSome (I.remaining input.old) (λ given. IsBadAt (lines given) k) × AppendsFront (E.contents errors.old) (E.contents errors.new) (fault_line (Fault.BadLine k))) }
-    ensures no_memory { result ≡ 3 → AppendsFront (E.contents errors.old) (E.contents errors.new) (fault_line Fault.Memory) }
+        → (k : ℕ) × IfSome (I.remaining input.old) (λ given. IsBadAt (lines given) k) × AppendsFront (E.contents errors.old) (E.contents errors.new) (fault_line (PlayFault.BadLine k))) }
+    ensures no_memory { result ≡ 3 → AppendsFront (E.contents errors.old) (E.contents errors.new) (fault_line PlayFault.Memory) }
     ensures quiet { result ≡ 0 → errors.new ≡ errors.old }
     // 0, 2, 3 or 4
     ensures status { (result ≤ 4) × (result ≢ 1) }
