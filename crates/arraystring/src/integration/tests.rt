@@ -1,38 +1,53 @@
 //! Strings to JSON values and back, worked out by hand.
-ghost use Rattle.std.specs.Prelude.{◌≤◌};
-
 use super::*;
-use crate::tests::table::{MANY_LETTERS, agree};
+use crate::tests::table::agree;
 use std::process::Abort;
 use std::test::Fail;
 
 /// As many letters as fit.
 const LETTERS: &str = "abcdefghijklmnopqrstuvwxyzABCDEFGHIJKLMNOPQRSTUVWXYZabcdefghijk";
 
-/// Asserts that a text which fits is a JSON text of its characters, and is read back.
-fn kept<const N: usize>(rt: &(impl Abort + AllocGlobal), text: &str)
-    requires { N ≤ 300 }
-{
-    let string = ArrayString::<N>::from(text);
-    let value = string
-        .to_value(rt.alloc())
-        .expect(rt, "memory for the value");
-    agree(rt, text, value.as_str(), Some(text));
-    agree(rt, text, ArrayString::from_value(&value), Ok(string));
-    let printed = value.to_string(rt.alloc()).expect(rt, "memory for it");
-    let inside = printed.as_str().strip_prefix('"').unwrap_or_default();
-    agree(rt, text, inside.strip_suffix('"'), Some(text));
+/// The longest leading run of whole characters that takes at most so many bytes.
+fn leading(text: &str, most: usize) -> &str {
+    for size in (0..=most).rev() {
+        if let Some(front) = text.get(..size) {
+            return front;
+        }
+    }
+    text
 }
 
+/// Asserts that what was made of a JSON text is the text, that it is written as it, and read back.
+fn kept<S: Json>(rt: &(impl Abort + AllocGlobal), given: &Value, wanted: &str) {
+    let string = S::read(given).expect(rt, "a string of a JSON text");
+    agree(rt, wanted, string.text(), wanted);
+    let value = string.value(rt.alloc()).expect(rt, "memory for the value");
+    agree(rt, wanted, value.as_str(), Some(wanted));
+    let back = S::read(&value).expect(rt, "the same string");
+    agree(rt, wanted, back.text(), wanted);
+    let printed = value.to_string(rt.alloc()).expect(rt, "memory for it");
+    let inside = printed.as_str().strip_prefix('"').unwrap_or_default();
+    agree(rt, wanted, inside.strip_suffix('"'), Some(wanted));
+}
+
+/// Texts of each size up to 300 bytes, of letters and of characters of each width.
 #[test]
-fn a_string_is_read_back(rt: HostRuntime) -> Result<(), Fail> {
-    kept::<8>(&rt, "abcdefg");
-    kept::<255>(&rt, MANY_LETTERS);
-    let string = CacheString::from_str_truncate("abcdefg");
-    let value = string.to_value(rt.alloc())?;
-    agree(&rt, "the value", value.as_str(), Some("abcdefg"));
-    let back = CacheString::from_value(&value);
-    agree(&rt, "read back", back, Ok(string));
+fn texts_of_each_size_are_read_back(rt: HostRuntime) -> Result<(), Fail> {
+    let letters = "abcdefg".repeat(rt.alloc(), 50)?;
+    let wide = "aé€🤔".repeat(rt.alloc(), 35)?;
+    for text in [letters.as_str(), wide.as_str()] {
+        for start in 0..10usize {
+            for size in 0..301usize {
+                if let Some(text) = text.get(start..start + size) {
+                    let given = Value::String(String::from_str(rt.alloc(), text)?);
+                    kept::<ArrayString<8>>(&rt, &given, leading(text, 8));
+                    kept::<ArrayString<63>>(&rt, &given, leading(text, 63));
+                    kept::<ArrayString<255>>(&rt, &given, leading(text, 255));
+                    kept::<CacheString>(&rt, &given, leading(text, 63));
+                }
+            }
+        }
+    }
     Ok(())
 }
 
@@ -116,15 +131,21 @@ impl Scarce {
 }
 
 /// A string that becomes a JSON value.
-trait Json {
+trait Json: Drop {
     fn value(&self, alloc: Global) -> Result<Value, AllocError>;
+
+    fn read(value: &Value) -> Result<Self, NotText>;
 
     fn text(&self) -> &str;
 }
 
-impl Json for ArrayString<63> {
+impl<const N: usize> Json for ArrayString<N> {
     fn value(&self, alloc: Global) -> Result<Value, AllocError> {
         self.to_value(alloc)
+    }
+
+    fn read(value: &Value) -> Result<Self, NotText> {
+        Self::from_value(value)
     }
 
     fn text(&self) -> &str {
@@ -135,6 +156,10 @@ impl Json for ArrayString<63> {
 impl Json for CacheString {
     fn value(&self, alloc: Global) -> Result<Value, AllocError> {
         self.to_value(alloc)
+    }
+
+    fn read(value: &Value) -> Result<Self, NotText> {
+        Self::from_value(value)
     }
 
     fn text(&self) -> &str {

@@ -4,7 +4,7 @@ ghost use Rattle.arraystring_base.specs.Text.{cap, cut};
 ghost use Rattle.arraystring_core.specs.Taken.{joined_pieces};
 
 use super::string;
-use super::table::{agree, column, rows, told_made};
+use super::table::{LETTERS, agree, column, rows, told_made};
 use crate::ArrayString;
 use crate::error::{Error, OutOfBounds, Utf8};
 use std::process::Abort;
@@ -219,4 +219,85 @@ fn what_is_made_of_bytes_and_of_slices(rt: HostRuntime) {
     let joined = string("My String My other String");
     let made = of_pieces::<255>(&["My String", " My other String"]);
     agree(&rt, "two pieces", made, (joined, Some(joined)));
+}
+
+/// Asserts how many characters are taken from iterators that are lent, where not all of a run fit behind
+/// the letters `before`: one more than fit, and then none.
+fn takes_chars<const N: usize>(
+    rt: &(impl Abort + AllocGlobal),
+    before: &str,
+    run: &str,
+    wanted: &str,
+    left: &str,
+)
+    requires { N ≤ 300 }
+{
+    let text = format!(in rt.alloc(); "{before}{run}").expect(rt, "memory for the text");
+    let (mut cut, mut whole, mut added) = (text.chars(), text.chars(), run.chars());
+    let made = ArrayString::<N>::from_chars(&mut cut);
+    agree(rt, wanted, made.as_str(), wanted);
+    let refused = ArrayString::<N>::try_from_chars(&mut whole);
+    agree(rt, wanted, refused, Err(OutOfBounds));
+    let mut string: ArrayString<N> = string(before);
+    string.extend_chars(&mut added);
+    agree(rt, wanted, string, made);
+    agree(rt, wanted, cut.as_str(), left);
+    agree(rt, wanted, whole.as_str(), left);
+    agree(rt, wanted, added.as_str(), left);
+}
+
+/// The same of pieces, 14 of which come behind `before`.
+fn takes_pieces<'a, const N: usize>(
+    rt: &impl Abort,
+    before: &'a str,
+    piece: &'a str,
+    fit: usize,
+    wanted: &str,
+)
+    requires { N ≤ 300 }
+{
+    let added = [piece; 14];
+    let mut pieces = [piece; 15];
+    pieces[0] = before;
+    let (mut cut, mut whole, mut added) = (pieces.iter(), pieces.iter(), added.iter());
+    let made = ArrayString::<N>::from_iterator(cut.by_ref().copied());
+    agree(rt, wanted, made.as_str(), wanted);
+    let refused = ArrayString::<N>::try_from_iterator(whole.by_ref().copied());
+    agree(rt, wanted, refused, Err(OutOfBounds));
+    let mut string: ArrayString<N> = string(before);
+    string.extend_strs(added.by_ref().copied());
+    agree(rt, wanted, string, made);
+    let left = [cut.len(), whole.len(), added.len()];
+    agree(rt, wanted, left, [13usize.wrapping_sub(fit); 3]);
+}
+
+/// Asserts how many items are taken of characters of each width, and of pieces of 1 to 12 bytes of
+/// them, where there is room for 0 to 12 bytes.
+fn takes<const N: usize>(rt: &(impl Abort + AllocGlobal))
+    requires { N ≤ 300 }
+{
+    let runs = "xxxxxxxxxxxxxx éééééééééééééé €€€€€€€€€€€€€€ 🤔🤔🤔🤔🤔🤔🤔🤔🤔🤔🤔🤔🤔🤔";
+    for run in runs.split(' ') {
+        let width = run.chars().next().unwrap_or_default().len_utf8();
+        for room in 0..13usize {
+            let before = LETTERS.get(..N.saturating_sub(room)).unwrap_or_default();
+            let fit = room / width;
+            let end = run.get(..fit.wrapping_mul(width)).unwrap_or_default();
+            let wanted = format!(in rt.alloc(); "{before}{end}").expect(rt, "memory for it");
+            let left = run.get(fit.wrapping_add(1).wrapping_mul(width)..);
+            takes_chars::<N>(rt, before, run, &wanted, left.unwrap_or("none"));
+            for size in 1..13usize {
+                if let Some(piece) = run.get(..size) {
+                    takes_pieces::<N>(rt, before, piece, room / size, &wanted);
+                }
+            }
+        }
+    }
+}
+
+#[test]
+fn one_item_is_taken_past_those_that_fit(rt: HostRuntime) {
+    takes::<12>(&rt);
+    takes::<23>(&rt);
+    takes::<255>(&rt);
 }

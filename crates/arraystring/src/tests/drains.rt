@@ -1,7 +1,7 @@
 //! Walks over what was taken out, and what is left of it, on values worked out by hand.
 ghost use Rattle.std.specs.Prelude.{◌≤◌};
 
-use super::prints::debugs;
+use super::prints::{debugs, debugs_as, derived};
 use super::string;
 use super::table::{agree, column, hash_of, number, returned, rows};
 use crate::{ArrayString, Drain};
@@ -84,12 +84,14 @@ fn steps_from_both_ends(rt: HostRuntime) {
     agree(&rt, "what is left of the copy", copy.as_str(), "A🤔");
 }
 
-/// Walks all of a text by one choice of ends: the back where the choice has a bit.
-fn walk_by(rt: &impl Abort, text: &str, choice: u32) {
+/// Walks all of a text by one choice of ends: the back where the choice has a bit. What is left is
+/// printed after each step.
+fn walk_by(rt: &(impl Abort + AllocGlobal), text: &str, choice: u32) {
     let mut drain = string::<23>(text).drain(..).unwrap_or_default();
     let mut wanted = text.chars();
     let mut choice = choice;
     for _ in text.chars() {
+        debugs_as(rt, &drain, &derived::Drain(wanted.as_str()));
         if choice & 1 == 0 {
             agree(rt, text, drain.next(), wanted.next());
         } else {
@@ -98,6 +100,7 @@ fn walk_by(rt: &impl Abort, text: &str, choice: u32) {
         choice >>= 1;
     }
     agree(rt, text, drain.as_str(), "");
+    debugs_as(rt, &drain, &derived::Drain(""));
     agree(rt, text, drain.next(), None);
     agree(rt, text, drain.next_back(), None);
 }

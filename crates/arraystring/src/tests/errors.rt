@@ -1,5 +1,5 @@
 //! Refusals: how they are printed and hashed, and how they become an `Error`.
-use super::prints::{debugs, displays};
+use super::prints::{Alone, debugs_as, displays};
 use super::table::{agree, hash_of};
 use crate::error::{Error, OutOfBounds, Utf8, Utf16};
 use crate::integration::NotText;
@@ -7,7 +7,8 @@ use std::fmt::{Debug, Display};
 use std::process::Abort;
 use std::str;
 
-/// Asserts that a refusal is printed as its name, and for debugging as `debug`, in each form.
+/// Asserts that a refusal is printed as its name, and for debugging as `debug`, in each form at each
+/// width.
 fn prints<T: Display + Debug>(
     rt: &(impl Abort + AllocGlobal),
     refusal: &T,
@@ -15,8 +16,7 @@ fn prints<T: Display + Debug>(
     debug: &str,
 ) {
     displays(rt, refusal, name);
-    let forms = format!(in rt.alloc(); "{debug}|{debug}|{debug}|{debug}|{debug}");
-    debugs(rt, refusal, forms.expect(rt, "memory for it").as_str());
+    debugs_as(rt, refusal, &Alone(debug));
 }
 
 /// Asserts that a refusal becomes this case of `Error`, and how both are printed and hashed.

@@ -1,20 +1,27 @@
 //! How values are printed; for debugging, as Rust's derived forms print the same fields.
+ghost use Rattle.std.specs.Prelude.{◌≤◌};
+
+use super::string;
 use super::table::{MANY_LETTERS, agree};
 use crate::ArrayString;
 use crate::prelude::*;
+use std::fmt;
 use std::fmt::{Debug, Display};
 use std::process::Abort;
 
-/// Asserts that a value is printed as a text, and so also in each form that would pad or cut it.
+/// Asserts that a value is printed as a text, in each form that could pad or cut it, at each width.
 pub(crate) fn displays<T: Display>(rt: &(impl Abort + AllocGlobal), value: &T, wanted: &str) {
-    let printed = format!(in rt.alloc();
-        "{value}{value:2}{value:9}{value:300}{value:>5}{value:>300}{value:^300}{value:.1}"
-    );
-    let printed = printed.expect(rt, "memory for what is printed");
-    let rest = printed.as_str().trim_start_matches(wanted);
-    agree(rt, wanted, rest, "");
-    agree(rt, wanted, printed.len() / 8, wanted.len());
-    agree(rt, wanted, printed.len() % 8, 0);
+    for width in 0..300usize {
+        let printed = format!(in rt.alloc();
+            "{value}{value:#}{value:width$}{value:<width$}{value:>width$}{value:*^width$}\
+            {value:0width$}{value:#width$}{value:.width$}{value:>width$.1}"
+        );
+        let printed = printed.expect(rt, "memory for what is printed");
+        let rest = printed.as_str().trim_start_matches(wanted);
+        agree(rt, wanted, rest, "");
+        agree(rt, wanted, printed.len() / 10, wanted.len());
+        agree(rt, wanted, printed.len() % 10, 0);
+    }
 }
 
 /// Asserts how a value is printed for debugging: plainly, on lines, and in three widths.
@@ -24,6 +31,56 @@ pub(crate) fn debugs<T: Debug>(rt: &(impl Abort + AllocGlobal), value: &T, wante
     );
     let printed = printed.expect(rt, "memory for what is printed");
     agree(rt, "each form", printed.as_str(), wanted);
+}
+
+/// A text that is printed alone.
+#[derive(Drop)]
+pub(crate) struct Alone<'a>(pub(crate) &'a str);
+
+impl Debug for Alone<'_> {
+    fn fmt<W: fmt::Write>(&self, f: &mut fmt::Formatter<W>) -> fmt::Result {
+        f.write_str(self.0)
+    }
+}
+
+/// Types whose derived forms are those of the strings.
+pub(crate) mod derived {
+    #[derive(Debug, Drop)]
+    pub(crate) struct ArrayString<'a> {
+        pub(crate) array: &'a str,
+        pub(crate) size: usize,
+    }
+
+    #[derive(Debug, Drop)]
+    pub(crate) struct CacheString<'a>(pub(crate) ArrayString<'a>);
+
+    #[derive(Debug, Drop)]
+    pub(crate) struct Drain<'a>(pub(crate) &'a str);
+}
+
+/// How a value is printed for debugging in each form that could pad or cut it.
+fn forms<T: Debug>(rt: &(impl Abort + AllocGlobal), value: &T, width: usize) -> String {
+    let printed = format!(in rt.alloc();
+        "{value:?}|{value:#?}|{value:width$?}|{value:<width$?}|{value:>width$?}|{value:*^width$?}|\
+        {value:0width$?}|{value:#width$?}|{value:.width$?}|{value:>width$.1?}"
+    );
+    printed.expect(rt, "memory for what is printed")
+}
+
+/// Asserts that one value is printed for debugging as the other, in each form, at each width.
+pub(crate) fn debugs_as<T: Debug, W: Debug>(
+    rt: &(impl Abort + AllocGlobal),
+    value: &T,
+    wanted: &W,
+) {
+    for width in 0..30usize {
+        agree(
+            rt,
+            "each width",
+            forms(rt, value, width),
+            forms(rt, wanted, width),
+        );
+    }
 }
 
 #[test]
@@ -40,6 +97,49 @@ fn texts_are_printed_as_they_are(rt: HostRuntime) {
         &cached,
         "abcdeabcdeabcdeabcdeabcdeabcdeabcdeabcdeabcdeabcdeabcdeabcdeabc",
     );
+}
+
+/// Asserts how a string of a text that fits is printed, and what is drained from it.
+fn shows<const N: usize>(rt: &(impl Abort + AllocGlobal), text: &str)
+    requires { N ≤ 300 }
+{
+    let mut string: ArrayString<N> = string(text);
+    displays(rt, &string, text);
+    let wanted = derived::ArrayString {
+        array: text,
+        size: text.len(),
+    };
+    debugs_as(rt, &string, &wanted);
+    let drained = string.drain(..).unwrap_or_default();
+    debugs_as(rt, &drained, &derived::Drain(text));
+}
+
+/// The same of a string of 63 bytes.
+fn shows_cached(rt: &(impl Abort + AllocGlobal), text: &str) {
+    let string = CacheString::from_str_truncate(text);
+    displays(rt, &string, text);
+    let wanted = derived::ArrayString {
+        array: text,
+        size: text.len(),
+    };
+    debugs_as(rt, &string, &derived::CacheString(wanted));
+}
+
+#[test]
+fn texts_of_many_sizes_are_printed(rt: HostRuntime) {
+    for count in 0..52usize {
+        let size = count * 5;
+        let text = MANY_LETTERS.get(..size).unwrap_or_default();
+        match size {
+            0..4 => shows::<3>(&rt, text),
+            4..24 => shows::<23>(&rt, text),
+            24..200 => shows::<255>(&rt, text),
+            _ => shows::<300>(&rt, text),
+        }
+        if size < 64 {
+            shows_cached(&rt, text);
+        }
+    }
 }
 
 #[test]
@@ -81,21 +181,4 @@ fn cached_strings_are_printed_for_debugging(rt: HostRuntime) {
         CacheString(ArrayString { array: \"aé€🤔\", size:           10 })|\
         CacheString(ArrayString { array: \"aé€🤔\", size:           10 })";
     debugs(&rt, &CacheString::from_str_truncate("aé€🤔"), wanted);
-}
-
-#[test]
-fn the_longest_text_is_printed_for_debugging(rt: HostRuntime) {
-    let mut full = MaxString::from(MANY_LETTERS);
-    let printed = format!(in rt.alloc(); "{full:?}").expect(&rt, "memory for it");
-    let text = between(&printed, "ArrayString { array: \"", "\", size: 255 }");
-    agree(&rt, "the string", text, Some(MANY_LETTERS));
-    let removed = full.drain(..).unwrap_or_default();
-    let printed = format!(in rt.alloc(); "{removed:?}").expect(&rt, "memory for it");
-    let text = between(&printed, "Drain(\"", "\")");
-    agree(&rt, "the drain", text, Some(MANY_LETTERS));
-}
-
-/// What is between a front and a back.
-fn between<'a>(printed: &'a str, front: &str, back: &str) -> Option<&'a str> {
-    printed.strip_prefix(front)?.strip_suffix(back)
 }
