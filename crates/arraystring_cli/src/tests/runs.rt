@@ -1,17 +1,15 @@
 //! Runs of commands, on values worked out by hand.
 ghost use Rattle.std.specs.Prelude.{◌≤◌};
 
-use super::scarce::{Scarce, TIMES};
 use super::table::{agree, column, printed, rows};
 use arraystring::ArrayString;
 use arraystring::error::Error::{OutOfBounds, Utf8};
 use arraystring_run::{Command, Outcome, Reply, command, play, run, run_both};
 use std::fmt::Write;
 use std::process::Abort;
-use std::test::Fail;
 
 /// The string of a text that fits.
-fn text_of<const N: usize>(text: &str) -> ArrayString<N> {
+pub(super) fn text_of<const N: usize>(text: &str) -> ArrayString<N> {
     let mut string = ArrayString::new();
     string.push_str(text);
     string
@@ -470,59 +468,4 @@ fn long_runs_are_made_on_both(rt: HostRuntime) {
     pushed(&rt, &large, 255);
     pushed(&rt, &small, 120);
     agree(&rt, "the size", (first.len(), second.len()), (255, 120));
-}
-
-/// Where ever more memory is left, from none up, a refused growth of `run` leaves the text.
-#[test]
-fn want_of_memory_leaves_the_text(rt: HostRuntime) -> Result<(), Fail> {
-    let commands = [Command::TryPush('c'); 100];
-    let mut text: ArrayString<23> = text_of("ab");
-    let mut scarce = Scarce::new(rt.alloc())?;
-    let mut refused = 0u32;
-    let mut made = 0usize;
-    for _ in 0..TIMES {
-        scarce.leave_more(rt.alloc())?;
-        if let Ok(outcome) = run(rt.alloc(), &mut text, &commands) {
-            made = outcome.replies.len();
-            break;
-        }
-        refused = refused.saturating_add(1);
-        assert_eq!(rt; text.as_str(), "ab");
-    }
-    drop(scarce);
-    assert!(rt; refused >= 1);
-    assert_eq!(rt; made, 100);
-    assert_eq!(rt; text.as_str(), "abccccccccccccccccccccc");
-    Ok(())
-}
-
-/// The second list is reserved before the first command is made. Where there is memory for one list
-/// alone, both texts are as they were.
-#[test]
-fn want_of_memory_leaves_both_texts(rt: HostRuntime) -> Result<(), Fail> {
-    let commands = [Command::TryPush('c'); 300];
-    let mut alone: ArrayString<23> = text_of("ab");
-    let mut first: ArrayString<23> = text_of("ab");
-    let mut second: ArrayString<4> = text_of("ab");
-    let mut scarce = Scarce::new(rt.alloc())?;
-    let mut refused = 0u32;
-    let mut refused_alone = 0u32;
-    let mut made = 0usize;
-    for _ in 0..TIMES {
-        scarce.leave_more(rt.alloc())?;
-        if run(rt.alloc(), &mut alone, &commands).is_err() {
-            refused_alone = refused_alone.saturating_add(1);
-        }
-        if let Ok(outcomes) = run_both(rt.alloc(), &mut first, &mut second, &commands) {
-            made = outcomes.1.replies.len();
-            break;
-        }
-        refused = refused.saturating_add(1);
-        assert_eq!(rt; (first.as_str(), second.as_str()), ("ab", "ab"));
-    }
-    drop(scarce);
-    assert!(rt; refused_alone >= 1 && refused > refused_alone);
-    assert_eq!(rt; made, 300);
-    assert_eq!(rt; (first.len(), second.as_str()), (23, "abcc"));
-    Ok(())
 }

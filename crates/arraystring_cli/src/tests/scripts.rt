@@ -1,93 +1,14 @@
-//! Scripts over memory, and readers and writers that fail.
-use super::scarce::{Scarce, TIMES};
+//! Scripts over memory.
+use super::devices::FakeReader;
 use super::table::{agree, column, printed, rows};
 use arraystring_run::{PlayFault, names_capacity, play, serve};
 use std::alloc::Global;
-use std::io;
-use std::io::{ErrorKind, Read, Write};
+use std::io::ErrorKind;
 use std::process::Abort;
-use std::test::Fail;
 
-/// Gives at most `step` bytes a read. After the first `reads` reads, as many as `faults` says fail
-/// with `kind`.
-#[derive(Drop)]
-struct FakeReader<'a> {
-    bytes: &'a [u8],
-    step: usize,
-    reads: usize,
-    faults: u8,
-    kind: ErrorKind,
-}
+pub(super) const SCRIPT: &str = "try_push_str ABCD\ntry_push 🤔\nlen\npop\nas_str\n";
 
-impl Read for FakeReader<'_> {
-    fn read(&mut self, buf: &mut [u8]) -> io::Result<usize> {
-        if self.reads == 0 && self.faults > 0 {
-            self.faults -= 1;
-            return Err(self.kind.into());
-        }
-        self.reads = self.reads.saturating_sub(1);
-        let count = self.step.min(self.bytes.len()).min(buf.len());
-        buf[..count].copy_from_slice(&self.bytes[..count]);
-        self.bytes = &self.bytes[count..];
-        Ok(count)
-    }
-}
-
-/// Takes at most `step` bytes a write. After the first `room` bytes, as many writes as `faults`
-/// says fail with `kind`, or take nothing where there is no `kind`.
-#[derive(Drop)]
-struct FakeWriter {
-    taken: Vec<u8>,
-    step: usize,
-    room: usize,
-    faults: u8,
-    kind: Option<ErrorKind>,
-    flushes: bool,
-}
-
-impl FakeWriter {
-    fn new(alloc: Global, room: usize, kind: Option<ErrorKind>) -> FakeWriter {
-        FakeWriter {
-            taken: Vec::new(alloc),
-            step: usize::MAX,
-            room,
-            faults: 1,
-            kind,
-            flushes: true,
-        }
-    }
-}
-
-impl Write for FakeWriter {
-    fn write(&mut self, buf: &[u8]) -> io::Result<usize> {
-        let room = self.room.saturating_sub(self.taken.len());
-        let mut count = self.step.min(buf.len());
-        if self.faults > 0 {
-            if room == 0 {
-                self.faults -= 1;
-                return match self.kind {
-                    Some(kind) => Err(kind.into()),
-                    None => Ok(0),
-                };
-            }
-            count = count.min(room);
-        }
-        self.taken.extend_from_slice(&buf[..count])?;
-        Ok(count)
-    }
-
-    fn flush(&mut self) -> io::Result<()> {
-        if self.flushes {
-            Ok(())
-        } else {
-            Err(ErrorKind::Other.into())
-        }
-    }
-}
-
-const SCRIPT: &str = "try_push_str ABCD\ntry_push 🤔\nlen\npop\nas_str\n";
-
-const OUTPUT: &str = "done\ndone\nnumber 8\nchar 🤔\ntext ABCD\nfinal ABCD\n";
+pub(super) const OUTPUT: &str = "done\ndone\nnumber 8\nchar 🤔\ntext ABCD\nfinal ABCD\n";
 
 /// Plays `script` at 23 bytes, and compares what is returned and what is written.
 fn plays(
@@ -180,6 +101,7 @@ fn long_scripts_are_played(rt: HostRuntime) {
         step: 500,
         reads: 0,
         faults: 0,
+        again: 0,
         kind: ErrorKind::Other,
     };
     let mut output = Vec::new(rt.alloc());
@@ -282,10 +204,12 @@ fn each_word_is_played(rt: HostRuntime) {
     );
 }
 
-const EXAMPLE: &str = "push_str ABCD🤔\ntry_insert 1 A\ntry_insert_str 2 B\ndrain_back 4 10\n\
+pub(super) const EXAMPLE: &str =
+    "push_str ABCD🤔\ntry_insert 1 A\ntry_insert_str 2 B\ndrain_back 4 10\n\
     get 0 9\nremove 9\nas_str\n";
 
-const EXAMPLE_OUTPUT: &str = "done\ndone\ndone\ntext 🤔DC\nno text\nrefused OutOfBounds\ntext AABB\n\
+pub(super) const EXAMPLE_OUTPUT: &str =
+    "done\ndone\ndone\ntext 🤔DC\nno text\nrefused OutOfBounds\ntext AABB\n\
     final AABB\n";
 
 /// What is printed of the example where it is cut at a byte; cut elsewhere, its last line is bad. The
@@ -347,90 +271,6 @@ fn the_example_cut_at_each_byte(rt: HostRuntime) {
         }
     }
     agree(&rt, "the cuts", cuts, 22);
-}
-
-/// A read that fails is reported, also where a bad line was read before it.
-#[test]
-fn a_failed_read_is_told(rt: HostRuntime) {
-    for reads in 0..8usize {
-        let mut input = FakeReader {
-            bytes: b"len\nbad\nlen\n",
-            step: 2,
-            reads,
-            faults: 1,
-            kind: ErrorKind::Other,
-        };
-        let mut output = Vec::new(rt.alloc());
-        let played = play::<23, FakeReader, Vec<u8>>(rt.alloc(), &mut input, &mut output);
-        let wanted = if reads < 7 {
-            PlayFault::Read
-        } else {
-            PlayFault::BadLine(2)
-        };
-        agree(&rt, "what is returned", played, Err(wanted));
-        agree(&rt, "the output", output.len(), 0);
-    }
-}
-
-#[test]
-fn short_and_interrupted_reads_are_joined(rt: HostRuntime) {
-    for step in 1..=SCRIPT.len() {
-        for faults in 0..3u8 {
-            let mut input = FakeReader {
-                bytes: SCRIPT.as_bytes(),
-                step,
-                reads: 1,
-                faults,
-                kind: ErrorKind::Interrupted,
-            };
-            let mut output = Vec::new(rt.alloc());
-            let played = play::<23, FakeReader, Vec<u8>>(rt.alloc(), &mut input, &mut output);
-            agree(&rt, "what is returned", played, Ok(()));
-            agree(&rt, "the output", output.as_slice(), OUTPUT.as_bytes());
-        }
-    }
-}
-
-/// Plays the script to a writer, and compares what is returned and what the writer took.
-fn writes(
-    rt: &impl Abort,
-    alloc: Global,
-    mut output: FakeWriter,
-    answer: Result<(), PlayFault>,
-    wanted: &[u8],
-) {
-    let mut input = SCRIPT.as_bytes();
-    let played = play::<23, &[u8], FakeWriter>(alloc, &mut input, &mut output);
-    agree(rt, "what is returned", played, answer);
-    agree(rt, "the output", output.taken.as_slice(), wanted);
-}
-
-/// What a writer took before it failed is all that it had room for, and nothing comes after it.
-#[test]
-fn a_failed_write_is_told(rt: HostRuntime) {
-    let whole = OUTPUT.as_bytes();
-    for room in 0..whole.len() {
-        for kind in [Some(ErrorKind::Other), None] {
-            let output = FakeWriter::new(rt.alloc(), room, kind);
-            let wanted = &whole[..room];
-            writes(&rt, rt.alloc(), output, Err(PlayFault::Write), wanted);
-        }
-    }
-    let mut output = FakeWriter::new(rt.alloc(), usize::MAX, None);
-    output.flushes = false;
-    writes(&rt, rt.alloc(), output, Err(PlayFault::Write), whole);
-}
-
-#[test]
-fn short_and_interrupted_writes_are_gone_on_with(rt: HostRuntime) {
-    for step in 1..=OUTPUT.len() {
-        for faults in 0..3u8 {
-            let mut output = FakeWriter::new(rt.alloc(), 5, Some(ErrorKind::Interrupted));
-            output.step = step;
-            output.faults = faults;
-            writes(&rt, rt.alloc(), output, Ok(()), OUTPUT.as_bytes());
-        }
-    }
 }
 
 /// Serves `script`, and compares the status, the output and the line of the fault.
@@ -531,115 +371,4 @@ fn the_example_is_served(rt: HostRuntime) {
         EXAMPLE_OUTPUT.as_bytes(),
         b"",
     );
-}
-
-#[test]
-fn faults_are_served(rt: HostRuntime) {
-    let mut unreadable = FakeReader {
-        bytes: SCRIPT.as_bytes(),
-        step: 8,
-        reads: 2,
-        faults: 1,
-        kind: ErrorKind::Other,
-    };
-    let mut output = Vec::new(rt.alloc());
-    let mut errors = Vec::new(rt.alloc());
-    let word = Some("small");
-    let status = serve(rt.alloc(), word, &mut unreadable, &mut output, &mut errors);
-    agree(&rt, "the status", status, 4);
-    agree(&rt, "the output", output.len(), 0);
-    agree(
-        &rt,
-        "the errors",
-        errors.as_slice(),
-        b"read failed\n".as_slice(),
-    );
-    let mut full = FakeWriter::new(rt.alloc(), 9, Some(ErrorKind::Other));
-    errors.clear();
-    let mut input = SCRIPT.as_bytes();
-    let status = serve(rt.alloc(), word, &mut input, &mut full, &mut errors);
-    agree(&rt, "the status", status, 4);
-    agree(
-        &rt,
-        "the output",
-        full.taken.as_slice(),
-        &OUTPUT.as_bytes()[..9],
-    );
-    agree(
-        &rt,
-        "the errors",
-        errors.as_slice(),
-        b"write failed\n".as_slice(),
-    );
-}
-
-/// A fault of `errors` changes nothing but the line itself.
-#[test]
-fn a_failed_line_is_let_go(rt: HostRuntime) {
-    let line = b"bad line 1\n";
-    for room in 0..line.len() {
-        let mut input: &[u8] = b"bad";
-        let mut output = Vec::new(rt.alloc());
-        let mut errors = FakeWriter::new(rt.alloc(), room, Some(ErrorKind::Other));
-        let word = Some("max");
-        let status = serve(rt.alloc(), word, &mut input, &mut output, &mut errors);
-        agree(&rt, "the status", status, 2);
-        agree(&rt, "the output", output.len(), 0);
-        agree(&rt, "the errors", errors.taken.as_slice(), &line[..room]);
-    }
-}
-
-/// Where ever more memory is left, from none up, `serve` reports each growth that is refused.
-#[test]
-fn want_of_memory_is_served(rt: HostRuntime) -> Result<(), Fail> {
-    let mut output = Vec::with_capacity(rt.alloc(), 1000)?;
-    let mut errors = Vec::with_capacity(rt.alloc(), 1000)?;
-    let mut scarce = Scarce::new(rt.alloc())?;
-    let mut refused = 0u32;
-    let mut status = 3;
-    for _ in 0..TIMES {
-        scarce.leave_more(rt.alloc())?;
-        let mut input = EXAMPLE.as_bytes();
-        let word = Some("small");
-        status = serve(rt.alloc(), word, &mut input, &mut output, &mut errors);
-        if status != 3 {
-            break;
-        }
-        refused = refused.saturating_add(1);
-        assert_eq!(rt; output.len(), 0);
-        assert_eq!(rt; errors.as_slice(), b"out of memory\n".as_slice());
-        errors.clear();
-    }
-    drop(scarce);
-    // the script, the commands and the replies
-    assert!(rt; refused >= 3);
-    assert_eq!(rt; status, 0);
-    assert_eq!(rt; output.as_slice(), EXAMPLE_OUTPUT.as_bytes());
-    assert_eq!(rt; errors.len(), 0);
-    Ok(())
-}
-
-/// Where ever more memory is left, from none up, `play` reports each growth that is refused.
-#[test]
-fn want_of_memory_is_told(rt: HostRuntime) -> Result<(), Fail> {
-    let mut output = Vec::with_capacity(rt.alloc(), 1000)?;
-    let mut scarce = Scarce::new(rt.alloc())?;
-    let mut refused = 0u32;
-    let mut played = Err(PlayFault::Memory);
-    for _ in 0..TIMES {
-        scarce.leave_more(rt.alloc())?;
-        let mut input = EXAMPLE.as_bytes();
-        played = play::<23, &[u8], Vec<u8>>(rt.alloc(), &mut input, &mut output);
-        if played != Err(PlayFault::Memory) {
-            break;
-        }
-        refused = refused.saturating_add(1);
-        assert_eq!(rt; output.len(), 0);
-    }
-    drop(scarce);
-    // the script, the commands and the replies
-    assert!(rt; refused >= 3);
-    assert_eq!(rt; played, Ok(()));
-    assert_eq!(rt; output.as_slice(), EXAMPLE_OUTPUT.as_bytes());
-    Ok(())
 }
