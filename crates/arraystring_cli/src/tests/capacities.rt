@@ -1,0 +1,153 @@
+//! Scripts and runs at capacities where something changes: none, the widths of characters, the
+//! capacities that have names, and the greatest length.
+ghost use Rattle.std.specs.Prelude.{◌≤◌};
+
+use super::runs::text_of;
+use super::table::agree;
+use arraystring::ArrayString;
+use arraystring::error::Error::OutOfBounds;
+use arraystring_run::{Command, Outcome, Reply, play, run, run_both, serve};
+use std::process::Abort;
+
+/// A text of letters.
+fn letters(rt: &(impl Abort + AllocGlobal), count: usize) -> String {
+    "a".repeat(rt.alloc(), count)
+        .expect(rt, "memory for letters")
+}
+
+/// A script that fills a string with letters, and puts another in place of the last.
+fn filling_script(rt: &(impl Abort + AllocGlobal)) -> String {
+    let given = letters(rt, 300);
+    format!(in rt.alloc();
+        "capacity\npush_str {given}\nlen\ntry_push b\npop\ntry_push é\ntry_push b\nas_str\n"
+    ).expect(rt, "memory for a script")
+}
+
+/// What is printed of that script where `fit` bytes fit.
+fn filling_printed(rt: &(impl Abort + AllocGlobal), fit: u8) -> String {
+    let kept = filled(rt, fit);
+    let (taken, put) = if fit == 0 {
+        ("no char", "refused OutOfBounds")
+    } else {
+        ("char a", "done")
+    };
+    format!(in rt.alloc();
+        "number {fit}\ndone\nnumber {fit}\nrefused OutOfBounds\n{taken}\nrefused OutOfBounds\n{put}\ntext {kept}\nfinal {kept}\n"
+    ).expect(rt, "memory for an output")
+}
+
+/// Letters, the last of them another, that fill `fit` bytes.
+fn filled(rt: &(impl Abort + AllocGlobal), fit: u8) -> String {
+    let mut text = letters(rt, usize::from(fit));
+    if text.pop().is_some() {
+        text.push('b').expect(rt, "memory for a letter");
+    }
+    text
+}
+
+/// Asserts what a run of `COMMANDS` on a full text gave, and the text that it left.
+fn answered<const N: usize>(
+    rt: &(impl Abort + AllocGlobal),
+    outcome: &Outcome<N>,
+    text: &ArrayString<N>,
+)
+    requires { N ≤ 300 }
+{
+    let fit = u8::try_from(N).unwrap_or(u8::MAX);
+    let kept = filled(rt, fit);
+    let (taken, put) = if fit == 0 {
+        (Reply::NoChar, Reply::Refused(OutOfBounds))
+    } else {
+        (Reply::Char('a'), Reply::Done)
+    };
+    let size = Reply::Number(fit);
+    let asked = Reply::Text(text_of(&kept));
+    let wanted = [
+        size,
+        Reply::Refused(OutOfBounds),
+        taken,
+        put,
+        Reply::Done,
+        asked,
+        size,
+    ];
+    agree(
+        rt,
+        "the replies",
+        outcome.replies.as_slice(),
+        wanted.as_slice(),
+    );
+    agree(rt, "the first tight command", outcome.first_tight, Some(1));
+    agree(rt, "the text", text.as_str(), &kept);
+}
+
+const COMMANDS: [Command<'static>; 7] = [
+    Command::Len,
+    Command::TryPush('b'),
+    Command::Pop,
+    Command::TryPush('b'),
+    Command::PushStr("cd"),
+    Command::AsStr,
+    Command::Capacity,
+];
+
+/// Plays the script, and makes the run on one full text and on two.
+fn at_capacity<const N: usize>(rt: &(impl Abort + AllocGlobal))
+    requires { N ≤ 300 }
+{
+    let script = filling_script(rt);
+    let mut input = script.as_bytes();
+    let mut output = Vec::new(rt.alloc());
+    let played = play::<N, &[u8], Vec<u8>>(rt.alloc(), &mut input, &mut output);
+    let wanted = filling_printed(rt, u8::try_from(N).unwrap_or(u8::MAX));
+    agree(
+        rt,
+        "a script",
+        (played, output.as_slice()),
+        (Ok(()), wanted.as_bytes()),
+    );
+    let given = letters(rt, 300);
+    let full: ArrayString<N> = text_of(&given);
+    let most: ArrayString<255> = text_of(&given);
+    let mut text = full;
+    let outcome = run(rt.alloc(), &mut text, &COMMANDS).expect(rt, "memory");
+    answered(rt, &outcome, &text);
+    let (mut first, mut second) = (full, most);
+    let both = run_both(rt.alloc(), &mut first, &mut second, &COMMANDS).expect(rt, "memory");
+    answered(rt, &both.0, &first);
+    answered(rt, &both.1, &second);
+    let (mut first, mut second) = (most, full);
+    let both = run_both(rt.alloc(), &mut first, &mut second, &COMMANDS).expect(rt, "memory");
+    answered(rt, &both.0, &first);
+    answered(rt, &both.1, &second);
+}
+
+#[test]
+fn full_texts_at_each_capacity(rt: HostRuntime) {
+    at_capacity::<0>(&rt);
+    at_capacity::<1>(&rt);
+    at_capacity::<2>(&rt);
+    at_capacity::<3>(&rt);
+    at_capacity::<22>(&rt);
+    at_capacity::<23>(&rt);
+    at_capacity::<24>(&rt);
+    at_capacity::<63>(&rt);
+    at_capacity::<254>(&rt);
+    at_capacity::<255>(&rt);
+    at_capacity::<256>(&rt);
+    at_capacity::<300>(&rt);
+}
+
+#[test]
+fn full_texts_at_each_word(rt: HostRuntime) {
+    let script = filling_script(&rt);
+    for (word, fit) in [("small", 23), ("cache", 63), ("max", 255)] {
+        let mut input = script.as_bytes();
+        let mut output = Vec::new(rt.alloc());
+        let mut errors = Vec::new(rt.alloc());
+        let status = serve(rt.alloc(), Some(word), &mut input, &mut output, &mut errors);
+        let wanted = filling_printed(&rt, fit);
+        agree(&rt, word, (status, errors.len()), (0, 0));
+        agree(&rt, word, output.as_slice(), wanted.as_bytes());
+    }
+}
