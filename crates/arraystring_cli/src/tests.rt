@@ -6,5 +6,6 @@ mod memory;
 mod runs;
 mod scarce;
 mod scripts;
+mod surface;
 mod table;
 mod words;
