@@ -62,6 +62,21 @@ fn the_only_argument_is_the_word(rt: HostRuntime) {
     assert_eq!(rt; word.map(|word| word.len()), Some(255));
 }
 
+/// A first argument of each length that fits is the word where it is the only one. No second is let
+/// pass, of whatever length.
+#[test]
+fn arguments_of_each_length(rt: HostRuntime) {
+    let letters = "a".repeat(rt.alloc(), 256).expect(&rt, "memory");
+    for length in 0..=256usize {
+        let argument = letters.get(..length).unwrap_or("none");
+        let wanted = if length < 256 { Some(argument) } else { None };
+        let all: [&[u8]; 3] = [b"program", argument.as_bytes(), argument.as_bytes()];
+        gives(&rt, &all[..2], wanted);
+        gives(&rt, &all, None);
+        gives(&rt, &[all[0], b"small", all[2]], None);
+    }
+}
+
 /// Serves a script, and compares the status, the output and the line on `errors`.
 fn serves(
     rt: &impl Abort,
