@@ -55,22 +55,27 @@ fn answered<const N: usize>(
 {
     let fit = u8::try_from(N).unwrap_or(u8::MAX);
     let kept = filled(rt, fit);
-    let (taken, put) = if fit == 0 {
-        (Reply::NoChar, Reply::Refused(OutOfBounds))
+    let wanted = if fit == 0 {
+        [
+            Reply::Number(0),
+            Reply::Refused(OutOfBounds),
+            Reply::NoChar,
+            Reply::Refused(OutOfBounds),
+            Reply::Done,
+            Reply::Text(ArrayString::new()),
+            Reply::Number(0),
+        ]
     } else {
-        (Reply::Char('a'), Reply::Done)
+        [
+            Reply::Number(fit),
+            Reply::Refused(OutOfBounds),
+            Reply::Char('a'),
+            Reply::Done,
+            Reply::Done,
+            Reply::Text(text_of(&kept)),
+            Reply::Number(fit),
+        ]
     };
-    let size = Reply::Number(fit);
-    let asked = Reply::Text(text_of(&kept));
-    let wanted = [
-        size,
-        Reply::Refused(OutOfBounds),
-        taken,
-        put,
-        Reply::Done,
-        asked,
-        size,
-    ];
     agree(
         rt,
         "the replies",

@@ -1,7 +1,5 @@
-//! Memory that is refused at each growth: of the script, of the list of commands, of each list of
-//! replies. Ever more of it is left, from none up. The same bytes with a bad first line want memory
-//! for the script alone, and with a bad last line for the script and the commands. So the amounts at
-//! which these are no longer refused tell which growth was refused below them.
+//! Memory that is refused, at each growth: of the script, of the list of commands, of each list of
+//! replies.
 use super::runs::text_of;
 use super::scarce::{Scarce, TIMES};
 use super::scripts::{EXAMPLE, EXAMPLE_OUTPUT};
@@ -9,8 +7,64 @@ use super::table::agree;
 use arraystring::ArrayString;
 use arraystring_run::{Command, PlayFault, play, run, run_both, serve};
 use std::alloc::Global;
+use std::io;
 use std::process::Abort;
 use std::test::Fail;
+
+/// Where ever more memory is left, from none up, `serve` reports each growth that is refused.
+#[test]
+fn want_of_memory_is_served(rt: HostRuntime) -> Result<(), Fail> {
+    let mut output = Vec::with_capacity(rt.alloc(), 1000)?;
+    let mut errors = Vec::with_capacity(rt.alloc(), 1000)?;
+    let mut scarce = Scarce::new(rt.alloc())?;
+    let mut refused = 0u32;
+    let mut status = 3;
+    for _ in 0..TIMES {
+        scarce.leave_more(rt.alloc())?;
+        let mut input = EXAMPLE.as_bytes();
+        let word = Some("small");
+        status = serve(rt.alloc(), word, &mut input, &mut output, &mut errors);
+        if status != 3 {
+            break;
+        }
+        refused = refused.saturating_add(1);
+        assert_eq!(rt; output.len(), 0);
+        assert_eq!(rt; errors.as_slice(), b"out of memory\n".as_slice());
+        errors.clear();
+    }
+    drop(scarce);
+    // the script, the commands and the replies
+    assert!(rt; refused >= 3);
+    assert_eq!(rt; status, 0);
+    assert_eq!(rt; output.as_slice(), EXAMPLE_OUTPUT.as_bytes());
+    assert_eq!(rt; errors.len(), 0);
+    Ok(())
+}
+
+/// Where ever more memory is left, from none up, `play` reports each growth that is refused.
+#[test]
+fn want_of_memory_is_told(rt: HostRuntime) -> Result<(), Fail> {
+    let mut output = Vec::with_capacity(rt.alloc(), 1000)?;
+    let mut scarce = Scarce::new(rt.alloc())?;
+    let mut refused = 0u32;
+    let mut played = Err(PlayFault::Memory);
+    for _ in 0..TIMES {
+        scarce.leave_more(rt.alloc())?;
+        let mut input = EXAMPLE.as_bytes();
+        played = play::<23, &[u8], Vec<u8>>(rt.alloc(), &mut input, &mut output);
+        if played != Err(PlayFault::Memory) {
+            break;
+        }
+        refused = refused.saturating_add(1);
+        assert_eq!(rt; output.len(), 0);
+    }
+    drop(scarce);
+    // the script, the commands and the replies
+    assert!(rt; refused >= 3);
+    assert_eq!(rt; played, Ok(()));
+    assert_eq!(rt; output.as_slice(), EXAMPLE_OUTPUT.as_bytes());
+    Ok(())
+}
 
 /// A script of 100 lines: the first, the second, 97 lines `len`, and the last.
 fn hundred_lines(rt: &(impl Abort + AllocGlobal), first: &str, second: &str, last: &str) -> String {
@@ -18,183 +72,63 @@ fn hundred_lines(rt: &(impl Abort + AllocGlobal), first: &str, second: &str, las
     format!(in rt.alloc(); "{first}\n{second}\n{between}{last}\n").expect(rt, "memory")
 }
 
-/// What is printed of such a script where no line is bad.
-fn hundred_replies(rt: &(impl Abort + AllocGlobal)) -> String {
-    let replies = "number 0\n".repeat(rt.alloc(), 100).expect(rt, "memory");
-    format!(in rt.alloc(); "{replies}final \n").expect(rt, "memory")
-}
-
-/// Plays a script, and compares the answer and the output where memory is not wanting. Returns how
-/// often it was.
-fn refused<const N: usize>(
+/// Plays a script and serves it, and compares what is returned, the status and what was written.
+fn answers(
     rt: &impl Abort,
     alloc: Global,
     output: &mut Vec<u8>,
     script: &str,
     answer: Result<(), PlayFault>,
-    wanted: &str,
-) -> u32 {
+    told: &str,
+) {
+    let mut input = script.as_bytes();
+    let played = play::<255, &[u8], Vec<u8>>(alloc, &mut input, output);
+    agree(rt, "what is returned", played, answer);
+    agree(
+        rt,
+        "the output",
+        output.len(),
+        if answer.is_ok() { 907 } else { 0 },
+    );
     output.clear();
     let mut input = script.as_bytes();
-    let played = play::<N, &[u8], Vec<u8>>(alloc, &mut input, output);
-    if played == Err(PlayFault::Memory) {
-        agree(rt, "the output", output.len(), 0);
-        return 1;
-    }
-    agree(rt, "what is returned", played, answer);
-    agree(rt, "the output", output.as_slice(), wanted.as_bytes());
-    0
+    let mut none = io::sink();
+    let _ = serve(alloc, Some("max"), &mut input, &mut none, output);
+    agree(rt, "the errors", output.as_slice(), told.as_bytes());
+    output.clear();
 }
 
-/// Each growth that is refused is told. Of want of memory and a bad line, whichever is met first is:
-/// a bad second line where there is no memory for the hundred commands, and want of memory for them
-/// before a bad last line.
+/// Each growth that is refused is told. The script has 400 bytes, the commands more than 2,000, and
+/// the replies, each with room for 255 bytes, more than 25,000. So where 1,000 bytes are left, it is
+/// the commands that are refused, since the script is read to its bad first line; and the replies where
+/// 10,000 are, since it is then judged to its bad last line. Of want of memory and a bad line,
+/// whichever is met first is told.
 #[test]
-fn want_of_memory_is_told(rt: HostRuntime) -> Result<(), Fail> {
+fn each_refused_growth_is_told(rt: HostRuntime) -> Result<(), Fail> {
     let alloc = rt.alloc();
     let bad_first = hundred_lines(&rt, "Len", "len", "len");
     let bad_second = hundred_lines(&rt, "len", "Len", "len");
     let bad_last = hundred_lines(&rt, "len", "len", "Len");
     let good = hundred_lines(&rt, "len", "len", "len");
-    let replies = hundred_replies(&rt);
+    let none = Err(PlayFault::Memory);
+    let wanting = "out of memory\n";
     let mut output = Vec::with_capacity(alloc, 1000)?;
     let mut scarce = Scarce::new(alloc)?;
-    let (mut example, mut reading, mut early, mut judging, mut running) = (
-        0u32, 0u32, 0u32, 0u32, 0u32,
-    );
-    for _ in 0..TIMES {
-        scarce.leave_more(alloc)?;
-        example = example.saturating_add(refused::<23>(
-            &rt,
-            alloc,
-            &mut output,
-            EXAMPLE,
-            Ok(()),
-            EXAMPLE_OUTPUT,
-        ));
-        let bad = Err(PlayFault::BadLine(1));
-        reading = reading.saturating_add(refused::<255>(
-            &rt,
-            alloc,
-            &mut output,
-            &bad_first,
-            bad,
-            "",
-        ));
-        let bad = Err(PlayFault::BadLine(2));
-        early = early.saturating_add(refused::<255>(&rt, alloc, &mut output, &bad_second, bad, ""));
-        let bad = Err(PlayFault::BadLine(100));
-        judging = judging.saturating_add(refused::<255>(
-            &rt,
-            alloc,
-            &mut output,
-            &bad_last,
-            bad,
-            "",
-        ));
-        if refused::<255>(&rt, alloc, &mut output, &good, Ok(()), &replies) == 0 {
-            break;
-        }
-        running = running.saturating_add(1);
-    }
+    scarce.leave(alloc, 0)?;
+    answers(&rt, alloc, &mut output, &bad_first, none, wanting);
+    scarce.leave(alloc, 1000)?;
+    let bad = Err(PlayFault::BadLine(1));
+    answers(&rt, alloc, &mut output, &bad_first, bad, "bad line 1\n");
+    let bad = Err(PlayFault::BadLine(2));
+    answers(&rt, alloc, &mut output, &bad_second, bad, "bad line 2\n");
+    answers(&rt, alloc, &mut output, &bad_last, none, wanting);
+    scarce.leave(alloc, 10000)?;
+    let bad = Err(PlayFault::BadLine(100));
+    answers(&rt, alloc, &mut output, &bad_last, bad, "bad line 100\n");
+    answers(&rt, alloc, &mut output, &good, none, wanting);
+    scarce.leave(alloc, 50000)?;
+    answers(&rt, alloc, &mut output, &good, Ok(()), "");
     drop(scarce);
-    assert!(rt; 3 <= example && 1 <= reading && reading < judging && early < judging);
-    assert!(rt; judging < running && running < TIMES);
-    Ok(())
-}
-
-/// As `refused`, of a script that is served.
-fn refused_at(
-    rt: &impl Abort,
-    alloc: Global,
-    output: &mut Vec<u8>,
-    errors: &mut Vec<u8>,
-    word: &str,
-    script: &str,
-    told: &str,
-    wanted: &str,
-) -> u32 {
-    output.clear();
-    errors.clear();
-    let mut input = script.as_bytes();
-    let status = serve(alloc, Some(word), &mut input, output, errors);
-    if status == 3 {
-        agree(
-            rt,
-            "the errors",
-            errors.as_slice(),
-            b"out of memory\n".as_slice(),
-        );
-        agree(rt, "the output", output.len(), 0);
-        return 1;
-    }
-    agree(rt, "the errors", errors.as_slice(), told.as_bytes());
-    agree(rt, "the output", output.as_slice(), wanted.as_bytes());
-    0
-}
-
-/// Each growth that is refused is told by `serve` too.
-#[test]
-fn want_of_memory_is_served(rt: HostRuntime) -> Result<(), Fail> {
-    let alloc = rt.alloc();
-    let bad_first = hundred_lines(&rt, "Len", "len", "len");
-    let bad_last = hundred_lines(&rt, "len", "len", "Len");
-    let good = hundred_lines(&rt, "len", "len", "len");
-    let replies = hundred_replies(&rt);
-    let mut output = Vec::with_capacity(alloc, 1000)?;
-    let mut errors = Vec::with_capacity(alloc, 1000)?;
-    let mut scarce = Scarce::new(alloc)?;
-    let (mut example, mut reading, mut judging, mut running) = (0u32, 0u32, 0u32, 0u32);
-    for _ in 0..TIMES {
-        scarce.leave_more(alloc)?;
-        example = example.saturating_add(refused_at(
-            &rt,
-            alloc,
-            &mut output,
-            &mut errors,
-            "small",
-            EXAMPLE,
-            "",
-            EXAMPLE_OUTPUT,
-        ));
-        reading = reading.saturating_add(refused_at(
-            &rt,
-            alloc,
-            &mut output,
-            &mut errors,
-            "max",
-            &bad_first,
-            "bad line 1\n",
-            "",
-        ));
-        judging = judging.saturating_add(refused_at(
-            &rt,
-            alloc,
-            &mut output,
-            &mut errors,
-            "max",
-            &bad_last,
-            "bad line 100\n",
-            "",
-        ));
-        if refused_at(
-            &rt,
-            alloc,
-            &mut output,
-            &mut errors,
-            "max",
-            &good,
-            "",
-            &replies,
-        ) == 0
-        {
-            break;
-        }
-        running = running.saturating_add(1);
-    }
-    drop(scarce);
-    assert!(rt; 3 <= example && 1 <= reading && reading < judging);
-    assert!(rt; judging < running && running < TIMES);
     Ok(())
 }
 

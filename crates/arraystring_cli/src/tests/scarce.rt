@@ -41,10 +41,16 @@ impl Scarce {
         })
     }
 
+    /// Leaves so much memory, which may not be less than before.
+    pub(super) fn leave(&mut self, alloc: Global, left: usize) -> Result<(), Fail> {
+        self.ration = Vec::new(alloc);
+        self.ration = Vec::with_capacity(alloc, RATION.saturating_sub(left))?;
+        Ok(())
+    }
+
     /// Leaves a little more memory, the first time none.
     pub(super) fn leave_more(&mut self, alloc: Global) -> Result<(), Fail> {
-        self.ration = Vec::new(alloc);
-        self.ration = Vec::with_capacity(alloc, RATION.saturating_sub(self.left))?;
+        self.leave(alloc, self.left)?;
         self.left = self.left.saturating_add(STEP);
         Ok(())
     }
