@@ -133,8 +133,8 @@ fn texts_of_many_sizes_are_printed(rt: HostRuntime) {
         match size {
             0..4 => shows::<3>(&rt, text),
             4..24 => shows::<23>(&rt, text),
-            24..200 => shows::<255>(&rt, text),
-            _ => shows::<300>(&rt, text),
+            24..200 => shows::<300>(&rt, text),
+            _ => shows::<255>(&rt, text),
         }
         if size < 64 {
             shows_cached(&rt, text);
