@@ -1,12 +1,12 @@
-//! The test of UTF-8, many bytes at a time.
+//! The test of UTF-8: of ASCII many bytes at a time, else by std.
 ghost use Rattle.std.specs.Prelude.{◌≡◌, ℕ, ◌+◌, ◌<◌, ◌≤◌, length, slice_index, IsTrue, IsAscii, IsUtf8, MatchResult};
 
 use arraystring_base::error::Utf8;
 use std::simd::Simd;
 use std::str;
 
-/// The text whose UTF-8 is `given`. Refused where `given` is not well-formed. Few bytes are left to
-/// std, as its test has less to set up. Most texts are ASCII, for which a shorter test is enough.
+/// The text whose UTF-8 is `given`. Refused where `given` is not well-formed. Most texts are ASCII,
+/// for which a test by blocks is enough; std tests the others, and those of fewer than 16 bytes.
 pub(crate) fn read_utf8(given: &[u8]) -> Result<&str, Utf8>
     ensures { MatchResult result (λ string. (string.now ≡ given.now) × IsUtf8 given.now) (λ _. ¬ (IsUtf8 given.now)) }
 {
