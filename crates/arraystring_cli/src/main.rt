@@ -1,26 +1,33 @@
 //! Plays a script of commands from standard input to standard output.
 #![tactic(auto)]
 
-ghost use Rattle.std.specs.Prelude.{◌≡◌, ◌≢◌, ◌≤◌, ℕ, ⊤, List, None, Result, IfSome};
+ghost use Rattle.std.specs.Prelude.{◌≡◌, ◌≢◌, ℕ, ⊤, List, [], Result};
+ghost use Rattle.std.specs.Io.KnownBytes.{append_known};
 ghost use Rattle.std.specs.declared.env.FillError.{FillError as Fault};
-ghost use Rattle.arraystring_run.specs.Script.{lines, IsBadAt, AppendsFront, capacity_named, fault_line, usage_line};
-ghost use Rattle.arraystring_run.specs.declared.player.PlayFault.{PlayFault};
+ghost use Rattle.arraystring_run.specs.Script.{IsServed};
 ghost use Rattle.arraystring_cli.specs.Word.{IsOnlyWord};
+
+mod buffered;
 
 use arraystring::MaxString;
 use arraystring_run::{names_capacity, serve};
+use buffered::Buffered;
 use std::alloc::Global;
 use std::env::{Env, FillError};
 use std::io;
-use std::io::{BufWriter, Read, Write};
+use std::io::{Read, Write};
 use std::process::ExitCode;
 
 fn main(rt: HostRuntime) -> ExitCode {
     let word = given_word(&rt);
     let word = word.as_ref().map(MaxString::as_str);
-    let (input, output, errors) = (&mut rt.reader(), &mut io::writer(&rt), &mut rt.stderr());
-    ExitCode::from(serve_buffered(rt.alloc(), word, input, output, errors))
+    let (input, output, errors) = (&mut rt.reader(), io::writer(&rt), &mut rt.stderr());
+    let (status, _) = serve_buffered(rt.alloc(), word, input, output, errors);
+    ExitCode::from(status)
 }
+
+/// How many bytes the buffer before the output holds.
+const BUFFER: usize = 8192;
 
 /// The arguments of a program. The kit's `Env` does not say what its calls return; this trait names
 /// it, so that a contract can speak of it.
@@ -71,29 +78,31 @@ fn only_word(
 
 /// Serves a word with a buffer before the output, so that a line costs no system call of its own.
 /// For a word that names no capacity no memory is taken. Where there is no memory for a buffer, the
-/// output is not buffered.
-fn serve_buffered<I: Read, O: Write, E: Write>(
+/// output is not buffered. Returns the output too. After a failed write the buffer may hold bytes
+/// (`held`), which are let go.
+fn serve_buffered<I: Read, O: Write + Drop, E: Write>(
     alloc: Global,
     word: Option<&str>,
     input: &mut I,
-    output: &mut O,
+    mut output: O,
     errors: &mut E,
-) -> u8
-    ensures other_word { capacity_named word.entry ≡ None → (result ≡ 2) × (input.new ≡ input.old) × (output.new ≡ output.old)
-        × AppendsFront (E.contents errors.old) (E.contents errors.new) usage_line }
-    ensures bad_line { IfSome (capacity_named word.entry) (λ _. result ≡ 2
-        → (k : ℕ) × IfSome (I.remaining input.old) (λ given. IsBadAt (lines given) k) × AppendsFront (E.contents errors.old) (E.contents errors.new) (fault_line (PlayFault.BadLine k))) }
-    ensures no_memory { result ≡ 3 → AppendsFront (E.contents errors.old) (E.contents errors.new) (fault_line PlayFault.Memory) }
-    ensures quiet { result ≡ 0 → errors.new ≡ errors.old }
-    // 0, 2, 3 or 4
-    ensures status { (result ≤ 4) × (result ≢ 1) }
+) -> (u8, O)
+    ensures { (held : List ℕ) × (result.0 ≢ 4 → held ≡ [])
+        × IsServed word.entry (I.remaining input.old) (O.contents output) (append_known (O.contents result.1) held)
+        (E.contents errors.old) (E.contents errors.new) (input.new ≡ input.old) (result.1 ≡ output) (errors.new ≡ errors.old) result.0 }
 {
     if names_capacity(word) {
-        if let Ok(mut buffered) = BufWriter::new(alloc, &mut *output) {
-            return serve(alloc, word, input, &mut buffered, errors);
+        if let Ok(waiting) = Vec::with_capacity(alloc, BUFFER) {
+            let mut buffered = Buffered { output, waiting };
+            let status = serve(alloc, word, input, &mut buffered, errors);
+            let Buffered { output, waiting } = buffered;
+            // `serve` flushes what it played, which no contract of a writer says.
+            let is_whole = waiting.is_empty();
+            return (if status == 0 && !is_whole { 4 } else { status }, output);
         }
     }
-    serve(alloc, word, input, output, errors)
+    let status = serve(alloc, word, input, &mut output, errors);
+    (status, output)
 }
 
 #[cfg(test)]

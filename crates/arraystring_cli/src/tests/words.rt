@@ -89,7 +89,7 @@ fn serves(
     let mut input: &[u8] = b"push_str ab\nlen\n";
     let mut output = Vec::new(alloc);
     let mut errors = Vec::new(alloc);
-    let served = serve_buffered(alloc, word, &mut input, &mut output, &mut errors);
+    let (served, _) = serve_buffered(alloc, word, &mut input, &mut output, &mut errors);
     assert_eq!(rt; served, status);
     assert_eq!(rt; output.as_slice(), wanted);
     assert_eq!(rt; errors.as_slice(), told);
@@ -115,14 +115,14 @@ fn words_are_judged_without_memory(rt: HostRuntime) -> Result<(), Fail> {
     let mut errors = Vec::with_capacity(rt.alloc(), 100)?;
     let mut input: &[u8] = b"len\n";
     let scarce = Scarce::new(rt.alloc())?;
-    let big = serve_buffered(
+    let (big, _) = serve_buffered(
         rt.alloc(),
         Some("big"),
         &mut input,
         &mut output,
         &mut errors,
     );
-    let max = serve_buffered(
+    let (max, _) = serve_buffered(
         rt.alloc(),
         Some("max"),
         &mut input,
