@@ -1,6 +1,7 @@
 //! A buffer before a writer.
-ghost use Rattle.std.specs.Prelude.{◌≡◌, ◌≤◌, [], OnOk, length, drop};
-ghost use Rattle.std.specs.Io.KnownBytes.{Keeps, append_known};
+ghost use Rattle.std.specs.Prelude.{◌≡◌, ◌+◌, ◌≤◌, ◌++◌, [], OnOk, length, drop, vec_len, vec_capacity};
+ghost use Rattle.std.specs.Io.{WritesAtMost};
+ghost use Rattle.std.specs.Io.KnownBytes.{Keeps, WriteAppends, append_known};
 
 use std::io;
 use std::io::{ErrorKind, Write};
@@ -35,20 +36,33 @@ impl<O: Write> Buffered<O> {
         }
         Err(ErrorKind::Other.into())
     }
+
+    /// Writes bytes for which there is no room behind what waits.
+    #[cold]
+    #[inline(never)]
+    fn send_and_write(&mut self, bytes: &[u8]) -> io::Result<usize>
+        ensures bound { WritesAtMost result bytes.now }
+        ensures bytes { WriteAppends (append_known (O.contents self.old.output) self.old.waiting.items) (append_known (O.contents self.new.output) self.new.waiting.items) result bytes.now }
+    {
+        self.send()?;
+        if bytes.len() > self.waiting.capacity() - self.waiting.len() {
+            return self.output.write(bytes);
+        }
+        add(&mut self.waiting, bytes);
+        Ok(bytes.len())
+    }
 }
 
 /// What waits is written behind what the writer has.
 impl<O: Write> Write for Buffered<O> {
     ghost contents = { λ buffered. append_known (O.contents buffered.output) buffered.waiting.items };
 
+    #[inline(always)]
     fn write(&mut self, bytes: &[u8]) -> io::Result<usize> {
         if bytes.len() > self.waiting.capacity() - self.waiting.len() {
-            self.send()?;
-            if bytes.len() > self.waiting.capacity() - self.waiting.len() {
-                return self.output.write(bytes);
-            }
+            return self.send_and_write(bytes);
         }
-        self.waiting.extend_from_slice(bytes)?;
+        add(&mut self.waiting, bytes);
         Ok(bytes.len())
     }
 
@@ -56,6 +70,17 @@ impl<O: Write> Write for Buffered<O> {
         self.send()?;
         self.output.flush()
     }
+}
+
+/// Adds bytes for which there is room.
+#[inline(always)]
+fn add(waiting: &mut Vec<u8>, bytes: &[u8])
+    requires { vec_len waiting.old + length bytes.now ≤ vec_capacity waiting.old }
+    ensures { waiting.new.items ≡ waiting.old.items ++ bytes.now }
+{
+    let Ok(()) = waiting.extend_from_slice(bytes) else {
+        unreachable!();
+    };
 }
 
 /// Takes the first `count` bytes away.
