@@ -1,0 +1,11 @@
+pub mod TextLaws
+pub mod CutLaws
+pub mod BoundaryLaws
+pub mod OrderLaws
+pub mod TestLaws
+pub mod EditLaws
+pub mod AdditionLaws
+pub mod RemovalLaws
+pub mod RangeEditLaws
+pub mod RangeEndLaws
+pub mod TakenLaws

@@ -4,8 +4,8 @@ use Rattle.std.proofs.lemmas.Bool.{cases_lt}
 use Rattle.std.proofs.lemmas.List.{drop_at}
 use Rattle.std.proofs.lemmas.Str.{chars-append, IsUtf8-take, IsUtf8-drop, IsUtf8-past_char, IsCharBoundary-start, IsCharBoundary-from_rest}
 use Rattle.arraystring_base.specs.Text.{width, utf8, size, bytes, cut}
-use Rattle.arraystring_base.specs.TextLaws.{size-is, width-bounds, length-utf8, utf8-is, bytes-chars, boundary-past_char}
-use Rattle.arraystring_base.specs.CutLaws.{cut-is}
+use Rattle.arraystring_base.proofs.TextLaws.{size-is, width-bounds, length-utf8, utf8-is, bytes-chars, boundary-past_char}
+use Rattle.arraystring_base.proofs.CutLaws.{cut-is}
 
 -- the last boundary that isn't past n is where the text is cut
 pub cut-at : (bs : List ℕ) (n m : ℕ) → IsUtf8 bs → IsCharBoundary bs m → m ≤ n → n < length bs

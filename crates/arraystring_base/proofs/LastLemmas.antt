@@ -5,7 +5,7 @@ use Rattle.std.proofs.lemmas.Bool.{cases_lt, lt-ltb, le-ltb}
 use Rattle.std.proofs.lemmas.List.{append-nil, get_or-append-add, nil_from_length}
 use Rattle.std.proofs.lemmas.Str.{chars-nil}
 use Rattle.arraystring_base.specs.Text.{IsScalarValue, IsText, utf8, size, bytes}
-use Rattle.arraystring_base.specs.TextLaws.{width-bounds, bytes-append, bytes-chars, size-is, text-chars, scalar-is}
+use Rattle.arraystring_base.proofs.TextLaws.{width-bounds, bytes-append, bytes-chars, size-is, text-chars, scalar-is}
 
 -- no bytes are no characters
 pub chars_empty : (bs : List ℕ) → length bs ≡ 0 → chars bs ≡ []

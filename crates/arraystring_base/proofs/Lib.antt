@@ -1,3 +1,9 @@
-pub mod CutLemmas
-pub mod LastLemmas
-pub mod MoveLemmas
+pub mod TextLaws
+pub mod CutLaws
+pub mod BoundaryLaws
+pub mod OrderLaws
+pub mod Utf16Laws
+pub mod ReadingLaws
+mod CutLemmas
+mod LastLemmas
+mod MoveLemmas

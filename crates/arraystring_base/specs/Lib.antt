@@ -1,11 +1,6 @@
 pub mod Text
-pub mod TextLaws
-pub mod CutLaws
-pub mod BoundaryLaws
-pub mod OrderLaws
 pub mod Utf16
-pub mod Utf16Laws
 pub mod Reading
-pub mod ReadingLaws
 pub mod Counts
 pub mod Names
+pub mod GhostProofs

@@ -3,7 +3,8 @@
 ghost use Rattle.std.specs.Prelude.{◌≡◌, ◌++◌, Some, codes};
 ghost use Rattle.std.proofs.Common.{ap};
 ghost use Rattle.std.specs.Hash as fed;
-ghost use Rattle.arraystring_base.specs.Names.{error_name, same_names};
+ghost use Rattle.arraystring_base.specs.Names.{error_name};
+ghost use Rattle.arraystring_base.specs.GhostProofs.{same_names};
 ghost use Rattle.arraystring_base.specs.declared.error.Error.TheVariants as cases;
 
 use std::error::Error as StdError;

@@ -5,10 +5,10 @@ use Rattle.std.proofs.lemmas.List.{map-append, length-map, drop-take, drop-drop}
 use Rattle.std.proofs.lemmas.Str.Ascii.{uppercase_ascii, lowercase_ascii, uppercase_is, lowercase_is}
 use Rattle.std.specs.Char.{to_ascii_uppercase, to_ascii_lowercase}
 use Rattle.arraystring_base.specs.Text.{IsScalarValue, IsText, size, utf8, bytes, cap, front, back, boundary}
-use Rattle.arraystring_base.specs.TextLaws.{bytes-utf8, chars-bytes}
-use Rattle.arraystring_base.specs.BoundaryLaws.{boundary-within, bytes-part, front-text, back-text}
+use Rattle.arraystring_base.proofs.TextLaws.{bytes-utf8, chars-bytes}
+use Rattle.arraystring_base.proofs.BoundaryLaws.{boundary-within, bytes-part, front-text, back-text}
 use Rattle.arraystring_core.specs.Stored.{Stored, stored, IsStored}
-use Rattle.arraystring_core.specs.StoredLaws.{opened-bytes, opened-size, opened-text}
+use Rattle.arraystring_core.proofs.StoredLaws.{opened-bytes, opened-size, opened-text}
 use Rattle.arraystring_core.specs.Edits.{part}
 use Rattle.arraystring_core.proofs.GapLemmas.{written-length, written-parts}
 use Rattle.arraystring_core.proofs.PlaceLemmas.{replaced-stored, replaced-chars}

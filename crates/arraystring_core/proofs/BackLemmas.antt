@@ -2,11 +2,11 @@
 use Rattle.std.proofs.Common.{◌≡◌, ℕ, ◌+◌, ◌-◌, ◌≤◌, List, [], ◌∷◌, ◌++◌, refl, sym, ap, ◌∙◌, arith, true, false, inl, inr, Bool, Option, Some, None, append_assoc, if◌then◌else◌}
 use Rattle.std.proofs.lemmas.Bool.{le-ltb, ltb-false, cases_Bool, both_ways}
 use Rattle.arraystring_base.specs.Text.{size, front, back, boundary}
-use Rattle.arraystring_base.specs.TextLaws.{size-append}
-use Rattle.arraystring_base.specs.CutLaws.{cut-cut}
-use Rattle.arraystring_base.specs.BoundaryLaws.{front-size, front-back, front-is, back-is, back-size, boundary-is}
+use Rattle.arraystring_base.proofs.TextLaws.{size-append}
+use Rattle.arraystring_base.proofs.CutLaws.{cut-cut}
+use Rattle.arraystring_base.proofs.BoundaryLaws.{front-size, front-back, front-is, back-is, back-size, boundary-is}
 use Rattle.arraystring_core.specs.Edits.{Test, Cause, first_cause, inside, part, replacement}
-use Rattle.arraystring_core.specs.EditLaws.{inside-so, inside-not}
+use Rattle.arraystring_core.proofs.EditLaws.{inside-so, inside-not}
 
 -- where no cause is found, no test holds
 abbrev NoneHolds : List Test → Type 0

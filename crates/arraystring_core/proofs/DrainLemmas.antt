@@ -5,10 +5,10 @@ use Rattle.std.proofs.lemmas.Str.{chars_past_char}
 use Rattle.std.specs.Char.{encode_utf8}
 use Rattle.std.proofs.lemmas.List.{append-nil, get_or-append-add, get_or-take, get_or-drop}
 use Rattle.arraystring_base.specs.Text.{width, size, cap, utf8, bytes, front, back, boundary}
-use Rattle.arraystring_base.specs.TextLaws.{size-is, size-append, size-lent, bytes-append, chars-bytes, empty-size}
-use Rattle.arraystring_base.specs.BoundaryLaws.{front-back, front-is, back-is, front-size, back-size, boundary-is, boundary-within, boundary-in_front, bytes-back, next-char}
+use Rattle.arraystring_base.proofs.TextLaws.{size-is, size-append, size-lent, bytes-append, chars-bytes, empty-size}
+use Rattle.arraystring_base.proofs.BoundaryLaws.{front-back, front-is, back-is, front-size, back-size, boundary-is, boundary-within, boundary-in_front, bytes-back, next-char}
 use Rattle.arraystring_core.specs.Stored.{Stored, stored, IsStored}
-use Rattle.arraystring_core.specs.StoredLaws.{stored-utf8, stored-size, stored-bytes}
+use Rattle.arraystring_core.specs.GhostProofs.{stored-utf8, stored-size, stored-bytes}
 use Rattle.arraystring_core.specs.Drained.{IsDrained}
 use Rattle.arraystring_core.specs.Edits.{part}
 use Rattle.arraystring_core.proofs.PlaceLemmas.{dropped-stored, dropped-chars, kept-stored, kept-chars}

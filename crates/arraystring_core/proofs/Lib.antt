@@ -1,11 +1,17 @@
-pub mod GapLemmas
-pub mod PlaceLemmas
-pub mod TakenLemmas
-pub mod AsciiLemmas
-pub mod TrimLemmas
-pub mod RetainLemmas
-pub mod RangeLemmas
-pub mod DrainLemmas
-pub mod BackLemmas
-pub mod WalkedLemmas
-pub mod EqualLemmas
+pub mod EditLaws
+pub mod TakenLaws
+pub mod RangeEndLaws
+mod ConstructLaws
+mod JsonLaws
+mod StoredLaws
+mod GapLemmas
+mod PlaceLemmas
+mod TakenLemmas
+mod AsciiLemmas
+mod TrimLemmas
+mod RetainLemmas
+mod RangeLemmas
+mod DrainLemmas
+mod BackLemmas
+mod WalkedLemmas
+mod EqualLemmas

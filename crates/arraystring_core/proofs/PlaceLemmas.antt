@@ -4,10 +4,11 @@ use Rattle.std.proofs.lemmas.Str.{IsUtf8-append, IsUtf8-take, IsUtf8-drop, IsUtf
 use Rattle.std.proofs.lemmas.List.{drop-take, drop-drop, append-nil}
 use Rattle.std.proofs.Math.Seq.{take-add}
 use Rattle.arraystring_base.specs.Text.{size, bytes, cap, front, back, boundary}
-use Rattle.arraystring_base.specs.TextLaws.{chars-bytes, bytes-chars, bytes-append}
-use Rattle.arraystring_base.specs.BoundaryLaws.{boundary-within, boundary-end, front-end, back-end, bytes-front, bytes-back, boundary-to_bytes}
+use Rattle.arraystring_base.proofs.TextLaws.{chars-bytes, bytes-chars, bytes-append}
+use Rattle.arraystring_base.proofs.BoundaryLaws.{boundary-within, boundary-end, front-end, back-end, bytes-front, bytes-back, boundary-to_bytes}
 use Rattle.arraystring_core.specs.Stored.{Stored, stored, IsStored}
-use Rattle.arraystring_core.specs.StoredLaws.{stored-utf8, opened-bytes, opened-size}
+use Rattle.arraystring_core.specs.GhostProofs.{stored-utf8}
+use Rattle.arraystring_core.proofs.StoredLaws.{opened-bytes, opened-size}
 use Rattle.arraystring_core.proofs.GapLemmas.{gap-filled, written-length, written-from-zero, tail-from-zero, shift-before, shift-moved, shift-length}
 
 -- xs shows the text t in its first n bytes; `new` shows it with `given` in place of the part from start to end

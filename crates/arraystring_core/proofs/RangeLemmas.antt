@@ -2,8 +2,8 @@
 use Rattle.std.proofs.Common.{◌≡◌, ℕ, ◌≤◌, List, refl, ap, arith, true, Some}
 use Rattle.std.proofs.lemmas.Bool.{le-leb}
 use Rattle.arraystring_base.specs.Text.{size, front, back, boundary}
-use Rattle.arraystring_base.specs.TextLaws.{size-append}
-use Rattle.arraystring_base.specs.BoundaryLaws.{front-back}
+use Rattle.arraystring_base.proofs.TextLaws.{size-append}
+use Rattle.arraystring_base.proofs.BoundaryLaws.{front-back}
 use Rattle.arraystring_core.specs.Edits.{part, part_in}
 
 -- a part is no larger than its text

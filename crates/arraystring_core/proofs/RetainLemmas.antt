@@ -7,7 +7,7 @@ use Rattle.std.specs.List.Retain.{IsFiltered}
 use Rattle.std.specs.Prelude.{encode_utf8}
 use Rattle.std.specs.Char.{IsScalar}
 use Rattle.arraystring_base.specs.Text.{width, utf8}
-use Rattle.arraystring_base.specs.TextLaws.{utf8-is, length-utf8, chars-bytes}
+use Rattle.arraystring_base.proofs.TextLaws.{utf8-is, length-utf8, chars-bytes}
 use Rattle.arraystring_core.specs.Retain.{MayBeAsked}
 use Rattle.arraystring_core.proofs.GapLemmas.{shift-before, shift-moved, shift-behind, shift-length}
 

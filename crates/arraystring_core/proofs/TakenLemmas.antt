@@ -4,10 +4,10 @@ use Rattle.std.proofs.lemmas.Bool.{lt-leb}
 use Rattle.std.proofs.lemmas.List.{append-nil, map-append}
 use Rattle.std.specs.Borrow.{Bor}
 use Rattle.arraystring_base.specs.Text.{width, size, cut}
-use Rattle.arraystring_base.specs.TextLaws.{size-append}
-use Rattle.arraystring_base.specs.CutLaws.{cut-past_part}
+use Rattle.arraystring_base.proofs.TextLaws.{size-append}
+use Rattle.arraystring_base.proofs.CutLaws.{cut-past_part}
 use Rattle.arraystring_core.specs.Taken.{IsFirstPast, joined, joined_pieces, piece_text}
-use Rattle.arraystring_core.specs.TakenLaws.{joined-append}
+use Rattle.arraystring_core.proofs.TakenLaws.{joined-append}
 
 -- one more character, and one more piece
 abbrev pub chars_text : List ℕ → List ℕ

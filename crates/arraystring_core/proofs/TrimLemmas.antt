@@ -6,7 +6,7 @@ use Rattle.std.proofs.lemmas.List.Elements.{All-nil, All-cons, All-head, All-tai
 use Rattle.std.proofs.lemmas.List.Sums.{take_while-cons}
 use Rattle.std.specs.Prelude.{All, IfSome, take_while, reverse}
 use Rattle.arraystring_core.specs.Edits.{first_of, last_of, without_leading, without_trailing}
-use Rattle.arraystring_core.specs.EditLaws.{last_of-push}
+use Rattle.arraystring_core.proofs.EditLaws.{last_of-push}
 
 -- the characters that pass, and those from the first that does not
 leading-parts : (p : ℕ → Bool) (t : List ℕ) → take_while p t ++ without_leading p t ≡ t

@@ -2,8 +2,8 @@
 use Rattle.std.proofs.Common.{◌≡◌, ℕ, ◌+◌, ◌-◌, ◌≤◌, List, [], ◌∷◌, ◌++◌, length, reverse, refl, sym, ap, ◌∙◌, arith, Some, length-append, append_assoc}
 use Rattle.std.proofs.lemmas.List.{append-nil, nil_from_length, reverse-append}
 use Rattle.arraystring_base.specs.Text.{size}
-use Rattle.arraystring_base.specs.TextLaws.{size-append}
-use Rattle.arraystring_core.specs.EditLaws.{last_of-push, all_but_last-push}
+use Rattle.arraystring_base.proofs.TextLaws.{size-append}
+use Rattle.arraystring_core.proofs.EditLaws.{last_of-push, all_but_last-push}
 use Rattle.arraystring_core.specs.Drained.{End, Front, Back, Walked, from_front, from_back, walked}
 use Rattle.arraystring_core.proofs.DrainLemmas.{last-split}
 

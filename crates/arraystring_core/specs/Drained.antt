@@ -1,11 +1,8 @@
 -- What a contract sees of a `Drain`.
-use Rattle.std.specs.Prelude.{◌≡◌, ℕ, ◌≤◌, ◌++◌, List, [], ◌∷◌, Option, Some, None, Result, Ok, Err, IsTrue, drop}
-use Rattle.std.proofs.Common.{ap, ◌∙◌}
+use Rattle.std.specs.Prelude.{ℕ, ◌≤◌, ◌++◌, List, [], ◌∷◌, Option, Some, None, Result, Ok, Err, IsTrue, drop}
 use Rattle.arraystring_base.specs.Text.{size, cap, front, back, boundary}
-use Rattle.arraystring_base.specs.BoundaryLaws.{front-back, front-size}
 use Rattle.arraystring_base.specs.declared.error.Error.{Error}
-use Rattle.arraystring_core.specs.Stored.{Stored, stored, IsStored, array_of}
-use Rattle.arraystring_core.specs.StoredLaws.{stored-size, stored-all}
+use Rattle.arraystring_core.specs.Stored.{Stored}
 use Rattle.arraystring_core.specs.Edits.{first_of, last_of, all_but_last}
 
 -- the characters that are left, those that were given from the front, and numbers that no public clause names
@@ -18,6 +15,10 @@ pub record Drained : Type 0 where
 abbrev pub drained : Stored → ℕ → Drained
 drained removed i = record { left = back removed.text i; yielded = front removed.text i; spare = removed.spare }
 
+-- the removed text, given back
+abbrev pub removed_of : Drained → Stored
+removed_of d = record { text = d.yielded ++ d.left; spare = d.spare }
+
 -- the result of `drain`, seen as what is left
 abbrev pub with_left : Result Drained Error → Result (List ℕ) Error
 with_left (Ok d) = Ok d.left
@@ -27,28 +28,6 @@ with_left (Err e) = Err e
 pub record IsDrained (places : ℕ) (removed : Stored) (i : ℕ) : Type 0 where
   pub fits : size removed.text ≤ cap places
   pub at : IsTrue (boundary removed.text i)
-
--- nothing is forgotten
-module _ (places : ℕ) (removed : Stored) (i : ℕ) (is : IsDrained places removed i) where
-  abbrev pub put_back : Stored
-  put_back = record { text = (drained removed i).yielded ++ (drained removed i).left; spare = (drained removed i).spare }
-
-  pub drained-removed : put_back ≡ removed
-  drained-removed = ap with_spare (front-back removed.text i)
-    where
-      with_spare : List ℕ → Stored
-      with_spare t = record { text = t; spare = removed.spare }
-
-  pub drained-front : size (drained removed i).yielded ≡ i
-  drained-front = front-size removed.text i is.at
-
--- nor is where the removed text lies: the n bytes of the array from `start` on
-module _ (places : ℕ) (array : List ℕ) (start n i : ℕ) (held : IsStored places array start n) (is : IsDrained places (stored array start n) i) where
-  pub drained-array : array_of (put_back places (stored array start n) i is) ≡ array
-  drained-array = ap array_of (drained-removed places (stored array start n) i is) ∙ stored-all places array start n held
-
-  pub drained-size : size (put_back places (stored array start n) i is).text ≡ n
-  drained-size = ap (λ r. size r.text) (drained-removed places (stored array start n) i is) ∙ stored-size places array start n held
 
 -- the end from which a character is asked for
 pub data End : Type 0 where

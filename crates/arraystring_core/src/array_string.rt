@@ -39,7 +39,7 @@ pub struct ArrayString<const N: usize> {
 impl<const N: usize> Model for ArrayString<N> {
     ghost use Rattle.arraystring_base.specs.Text.{size as text_size};
     ghost use Rattle.arraystring_core.specs.Stored.{Stored, stored, IsStored, start_of, array_of};
-    ghost use Rattle.arraystring_core.specs.StoredLaws.{stored-size, stored-all};
+    ghost use Rattle.arraystring_core.specs.GhostProofs.{stored-size, stored-all};
 
     ghost Value = { Stored };
 

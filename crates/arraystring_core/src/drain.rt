@@ -28,10 +28,10 @@ pub struct Drain<const N: usize> {
 }
 
 impl<const N: usize> Model for Drain<N> {
-    ghost use Rattle.std.specs.Prelude.{◌++◌};
     ghost use Rattle.arraystring_base.specs.Text.{size as text_size};
-    ghost use Rattle.arraystring_core.specs.Stored.{Stored, stored, IsStored, start_of, array_of};
-    ghost use Rattle.arraystring_core.specs.Drained.{Drained, IsDrained, drained, drained-front, drained-array, drained-size};
+    ghost use Rattle.arraystring_core.specs.Stored.{stored, IsStored, start_of, array_of};
+    ghost use Rattle.arraystring_core.specs.Drained.{Drained, IsDrained, drained, removed_of};
+    ghost use Rattle.arraystring_core.specs.GhostProofs.{drained-front, drained-array, drained-size};
 
     ghost Value = { Drained };
 
@@ -39,7 +39,7 @@ impl<const N: usize> Model for Drain<N> {
 
     ghost invariant = { λ d. IsStored N d.array d.start d.size × IsDrained N (stored d.array d.start d.size) d.front };
 
-    ghost inverse = { λ v. let removed : Stored = record { text = v.yielded ++ v.left; spare = v.spare } in
+    ghost inverse = { λ v. let removed = removed_of v in
         record { front = text_size v.yielded; start = start_of removed; size = text_size removed.text; array = array_of removed } };
 
     ghost inverse_ok = { λ d h i. record {

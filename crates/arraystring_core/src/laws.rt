@@ -54,7 +54,7 @@ pub fn trimmed()
 {}
 
 /// The ranges of white space are those of `char::is_whitespace`.
-#[tactic(auto, using(crate::specs::EditLaws::is_white_space_std))]
+#[tactic(auto, using(crate::proofs::EditLaws::is_white_space_std))]
 pub fn white_space()
     ensures { (c : ℕ) → is_white_space c ≡ is_whitespace c }
 {}

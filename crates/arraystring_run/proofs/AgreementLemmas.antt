@@ -2,7 +2,7 @@
 use Rattle.std.proofs.Common.{◌≡◌, ℕ, suc, ◌+◌, ◌-◌, ◌≤◌, List, [], ◌∷◌, ◌++◌, take, refl, sym, ap, subst, ◌∙◌, arith, Option, Some, None, Bool, true, false, ◌&&◌, is_none, nat_lt, if◌then◌else◌, chars}
 use Rattle.std.proofs.lemmas.Bool.{le-ltb, ltb-false}
 use Rattle.arraystring.specs.Text.{size, cut}
-use Rattle.arraystring.specs.CutLaws.{cut-all}
+use Rattle.arraystring.proofs.CutLaws.{cut-all}
 use Rattle.arraystring.specs.Edits.{Test, Cause, Room, no_room, past, crossed, inside, first_cause, ok_unless, insertion, insertion_of_cut, replacement}
 use Rattle.arraystring_run.specs.Runs.{Done, Edited, leaves, said_of, edit, tight, adds_less, is_room, after, first_tight_from}
 use Rattle.arraystring_run.specs.Agreement.{untight, Agrees, AllAgree, IsNoSooner}

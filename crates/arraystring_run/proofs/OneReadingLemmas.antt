@@ -3,7 +3,7 @@ use Rattle.std.proofs.Common.{◌≡◌, ℕ, suc, List, [], ◌∷◌, ◌++◌
 use Rattle.std.proofs.lemmas.List.{append-nil}
 use Rattle.std.proofs.lemmas.Bool.{and_parts, eqb-true}
 use Rattle.arraystring.specs.Text.{utf8}
-use Rattle.arraystring.specs.TextLaws.{bytes_same}
+use Rattle.arraystring.proofs.TextLaws.{bytes_same}
 use Rattle.arraystring_run.specs.declared.commands.Command.{Command}
 use Rattle.arraystring_run.specs.Runs.{Edited, edit, Ran, after}
 use Rattle.arraystring_run.specs.Grammar.{Argument, Number, Character, Text, word, arguments, IsSpelled, AreSpelled, IsLineOf, IsOneWord, space}

@@ -4,9 +4,9 @@ use Rattle.std.proofs.lemmas.List.{append-nil, drop_all, reverse-append}
 use Rattle.std.proofs.lemmas.Bool.{cases_lt, lt-ltb, le-ltb}
 use Rattle.std.proofs.Math.Seq.{drop-cons}
 use Rattle.arraystring.specs.Text.{size, cut, front, back, boundary}
-use Rattle.arraystring.specs.TextLaws.{size-append}
-use Rattle.arraystring.specs.CutLaws.{cut-fits, cut-all}
-use Rattle.arraystring.specs.BoundaryLaws.{front-back}
+use Rattle.arraystring.proofs.TextLaws.{size-append}
+use Rattle.arraystring.proofs.CutLaws.{cut-fits, cut-all}
+use Rattle.arraystring.proofs.BoundaryLaws.{front-back}
 use Rattle.arraystring.specs.Edits.{part, part_in}
 use Rattle.arraystring_run.specs.Runs.{Said, edit, tight, after, first_tight_from, earlier_of}
 use Rattle.arraystring_run.specs.declared.commands.Command.{Command}

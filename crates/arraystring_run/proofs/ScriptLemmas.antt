@@ -5,7 +5,7 @@ use Rattle.std.proofs.lemmas.Str.{cons_from_encodes, encodes-chars, encode_same}
 use Rattle.std.proofs.lemmas.Bool.{eqb-true}
 use Rattle.std.specs.Char.{encode_utf8}
 use Rattle.arraystring.specs.Text.{utf8, IsScalarValue, IsText}
-use Rattle.arraystring.specs.TextLaws.{utf8-is, text-chars, length-utf8, width-bounds}
+use Rattle.arraystring.proofs.TextLaws.{utf8-is, text-chars, length-utf8, width-bounds}
 use Rattle.arraystring_run.specs.declared.commands.Command.{Command}
 use Rattle.arraystring_run.specs.Grammar.{IsLineOf}
 use Rattle.arraystring_run.specs.Script.{lines, line_feed, first_byte, AreLinesOf, IsBadAt}

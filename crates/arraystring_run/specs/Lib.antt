@@ -1,16 +1,10 @@
 pub use Rattle.arraystring.specs.Text
-pub use Rattle.arraystring.specs.TextLaws
-pub use Rattle.arraystring.specs.CutLaws
-pub use Rattle.arraystring.specs.BoundaryLaws
 pub use Rattle.arraystring.specs.Counts
 pub use Rattle.arraystring.specs.Names
 pub use Rattle.arraystring.specs.Stored
-pub use Rattle.arraystring.specs.StoredLaws
 pub use Rattle.arraystring.specs.Edits
-pub use Rattle.arraystring.specs.EditLaws
 pub use Rattle.arraystring.specs.Retain
 pub use Rattle.arraystring.specs.RangeEnds
-pub use Rattle.arraystring.specs.RangeEndLaws
 pub use Rattle.arraystring.specs.Drained
 pub use Rattle.arraystring.specs.Refusals
 pub mod Runs

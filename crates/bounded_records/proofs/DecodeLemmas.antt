@@ -4,7 +4,7 @@ use Rattle.std.specs.List.{All}
 use Rattle.std.specs.Result.{IsOkAnd, IsErrAnd}
 use Rattle.std.proofs.lemmas.List.{drop_at}
 use Rattle.arraystring.specs.Text.{bytes, IsText, IsWellFormed}
-use Rattle.arraystring.specs.TextLaws.{bytes_same}
+use Rattle.arraystring.proofs.TextLaws.{bytes_same}
 use Rattle.bounded_records.specs.declared.user.User.{User}
 use Rattle.bounded_records.specs.declared.record.RecordFault.{RecordFault}
 use Rattle.bounded_records.specs.declared.record.RecordFault.TheVariants.{Length, Count, Utf8, Padding}

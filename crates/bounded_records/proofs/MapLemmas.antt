@@ -18,7 +18,7 @@ use Rattle.std.proofs.lemmas.Map.Lookups.{exact_bytes}
 use Rattle.std.proofs.lemmas.Map.Views.{tells_apart}
 use Rattle.arraystring.specs.Stored.{Stored}
 use Rattle.arraystring.specs.Text.{IsBefore}
-use Rattle.arraystring.specs.OrderLaws.{order-says}
+use Rattle.arraystring.proofs.OrderLaws.{order-says}
 use Rattle.bounded_records.specs.declared.user.User.{User}
 use Rattle.bounded_records.specs.Users.{by_text, texts}
 

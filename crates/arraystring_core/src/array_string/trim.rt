@@ -77,7 +77,7 @@ impl<const N: usize> ArrayString<N> {
 }
 
 /// Whether `ch` has the property White_Space.
-#[tactic(auto, using(crate::specs::EditLaws::is_white_space_std))]
+#[tactic(auto, using(crate::proofs::EditLaws::is_white_space_std))]
 fn is_white_space(ch: char) -> bool
     ensures { result ≡ is_white_space ch }
 {

@@ -1,4 +1,4 @@
-use Rattle.arraystring_base.specs.BoundaryLaws.{boundary-leading}
+use Rattle.arraystring_base.proofs.BoundaryLaws.{boundary-leading}
 use Rattle.arraystring_base.proofs.laws.boundaries.Goals as goal
 
 pub returns : goal.returns

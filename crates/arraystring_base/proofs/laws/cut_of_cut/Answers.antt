@@ -1,4 +1,4 @@
-use Rattle.arraystring_base.specs.CutLaws.{cut-cut}
+use Rattle.arraystring_base.proofs.CutLaws.{cut-cut}
 use Rattle.arraystring_base.proofs.laws.cut_of_cut.Goals as goal
 
 pub returns : goal.returns

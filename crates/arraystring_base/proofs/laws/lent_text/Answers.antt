@@ -1,4 +1,4 @@
-use Rattle.arraystring_base.specs.TextLaws.{text-chars, bytes-chars}
+use Rattle.arraystring_base.proofs.TextLaws.{text-chars, bytes-chars}
 use Rattle.arraystring_base.proofs.laws.lent_text.Goals as goal
 
 pub returns-clause-text : goal.returns-clause-text

@@ -1,6 +1,6 @@
 use Rattle.std.proofs.Common.{subst, sym}
 use Rattle.arraystring_base.specs.Text.{IsLongestFitting}
-use Rattle.arraystring_base.specs.CutLaws.{cut-all, cut-is_longest, longest-is_cut}
+use Rattle.arraystring_base.proofs.CutLaws.{cut-all, cut-is_longest, longest-is_cut}
 use Rattle.arraystring_base.proofs.laws.longest_cut.Goals as goal
 
 pub returns : goal.returns

@@ -1,4 +1,4 @@
-use Rattle.arraystring_base.specs.Utf16Laws.{first_stop-is}
+use Rattle.arraystring_base.proofs.Utf16Laws.{first_stop-is}
 use Rattle.arraystring_base.proofs.laws.one_stop.Goals as goal
 
 pub returns : goal.returns

@@ -1,4 +1,4 @@
-use Rattle.arraystring_base.specs.TextLaws.{bytes_same}
+use Rattle.arraystring_base.proofs.TextLaws.{bytes_same}
 use Rattle.arraystring_base.proofs.laws.one_text.Goals as goal
 
 pub returns : goal.returns

@@ -1,4 +1,4 @@
-use Rattle.arraystring_base.specs.OrderLaws.{order-bytes, bytes-less, bytes-equal, bytes-greater}
+use Rattle.arraystring_base.proofs.OrderLaws.{order-bytes, bytes-less, bytes-equal, bytes-greater}
 use Rattle.arraystring_base.proofs.laws.order_of_bytes.Goals as goal
 
 pub returns : goal.returns

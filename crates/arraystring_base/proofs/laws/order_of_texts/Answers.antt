@@ -1,4 +1,4 @@
-use Rattle.arraystring_base.specs.OrderLaws.{before-total, before-trans, before-itself}
+use Rattle.arraystring_base.proofs.OrderLaws.{before-total, before-trans, before-itself}
 use Rattle.arraystring_base.proofs.laws.order_of_texts.Goals as goal
 
 pub returns : goal.returns

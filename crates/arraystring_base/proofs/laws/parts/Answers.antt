@@ -1,6 +1,6 @@
 use Rattle.std.proofs.Common.{refl}
 use Rattle.arraystring_base.specs.Text.{size}
-use Rattle.arraystring_base.specs.BoundaryLaws.{front-back, front-size, front-is, back-is}
+use Rattle.arraystring_base.proofs.BoundaryLaws.{front-back, front-size, front-is, back-is}
 use Rattle.arraystring_base.proofs.laws.parts.Goals as goal
 
 pub returns : goal.returns

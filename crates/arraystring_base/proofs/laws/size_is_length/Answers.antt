@@ -1,4 +1,4 @@
-use Rattle.arraystring_base.specs.TextLaws.{size-is}
+use Rattle.arraystring_base.proofs.TextLaws.{size-is}
 use Rattle.arraystring_base.proofs.laws.size_is_length.Goals as goal
 
 pub returns : goal.returns

@@ -1,4 +1,4 @@
-use Rattle.arraystring_base.specs.ReadingLaws.{text-reading}
+use Rattle.arraystring_base.proofs.ReadingLaws.{text-reading}
 use Rattle.arraystring_base.proofs.laws.text_reading.Goals as goal
 
 pub returns : goal.returns

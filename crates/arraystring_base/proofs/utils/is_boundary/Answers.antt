@@ -1,4 +1,4 @@
-use Rattle.arraystring_base.specs.BoundaryLaws.{boundary-bytes}
+use Rattle.arraystring_base.proofs.BoundaryLaws.{boundary-bytes}
 use Rattle.arraystring_base.proofs.utils.is_boundary.Goals as goal
 
 pub returns : goal.returns

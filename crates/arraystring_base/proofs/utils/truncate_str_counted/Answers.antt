@@ -1,5 +1,5 @@
 use Rattle.std.proofs.Common.{◌≡◌, ◌∙◌, arith, take, slice_range}
-use Rattle.arraystring_base.specs.CutLaws.{cut-lent}
+use Rattle.arraystring_base.proofs.CutLaws.{cut-lent}
 use Rattle.arraystring_base.proofs.CutLemmas.{cut-at}
 use Rattle.arraystring_base.proofs.utils.truncate_str_counted.Goals as goal
 

@@ -1,4 +1,4 @@
-use Rattle.arraystring_core.specs.JsonLaws.{reads_back}
+use Rattle.arraystring_core.proofs.JsonLaws.{reads_back}
 use Rattle.arraystring_core.proofs.laws.json_reads_back.Goals as goal
 
 pub returns : goal.returns

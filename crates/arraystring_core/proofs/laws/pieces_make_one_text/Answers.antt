@@ -1,8 +1,8 @@
 use Rattle.std.proofs.Common.{◌∙◌, sym, ap}
 use Rattle.arraystring_base.specs.Text.{cut}
-use Rattle.arraystring_base.specs.TextLaws.{chars-bytes}
+use Rattle.arraystring_base.proofs.TextLaws.{chars-bytes}
 use Rattle.arraystring_core.specs.Taken.{joined}
-use Rattle.arraystring_core.specs.TakenLaws.{bytes-joined}
+use Rattle.arraystring_core.proofs.TakenLaws.{bytes-joined}
 use Rattle.arraystring_core.proofs.laws.pieces_make_one_text.Goals as goal
 
 pub returns-clause-text : goal.returns-clause-text

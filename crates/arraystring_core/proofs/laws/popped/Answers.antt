@@ -1,5 +1,5 @@
 use Rattle.std.proofs.Common.{refl}
-use Rattle.arraystring_core.specs.EditLaws.{last_of-push, all_but_last-push}
+use Rattle.arraystring_core.proofs.EditLaws.{last_of-push, all_but_last-push}
 use Rattle.arraystring_core.proofs.laws.popped.Goals as goal
 
 pub returns-clause-last : goal.returns-clause-last

@@ -1,4 +1,4 @@
-use Rattle.arraystring_base.specs.BoundaryLaws.{front-back}
+use Rattle.arraystring_base.proofs.BoundaryLaws.{front-back}
 use Rattle.arraystring_core.proofs.laws.split_back.Goals as goal
 
 pub returns : goal.returns

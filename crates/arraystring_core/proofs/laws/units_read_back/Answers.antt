@@ -1,10 +1,10 @@
 use Rattle.std.proofs.Common.{◌∙◌, ap, map, refl, subst}
 use Rattle.arraystring_base.specs.declared.utf16.Unit16.TheVariants.{Char}
 use Rattle.arraystring_base.specs.Text.{cut}
-use Rattle.arraystring_base.specs.CutLaws.{cut-all}
+use Rattle.arraystring_base.proofs.CutLaws.{cut-all}
 use Rattle.arraystring_base.specs.Utf16.{End, lossy_text}
-use Rattle.arraystring_base.specs.ReadingLaws.{text-reading}
-use Rattle.arraystring_base.specs.Utf16Laws.{stop-is, lossy_text-characters}
+use Rattle.arraystring_base.proofs.ReadingLaws.{text-reading}
+use Rattle.arraystring_base.proofs.Utf16Laws.{stop-is, lossy_text-characters}
 use Rattle.arraystring_core.specs.FromUtf16.{GivesWhole, GivesRun}
 use Rattle.arraystring_core.proofs.laws.units_read_back.Goals as goal
 

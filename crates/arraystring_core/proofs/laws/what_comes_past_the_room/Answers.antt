@@ -1,5 +1,5 @@
-use Rattle.arraystring_base.specs.CutLaws.{cut-past}
-use Rattle.arraystring_core.specs.TakenLaws.{cut-joined_past}
+use Rattle.arraystring_base.proofs.CutLaws.{cut-past}
+use Rattle.arraystring_core.proofs.TakenLaws.{cut-joined_past}
 use Rattle.arraystring_core.proofs.laws.what_comes_past_the_room.Goals as goal
 
 pub returns : goal.returns

@@ -1,6 +1,6 @@
 use Rattle.std.proofs.Common.{◌≡◌, ◌-◌, ◌++◌, length, drop, sym, ap, ◌∙◌, arith, length-append, length-take-le, length-drop}
 use Rattle.arraystring_base.specs.Text.{utf8}
-use Rattle.arraystring_base.specs.TextLaws.{utf8-is, length-utf8, width-bounds}
+use Rattle.arraystring_base.proofs.TextLaws.{utf8-is, length-utf8, width-bounds}
 use Rattle.arraystring_core.proofs.place.char_at.Goals as goal
 
 pub returns : goal.returns

@@ -1,6 +1,6 @@
 use Rattle.std.proofs.Common.{◌≡◌, ◌∙◌, sym, ap, refl, true, false}
 use Rattle.arraystring_base.specs.Text.{boundary}
-use Rattle.arraystring_base.specs.TextLaws.{chars-bytes}
+use Rattle.arraystring_base.proofs.TextLaws.{chars-bytes}
 use Rattle.arraystring_core.proofs.utils.is_char_boundary.Goals as goal
 
 pub returns-then-is_boundary : goal.returns-then-is_boundary

@@ -1,5 +1,5 @@
 use Rattle.std.proofs.Common.{◌≡◌, ◌∷◌, [], length, refl, ap, arith}
-use Rattle.arraystring.specs.TextLaws.{utf8-well_formed, well_formed-utf8}
+use Rattle.arraystring.proofs.TextLaws.{utf8-well_formed, well_formed-utf8}
 use Rattle.arraystring_run.specs.declared.commands.Command.{Command}
 use Rattle.arraystring_run.specs.declared.commands.Command.TheVariants.{TryPush, TryPushStr, PushStr, Pop, Truncate, Trim, Remove, RetainNot, TryInsert, TryInsertStr, InsertStr, SplitOff, Clear, Drain, DrainThrough, DrainBack, ReplaceRange, Upper, Lower, Get, Len, Capacity, AsStr}
 use Rattle.arraystring_run.specs.Grammar.{Number, Character, Text, word, arguments, AreSpelled, space}

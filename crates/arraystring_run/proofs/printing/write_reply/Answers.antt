@@ -1,5 +1,5 @@
 use Rattle.std.proofs.Common.{rules}
-use Rattle.arraystring.specs.TextLaws.{utf8-is}
+use Rattle.arraystring.proofs.TextLaws.{utf8-is}
 use Rattle.arraystring_run.proofs.printing.write_reply.Goals as goal
 
 pub returns-in-Char : goal.returns-in-Char

@@ -1,6 +1,6 @@
 use Rattle.std.proofs.Common.{◌≡◌, ◌-◌, ◌∙◌, sym, ap, chars, nat_lt}
 use Rattle.arraystring.specs.Text.{size, cap}
-use Rattle.arraystring.specs.TextLaws.{size-lent}
+use Rattle.arraystring.proofs.TextLaws.{size-lent}
 use Rattle.arraystring_run.proofs.RunLemmas.{is_cut-larger}
 use Rattle.arraystring_run.proofs.steps.adds_less.Goals as goal
 

@@ -1,5 +1,5 @@
 use Rattle.std.proofs.Common.{◌∙◌, rules, rules, ap, sym}
-use Rattle.arraystring.specs.TextLaws.{chars-bytes}
+use Rattle.arraystring.proofs.TextLaws.{chars-bytes}
 use Rattle.arraystring.specs.Drained.{with_left}
 use Rattle.arraystring_run.specs.Runs.{Text, said_of}
 use Rattle.arraystring_run.proofs.steps.drained.Goals as goal

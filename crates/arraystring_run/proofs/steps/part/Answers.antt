@@ -1,6 +1,6 @@
 use Rattle.std.proofs.Common.{◌≤◌, arith, chars, rules}
 use Rattle.arraystring.specs.Text.{size, cap}
-use Rattle.arraystring.specs.RangeEndLaws.{at_own_bounds}
+use Rattle.arraystring.proofs.RangeEndLaws.{at_own_bounds}
 use Rattle.arraystring_run.proofs.RunLemmas.{part_in-fits}
 use Rattle.arraystring_run.proofs.steps.part.Goals as goal
 

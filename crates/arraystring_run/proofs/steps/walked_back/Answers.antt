@@ -1,6 +1,6 @@
 use Rattle.std.proofs.Common.{◌≡◌, ◌++◌, ◌∷◌, [], ◌∙◌, ap, arith, rules, reverse}
 use Rattle.arraystring.specs.Text.{size}
-use Rattle.arraystring.specs.TextLaws.{size-append}
+use Rattle.arraystring.proofs.TextLaws.{size-append}
 use Rattle.arraystring_run.proofs.RunLemmas.{one-back}
 use Rattle.arraystring_run.proofs.steps.walked_back.Goals as goal
 

@@ -1,7 +1,7 @@
 use Rattle.std.proofs.Common.{arith, ◌≡◌, ◌≤◌, ◌++◌, codes, ap, ◌∙◌, refl}
 use Rattle.std.specs.Str.{chars}
 use Rattle.arraystring.specs.Text.{size, width, cut}
-use Rattle.arraystring.specs.AdditionLaws.{addition_of_cut-cuts, insertion_at_start-made, insertion_at_start-refused}
+use Rattle.arraystring.proofs.AdditionLaws.{addition_of_cut-cuts, insertion_at_start-made, insertion_at_start-refused}
 use Rattle.arraystring_uses.proofs.greeting.greet.Goals as goal
 
 at_sign : chars (codes "@") ≡ codes "@"

@@ -1,7 +1,7 @@
 use Rattle.std.proofs.Common.{◌≡◌, ◌≤◌, List, ℕ, arith, ap, ◌∙◌, refl}
 use Rattle.std.specs.Str.{chars}
 use Rattle.arraystring.specs.Text.{size, width, cut}
-use Rattle.arraystring.specs.CutLaws.{cut-all}
+use Rattle.arraystring.proofs.CutLaws.{cut-all}
 use Rattle.arraystring_uses.specs.declared.log_line.Level.{Level}
 use Rattle.arraystring_uses.specs.declared.log_line.Level.TheVariants.{Info, Warning, Failure}
 use Rattle.arraystring_uses.specs.Lines.{level_name}

@@ -1,9 +1,9 @@
 use Rattle.std.proofs.Common.{rules, ℕ, List, IsUtf8, ◌≡◌, ◌≤◌, ◌+◌, ◌-◌, ◌++◌, ◌∷◌, [], arith, ap, sym, ◌∙◌, refl}
 use Rattle.std.specs.Str.{chars}
 use Rattle.arraystring.specs.Text.{size, width, bytes, cut}
-use Rattle.arraystring.specs.TextLaws.{size-append, chars-bytes}
-use Rattle.arraystring.specs.CutLaws.{cut-fits, cut-past_part}
-use Rattle.arraystring.specs.AdditionLaws.{addition-made, addition-refused}
+use Rattle.arraystring.proofs.TextLaws.{size-append, chars-bytes}
+use Rattle.arraystring.proofs.CutLaws.{cut-fits, cut-past_part}
+use Rattle.arraystring.proofs.AdditionLaws.{addition-made, addition-refused}
 use Rattle.arraystring_uses.proofs.log_line.push_marked.Goals as goal
 
 mark_width : width 0x2026 ≡ 3

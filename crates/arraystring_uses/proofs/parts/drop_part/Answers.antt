@@ -1,8 +1,8 @@
 use Rattle.std.proofs.Common.{◌≡◌, Result, Ok, Err, ap, sym, ◌∙◌}
 use Rattle.std.specs.Result.{IsErrAnd}
 use Rattle.arraystring.specs.Edits.{ok_unless}
-use Rattle.arraystring.specs.EditLaws.{edit-made, edit-refused, edit-text}
-use Rattle.arraystring.specs.RangeEndLaws.{at_own_bounds}
+use Rattle.arraystring.proofs.EditLaws.{edit-made, edit-refused, edit-text}
+use Rattle.arraystring.proofs.RangeEndLaws.{at_own_bounds}
 use Rattle.arraystring.specs.Refusals.{Error}
 use Rattle.arraystring_uses.proofs.parts.drop_part.Goals as goal
 

@@ -12,7 +12,7 @@ use Rattle.std.proofs.lemmas.Map.Lookups.{exact_bytes}
 use Rattle.std.proofs.lemmas.Map.Views.{tells_apart}
 use Rattle.arraystring.specs.Stored.{Stored}
 use Rattle.arraystring.specs.Text.{IsBefore}
-use Rattle.arraystring.specs.OrderLaws.{order-says}
+use Rattle.arraystring.proofs.OrderLaws.{order-says}
 use Rattle.arraystring_uses.specs.Scores.{names}
 use Rattle.arraystring_uses.proofs.scores.record.Goals as goal
 

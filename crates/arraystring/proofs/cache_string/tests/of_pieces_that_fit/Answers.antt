@@ -1,7 +1,7 @@
 use Rattle.std.proofs.Common.{map, ap, ◌∙◌, rules, ◌≡◌}
 use Rattle.std.proofs.iter.Yields.{copies, fronts}
 use Rattle.arraystring_core.specs.Taken.{piece_text}
-use Rattle.arraystring_core.specs.TakenLaws.{slice-gives, pieces-fit}
+use Rattle.arraystring_core.proofs.TakenLaws.{slice-gives, pieces-fit}
 use Rattle.arraystring.proofs.cache_string.tests.of_pieces_that_fit.Goals as goal
 
 pub from_iterator_unchecked-requires : goal.from_iterator_unchecked-requires

@@ -1,8 +1,8 @@
 use Rattle.std.proofs.Common.{◌≡◌, ◌≤◌, subst, sym, ap, chars, length, arith}
 use Rattle.std.proofs.iter.TextItems.{spells}
 use Rattle.arraystring_base.specs.Text.{IsWellFormed}
-use Rattle.arraystring_base.specs.TextLaws.{size-lent, utf8-well_formed}
-use Rattle.arraystring_core.specs.TakenLaws.{text-gives, chars-fit}
+use Rattle.arraystring_base.proofs.TextLaws.{size-lent, utf8-well_formed}
+use Rattle.arraystring_core.proofs.TakenLaws.{text-gives, chars-fit}
 use Rattle.arraystring.proofs.cache_string.tests.of_text_that_fits.Goals as goal
 
 pub from_str_unchecked-requires : goal.from_str_unchecked-requires

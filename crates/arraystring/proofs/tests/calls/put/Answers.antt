@@ -1,6 +1,6 @@
 use Rattle.std.proofs.Common.{rules, refl, ◌≡◌, ◌+◌, ◌≤◌, sym, ◌∙◌, arith}
 use Rattle.arraystring_base.specs.Text.{cap, size, width}
-use Rattle.arraystring_base.specs.TextLaws.{width-is}
+use Rattle.arraystring_base.proofs.TextLaws.{width-is}
 use Rattle.arraystring.proofs.tests.calls.put.Goals as goal
 
 pub push_unchecked-requires : goal.push_unchecked-requires

@@ -1,6 +1,6 @@
 use Rattle.std.proofs.Common.{rules, refl, ◌+◌, ◌≤◌, arith, chars}
 use Rattle.arraystring_base.specs.Text.{cap, size}
-use Rattle.arraystring_base.specs.TextLaws.{size-lent}
+use Rattle.arraystring_base.proofs.TextLaws.{size-lent}
 use Rattle.arraystring.proofs.tests.calls.put_str.Goals as goal
 
 pub push_str_unchecked-requires : goal.push_str_unchecked-requires

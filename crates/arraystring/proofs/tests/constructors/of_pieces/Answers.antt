@@ -2,7 +2,7 @@ use Rattle.std.proofs.Common.{map, ap, ◌∙◌, rules, ◌≡◌}
 use Rattle.std.proofs.iter.Yields.{copies, fronts}
 use Rattle.arraystring_base.specs.Text.{cap}
 use Rattle.arraystring_core.specs.Taken.{piece_text}
-use Rattle.arraystring_core.specs.TakenLaws.{slice-gives, pieces-fit}
+use Rattle.arraystring_core.proofs.TakenLaws.{slice-gives, pieces-fit}
 use Rattle.arraystring.proofs.tests.constructors.of_pieces.Goals as goal
 
 pub from_iterator_unchecked-made-requires : goal.from_iterator_unchecked-made-requires

@@ -1,8 +1,8 @@
 use Rattle.std.proofs.Common.{◌≡◌, ◌≤◌, subst, sym, ap, chars, length, rules, arith}
 use Rattle.std.proofs.iter.TextItems.{spells}
 use Rattle.arraystring_base.specs.Text.{cap, IsWellFormed}
-use Rattle.arraystring_base.specs.TextLaws.{size-lent, utf8-well_formed}
-use Rattle.arraystring_core.specs.TakenLaws.{text-gives, chars-fit}
+use Rattle.arraystring_base.proofs.TextLaws.{size-lent, utf8-well_formed}
+use Rattle.arraystring_core.proofs.TakenLaws.{text-gives, chars-fit}
 use Rattle.arraystring.proofs.tests.constructors.of_text.Goals as goal
 
 pub from_chars_unchecked-requires : goal.from_chars_unchecked-requires

@@ -1,6 +1,6 @@
 use Rattle.std.proofs.Common.{arith, ◌<◌}
 use Rattle.std.proofs.lemmas.List.Elements.{All-from_get_or}
-use Rattle.arraystring_base.specs.ReadingLaws.{reading-reads}
+use Rattle.arraystring_base.proofs.ReadingLaws.{reading-reads}
 use Rattle.arraystring_base.proofs.utf16.Units.new.Goals as goal
 
 pub returns : goal.returns

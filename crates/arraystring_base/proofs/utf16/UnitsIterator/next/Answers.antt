@@ -1,7 +1,7 @@
 use Rattle.std.proofs.Common.{◌∷◌, sym, ap, ◌∙◌, arith, length}
 use Rattle.arraystring_base.specs.declared.utf16.Unit16.TheVariants.{Char}
 use Rattle.arraystring_base.specs.Reading.{reading}
-use Rattle.arraystring_base.specs.ReadingLaws.{reading-pair, reading-single}
+use Rattle.arraystring_base.proofs.ReadingLaws.{reading-pair, reading-single}
 use Rattle.arraystring_base.proofs.utf16.UnitsIterator.next.Goals as goal
 
 pub returns-then-unit-lt55296-clause-steps : goal.returns-then-unit-lt55296-clause-steps

@@ -1,10 +1,10 @@
 use Rattle.std.proofs.Common.{◌≡◌, ◌+◌, ◌-◌, ◌<◌, ◌≤◌, ◌++◌, ◌∷◌, [], sym, arith, inl, inr}
 use Rattle.std.proofs.iter.Next.{Yields-more}
 use Rattle.arraystring_base.specs.Text.{size, cap, cut}
-use Rattle.arraystring_base.specs.TextLaws.{width-bounds}
-use Rattle.arraystring_base.specs.CutLaws.{cut-all}
+use Rattle.arraystring_base.proofs.TextLaws.{width-bounds}
+use Rattle.arraystring_base.proofs.CutLaws.{cut-all}
 use Rattle.arraystring_base.specs.declared.error.OutOfBounds.{OutOfBounds}
-use Rattle.arraystring_core.specs.EditLaws.{addition-ok, addition-err}
+use Rattle.arraystring_core.proofs.EditLaws.{addition-ok, addition-err}
 use Rattle.arraystring_core.proofs.TakenLemmas.{cut-none, chars_text, char_text, chars-more, added-text, added-fits, added-past, added-none, behind}
 use Rattle.arraystring_core.proofs.array_string.ArrayString.add_chars.Goals as goal
 

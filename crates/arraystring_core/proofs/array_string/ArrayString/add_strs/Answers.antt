@@ -1,10 +1,10 @@
 use Rattle.std.proofs.Common.{◌+◌, ◌-◌, ◌≤◌, ◌++◌, ◌∷◌, [], sym, arith, inl, inr}
 use Rattle.std.proofs.iter.Next.{Yields-more}
 use Rattle.arraystring_base.specs.Text.{size, cap}
-use Rattle.arraystring_base.specs.CutLaws.{cut-all}
+use Rattle.arraystring_base.proofs.CutLaws.{cut-all}
 use Rattle.arraystring_base.specs.declared.error.OutOfBounds.{OutOfBounds}
 use Rattle.arraystring_core.specs.Taken.{joined_pieces, piece_text}
-use Rattle.arraystring_core.specs.EditLaws.{addition-ok, addition-err}
+use Rattle.arraystring_core.proofs.EditLaws.{addition-ok, addition-err}
 use Rattle.arraystring_core.proofs.TakenLemmas.{joined-more, added-text, added-fits, added-past, added-part, behind}
 use Rattle.arraystring_core.proofs.array_string.ArrayString.add_strs.Goals as goal
 

@@ -1,6 +1,6 @@
 use Rattle.std.proofs.Common.{sym, ◌∙◌, ap, arith, length}
-use Rattle.arraystring_base.specs.TextLaws.{size-is}
-use Rattle.arraystring_core.specs.StoredLaws.{lent-range, opened-bytes, opened-size, opened-text}
+use Rattle.arraystring_base.proofs.TextLaws.{size-is}
+use Rattle.arraystring_core.proofs.StoredLaws.{lent-range, opened-bytes, opened-size, opened-text}
 use Rattle.arraystring_core.proofs.array_string.ArrayString.as_bytes.Goals as goal
 
 pub returns-clause-bytes : goal.returns-clause-bytes

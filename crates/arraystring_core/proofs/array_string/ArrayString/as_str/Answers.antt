@@ -1,5 +1,6 @@
 use Rattle.std.proofs.Common.{sym, ◌∙◌, arith}
-use Rattle.arraystring_core.specs.StoredLaws.{lent-range, opened-bytes, opened-size, opened-text, stored-utf8}
+use Rattle.arraystring_core.specs.GhostProofs.{stored-utf8}
+use Rattle.arraystring_core.proofs.StoredLaws.{lent-range, opened-bytes, opened-size, opened-text}
 use Rattle.arraystring_core.proofs.array_string.ArrayString.as_str.Goals as goal
 
 pub from_utf8_unchecked-requires : goal.from_utf8_unchecked-requires

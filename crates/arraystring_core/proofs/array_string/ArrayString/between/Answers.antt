@@ -1,6 +1,6 @@
 use Rattle.std.proofs.Common.{sym, ap, ◌∙◌, drop, take}
 use Rattle.std.proofs.lemmas.Slice.{between_is}
-use Rattle.arraystring_base.specs.BoundaryLaws.{boundary-to_bytes, bytes-part}
+use Rattle.arraystring_base.proofs.BoundaryLaws.{boundary-to_bytes, bytes-part}
 use Rattle.arraystring_core.proofs.array_string.ArrayString.between.Goals as goal
 
 pub range-requires-clause-start_boundary : goal.range-requires-clause-start_boundary

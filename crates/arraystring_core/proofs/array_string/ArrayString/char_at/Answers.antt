@@ -1,8 +1,8 @@
 use Rattle.std.proofs.Common.{◌≡◌, ◌++◌, length, drop, arith, sym, length-append, ap, ◌∙◌}
 use Rattle.std.specs.Prelude.{slice_index}
 use Rattle.arraystring_base.specs.Text.{utf8, bytes}
-use Rattle.arraystring_base.specs.TextLaws.{size-is, utf8-is, length-utf8}
-use Rattle.arraystring_base.specs.BoundaryLaws.{boundary-to_bytes, first-char, next-char}
+use Rattle.arraystring_base.proofs.TextLaws.{size-is, utf8-is, length-utf8}
+use Rattle.arraystring_base.proofs.BoundaryLaws.{boundary-to_bytes, first-char, next-char}
 use Rattle.arraystring_core.proofs.array_string.ArrayString.char_at.Goals as goal
 
 pub range_from-text-requires : goal.range_from-text-requires

@@ -1,7 +1,7 @@
 use Rattle.std.proofs.Common.{◌∙◌, refl, rules}
-use Rattle.arraystring_base.specs.BoundaryLaws.{front-start, boundary-is}
+use Rattle.arraystring_base.proofs.BoundaryLaws.{front-start, boundary-is}
 use Rattle.arraystring_core.specs.Edits.{clearing}
-use Rattle.arraystring_core.specs.EditLaws.{makes}
+use Rattle.arraystring_core.proofs.EditLaws.{makes}
 use Rattle.std.proofs.Common.{[]}
 use Rattle.arraystring_core.proofs.array_string.ArrayString.clear.Goals as goal
 

@@ -1,7 +1,7 @@
 use Rattle.std.proofs.Common.{◌≡◌, ℕ, List, [], ◌∷◌, ◌++◌, length, sym, ap, ◌∙◌, refl, arith, rules, true}
 use Rattle.arraystring_base.specs.Text.{utf8, bytes, size, width, back, boundary}
-use Rattle.arraystring_base.specs.TextLaws.{utf8-is, width-is, width-bounds, empty-size, size-is}
-use Rattle.arraystring_base.specs.BoundaryLaws.{boundary-is, back-is, back-start, first-char}
+use Rattle.arraystring_base.proofs.TextLaws.{utf8-is, width-is, width-bounds, empty-size, size-is}
+use Rattle.arraystring_base.proofs.BoundaryLaws.{boundary-is, back-is, back-start, first-char}
 use Rattle.arraystring_core.specs.Edits.{without_leading}
 use Rattle.arraystring_core.proofs.TrimLemmas.{without_leading-passes, without_leading-stops}
 use Rattle.arraystring_core.proofs.array_string.ArrayString.drop_leading.Goals as goal

@@ -1,8 +1,8 @@
 use Rattle.std.proofs.Common.{◌-◌, refl}
 use Rattle.arraystring_base.specs.Text.{size, cap}
 use Rattle.arraystring_core.specs.Edits.{addition_of_cut}
-use Rattle.arraystring_core.specs.EditLaws.{makes}
-use Rattle.arraystring_core.specs.TakenLaws.{chars-cut}
+use Rattle.arraystring_core.proofs.EditLaws.{makes}
+use Rattle.arraystring_core.proofs.TakenLaws.{chars-cut}
 use Rattle.arraystring_core.proofs.TakenLemmas.{behind}
 use Rattle.arraystring_core.proofs.array_string.ArrayString.extend_chars.Goals as goal
 

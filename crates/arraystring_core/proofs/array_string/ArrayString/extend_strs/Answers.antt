@@ -1,9 +1,9 @@
 use Rattle.std.proofs.Common.{◌-◌, refl}
 use Rattle.arraystring_base.specs.Text.{size, cap}
 use Rattle.arraystring_core.specs.Edits.{addition_of_cut}
-use Rattle.arraystring_core.specs.EditLaws.{makes}
+use Rattle.arraystring_core.proofs.EditLaws.{makes}
 use Rattle.arraystring_core.specs.Taken.{joined}
-use Rattle.arraystring_core.specs.TakenLaws.{pieces-cut}
+use Rattle.arraystring_core.proofs.TakenLaws.{pieces-cut}
 use Rattle.arraystring_core.proofs.TakenLemmas.{behind}
 use Rattle.arraystring_core.proofs.array_string.ArrayString.extend_strs.Goals as goal
 

@@ -1,7 +1,7 @@
 use Rattle.std.proofs.Common.{subst}
 use Rattle.arraystring_base.specs.Text.{cap}
 use Rattle.arraystring_core.specs.Taken.{Takes}
-use Rattle.arraystring_core.specs.ConstructLaws.{fresh-room, fresh-cut}
+use Rattle.arraystring_core.proofs.ConstructLaws.{fresh-room, fresh-cut}
 use Rattle.arraystring_core.proofs.array_string.ArrayString.from_chars.Goals as goal
 
 pub returns-clause-taken : goal.returns-clause-taken

@@ -1,7 +1,7 @@
 use Rattle.std.proofs.Common.{◌+◌, ◌≤◌, ◌∙◌, rules, arith}
 use Rattle.std.proofs.iter.Next.{Yields-more}
 use Rattle.arraystring_base.specs.Text.{width, size, cap}
-use Rattle.arraystring_core.specs.TakenLaws.{chars-all}
+use Rattle.arraystring_core.proofs.TakenLaws.{chars-all}
 use Rattle.arraystring_core.proofs.TakenLemmas.{chars_text, char_text, chars-more, next-fits}
 use Rattle.arraystring_core.proofs.array_string.ArrayString.from_chars_unchecked.Goals as goal
 

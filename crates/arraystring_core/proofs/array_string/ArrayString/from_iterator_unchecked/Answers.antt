@@ -2,7 +2,7 @@ use Rattle.std.proofs.Common.{◌+◌, ◌≤◌, ◌∙◌, rules}
 use Rattle.std.proofs.iter.Next.{Yields-more}
 use Rattle.arraystring_base.specs.Text.{size, cap}
 use Rattle.arraystring_core.specs.Taken.{joined_pieces, piece_text}
-use Rattle.arraystring_core.specs.TakenLaws.{pieces-all}
+use Rattle.arraystring_core.proofs.TakenLaws.{pieces-all}
 use Rattle.arraystring_core.proofs.TakenLemmas.{joined-more, next-fits, next-text}
 use Rattle.arraystring_core.proofs.array_string.ArrayString.from_iterator_unchecked.Goals as goal
 

@@ -1,7 +1,7 @@
 use Rattle.std.proofs.Common.{◌≡◌, ◌≤◌, ap, ◌∙◌, rules, chars}
 use Rattle.arraystring_base.specs.Text.{size, cut}
-use Rattle.arraystring_base.specs.TextLaws.{chars-bytes}
-use Rattle.arraystring_base.specs.CutLaws.{cut-fits}
+use Rattle.arraystring_base.proofs.TextLaws.{chars-bytes}
+use Rattle.arraystring_base.proofs.CutLaws.{cut-fits}
 use Rattle.arraystring_core.proofs.array_string.ArrayString.from_str_truncate.Goals as goal
 
 pub from_str_unchecked-requires : goal.from_str_unchecked-requires

@@ -2,7 +2,7 @@ use Rattle.std.proofs.Common.{◌≡◌, ◌+◌, ◌≤◌, refl, length, take,
 use Rattle.std.proofs.lemmas.List.{length-replicate}
 use Rattle.std.proofs.Math.ListN.{replicate}
 use Rattle.arraystring_base.specs.Text.{cap}
-use Rattle.arraystring_base.specs.TextLaws.{size-lent}
+use Rattle.arraystring_base.proofs.TextLaws.{size-lent}
 use Rattle.arraystring_core.proofs.GapLemmas.{written-length}
 use Rattle.arraystring_core.proofs.array_string.ArrayString.from_str_unchecked.Goals as goal
 

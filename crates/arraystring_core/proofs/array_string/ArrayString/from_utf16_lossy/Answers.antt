@@ -1,10 +1,10 @@
 use Rattle.std.proofs.Common.{◌≡◌, ◌+◌, ◌≤◌, ◌<◌, [], ◌∷◌, ◌++◌, sym, ap, ◌∙◌, arith, append-nil, append_assoc}
 use Rattle.arraystring_base.specs.declared.error.OutOfBounds.{OutOfBounds}
 use Rattle.arraystring_base.specs.Text.{cap, cut, size, width}
-use Rattle.arraystring_base.specs.TextLaws.{size-append}
-use Rattle.arraystring_base.specs.CutLaws.{cut-is, cut-all}
+use Rattle.arraystring_base.proofs.TextLaws.{size-append}
+use Rattle.arraystring_base.proofs.CutLaws.{cut-is, cut-all}
 use Rattle.arraystring_base.specs.Utf16.{lossy_text}
-use Rattle.arraystring_core.specs.EditLaws.{addition-ok, addition-err}
+use Rattle.arraystring_core.proofs.EditLaws.{addition-ok, addition-err}
 use Rattle.arraystring_core.proofs.array_string.ArrayString.from_utf16_lossy.Goals as goal
 
 pub loop-item-preserved : goal.loop-item-preserved

@@ -1,7 +1,7 @@
 use Rattle.std.proofs.Common.{◌∙◌, sym, ap, refl, chars}
 use Rattle.arraystring_base.specs.Text.{cap, cut}
-use Rattle.arraystring_base.specs.CutLaws.{text-cut}
-use Rattle.arraystring_base.specs.TextLaws.{well_formed-utf8, utf8-well_formed, chars-bytes, text-chars}
+use Rattle.arraystring_base.proofs.CutLaws.{text-cut}
+use Rattle.arraystring_base.proofs.TextLaws.{well_formed-utf8, utf8-well_formed, chars-bytes, text-chars}
 use Rattle.arraystring_core.proofs.array_string.ArrayString.from_utf8.Goals as goal
 
 pub returns : goal.returns

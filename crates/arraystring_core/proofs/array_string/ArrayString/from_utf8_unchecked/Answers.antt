@@ -1,6 +1,6 @@
 use Rattle.std.proofs.Common.{◌≤◌, ◌∙◌, ap, arith, rules, chars, length}
 use Rattle.arraystring_base.specs.Text.{size, bytes, cap}
-use Rattle.arraystring_base.specs.TextLaws.{well_formed-utf8, size-lent, bytes-chars, text-chars}
+use Rattle.arraystring_base.proofs.TextLaws.{well_formed-utf8, size-lent, bytes-chars, text-chars}
 use Rattle.arraystring_core.proofs.array_string.ArrayString.from_utf8_unchecked.Goals as goal
 
 pub from_utf8_unchecked-requires : goal.from_utf8_unchecked-requires

@@ -1,7 +1,7 @@
 use Rattle.std.proofs.Common.{◌≡◌, ◌∙◌, sym, arith}
 use Rattle.std.proofs.lemmas.Bool.{le-leb, leb-true}
 use Rattle.arraystring_base.specs.Text.{width, cap}
-use Rattle.arraystring_base.specs.TextLaws.{width-is, width-bounds}
+use Rattle.arraystring_base.proofs.TextLaws.{width-is, width-bounds}
 use Rattle.arraystring_core.proofs.array_string.ArrayString.has_room.Goals as goal
 
 pub returns-then-len-capacity : goal.returns-then-len-capacity

@@ -1,10 +1,10 @@
 use Rattle.std.proofs.Common.{◌≡◌, ◌+◌, ◌-◌, ◌≤◌, ◌++◌, sym, arith, ◌∙◌, ap, chars, refl, rules}
 use Rattle.std.proofs.lemmas.Bool.{le-ltb}
 use Rattle.arraystring_base.specs.Text.{cap, size, cut, front, back}
-use Rattle.arraystring_base.specs.TextLaws.{chars-bytes}
-use Rattle.arraystring_base.specs.CutLaws.{cut-fits}
+use Rattle.arraystring_base.proofs.TextLaws.{chars-bytes}
+use Rattle.arraystring_base.proofs.CutLaws.{cut-fits}
 use Rattle.arraystring_core.specs.Edits.{Inside}
-use Rattle.arraystring_core.specs.EditLaws.{inside-so, inside-not, refuses, makes}
+use Rattle.arraystring_core.proofs.EditLaws.{inside-so, inside-not, refuses, makes}
 use Rattle.arraystring_core.proofs.array_string.ArrayString.insert_str.Goals as goal
 
 pub returns-then-not-is_boundary : goal.returns-then-not-is_boundary

@@ -1,6 +1,6 @@
 use Rattle.std.proofs.Common.{◌∙◌, ap}
 use Rattle.arraystring_base.specs.Text.{boundary}
-use Rattle.arraystring_base.specs.TextLaws.{chars-bytes}
+use Rattle.arraystring_base.proofs.TextLaws.{chars-bytes}
 use Rattle.arraystring_core.proofs.array_string.ArrayString.is_boundary.Goals as goal
 
 pub returns : goal.returns

@@ -1,8 +1,8 @@
 use Rattle.std.proofs.Common.{sym, ap, ◌∙◌, eq-eqb}
 use Rattle.std.proofs.lemmas.Bool.{eqb-true}
 use Rattle.arraystring_base.specs.Text.{size}
-use Rattle.arraystring_core.specs.StoredLaws.{opened-size}
-use Rattle.arraystring_base.specs.TextLaws.{empty-size}
+use Rattle.arraystring_core.proofs.StoredLaws.{opened-size}
+use Rattle.arraystring_base.proofs.TextLaws.{empty-size}
 use Rattle.arraystring_core.proofs.array_string.ArrayString.is_empty.Goals as goal
 
 pub returns : goal.returns

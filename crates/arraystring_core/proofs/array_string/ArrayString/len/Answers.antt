@@ -1,5 +1,5 @@
 use Rattle.std.proofs.Common.{sym}
-use Rattle.arraystring_core.specs.StoredLaws.{opened-size}
+use Rattle.arraystring_core.proofs.StoredLaws.{opened-size}
 use Rattle.arraystring_core.proofs.array_string.ArrayString.len.Goals as goal
 
 pub returns-clause-value : goal.returns-clause-value

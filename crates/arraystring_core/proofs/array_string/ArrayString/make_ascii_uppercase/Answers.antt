@@ -2,9 +2,9 @@ use Rattle.std.proofs.Common.{◌≡◌, ◌++◌, [], map, ap, ◌∙◌, refl,
 use Rattle.std.proofs.lemmas.List.{append-nil}
 use Rattle.std.specs.Char.{to_ascii_uppercase}
 use Rattle.arraystring_base.specs.Text.{front, back, boundary}
-use Rattle.arraystring_base.specs.BoundaryLaws.{boundary-is, boundary-end, front-start, front-end, back-start, back-end}
+use Rattle.arraystring_base.proofs.BoundaryLaws.{boundary-is, boundary-end, front-start, front-end, back-start, back-end}
 use Rattle.arraystring_core.specs.Edits.{uppercase, part}
-use Rattle.arraystring_core.specs.EditLaws.{makes}
+use Rattle.arraystring_core.proofs.EditLaws.{makes}
 use Rattle.arraystring_core.proofs.array_string.ArrayString.make_ascii_uppercase.Goals as goal
 
 pub uppercase_between-requires : goal.uppercase_between-requires

@@ -1,9 +1,9 @@
 use Rattle.std.proofs.Common.{◌≡◌, ◌++◌, ◌∷◌, [], ◌∙◌, sym, ap, refl, arith, rules, true}
 use Rattle.arraystring_base.specs.Text.{size, front, boundary}
-use Rattle.arraystring_base.specs.TextLaws.{chars-bytes, size-append}
-use Rattle.arraystring_base.specs.BoundaryLaws.{boundary-is, front-is}
+use Rattle.arraystring_base.proofs.TextLaws.{chars-bytes, size-append}
+use Rattle.arraystring_base.proofs.BoundaryLaws.{boundary-is, front-is}
 use Rattle.arraystring_core.specs.Edits.{popping, last_of, all_but_last}
-use Rattle.arraystring_core.specs.EditLaws.{makes, last_of-push, all_but_last-push}
+use Rattle.arraystring_core.proofs.EditLaws.{makes, last_of-push, all_but_last-push}
 use Rattle.arraystring_core.proofs.array_string.ArrayString.pop_counted.Goals as goal
 
 pub returns-in_err-start-clause-edit : goal.returns-in_err-start-clause-edit

@@ -1,6 +1,6 @@
 use Rattle.std.proofs.Common.{◌≡◌, ◌++◌, ◌∷◌, ap, ◌∙◌, rules, true}
 use Rattle.arraystring_base.specs.Text.{size, boundary, front, back}
-use Rattle.arraystring_base.specs.BoundaryLaws.{boundary-end, front-end, back-end}
+use Rattle.arraystring_base.proofs.BoundaryLaws.{boundary-end, front-end, back-end}
 use Rattle.arraystring_core.proofs.array_string.ArrayString.push_at_start.Goals as goal
 
 pub put_char_at_start-requires : goal.put_char_at_start-requires

@@ -1,9 +1,9 @@
 use Rattle.std.proofs.Common.{◌≡◌, ◌-◌, ◌≤◌, ◌++◌, chars, arith, ap, refl, ◌∙◌}
 use Rattle.arraystring_base.specs.Text.{size, cut, cap}
-use Rattle.arraystring_base.specs.TextLaws.{chars-bytes}
-use Rattle.arraystring_base.specs.CutLaws.{cut-fits}
+use Rattle.arraystring_base.proofs.TextLaws.{chars-bytes}
+use Rattle.arraystring_base.proofs.CutLaws.{cut-fits}
 use Rattle.arraystring_core.specs.Edits.{addition_of_cut}
-use Rattle.arraystring_core.specs.EditLaws.{makes}
+use Rattle.arraystring_core.proofs.EditLaws.{makes}
 use Rattle.arraystring_core.proofs.array_string.ArrayString.push_str.Goals as goal
 
 pub push_str_unchecked-requires : goal.push_str_unchecked-requires

@@ -1,7 +1,7 @@
 use Rattle.std.proofs.Common.{◌≡◌, ◌+◌, ◌-◌, ◌≤◌, ◌++◌, chars, ap, ◌∙◌, arith, rules, true}
 use Rattle.std.proofs.lemmas.List.{append-nil}
 use Rattle.arraystring_base.specs.Text.{size, cap, boundary, front, back}
-use Rattle.arraystring_base.specs.BoundaryLaws.{boundary-end, front-end, back-end}
+use Rattle.arraystring_base.proofs.BoundaryLaws.{boundary-end, front-end, back-end}
 use Rattle.arraystring_core.proofs.array_string.ArrayString.push_str_at_start.Goals as goal
 
 pub splice_at_start-requires : goal.splice_at_start-requires

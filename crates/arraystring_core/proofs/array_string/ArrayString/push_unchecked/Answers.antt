@@ -2,7 +2,7 @@ use Rattle.std.proofs.Common.{◌≡◌, ◌+◌, ◌≤◌, ◌++◌, ◌∷◌
 use Rattle.std.proofs.lemmas.Str.{IsUtf8-encode}
 use Rattle.std.proofs.lemmas.List.{append-nil}
 use Rattle.arraystring_base.specs.Text.{utf8, width, cap}
-use Rattle.arraystring_base.specs.TextLaws.{chars-bytes, utf8-is, length-utf8}
+use Rattle.arraystring_base.proofs.TextLaws.{chars-bytes, utf8-is, length-utf8}
 use Rattle.arraystring_core.proofs.PlaceLemmas.{appended-stored, appended-chars}
 use Rattle.arraystring_core.proofs.array_string.ArrayString.push_unchecked.Goals as goal
 

@@ -2,9 +2,9 @@ use Rattle.std.proofs.Common.{◌≡◌, ◌+◌, ◌-◌, ◌≤◌, ◌++◌, 
 use Rattle.std.proofs.lemmas.Str.{IsUtf8-encode}
 use Rattle.std.proofs.lemmas.List.{append-nil}
 use Rattle.arraystring_base.specs.Text.{utf8, width, size, cap, front, back}
-use Rattle.arraystring_base.specs.TextLaws.{chars-bytes, utf8-is, width-is, length-utf8}
-use Rattle.arraystring_base.specs.BoundaryLaws.{boundary-within}
-use Rattle.arraystring_core.specs.StoredLaws.{opened-size}
+use Rattle.arraystring_base.proofs.TextLaws.{chars-bytes, utf8-is, width-is, length-utf8}
+use Rattle.arraystring_base.proofs.BoundaryLaws.{boundary-within}
+use Rattle.arraystring_core.proofs.StoredLaws.{opened-size}
 use Rattle.arraystring_core.proofs.PlaceLemmas.{filled-stored, filled-chars}
 use Rattle.arraystring_core.proofs.array_string.ArrayString.put_char.Goals as goal
 

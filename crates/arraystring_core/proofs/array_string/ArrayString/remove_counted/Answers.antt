@@ -1,8 +1,8 @@
 use Rattle.std.proofs.Common.{◌≡◌, ◌+◌, ◌<◌, ◌++◌, sym, arith, ◌∙◌, ap, rules}
 use Rattle.std.proofs.lemmas.Bool.{lt-leb}
 use Rattle.arraystring_base.specs.Text.{size, width, back, front}
-use Rattle.arraystring_base.specs.TextLaws.{width-bounds}
-use Rattle.arraystring_core.specs.EditLaws.{inside-not, makes}
+use Rattle.arraystring_base.proofs.TextLaws.{width-bounds}
+use Rattle.arraystring_core.proofs.EditLaws.{inside-not, makes}
 use Rattle.arraystring_core.proofs.array_string.ArrayString.remove_counted.Goals as goal
 
 pub overflow_add-start : goal.overflow_add-start

@@ -2,8 +2,8 @@ use Rattle.std.proofs.Common.{◌+◌, ◌-◌, ◌≤◌, ◌<◌, sym, arith, 
 use Rattle.std.proofs.lemmas.Bool.{le-ltb, lt-ltb}
 use Rattle.arraystring_base.specs.Text.{cap, size}
 use Rattle.arraystring_core.specs.Edits.{Room, Inside}
-use Rattle.arraystring_base.specs.TextLaws.{size-lent}
-use Rattle.arraystring_core.specs.EditLaws.{inside-so, inside-not, refuses, makes}
+use Rattle.arraystring_base.proofs.TextLaws.{size-lent}
+use Rattle.arraystring_core.proofs.EditLaws.{inside-so, inside-not, refuses, makes}
 use Rattle.arraystring_core.proofs.array_string.ArrayString.replace_between.Goals as goal
 
 pub returns-then-kept-with-clause-edit : goal.returns-then-kept-with-clause-edit

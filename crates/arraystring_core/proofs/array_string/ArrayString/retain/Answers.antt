@@ -1,5 +1,5 @@
 use Rattle.std.proofs.Common.{◌+◌, ◌≤◌, ap, arith, rules}
-use Rattle.arraystring_core.specs.StoredLaws.{stored-utf8}
+use Rattle.arraystring_core.specs.GhostProofs.{stored-utf8}
 use Rattle.arraystring_core.proofs.array_string.ArrayString.retain.Goals as goal
 
 pub retain_at-requires : goal.retain_at-requires

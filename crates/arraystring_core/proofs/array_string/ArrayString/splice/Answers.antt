@@ -1,7 +1,7 @@
 use Rattle.std.proofs.Common.{◌+◌, ◌-◌, ◌≤◌, length, arith, rules}
 use Rattle.arraystring_base.specs.Text.{size, cap}
-use Rattle.arraystring_base.specs.TextLaws.{size-lent}
-use Rattle.arraystring_core.specs.StoredLaws.{opened-size}
+use Rattle.arraystring_base.proofs.TextLaws.{size-lent}
+use Rattle.arraystring_core.proofs.StoredLaws.{opened-size}
 use Rattle.arraystring_core.proofs.PlaceLemmas.{replaced-within, replaced-room, filled-stored, filled-chars}
 use Rattle.arraystring_core.proofs.array_string.ArrayString.splice.Goals as goal
 

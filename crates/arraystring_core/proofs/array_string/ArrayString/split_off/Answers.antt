@@ -2,9 +2,9 @@ use Rattle.std.proofs.Common.{◌≡◌, ◌≤◌, length, drop, sym, arith, �
 use Rattle.std.proofs.lemmas.Bool.{le-ltb}
 use Rattle.arraystring_base.specs.Text.{cap, size, bytes, back}
 use Rattle.arraystring_core.specs.Edits.{Inside}
-use Rattle.arraystring_base.specs.TextLaws.{size-is, size-lent, chars-bytes}
-use Rattle.arraystring_base.specs.BoundaryLaws.{boundary-to_bytes, bytes-back}
-use Rattle.arraystring_core.specs.EditLaws.{inside-so, inside-not, refuses, makes}
+use Rattle.arraystring_base.proofs.TextLaws.{size-is, size-lent, chars-bytes}
+use Rattle.arraystring_base.proofs.BoundaryLaws.{boundary-to_bytes, bytes-back}
+use Rattle.arraystring_core.proofs.EditLaws.{inside-so, inside-not, refuses, makes}
 use Rattle.arraystring_core.proofs.array_string.ArrayString.split_off.Goals as goal
 
 pub returns-then-not-is_boundary : goal.returns-then-not-is_boundary

@@ -2,9 +2,9 @@ use Rattle.std.proofs.Common.{◌≤◌, sym, arith, rules, ◌∙◌}
 use Rattle.std.proofs.lemmas.Bool.{le-ltb}
 use Rattle.arraystring_base.specs.Text.{size}
 use Rattle.arraystring_core.specs.Edits.{Inside}
-use Rattle.arraystring_core.specs.StoredLaws.{opened-size}
+use Rattle.arraystring_core.proofs.StoredLaws.{opened-size}
 use Rattle.arraystring_core.proofs.DrainLemmas.{part-held, part-text}
-use Rattle.arraystring_core.specs.EditLaws.{inside-so, inside-not, refuses, makes}
+use Rattle.arraystring_core.proofs.EditLaws.{inside-so, inside-not, refuses, makes}
 use Rattle.arraystring_core.proofs.array_string.ArrayString.take_between.Goals as goal
 
 pub returns-then-not-is_boundary-clause-edit : goal.returns-then-not-is_boundary-clause-edit

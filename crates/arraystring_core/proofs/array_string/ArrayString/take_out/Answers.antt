@@ -1,7 +1,7 @@
 use Rattle.std.proofs.Common.{◌++◌, arith, rules, ap, sym, ◌∙◌}
 use Rattle.arraystring_base.specs.Text.{front, back}
-use Rattle.arraystring_base.specs.BoundaryLaws.{front-start}
-use Rattle.arraystring_core.specs.StoredLaws.{opened-size}
+use Rattle.arraystring_base.proofs.BoundaryLaws.{front-start}
+use Rattle.arraystring_core.proofs.StoredLaws.{opened-size}
 use Rattle.arraystring_core.proofs.PlaceLemmas.{dropped-within, closed-stored, closed-chars}
 use Rattle.arraystring_core.proofs.array_string.ArrayString.take_out.Goals as goal
 

@@ -3,7 +3,7 @@ use Rattle.serde_json.specs.View.{view}
 use Rattle.serde_json.specs.declared.value.Value.{String, the_lemmas}
 use Rattle.arraystring_base.specs.Text.{cap}
 use Rattle.arraystring_core.specs.Json.{json_text, text_within}
-use Rattle.arraystring_core.specs.JsonLaws.{reads_back}
+use Rattle.arraystring_core.proofs.JsonLaws.{reads_back}
 use Rattle.arraystring_core.proofs.array_string.ArrayString.to_value.Goals as goal
 
 pub returns-clause-reads_back : goal.returns-clause-reads_back

@@ -1,7 +1,7 @@
 use Rattle.std.proofs.Common.{◌≤◌, refl, sym, arith}
 use Rattle.arraystring_base.specs.Text.{size}
-use Rattle.arraystring_base.specs.CutLaws.{cut-all}
-use Rattle.arraystring_core.specs.EditLaws.{inside-past, makes}
+use Rattle.arraystring_base.proofs.CutLaws.{cut-all}
+use Rattle.arraystring_core.proofs.EditLaws.{inside-past, makes}
 use Rattle.arraystring_core.proofs.array_string.ArrayString.truncate.Goals as goal
 
 pub returns-then-size-len : goal.returns-then-size-len

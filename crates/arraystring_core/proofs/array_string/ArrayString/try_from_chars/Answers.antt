@@ -2,8 +2,8 @@ use Rattle.std.proofs.Common.{◌<◌, subst, arith, Ok}
 use Rattle.arraystring_base.specs.Text.{size, cap}
 use Rattle.arraystring_core.specs.Edits.{from_out_of_bounds}
 use Rattle.arraystring_core.specs.Taken.{Takes}
-use Rattle.arraystring_core.specs.TakenLaws.{chars-made}
-use Rattle.arraystring_core.specs.ConstructLaws.{refused-made, fresh-room, fresh-whole}
+use Rattle.arraystring_core.proofs.TakenLaws.{chars-made}
+use Rattle.arraystring_core.proofs.ConstructLaws.{refused-made, fresh-room, fresh-whole}
 use Rattle.arraystring_core.proofs.array_string.ArrayString.try_from_chars.Goals as goal
 
 pub returns-in_err-add_chars : goal.returns-in_err-add_chars

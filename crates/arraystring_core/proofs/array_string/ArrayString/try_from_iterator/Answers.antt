@@ -2,8 +2,8 @@ use Rattle.std.proofs.Common.{◌<◌, subst, arith, Ok}
 use Rattle.arraystring_base.specs.Text.{size, cap}
 use Rattle.arraystring_core.specs.Edits.{from_out_of_bounds}
 use Rattle.arraystring_core.specs.Taken.{joined_pieces, Takes}
-use Rattle.arraystring_core.specs.TakenLaws.{pieces-made}
-use Rattle.arraystring_core.specs.ConstructLaws.{refused-made, fresh-room, fresh-whole}
+use Rattle.arraystring_core.proofs.TakenLaws.{pieces-made}
+use Rattle.arraystring_core.proofs.ConstructLaws.{refused-made, fresh-room, fresh-whole}
 use Rattle.arraystring_core.proofs.array_string.ArrayString.try_from_iterator.Goals as goal
 
 pub returns-in_err-add_strs : goal.returns-in_err-add_strs

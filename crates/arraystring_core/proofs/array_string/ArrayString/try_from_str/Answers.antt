@@ -1,5 +1,5 @@
 use Rattle.std.proofs.Common.{◌≡◌, refl, length, take, length-take-le, take_at, take_all, ap, ◌∙◌, arith, chars}
-use Rattle.arraystring_base.specs.TextLaws.{size-lent}
+use Rattle.arraystring_base.proofs.TextLaws.{size-lent}
 use Rattle.arraystring_core.proofs.array_string.ArrayString.try_from_str.Goals as goal
 use Rattle.arraystring_core.proofs.array_string.ArrayString.try_from_str.Goals.{then-fits, else-fits}
 

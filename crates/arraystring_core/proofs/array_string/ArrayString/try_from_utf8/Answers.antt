@@ -1,6 +1,6 @@
 use Rattle.std.proofs.Common.{◌≡◌, ◌<◌, ◌≤◌, ◌∙◌, sym, ap, arith, rules, chars, length, refl}
 use Rattle.arraystring_base.specs.Text.{size, bytes, cap}
-use Rattle.arraystring_base.specs.TextLaws.{well_formed-utf8, utf8-well_formed, chars-bytes, bytes-chars, text-chars, size-lent}
+use Rattle.arraystring_base.proofs.TextLaws.{well_formed-utf8, utf8-well_formed, chars-bytes, bytes-chars, text-chars, size-lent}
 use Rattle.arraystring_core.proofs.array_string.ArrayString.try_from_utf8.Goals as goal
 
 pub returns-in_default-clause-whole : goal.returns-in_default-clause-whole

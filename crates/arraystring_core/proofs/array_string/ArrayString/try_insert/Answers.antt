@@ -1,9 +1,9 @@
 use Rattle.std.proofs.Common.{◌≡◌, ◌+◌, ◌<◌, ◌≤◌, ◌∷◌, [], ◌∙◌, sym, refl, arith, rules}
 use Rattle.std.proofs.lemmas.Bool.{le-ltb, lt-ltb}
 use Rattle.arraystring_base.specs.Text.{cap, size, width}
-use Rattle.arraystring_base.specs.TextLaws.{width-is}
+use Rattle.arraystring_base.proofs.TextLaws.{width-is}
 use Rattle.arraystring_core.specs.Edits.{Room, Inside}
-use Rattle.arraystring_core.specs.EditLaws.{inside-so, inside-not, refuses, makes}
+use Rattle.arraystring_core.proofs.EditLaws.{inside-so, inside-not, refuses, makes}
 use Rattle.arraystring_core.proofs.array_string.ArrayString.try_insert.Goals as goal
 
 pub returns-then-len-len_utf8 : goal.returns-then-len-len_utf8

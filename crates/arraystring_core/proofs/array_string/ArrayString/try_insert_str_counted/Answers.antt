@@ -1,9 +1,9 @@
 use Rattle.std.proofs.Common.{◌+◌, ◌-◌, ◌<◌, ◌≤◌, ◌∙◌, chars, sym, refl, arith, rules}
 use Rattle.std.proofs.lemmas.Bool.{le-ltb, lt-ltb}
 use Rattle.arraystring_base.specs.Text.{cap, size}
-use Rattle.arraystring_base.specs.TextLaws.{size-lent, empty-size}
+use Rattle.arraystring_base.proofs.TextLaws.{size-lent, empty-size}
 use Rattle.arraystring_core.specs.Edits.{Room, Inside}
-use Rattle.arraystring_core.specs.EditLaws.{inside-so, inside-not, refuses, makes}
+use Rattle.arraystring_core.proofs.EditLaws.{inside-so, inside-not, refuses, makes}
 use Rattle.arraystring_core.proofs.array_string.ArrayString.try_insert_str_counted.Goals as goal
 
 pub returns-then-len-string-clause-edit : goal.returns-then-len-string-clause-edit

@@ -1,9 +1,9 @@
 use Rattle.std.proofs.Common.{◌+◌, ◌≤◌, ◌∷◌, [], refl, arith, rules}
 use Rattle.arraystring_base.specs.Text.{cap, size, width}
-use Rattle.arraystring_base.specs.TextLaws.{width-bounds}
+use Rattle.arraystring_base.proofs.TextLaws.{width-bounds}
 use Rattle.arraystring_core.specs.Edits.{addition}
-use Rattle.arraystring_core.specs.EditLaws.{makes, addition-fits}
-use Rattle.arraystring_core.specs.StoredLaws.{opened-size}
+use Rattle.arraystring_core.proofs.EditLaws.{makes, addition-fits}
+use Rattle.arraystring_core.proofs.StoredLaws.{opened-size}
 use Rattle.arraystring_core.proofs.array_string.ArrayString.try_push.Goals as goal
 
 pub push_unchecked-requires : goal.push_unchecked-requires

@@ -1,9 +1,9 @@
 use Rattle.std.proofs.Common.{◌≡◌, ◌+◌, ◌<◌, ◌≤◌, ◌++◌, ◌∷◌, [], ◌∙◌, sym, ap, refl, true, arith, rules}
 use Rattle.arraystring_base.specs.Text.{cap, size, width, boundary, front, back}
-use Rattle.arraystring_base.specs.TextLaws.{width-is}
-use Rattle.arraystring_base.specs.BoundaryLaws.{boundary-end, front-end, back-end}
+use Rattle.arraystring_base.proofs.TextLaws.{width-is}
+use Rattle.arraystring_base.proofs.BoundaryLaws.{boundary-end, front-end, back-end}
 use Rattle.arraystring_core.specs.Edits.{Room, addition}
-use Rattle.arraystring_core.specs.EditLaws.{refuses, makes, addition-fits, addition-over}
+use Rattle.arraystring_core.proofs.EditLaws.{refuses, makes, addition-fits, addition-over}
 use Rattle.arraystring_core.proofs.array_string.ArrayString.try_push_near_end.Goals as goal
 
 pub returns-then-size-len : goal.returns-then-size-len

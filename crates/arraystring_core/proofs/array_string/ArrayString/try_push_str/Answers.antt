@@ -1,8 +1,8 @@
 use Rattle.std.proofs.Common.{◌+◌, ◌<◌, ◌≤◌, chars, refl, arith}
 use Rattle.arraystring_base.specs.Text.{size, cap}
-use Rattle.arraystring_base.specs.TextLaws.{size-lent}
+use Rattle.arraystring_base.proofs.TextLaws.{size-lent}
 use Rattle.arraystring_core.specs.Edits.{Room, addition}
-use Rattle.arraystring_core.specs.EditLaws.{refuses, makes, addition-fits, addition-over}
+use Rattle.arraystring_core.proofs.EditLaws.{refuses, makes, addition-fits, addition-over}
 use Rattle.arraystring_core.proofs.array_string.ArrayString.try_push_str.Goals as goal
 
 pub returns-then-size-string : goal.returns-then-size-string

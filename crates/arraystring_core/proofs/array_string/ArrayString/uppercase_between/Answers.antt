@@ -1,7 +1,7 @@
 use Rattle.std.proofs.Common.{◌+◌, ◌≤◌, arith, rules}
 use Rattle.std.specs.Char.{to_ascii_uppercase}
-use Rattle.arraystring_base.specs.BoundaryLaws.{boundary-within}
-use Rattle.arraystring_core.specs.StoredLaws.{opened-size}
+use Rattle.arraystring_base.proofs.BoundaryLaws.{boundary-within}
+use Rattle.arraystring_core.proofs.StoredLaws.{opened-size}
 use Rattle.arraystring_core.proofs.AsciiLemmas.{uppercase-change, changed-stored, changed-text}
 use Rattle.arraystring_core.proofs.array_string.ArrayString.uppercase_between.Goals as goal
 

@@ -1,5 +1,5 @@
 use Rattle.std.proofs.Common.{◌∙◌}
-use Rattle.arraystring_base.specs.TextLaws.{pointwise-bytes}
+use Rattle.arraystring_base.proofs.TextLaws.{pointwise-bytes}
 use Rattle.arraystring_core.proofs.array_string.ArrayStringPartialEq.eq.Goals as goal
 
 pub returns : goal.returns

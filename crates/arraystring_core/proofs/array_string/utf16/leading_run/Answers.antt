@@ -3,11 +3,11 @@ use Rattle.std.proofs.lemmas.List.{map-append}
 use Rattle.arraystring_base.specs.declared.utf16.Unit16.TheVariants.{Char}
 use Rattle.arraystring_base.specs.declared.error.OutOfBounds.{OutOfBounds}
 use Rattle.arraystring_base.specs.Text.{cap, size, width}
-use Rattle.arraystring_base.specs.TextLaws.{size-append}
+use Rattle.arraystring_base.proofs.TextLaws.{size-append}
 use Rattle.arraystring_base.specs.Utf16.{End, Fault, Full}
-use Rattle.arraystring_base.specs.Utf16Laws.{stop-is}
+use Rattle.arraystring_base.proofs.Utf16Laws.{stop-is}
 use Rattle.arraystring_core.specs.FromUtf16.{stop_at}
-use Rattle.arraystring_core.specs.EditLaws.{addition-ok, addition-err}
+use Rattle.arraystring_core.proofs.EditLaws.{addition-ok, addition-err}
 use Rattle.arraystring_core.proofs.array_string.utf16.leading_run.Goals as goal
 
 pub loop-item-preserved : goal.loop-item-preserved

@@ -1,7 +1,7 @@
 use Rattle.std.proofs.Common.{◌≤◌, refl, ap, ◌∙◌, arith, subst}
 use Rattle.arraystring_base.specs.Text.{bytes, size, cap, IsText}
-use Rattle.arraystring_base.specs.BoundaryLaws.{back-text}
-use Rattle.arraystring_core.specs.StoredLaws.{opened-text}
+use Rattle.arraystring_base.proofs.BoundaryLaws.{back-text}
+use Rattle.arraystring_core.proofs.StoredLaws.{opened-text}
 use Rattle.arraystring_core.proofs.DrainLemmas.{given-within, lent-utf8, lent-bytes, left-fits}
 use Rattle.arraystring_core.proofs.drain.Drain.as_str.Goals as goal
 

@@ -1,6 +1,6 @@
 use Rattle.std.proofs.Common.{[], refl, arith}
-use Rattle.arraystring_base.specs.BoundaryLaws.{boundary-is, back-start}
-use Rattle.arraystring_core.specs.StoredLaws.{stored-size}
+use Rattle.arraystring_base.proofs.BoundaryLaws.{boundary-is, back-start}
+use Rattle.arraystring_core.specs.GhostProofs.{stored-size}
 use Rattle.arraystring_core.proofs.drain.Drain.new.Goals as goal
 
 pub invariant_of-result : goal.invariant_of-result

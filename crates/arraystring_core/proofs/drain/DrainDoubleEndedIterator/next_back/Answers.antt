@@ -1,6 +1,6 @@
 use Rattle.std.proofs.Common.{◌<◌, ◌≤◌, ◌≡◌, [], ◌∷◌, ◌++◌, ◌+◌, sym, ap, ◌∙◌, arith}
 use Rattle.arraystring_base.specs.Text.{back}
-use Rattle.arraystring_base.specs.TextLaws.{chars-bytes}
+use Rattle.arraystring_base.proofs.TextLaws.{chars-bytes}
 use Rattle.arraystring_core.specs.Stored.{stored}
 use Rattle.arraystring_core.proofs.DrainLemmas.{given-within, none-left, pushed-length, last-held, last-given, last-rest, back-within, back-held, back-given, back-rest}
 use Rattle.arraystring_core.proofs.drain.DrainDoubleEndedIterator.next_back.Goals as goal

@@ -3,7 +3,7 @@ use Rattle.std.proofs.lemmas.List.{nil_from_length}
 use Rattle.std.proofs.lemmas.Str.{chars-nil}
 use Rattle.arraystring_base.specs.Text.{bytes}
 use Rattle.std.specs.Char.{encode_utf8}
-use Rattle.arraystring_base.specs.TextLaws.{chars-bytes}
+use Rattle.arraystring_base.proofs.TextLaws.{chars-bytes}
 use Rattle.arraystring_core.proofs.DrainLemmas.{given-within, none-left, first-given, first-rest, decoded-within, decoded-given, decoded-rest}
 use Rattle.arraystring_core.proofs.drain.DrainIterator.next.Goals as goal
 

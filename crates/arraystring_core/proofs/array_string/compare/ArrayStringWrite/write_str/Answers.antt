@@ -1,6 +1,6 @@
 use Rattle.std.proofs.Common.{◌++◌, ap, ◌∙◌, chars}
 use Rattle.arraystring_base.specs.Text.{bytes}
-use Rattle.arraystring_base.specs.TextLaws.{bytes-append, bytes-chars}
+use Rattle.arraystring_base.proofs.TextLaws.{bytes-append, bytes-chars}
 use Rattle.arraystring_core.proofs.array_string.compare.ArrayStringWrite.write_str.Goals as goal
 
 pub returns-in-Ok-clause-ok : goal.returns-in-Ok-clause-ok

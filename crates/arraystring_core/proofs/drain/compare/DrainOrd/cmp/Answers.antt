@@ -1,5 +1,5 @@
 use Rattle.std.proofs.Common.{◌∙◌}
-use Rattle.arraystring_base.specs.OrderLaws.{order-bytes, order-says}
+use Rattle.arraystring_base.proofs.OrderLaws.{order-bytes, order-says}
 use Rattle.arraystring_core.proofs.drain.compare.DrainOrd.cmp.Goals as goal
 
 pub returns : goal.returns

@@ -6,7 +6,7 @@ use Rattle.arraystring_base.specs.Text.{size, boundary}
 use Rattle.arraystring_base.specs.declared.error.Error.{Error}
 use Rattle.arraystring_base.specs.declared.error.Error.TheVariants.{Utf8, OutOfBounds}
 use Rattle.arraystring_core.specs.Edits.{Cause, Inside, Test, error_of, first_cause, past, inside}
-use Rattle.arraystring_core.specs.EditLaws.{inside-not, inside-so, inside-past}
+use Rattle.arraystring_core.proofs.EditLaws.{inside-not, inside-so, inside-past}
 
 -- the tests of a list in turn: none holds
 abbrev pub NoneHolds : List Test → Type 0

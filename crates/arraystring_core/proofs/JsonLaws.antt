@@ -1,8 +1,8 @@
 -- Laws of texts as JSON values.
 use Rattle.std.proofs.Common.{◌≡◌, ℕ, ◌≤◌, List, ap, ◌∙◌, Some, refl}
 use Rattle.arraystring_base.specs.Text.{IsText, size, bytes, cut}
-use Rattle.arraystring_base.specs.TextLaws.{bytes-utf8, chars-bytes}
-use Rattle.arraystring_base.specs.CutLaws.{cut-all}
+use Rattle.arraystring_base.proofs.TextLaws.{bytes-utf8, chars-bytes}
+use Rattle.arraystring_base.proofs.CutLaws.{cut-all}
 use Rattle.arraystring_core.specs.Json.{json_text, text_within}
 
 -- a text that fits is read back

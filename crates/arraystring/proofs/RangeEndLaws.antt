@@ -2,7 +2,7 @@
 use Rattle.std.proofs.Common.{ℕ}
 use Rattle.std.specs.declared.ops.Bound.{Bound}
 use Rattle.arraystring_core.specs.RangeEnds.{OfToldBounds}
-use Rattle.arraystring_core.specs.RangeEndLaws as law
+use Rattle.arraystring_core.proofs.RangeEndLaws as law
 
 -- a claim of the bounds that a range tells is one of its own bounds, where it has them
 pub at_own_bounds : {R : Type 0} {has : R → Type 0} {start_of end_of : R → Bound ℕ} {range : R} {claim : Bound ℕ → Bound ℕ → Type 0}

@@ -3,7 +3,7 @@ use Rattle.std.proofs.Common.{◌≡◌, ℕ, ◌+◌, ◌-◌, ◌<◌, ◌≤�
 use Rattle.std.proofs.lemmas.Bool.{le-leb, lt-leb, cases_lt}
 use Rattle.std.proofs.lemmas.List.{append-nil}
 use Rattle.arraystring_base.specs.Text.{width, size, bytes, cut, IsText, IsLeadingPart, IsLongestFitting}
-use Rattle.arraystring_base.specs.TextLaws.{size-lent, bytes-chars}
+use Rattle.arraystring_base.proofs.TextLaws.{size-lent, bytes-chars}
 
 -- p is the cut of p ++ q, where the first character of q would pass n
 pub cut-is : (p q : List ℕ) (n : ℕ) → size p ≤ n → ((c : ℕ) (es : List ℕ) → q ≡ c ∷ es → n < size p + width c)

@@ -2,8 +2,8 @@
 use Rattle.std.proofs.Common.{◌≡◌, ℕ, List, ap, ◌∙◌, refl, Option, Some, None, Result, Ok, Err}
 use Rattle.arraystring_base.specs.declared.error.Error.{Error}
 use Rattle.arraystring_core.specs.Edits.{Cause, Edit, Makes, error_of, ok_unless, first_cause, text_of, from_out_of_bounds, from_utf8_error}
-use Rattle.arraystring_core.specs.EditLaws.{Makes-text}
-use Rattle.arraystring.specs.TestLaws.{NoneHolds, FirstHolds, none-holds, first-holds}
+use Rattle.arraystring_core.proofs.EditLaws.{Makes-text}
+use Rattle.arraystring.proofs.TestLaws.{NoneHolds, FirstHolds, none-holds, first-holds}
 
 -- an `Ok` says that no test held, and gives the row's answer
 pub ok_unless-ok : {A : Type 0} {f : Option Cause} {answer given : A} → Ok given ≡ ok_unless f answer → (f ≡ None) × (given ≡ answer)

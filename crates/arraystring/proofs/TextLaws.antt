@@ -2,7 +2,7 @@
 use Rattle.std.proofs.Common.{◌≡◌, ℕ, ◌+◌, ◌≤◌, List, [], ◌++◌, length, IsUtf8, chars}
 use Rattle.std.specs.Char.{len_utf8, encode_utf8}
 use Rattle.arraystring_base.specs.Text.{IsText, IsWellFormed, width, utf8, size, bytes}
-use Rattle.arraystring_base.specs.TextLaws as law
+use Rattle.arraystring_base.proofs.TextLaws as law
 
 -- the size of two texts, one after the other, is the sum of theirs
 pub size-append : (a b : List ℕ) → size (a ++ b) ≡ size a + size b

@@ -2,8 +2,8 @@
 use Rattle.std.proofs.Common.{◌≡◌, ℕ, ◌-◌, ◌<◌, ◌≤◌, List, [], ◌++◌, ◌⊎◌, refl, ap, ◌∙◌, arith, inl, inr, Result, Ok, Err, subst}
 use Rattle.std.specs.Result.{IsErr}
 use Rattle.arraystring_base.specs.Text.{size, cut}
-use Rattle.arraystring_base.specs.TextLaws.{size-append}
-use Rattle.arraystring_base.specs.CutLaws.{cut-all}
+use Rattle.arraystring_base.proofs.TextLaws.{size-append}
+use Rattle.arraystring_base.proofs.CutLaws.{cut-all}
 use Rattle.arraystring_base.specs.declared.error.Error.{Error}
 use Rattle.arraystring_base.specs.declared.error.OutOfBounds.{OutOfBounds}
 use Rattle.arraystring_core.specs.Stored.{Stored}

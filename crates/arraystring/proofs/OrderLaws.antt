@@ -4,7 +4,7 @@ use Rattle.std.specs.Ordering.{nat_cmp, MatchOrdering}
 use Rattle.std.specs.Cmp.Lexicographic.{slice_cmp}
 use Rattle.std.specs.declared.cmp.Ordering.{Ordering}
 use Rattle.arraystring_base.specs.Text.{IsBefore}
-use Rattle.arraystring_base.specs.OrderLaws as law
+use Rattle.arraystring_base.proofs.OrderLaws as law
 
 -- what an answer of `cmp` says of the two texts
 pub order-says : (a b : List ℕ) (o : Ordering) → o ≡ slice_cmp nat_cmp a b → MatchOrdering o (IsBefore a b) (a ≡ b) (IsBefore b a)

@@ -6,7 +6,7 @@ use Rattle.std.proofs.lemmas.Bool.Decides.{nat_tests}
 use Rattle.std.specs.Char.{is_whitespace}
 use Rattle.std.specs.Prelude.{◌&&◌, ◌||◌, ◌==◌, nat_le, nat_lt}
 use Rattle.arraystring_base.specs.Text.{size, boundary}
-use Rattle.arraystring_base.specs.BoundaryLaws.{boundary-end}
+use Rattle.arraystring_base.proofs.BoundaryLaws.{boundary-end}
 use Rattle.arraystring_core.specs.Edits.{Cause, Room, Edit, Makes, first_cause, text_of, error_of, ok_unless, inside, addition, from_out_of_bounds, last_of, all_but_last, is_white_space}
 use Rattle.arraystring_base.specs.declared.error.Error.{Error}
 

@@ -9,12 +9,12 @@ use Rattle.std.proofs.iter.TextItems.{spells}
 use Rattle.std.proofs.lemmas.Str.{Chars-gives, encodes-chars}
 use Rattle.std.specs.Borrow.{Bor}
 use Rattle.arraystring_base.specs.Text.{size, bytes, cut}
-use Rattle.arraystring_base.specs.TextLaws.{size-append, bytes-append}
-use Rattle.arraystring_base.specs.CutLaws.{cut-past}
+use Rattle.arraystring_base.proofs.TextLaws.{size-append, bytes-append}
+use Rattle.arraystring_base.proofs.CutLaws.{cut-past}
 use Rattle.arraystring_base.specs.declared.error.Error.{Error}
 use Rattle.arraystring_core.specs.Stored.{Stored}
 use Rattle.arraystring_core.specs.Construct.{IsWholeOrRefused}
-use Rattle.arraystring_core.specs.ConstructLaws.{made-more}
+use Rattle.arraystring_core.proofs.ConstructLaws.{made-more}
 use Rattle.arraystring_core.specs.Taken.{joined, joined_pieces, piece_text, TakesAll, Takes, Fits, Gives}
 
 -- texts joined

@@ -3,9 +3,9 @@ use Rattle.std.proofs.Common.{◌≡◌, ℕ, ◌+◌, ◌-◌, ◌≤◌, ◌�
 use Rattle.std.proofs.lemmas.Bool.{le-leb, leb-true, and_parts}
 use Rattle.std.specs.Prelude.{nat_le, ◌&&◌}
 use Rattle.arraystring_base.specs.Text.{IsText, IsLeadingPart, width, size, bytes, front, back, boundary}
-use Rattle.arraystring_base.specs.TextLaws.{size-append}
-use Rattle.arraystring_base.specs.CutLaws.{cut-cut}
-use Rattle.arraystring_base.specs.BoundaryLaws as law
+use Rattle.arraystring_base.proofs.TextLaws.{size-append}
+use Rattle.arraystring_base.proofs.CutLaws.{cut-cut}
+use Rattle.arraystring_base.proofs.BoundaryLaws as law
 use Rattle.arraystring_core.specs.Edits.{part, part_in}
 
 -- the parts before and from a place are the text

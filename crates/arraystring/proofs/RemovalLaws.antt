@@ -6,14 +6,14 @@ use Rattle.std.proofs.lemmas.Bool.{lt-ltb, le-ltb, lt-leb, le-leb, leb-false, le
 use Rattle.std.specs.Prelude.{slice_index}
 use Rattle.std.specs.Char.{to_ascii_uppercase, to_ascii_lowercase}
 use Rattle.arraystring_base.specs.Text.{size, front, back, boundary}
-use Rattle.arraystring_base.specs.TextLaws.{width-bounds}
-use Rattle.arraystring_base.specs.BoundaryLaws.{back-size, boundary-within}
+use Rattle.arraystring_base.proofs.TextLaws.{width-bounds}
+use Rattle.arraystring_base.proofs.BoundaryLaws.{back-size, boundary-within}
 use Rattle.arraystring_base.specs.declared.error.Error.{Error}
 use Rattle.arraystring_base.specs.declared.error.Error.TheVariants.{Utf8, OutOfBounds}
 use Rattle.arraystring_core.specs.Edits.{Cause, Past, Inside, Makes, error_of, popping, truncation, trimming, removal, clearing, split, uppercase, lowercase, last_of, all_but_last, without_leading, without_trailing}
-use Rattle.arraystring_core.specs.EditLaws.{inside-not, inside-so}
-use Rattle.arraystring.specs.TestLaws.{FirstHolds, past-failed, inside-failed, inside-held, inside-fails, place-held}
-use Rattle.arraystring.specs.EditLaws.{edit-made, edit-makes, edit-refuses, edit-none_held, edit-first_held}
+use Rattle.arraystring_core.proofs.EditLaws.{inside-not, inside-so}
+use Rattle.arraystring.proofs.TestLaws.{FirstHolds, past-failed, inside-failed, inside-held, inside-fails, place-held}
+use Rattle.arraystring.proofs.EditLaws.{edit-made, edit-makes, edit-refuses, edit-none_held, edit-first_held}
 
 -- the last character of a text
 last-of : (t : List ℕ) (c : ℕ) → Some c ≡ last_of t → t ≡ all_but_last t ++ c ∷ []

@@ -8,7 +8,7 @@ use Rattle.std.proofs.iter.Yields.{copies, fronts}
 use Rattle.std.proofs.iter.TextItems.{spells}
 use Rattle.arraystring_base.specs.Text.{size, bytes}
 use Rattle.arraystring_core.specs.Taken.{Fits, Gives, joined, joined_pieces, piece_text}
-use Rattle.arraystring_core.specs.TakenLaws as law
+use Rattle.arraystring_core.proofs.TakenLaws as law
 
 -- `chars` of a `&str` gives its characters
 pub text-gives : (s it : Chars) (bs : List ℕ) → IsUtf8 bs → s.rest.now ≡ bs → it ≡ s → AlwaysYields spells (λ c. c) it (chars bs)

@@ -1,7 +1,7 @@
 -- Laws of cuts.
 use Rattle.std.proofs.Common.{◌≡◌, ℕ, ◌-◌, ◌<◌, ◌≤◌, List, ◌++◌}
 use Rattle.arraystring_base.specs.Text.{size, cut, IsText, IsLongestFitting}
-use Rattle.arraystring_base.specs.CutLaws as law
+use Rattle.arraystring_base.proofs.CutLaws as law
 
 -- the cut of a text that fits is the text
 pub cut-all : {t : List ℕ} {n : ℕ} → size t ≤ n → cut t n ≡ t

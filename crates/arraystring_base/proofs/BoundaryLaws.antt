@@ -5,8 +5,8 @@ use Rattle.std.proofs.lemmas.Bool.Decides.{same_from_decides}
 use Rattle.std.proofs.lemmas.List.{append-nil, drop_at}
 use Rattle.std.proofs.lemmas.Str.{chars-append, IsUtf8-take, IsUtf8-past_char, IsCharBoundary-start, IsCharBoundary-from_rest, cons_from_encodes}
 use Rattle.arraystring_base.specs.Text.{IsText, width, utf8, size, bytes, front, back, boundary, IsLeadingPart}
-use Rattle.arraystring_base.specs.TextLaws.{size-is, size-append, width-bounds, length-utf8, utf8-is, bytes-chars, bytes-is, bytes-append}
-use Rattle.arraystring_base.specs.CutLaws.{cut-is, cut-cut}
+use Rattle.arraystring_base.proofs.TextLaws.{size-is, size-append, width-bounds, length-utf8, utf8-is, bytes-chars, bytes-is, bytes-append}
+use Rattle.arraystring_base.proofs.CutLaws.{cut-is, cut-cut}
 
 -- the two parts are the text
 pub front-back : (t : List ℕ) (i : ℕ) → front t i ++ back t i ≡ t

@@ -4,14 +4,14 @@
 use Rattle.std.proofs.Common.{◌≡◌, ℕ, ◌+◌, ◌-◌, ◌<◌, ◌≤◌, ◌⊎◌, List, [], ◌++◌, ap, sym, ◌∙◌, arith, true, false, inl, inr, refl, Result, Ok, Err}
 use Rattle.std.proofs.lemmas.Bool.{lt-ltb, le-ltb, ltb-true, ltb-false, both_ways}
 use Rattle.arraystring_base.specs.Text.{size, cut, front, back, boundary}
-use Rattle.arraystring_base.specs.CutLaws.{cut-all, cut-past_part}
-use Rattle.arraystring_base.specs.BoundaryLaws.{boundary-within, front-start, back-start, boundary-is}
+use Rattle.arraystring_base.proofs.CutLaws.{cut-all, cut-past_part}
+use Rattle.arraystring_base.proofs.BoundaryLaws.{boundary-within, front-start, back-start, boundary-is}
 use Rattle.arraystring_base.specs.declared.error.Error.{Error}
 use Rattle.arraystring_base.specs.declared.error.Error.TheVariants.{Utf8, OutOfBounds}
 use Rattle.arraystring_core.specs.Edits.{Cause, Past, Room, Inside, Makes, error_of, past, addition, addition_of_cut, insertion, insertion_of_cut}
-use Rattle.arraystring_core.specs.EditLaws.{inside-not, inside-so}
-use Rattle.arraystring.specs.TestLaws.{FirstHolds, past-failed, past-held, inside-failed, inside-held, place-held}
-use Rattle.arraystring.specs.EditLaws.{edit-makes, edit-refuses, edit-none_held, edit-first_held}
+use Rattle.arraystring_core.proofs.EditLaws.{inside-not, inside-so}
+use Rattle.arraystring.proofs.TestLaws.{FirstHolds, past-failed, past-held, inside-failed, inside-held, place-held}
+use Rattle.arraystring.proofs.EditLaws.{edit-makes, edit-refuses, edit-none_held, edit-first_held}
 
 -- `given` is added at the end
 module _ {t : List ℕ} (given : List ℕ) (n : ℕ) {new : List ℕ} where

@@ -1,0 +1,19 @@
+-- The proof that a ghost member of `Error` cites.
+use Rattle.std.specs.Prelude.{◌≡◌, true}
+use Rattle.std.proofs.Common.{true≢false, refl, sym}
+use Rattle.arraystring_base.specs.declared.error.Error.{Error}
+use Rattle.arraystring_base.specs.declared.error.Error.TheVariants.{Utf8, Utf16, OutOfBounds}
+use Rattle.arraystring_base.specs.contracts.error.ErrorPartialEq.TheImpl.{ghosts}
+use Rattle.arraystring_base.specs.Names.{error_name}
+
+-- equal errors have one name
+pub same_names : (a b : Error) → ghosts.eq a b ≡ true → error_name a ≡ error_name b
+same_names Utf8 Utf8 e = refl
+same_names Utf8 Utf16 e = absurd (true≢false (sym e))
+same_names Utf8 OutOfBounds e = absurd (true≢false (sym e))
+same_names Utf16 Utf8 e = absurd (true≢false (sym e))
+same_names Utf16 Utf16 e = refl
+same_names Utf16 OutOfBounds e = absurd (true≢false (sym e))
+same_names OutOfBounds Utf8 e = absurd (true≢false (sym e))
+same_names OutOfBounds Utf16 e = absurd (true≢false (sym e))
+same_names OutOfBounds OutOfBounds e = refl

@@ -1,0 +1,51 @@
+-- The proofs that ghost members of `ArrayString` and `Drain` cite: a value that a contract sees gives the fields back.
+use Rattle.std.proofs.Common.{◌≡◌, ℕ, ◌+◌, List, ◌++◌, length, take, drop, ap, ◌∙◌, arith, IsUtf8, length-take-le, length-drop, take-append-drop, take_at}
+use Rattle.std.proofs.lemmas.List.{drop_at}
+use Rattle.std.proofs.lemmas.Str.{IsUtf8-had}
+use Rattle.arraystring_base.specs.Text.{size, bytes}
+use Rattle.arraystring_base.proofs.TextLaws.{size-is, bytes-chars}
+use Rattle.arraystring_base.proofs.BoundaryLaws.{front-back, front-size}
+use Rattle.arraystring_core.specs.Stored.{Stored, stored, IsStored, array_of}
+use Rattle.arraystring_core.specs.Drained.{drained, IsDrained, removed_of}
+
+-- the text, and the array, of a string
+module _ (places : ℕ) (array : List ℕ) (start n : ℕ) (is : IsStored places array start n) where
+  pub stored-utf8 : IsUtf8 (take n (drop start array))
+  stored-utf8 = IsUtf8-had _ is.2
+
+  pub stored-bytes : bytes (stored array start n).text ≡ take n (drop start array)
+  stored-bytes = bytes-chars (take n (drop start array)) stored-utf8
+
+  pub stored-size : size (stored array start n).text ≡ n
+  stored-size =
+      size-is (stored array start n).text ∙ ap length stored-bytes
+      ∙ length-take-le n (drop start array) (omega (arith, is.0, is.1, length-drop start array))
+
+  pub stored-all : array_of (stored array start n) ≡ array
+  stored-all =
+      let front = take start array in
+      let back = drop n (drop start array) in
+      let long : length front ≡ start = length-take-le start array (omega (arith, is.0, is.1)) in
+      ap (λ f. f ++ (bytes (stored array start n).text ++ drop start (front ++ back))) (take_at front back start long)
+      ∙ ap (λ d. front ++ (bytes (stored array start n).text ++ d)) (drop_at front back start long)
+      ∙ ap (λ b. front ++ (b ++ back)) stored-bytes
+      ∙ ap (λ d. front ++ d) (take-append-drop n (drop start array)) ∙ take-append-drop start array
+
+-- the removed text, and what was given of it
+module _ (places : ℕ) (removed : Stored) (i : ℕ) (is : IsDrained places removed i) where
+  drained-removed : removed_of (drained removed i) ≡ removed
+  drained-removed = ap with_spare (front-back removed.text i)
+    where
+      with_spare : List ℕ → Stored
+      with_spare t = record { text = t; spare = removed.spare }
+
+  pub drained-front : size (drained removed i).yielded ≡ i
+  drained-front = front-size removed.text i is.at
+
+-- and where it lies: the n bytes of the array from `start` on
+module _ (places : ℕ) (array : List ℕ) (start n i : ℕ) (held : IsStored places array start n) (is : IsDrained places (stored array start n) i) where
+  pub drained-array : array_of (removed_of (drained (stored array start n) i)) ≡ array
+  drained-array = ap array_of (drained-removed places (stored array start n) i is) ∙ stored-all places array start n held
+
+  pub drained-size : size (removed_of (drained (stored array start n) i)).text ≡ n
+  drained-size = ap (λ r. size r.text) (drained-removed places (stored array start n) i is) ∙ stored-size places array start n held
