@@ -4,8 +4,8 @@ use Rattle.std.proofs.lemmas.Bool.{le-leb, leb-true, and_parts}
 use Rattle.std.specs.Prelude.{nat_le, ◌&&◌}
 use Rattle.arraystring_base.specs.Text.{IsText, IsLeadingPart, width, size, bytes, front, back, boundary}
 use Rattle.arraystring_base.proofs.TextLaws.{size-append}
-use Rattle.arraystring_base.proofs.CutLaws.{cut-cut}
 use Rattle.arraystring_base.proofs.BoundaryLaws as law
+use Rattle.arraystring_core.proofs.PartLaws as part_law
 use Rattle.arraystring_core.specs.Edits.{part, part_in}
 
 -- the parts before and from a place are the text
@@ -91,13 +91,9 @@ part-all t = ap (λ l. back l 0) (law.front-end t) ∙ law.back-start t
 
 -- the part between two boundaries
 module _ (t : List ℕ) (start end : ℕ) (order : start ≤ end) where
-  -- the parts before, between and after are the text
+  -- what is before a part, the part and what is after it are the text
   pub part-joined : front t start ++ (part t start end ++ back t end) ≡ t
-  part-joined =
-      let f = front t end in
-      ap (λ l. l ++ (part t start end ++ back t end)) (sym (cut-cut t end start order))
-      ∙ sym (append_assoc (front f start) (part t start end) (back t end))
-      ∙ ap (λ l. l ++ back t end) (law.front-back f start) ∙ law.front-back t end
+  part-joined = part_law.part-joined t start end order
 
   -- a boundary of the text is one of what is before the end
   pub boundary-in_front : boundary t start ≡ true → boundary (front t end) start ≡ true
@@ -105,12 +101,11 @@ module _ (t : List ℕ) (start end : ℕ) (order : start ≤ end) where
 
   -- the part has as many bytes as lie between its ends
   pub part-size : boundary t start ≡ true → boundary t end ≡ true → size (part t start end) ≡ end - start
-  part-size starts ends =
-      law.back-size (front t end) start (boundary-in_front starts) ∙ ap (λ k. k - start) (law.front-size t end ends)
+  part-size = part_law.part-size t start end order
 
   -- a range between two boundaries has its part
   pub part_in-some : boundary t start ≡ true → boundary t end ≡ true → part_in t start end ≡ Some (part t start end)
-  part_in-some starts ends = rw (le-leb start end order, starts, ends) refl
+  part_in-some = part_law.part_in-some t start end order
 
 -- a range that has a part is in order and lies between two boundaries
 pub part_in-found : (t : List ℕ) (start end : ℕ) {found : List ℕ} → part_in t start end ≡ Some found

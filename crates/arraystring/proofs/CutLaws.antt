@@ -5,7 +5,7 @@ use Rattle.arraystring_base.proofs.CutLaws as law
 
 -- the cut of a text that fits is the text
 pub cut-all : {t : List ℕ} {n : ℕ} → size t ≤ n → cut t n ≡ t
-cut-all {t} {n} fits = law.cut-all t n fits
+cut-all fits = law.cut-all fits
 
 -- the cut fits
 pub cut-fits : (t : List ℕ) (n : ℕ) → size (cut t n) ≤ n
@@ -13,7 +13,7 @@ cut-fits = law.cut-fits
 
 -- the cut of a longer cut is the cut
 pub cut-cut : (t : List ℕ) {m n : ℕ} → n ≤ m → cut (cut t m) n ≡ cut t n
-cut-cut t {m} {n} less = law.cut-cut t m n less
+cut-cut = law.cut-cut
 
 -- a leading part that fits stays whole in the cut
 pub cut-past_part : (p q : List ℕ) (n : ℕ) → size p ≤ n → cut (p ++ q) n ≡ p ++ cut q (n - size p)
@@ -29,7 +29,7 @@ cut-is_longest = law.cut-is_longest
 
 -- and no other text is so
 pub longest-is_cut : {t p : List ℕ} {n : ℕ} → IsLongestFitting p t n → p ≡ cut t n
-longest-is_cut {t} {p} {n} is = law.longest-is_cut t p n is
+longest-is_cut is = law.longest-is_cut is
 
 -- the cut of a text of scalar values is one
 pub text-cut : (t : List ℕ) (n : ℕ) → IsText t → IsText (cut t n)

@@ -1,9 +1,8 @@
 -- Laws of any edit, by its row of the table (specs/Edits).
-use Rattle.std.proofs.Common.{◌≡◌, ℕ, List, ap, ◌∙◌, refl, Option, Some, None, Result, Ok, Err}
+use Rattle.std.proofs.Common.{◌≡◌, ℕ, List, ap, subst, ◌∙◌, refl, Option, Some, None, Result, Ok, Err}
 use Rattle.arraystring_base.specs.declared.error.Error.{Error}
-use Rattle.arraystring_core.specs.Edits.{Cause, Edit, Makes, error_of, ok_unless, first_cause, text_of, from_out_of_bounds, from_utf8_error}
-use Rattle.arraystring_core.proofs.EditLaws.{Makes-text}
-use Rattle.arraystring.proofs.TestLaws.{NoneHolds, FirstHolds, none-holds, first-holds}
+use Rattle.arraystring_core.specs.Edits.{Cause, Edit, Makes, NoneHolds, FirstHolds, error_of, ok_unless, first_cause, text_of, from_out_of_bounds, from_utf8_error}
+use Rattle.arraystring.proofs.TestLaws.{none-holds, first-holds}
 
 -- an `Ok` says that no test held, and gives the row's answer
 pub ok_unless-ok : {A : Type 0} {f : Option Cause} {answer given : A} → Ok given ≡ ok_unless f answer → (f ≡ None) × (given ≡ answer)
@@ -25,6 +24,12 @@ out_of_bounds-ok {result = Err error} e = absurd (cc)
 pub utf8_error-ok : {A E : Type 0} {result : Result A E} {answer : A} → from_utf8_error result ≡ Ok answer → result ≡ Ok answer
 utf8_error-ok {result = Ok given} e = ap Ok (cc)
 utf8_error-ok {result = Err error} e = absurd (cc)
+
+-- what an edit leaves, where its first cause is known
+left_by : {A : Type 0} (edit : Edit A) (t new : List ℕ) (f : Option Cause) → first_cause edit.tests ≡ f
+    → Makes edit t (ok_unless f edit.answer) new → new ≡ text_of edit t
+left_by edit t new None e m = rw e m.ok
+left_by edit t new (Some cause) e m = rw e m.err
 
 -- any edit, by its row
 module _ {A : Type 0} {edit : Edit A} {t new : List ℕ} where
@@ -49,7 +54,7 @@ module _ {A : Type 0} {edit : Edit A} {t new : List ℕ} {result : Result A Erro
 
   -- the text after, whatever was answered
   pub edit-text : Makes edit t result new → new ≡ text_of edit t
-  edit-text m = Makes-text edit t result new m
+  edit-text m = left_by edit t new (first_cause edit.tests) refl (subst (λ x. Makes edit t x new) m.answer m)
 
 module _ {A : Type 0} {edit : Edit A} {t new : List ℕ} where
   -- an `Ok` says that no test held

@@ -7,9 +7,9 @@ use Rattle.arraystring_base.specs.Text.{size, front, back, boundary}
 use Rattle.arraystring_base.proofs.BoundaryLaws.{boundary-within}
 use Rattle.arraystring_base.specs.declared.error.Error.{Error}
 use Rattle.arraystring_base.specs.declared.error.Error.TheVariants.{Utf8, OutOfBounds}
-use Rattle.arraystring_core.specs.Edits.{Cause, Past, Room, Inside, Makes, error_of, crossed, part, draining, replacement}
+use Rattle.arraystring_core.specs.Edits.{Cause, Past, Room, Inside, Makes, FirstHolds, error_of, crossed, part, draining, replacement}
 use Rattle.arraystring_core.proofs.EditLaws.{inside-not}
-use Rattle.arraystring.proofs.TestLaws.{FirstHolds, past-failed, past-held, inside-failed, inside-held, ends-held}
+use Rattle.arraystring.proofs.TestLaws.{past-failed, past-held, inside-failed, inside-held, ends-held}
 use Rattle.arraystring.proofs.EditLaws.{edit-made, edit-makes, edit-refuses, edit-none_held, edit-first_held}
 
 -- the part from `start` to `end` is taken out, and is the answer

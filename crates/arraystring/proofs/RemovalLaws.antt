@@ -10,9 +10,9 @@ use Rattle.arraystring_base.proofs.TextLaws.{width-bounds}
 use Rattle.arraystring_base.proofs.BoundaryLaws.{back-size, boundary-within}
 use Rattle.arraystring_base.specs.declared.error.Error.{Error}
 use Rattle.arraystring_base.specs.declared.error.Error.TheVariants.{Utf8, OutOfBounds}
-use Rattle.arraystring_core.specs.Edits.{Cause, Past, Inside, Makes, error_of, popping, truncation, trimming, removal, clearing, split, uppercase, lowercase, last_of, all_but_last, without_leading, without_trailing}
+use Rattle.arraystring_core.specs.Edits.{Cause, Past, Inside, Makes, FirstHolds, error_of, popping, truncation, trimming, removal, clearing, split, uppercase, lowercase, last_of, all_but_last, without_leading, without_trailing}
 use Rattle.arraystring_core.proofs.EditLaws.{inside-not, inside-so}
-use Rattle.arraystring.proofs.TestLaws.{FirstHolds, past-failed, inside-failed, inside-held, inside-fails, place-held}
+use Rattle.arraystring.proofs.TestLaws.{past-failed, inside-failed, inside-held, inside-fails, place-held}
 use Rattle.arraystring.proofs.EditLaws.{edit-made, edit-makes, edit-refuses, edit-none_held, edit-first_held}
 
 -- the last character of a text

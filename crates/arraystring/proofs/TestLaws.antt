@@ -1,32 +1,17 @@
 -- Laws of the tests that an edit makes in turn (specs/Edits).
 use Rattle.std.proofs.Common.{◌≡◌, ℕ, ◌<◌, ◌≤◌, ◌⊎◌, List, [], ◌∷◌, ap, ◌∙◌, arith, true, false, Bool, inl, inr, refl, Some, None, if◌then◌else◌}
-use Rattle.std.proofs.lemmas.Bool.{ltb-true, ltb-false, and_parts, cases_lt, both_ways}
-use Rattle.std.specs.Prelude.{⊤, not, nat_lt}
+use Rattle.std.proofs.lemmas.Bool.{ltb-true, ltb-false, and_parts, cases_lt}
+use Rattle.std.specs.Prelude.{not, nat_lt}
 use Rattle.arraystring_base.specs.Text.{size, boundary}
 use Rattle.arraystring_base.specs.declared.error.Error.{Error}
 use Rattle.arraystring_base.specs.declared.error.Error.TheVariants.{Utf8, OutOfBounds}
-use Rattle.arraystring_core.specs.Edits.{Cause, Inside, Test, error_of, first_cause, past, inside}
+use Rattle.arraystring_core.specs.Edits.{Cause, Inside, Test, NoneHolds, FirstHolds, error_of, first_cause, past, inside}
 use Rattle.arraystring_core.proofs.EditLaws.{inside-not, inside-so, inside-past}
-
--- the tests of a list in turn: none holds
-abbrev pub NoneHolds : List Test → Type 0
-NoneHolds [] = ⊤
-NoneHolds (test ∷ rest) = (test.holds ≡ false) × NoneHolds rest
-
--- one is the first that holds
-abbrev pub FirstHolds : List Test → Cause → Type 0
-FirstHolds [] found = ⊥
-FirstHolds (test ∷ rest) found = ((test.holds ≡ true) × (found ≡ test.cause)) ⊎ ((test.holds ≡ false) × FirstHolds rest found)
+use Rattle.arraystring_core.proofs.EditLaws as law
 
 -- where no cause is found, none of the tests holds
 pub none-holds : (tests : List Test) → first_cause tests ≡ None → NoneHolds tests
-none-holds [] e = tt
-none-holds (test ∷ rest) e = go test.holds e (none-holds rest)
-  where
-    go : (b : Bool) → (if b then Some test.cause else first_cause rest) ≡ None → (first_cause rest ≡ None → NoneHolds rest)
-        → (b ≡ false) × NoneHolds rest
-    go true e more = absurd (cc)
-    go false e more = (refl, more e)
+none-holds = law.none-holds
 
 -- where a cause is found, it is that of the first that holds
 pub first-holds : (tests : List Test) (found : Cause) → first_cause tests ≡ Some found → FirstHolds tests found
@@ -48,11 +33,7 @@ past-held t i = ltb-true (size t) i
 
 -- an index in the text that is not inside a character is a boundary
 pub inside-failed : (t : List ℕ) (i : ℕ) → i ≤ size t → (inside t i).holds ≡ false → boundary t i ≡ true
-inside-failed t i within out = go (boundary t i) refl
-  where
-    go : (b : Bool) → boundary t i ≡ b → boundary t i ≡ true
-    go true e = e
-    go false e = absurd (both_ways (inside t i).holds out (inside-so t i within e))
+inside-failed = law.inside-failed
 
 -- an index inside a character is no boundary
 pub inside-held : (t : List ℕ) (i : ℕ) → (inside t i).holds ≡ true → (i < size t) × (boundary t i ≡ false)

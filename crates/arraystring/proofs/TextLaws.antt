@@ -18,27 +18,27 @@ size-is = law.size-is
 
 -- only the empty text has size 0
 pub empty-size : {t : List ℕ} → size t ≡ 0 → t ≡ []
-empty-size {t} none = law.empty-size t none
+empty-size none = law.empty-size none
 
 -- bytes spell one text
 pub bytes_same : {a b : List ℕ} → bytes a ≡ bytes b → a ≡ b
-bytes_same {a} {b} same = law.bytes_same a b same
+bytes_same same = law.bytes_same same
 
 -- the bytes of the characters of UTF-8 are that UTF-8
 pub bytes-chars : {bs : List ℕ} → IsUtf8 bs → bytes (chars bs) ≡ bs
-bytes-chars {bs} spelled = law.bytes-chars bs spelled
+bytes-chars spelled = law.bytes-chars spelled
 
 -- the characters of the bytes of a text are the text
 pub chars-bytes : {bs t : List ℕ} → IsUtf8 bs → bs ≡ bytes t → chars bs ≡ t
-chars-bytes {bs} {t} spelled is = law.chars-bytes bs t spelled is
+chars-bytes spelled is = law.chars-bytes spelled is
 
 -- a `&str` is as long as the text that it borrows is large
 pub size-lent : {bs : List ℕ} → IsUtf8 bs → size (chars bs) ≡ length bs
-size-lent {bs} spelled = law.size-lent bs spelled
+size-lent spelled = law.size-lent spelled
 
 -- the characters of UTF-8 are scalar values
 pub text-chars : {bs : List ℕ} → IsUtf8 bs → IsText (chars bs)
-text-chars {bs} spelled = law.text-chars bs spelled
+text-chars spelled = law.text-chars spelled
 
 -- the bytes of a text are what std takes for UTF-8
 pub bytes-utf8 : (t : List ℕ) → IsText t → IsUtf8 (bytes t)
@@ -46,11 +46,11 @@ bytes-utf8 = law.bytes-utf8
 
 -- well-formed bytes are what std takes for UTF-8
 pub well_formed-utf8 : {bs : List ℕ} → IsWellFormed bs → IsUtf8 bs
-well_formed-utf8 {bs} well = law.well_formed-utf8 bs well
+well_formed-utf8 well = law.well_formed-utf8 well
 
 -- and the other way round
 pub utf8-well_formed : {bs : List ℕ} → IsUtf8 bs → IsWellFormed bs
-utf8-well_formed {bs} spelled = law.utf8-well_formed bs spelled
+utf8-well_formed spelled = law.utf8-well_formed spelled
 
 -- a character takes one to four bytes
 pub width-bounds : (c : ℕ) → (1 ≤ width c) × (width c ≤ 4)

@@ -92,7 +92,7 @@ boundary-to_bytes (c ∷ cs) bs i u e b =
           subst (λ k. IsCharBoundary bs k) sum (IsCharBoundary-from_rest bs (width c) (i - width c) (omega arith) (rw rest part))
     ]
 
-pub boundary-from_bytes : (bs : List ℕ) (i : ℕ) → IsUtf8 bs → IsCharBoundary bs i → boundary (chars bs) i ≡ true
+boundary-from_bytes : (bs : List ℕ) (i : ℕ) → IsUtf8 bs → IsCharBoundary bs i → boundary (chars bs) i ≡ true
 boundary-from_bytes bs i u b =
     let p = take i bs in
     let q = drop i bs in
@@ -100,14 +100,14 @@ boundary-from_bytes bs i u b =
     let parts : chars bs ≡ chars p ++ chars q = ap chars (sym (take-append-drop i bs)) ∙ chars-append p q pu in
     let within : i ≤ length bs = b.0 in
     let long : size (chars p) ≡ i =
-    size-is (chars p) ∙ ap length (bytes-chars p pu) ∙ length-take-le i bs within in
+    size-is (chars p) ∙ ap length (bytes-chars pu) ∙ length-take-le i bs within in
     ap (λ t. boundary t i) parts ∙ boundary-is (chars p) (chars q) i long
 
 pub boundary-bytes : (bs : List ℕ) (i : ℕ) (r : Bool) → IsUtf8 bs → ((r ≡ true) ↔ IsCharBoundary bs i)
     → r ≡ boundary (chars bs) i
 boundary-bytes bs i r u is =
     same_from_decides {P = IsCharBoundary bs i} r (boundary (chars bs) i) is
-    (boundary-to_bytes (chars bs) bs i u (bytes-chars bs u), boundary-from_bytes bs i u)
+    (boundary-to_bytes (chars bs) bs i u (bytes-chars u), boundary-from_bytes bs i u)
 
 -- the character that begins at a boundary
 module _ (t : List ℕ) (i : ℕ) (b : boundary t i ≡ true) where
@@ -131,7 +131,7 @@ module _ (t : List ℕ) (i : ℕ) (b : boundary t i ≡ true) where
 -- the part between two boundaries
 pub boundary-in_front : (t : List ℕ) (start end : ℕ) → start ≤ end → boundary t start ≡ true
     → boundary (front t end) start ≡ true
-boundary-in_front t start end le b = ap (λ l. eqb (size l) start) (cut-cut t end start le) ∙ b
+boundary-in_front t start end le b = ap (λ l. eqb (size l) start) (cut-cut t le) ∙ b
 
 pub bytes-part : (t : List ℕ) (start end : ℕ) → start ≤ end → boundary t start ≡ true → boundary t end ≡ true
     → drop start (take end (bytes t)) ≡ bytes (back (front t end) start)

@@ -16,13 +16,13 @@ cut-is (c ∷ p) q n le wide =
     (ap (λ l. c ∷ l) (cut-is p q (n - width c) (omega arith) (λ d es e. omega (arith, wide d es e))))
 
 -- a text that fits is its cut
-pub cut-all : (t : List ℕ) (n : ℕ) → size t ≤ n → cut t n ≡ t
-cut-all t n le = ap (λ l. cut l n) (sym (append-nil t)) ∙ cut-is t [] n le (λ c es e. cc)
+pub cut-all : {t : List ℕ} {n : ℕ} → size t ≤ n → cut t n ≡ t
+cut-all {t} {n} le = ap (λ l. cut l n) (sym (append-nil t)) ∙ cut-is t [] n le (λ c es e. cc)
 
 pub cut-lent : (bs : List ℕ) (n : ℕ) → IsUtf8 bs → length bs ≤ n → bs ≡ bytes (cut (chars bs) n)
 cut-lent bs n u le =
-    let fits : size (chars bs) ≤ n = omega (arith, size-lent bs u) in
-    sym (ap bytes (cut-all (chars bs) n fits) ∙ bytes-chars bs u)
+    let fits : size (chars bs) ≤ n = omega (arith, size-lent u) in
+    sym (ap bytes (cut-all fits) ∙ bytes-chars u)
 
 -- the cut takes at most n bytes
 pub cut-fits : (t : List ℕ) (n : ℕ) → size (cut t n) ≤ n
@@ -43,9 +43,9 @@ text-cut (c ∷ cs) n is =
     ]
 
 -- a cut of a longer cut is the cut
-pub cut-cut : (t : List ℕ) (m n : ℕ) → n ≤ m → cut (cut t m) n ≡ cut t n
-cut-cut [] m n le = refl
-cut-cut (c ∷ cs) m n le =
+pub cut-cut : (t : List ℕ) {m n : ℕ} → n ≤ m → cut (cut t m) n ≡ cut t n
+cut-cut [] le = refl
+cut-cut (c ∷ cs) {m} {n} le =
     elim (cases_lt m (width c)) [
       | inl over ↦
           let past : n < width c = omega arith in rw (lt-leb (width c) m over, lt-leb (width c) n past)
@@ -54,7 +54,7 @@ cut-cut (c ∷ cs) m n le =
           (elim (cases_lt n (width c)) [
             | inl past ↦ rw (lt-leb (width c) n past)
             | inr within ↦
-                rw (le-leb (width c) n within) (ap (λ l. c ∷ l) (cut-cut cs (m - width c) (n - width c) (omega arith)))
+                rw (le-leb (width c) n within) (ap (λ l. c ∷ l) (cut-cut cs (omega arith)))
           ])
     ]
 
@@ -103,6 +103,6 @@ parts-same p q over under =
 pub cut-is_longest : (t : List ℕ) (n : ℕ) → IsLongestFitting (cut t n) t n
 cut-is_longest t n = record { leads = cut-leads t n; fits = cut-fits t n; longest = cut-longest t n }
 
-pub longest-is_cut : (t p : List ℕ) (n : ℕ) → IsLongestFitting p t n → p ≡ cut t n
-longest-is_cut t p n is =
+pub longest-is_cut : {t p : List ℕ} {n : ℕ} → IsLongestFitting p t n → p ≡ cut t n
+longest-is_cut {t} {p} {n} is =
     parts-same p (cut t n) (cut-longest t n p is.leads is.fits) (is.longest (cut t n) (cut-leads t n) (cut-fits t n))

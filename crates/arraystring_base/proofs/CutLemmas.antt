@@ -19,10 +19,10 @@ cut-at bs n m u b le lt nearest =
     let parts : chars bs ≡ chars p ++ chars q =
     ap chars (sym (take-append-drop m bs)) ∙ chars-append p q pu in
     let long : size (chars p) ≡ m =
-    size-is (chars p) ∙ ap length (bytes-chars p pu) ∙ length-take-le m bs within in
+    size-is (chars p) ∙ ap length (bytes-chars pu) ∙ length-take-le m bs within in
     let wide : (c : ℕ) (es : List ℕ) → chars q ≡ c ∷ es → n < size (chars p) + width c =
     λ c es e.
-    let head : q ≡ utf8 c ++ bytes es = sym (bytes-chars q qu) ∙ ap bytes e in
+    let head : q ≡ utf8 c ++ bytes es = sym (bytes-chars qu) ∙ ap bytes e in
     let next = boundary-past_char bs (bytes es) m c within qu head in
     elim (cases_lt n (m + width c)) [
       | inl over ↦ omega (arith, over)
@@ -30,7 +30,7 @@ cut-at bs n m u b le lt nearest =
     ] in
     let is : cut (chars bs) n ≡ chars p =
     ap (λ l. cut l n) parts ∙ cut-is (chars p) (chars q) n (omega arith) wide in
-    sym (ap bytes is ∙ bytes-chars p pu)
+    sym (ap bytes is ∙ bytes-chars pu)
 
 near-by : (cs bs : List ℕ) (n : ℕ) → IsUtf8 bs → bytes cs ≡ bs → n < length bs
     → (m : ℕ) × (m ≤ n) × (n < m + 4) × IsCharBoundary bs m
@@ -53,4 +53,4 @@ near-by (c ∷ cs) bs n u e lt =
 -- a boundary is at most three bytes back
 pub near-boundary : (bs : List ℕ) (n : ℕ) → IsUtf8 bs → n < length bs
     → (m : ℕ) × (m ≤ n) × (n < m + 4) × IsCharBoundary bs m
-near-boundary bs n u lt = near-by (chars bs) bs n u (bytes-chars bs u) lt
+near-boundary bs n u lt = near-by (chars bs) bs n u (bytes-chars u) lt

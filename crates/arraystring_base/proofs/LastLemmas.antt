@@ -1,11 +1,11 @@
 -- The last character of a text, by the bytes at its end.
 use Rattle.std.proofs.Common.{◌≡◌, ℕ, ◌+◌, ◌-◌, ◌*◌, ◌/◌, ◌%◌, ◌<◌, ◌≤◌, ◌⊎◌, List, [], ◌∷◌, ◌++◌, length, get_or, refl, sym, ap, ◌∙◌, subst, arith, IsUtf8, chars, inl, inr, length-append}
 use Rattle.std.specs.Char.{IsScalar}
-use Rattle.std.proofs.lemmas.Bool.{cases_lt, lt-ltb, le-ltb}
+use Rattle.std.proofs.lemmas.Bool.{cases_lt}
 use Rattle.std.proofs.lemmas.List.{append-nil, get_or-append-add, nil_from_length}
 use Rattle.std.proofs.lemmas.Str.{chars-nil}
 use Rattle.arraystring_base.specs.Text.{IsScalarValue, IsText, utf8, size, bytes}
-use Rattle.arraystring_base.proofs.TextLaws.{width-bounds, bytes-append, bytes-chars, size-is, text-chars, scalar-is}
+use Rattle.arraystring_base.proofs.TextLaws.{utf8-one, utf8-two, utf8-three, utf8-four, width-bounds, bytes-append, bytes-chars, size-is, text-chars, scalar-is}
 
 -- no bytes are no characters
 pub chars_empty : (bs : List ℕ) → length bs ≡ 0 → chars bs ≡ []
@@ -40,27 +40,6 @@ EndsWithFour bs m c =
 
 abbrev EndsWith : List ℕ → ℕ → ℕ → Type 0
 EndsWith bs m c = EndsWithOne bs m c ⊎ (EndsWithTwo bs m c ⊎ (EndsWithThree bs m c ⊎ EndsWithFour bs m c))
-
-utf8-one : (c : ℕ) → c < 0x80 → utf8 c ≡ c ∷ []
-unfolding utf8
-utf8-one c lt = rw (lt-ltb c 0x80 lt) refl
-
-utf8-two : (c : ℕ) → 0x80 ≤ c → c < 0x800 → utf8 c ≡ (0xC0 + c / 64) ∷ (0x80 + c % 64) ∷ []
-unfolding utf8
-utf8-two c ge lt = rw (le-ltb c 0x80 ge, lt-ltb c 0x800 lt) refl
-
-utf8-three : (c : ℕ) → 0x800 ≤ c → c < 0x1_0000 → utf8 c ≡ (0xE0 + c / 4096) ∷ (0x80 + c / 64 % 64) ∷ (0x80 + c % 64) ∷ []
-unfolding utf8
-utf8-three c ge lt =
-    let past : 0x80 ≤ c = omega arith in rw (le-ltb c 0x80 past, le-ltb c 0x800 ge, lt-ltb c 0x1_0000 lt) refl
-
-utf8-four : (c : ℕ) → 0x1_0000 ≤ c
-    → utf8 c ≡ (0xF0 + c / 262144) ∷ (0x80 + c / 4096 % 64) ∷ (0x80 + c / 64 % 64) ∷ (0x80 + c % 64) ∷ []
-unfolding utf8
-utf8-four c ge =
-    let past : 0x80 ≤ c = omega arith in
-    let over : 0x800 ≤ c = omega arith in
-    rw (le-ltb c 0x80 past, le-ltb c 0x800 over, le-ltb c 0x1_0000 ge) refl
 
 ends-with : (xs : List ℕ) (c : ℕ) → c < 0x11_0000 → EndsWith (xs ++ utf8 c) (length xs) c
 ends-with xs c top = elim (cases_lt c 0x80) [
@@ -112,11 +91,11 @@ record Last (bs : List ℕ) : Type 0 where
 
 last-of : (bs : List ℕ) → IsUtf8 bs → 0 < length bs → Last bs
 last-of bs u some =
-    let whole = bytes-chars bs u in
+    let whole = bytes-chars u in
     let parts = last-split (chars bs) (omega (arith, size-is (chars bs), ap length whole)) in
     let front = parts.0 in
     let c = parts.1 in
-    let scalar = last-text front c (subst IsText parts.2 (text-chars bs u)) in
+    let scalar = last-text front c (subst IsText parts.2 (text-chars u)) in
     let shown : bs ≡ bytes front ++ utf8 c =
     sym whole ∙ ap bytes parts.2 ∙ bytes-append front (c ∷ []) ∙ ap (λ l. bytes front ++ l) (append-nil (utf8 c)) in
     record {

@@ -1,12 +1,13 @@
 -- Laws of order: the order of the bytes of two texts is that of their characters.
 use Rattle.std.proofs.Common.{◌≡◌, ℕ, ◌+◌, ◌/◌, ◌<◌, ◌≤◌, List, [], ◌∷◌, ◌++◌, ◌⊎◌, ◌↔◌, refl, sym, ap, ◌∙◌, arith, inl, inr, Ordering, Less, Equal, Greater, true≢false}
 use Rattle.std.proofs.lemmas.List.{append-nil}
-use Rattle.std.proofs.lemmas.Bool.{cases_lt, lt-ltb, le-ltb}
+use Rattle.std.proofs.lemmas.Bool.{cases_lt}
 use Rattle.std.proofs.lemmas.Cmp.{nat_list_cmp_total, tied_itself}
 use Rattle.std.specs.Cmp.{nat_cmp_is}
 use Rattle.std.specs.Cmp.Lexicographic.{slice_cmp, bytes_decides, texts_ties}
 use Rattle.std.specs.Ordering.{nat_cmp, ordering_then, ordering_reverse, is_eq, is_lt, MatchOrdering}
 use Rattle.arraystring_base.specs.Text.{utf8, continuation, bytes, IsBefore}
+use Rattle.arraystring_base.proofs.TextLaws.{utf8-one, utf8-two, utf8-three, utf8-four}
 
 -- a lower number first decides; where the first are the same, the rest decides
 less-first : (x y : ℕ) (xs ys : List ℕ) → x < y → slice_cmp nat_cmp (x ∷ xs) (y ∷ ys) ≡ Less
@@ -18,23 +19,6 @@ same-first x y xs ys e = ap (λ o. ordering_then o (slice_cmp nat_cmp xs ys)) (s
 same-start : (p xs ys : List ℕ) → slice_cmp nat_cmp (p ++ xs) (p ++ ys) ≡ slice_cmp nat_cmp xs ys
 same-start [] xs ys = refl
 same-start (x ∷ p) xs ys = same-first x x (p ++ xs) (p ++ ys) refl ∙ same-start p xs ys
-
--- the bytes of a character, by their number
-utf8-one : (c : ℕ) → c < 0x80 → utf8 c ≡ c ∷ []
-unfolding utf8
-utf8-one c lt = rw (lt-ltb c 0x80 lt) refl
-
-utf8-two : (c : ℕ) → 0x80 ≤ c → c < 0x800 → utf8 c ≡ (0xC0 + c / 64) ∷ continuation c ∷ []
-unfolding utf8
-utf8-two c le lt = rw (le-ltb c 0x80 le, lt-ltb c 0x800 lt) refl
-
-utf8-three : (c : ℕ) → 0x800 ≤ c → c < 0x1_0000 → utf8 c ≡ (0xE0 + c / 4096) ∷ continuation (c / 64) ∷ continuation c ∷ []
-unfolding utf8
-utf8-three c le lt = rw (le-ltb c 0x80 (omega arith), le-ltb c 0x800 le, lt-ltb c 0x1_0000 lt) refl
-
-utf8-four : (c : ℕ) → 0x1_0000 ≤ c → utf8 c ≡ (0xF0 + c / 262144) ∷ continuation (c / 4096) ∷ continuation (c / 64) ∷ continuation c ∷ []
-unfolding utf8
-utf8-four c le = rw (le-ltb c 0x80 (omega arith), le-ltb c 0x800 (omega arith), le-ltb c 0x1_0000 le) refl
 
 -- the last bytes of two characters, the one lower than the other
 module _ (c d : ℕ) (xs ys : List ℕ) (lt : c < d) where

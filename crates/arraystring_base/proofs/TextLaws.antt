@@ -1,12 +1,12 @@
 -- Laws of texts and their bytes.
-use Rattle.std.proofs.Common.{◌≡◌, ℕ, ◌+◌, ◌≤◌, List, [], ◌∷◌, ◌++◌, length, drop, refl, sym, ap, ◌∙◌, arith, IsUtf8, IsCharBoundary, chars, nat_eq, encode_utf8_all, true, inl, inr, length-append, append_assoc}
+use Rattle.std.proofs.Common.{◌≡◌, ℕ, ◌+◌, ◌/◌, ◌<◌, ◌≤◌, List, [], ◌∷◌, ◌++◌, length, drop, refl, sym, ap, ◌∙◌, arith, IsUtf8, IsCharBoundary, chars, nat_eq, encode_utf8_all, true, inl, inr, length-append, append_assoc}
 use Rattle.std.proofs.lemmas.Bool.{and_parts, lt-ltb, le-ltb, le-leb}
 use Rattle.std.proofs.lemmas.Bool.Decides.{same_from_decides}
 use Rattle.std.proofs.lemmas.Str.{encodes-chars, encodes_same, length-encode, len_utf8_bounds, IsCharBoundary-past_char, scalars-chars}
 use Rattle.std.proofs.Math.Utf8.{scalars, scalar, scalar_cases}
 use Rattle.std.specs.Char.{len_utf8, encode_utf8}
 use Rattle.std.specs.Cmp.Lexicographic.{pointwise, bytes_decides}
-use Rattle.arraystring_base.specs.Text.{IsScalarValue, IsText, IsWellFormed, width, utf8, size, bytes}
+use Rattle.arraystring_base.specs.Text.{IsScalarValue, IsText, IsWellFormed, width, utf8, continuation, size, bytes}
 
 -- UTF-8 as std has it
 pub width-is : (c : ℕ) → width c ≡ len_utf8 c
@@ -27,6 +27,23 @@ length-utf8 c = ap length (utf8-is c) ∙ length-encode c ∙ sym (width-is c)
 pub width-bounds : (c : ℕ) → (1 ≤ width c) × (width c ≤ 4)
 width-bounds c = rw width-is (len_utf8_bounds c)
 
+-- the bytes of a character, by its number
+pub utf8-one : (c : ℕ) → c < 0x80 → utf8 c ≡ c ∷ []
+unfolding utf8
+utf8-one c lt = rw (lt-ltb c 0x80 lt) refl
+
+pub utf8-two : (c : ℕ) → 0x80 ≤ c → c < 0x800 → utf8 c ≡ (0xC0 + c / 64) ∷ continuation c ∷ []
+unfolding utf8
+utf8-two c le lt = rw (le-ltb c 0x80 le, lt-ltb c 0x800 lt) refl
+
+pub utf8-three : (c : ℕ) → 0x800 ≤ c → c < 0x1_0000 → utf8 c ≡ (0xE0 + c / 4096) ∷ continuation (c / 64) ∷ continuation c ∷ []
+unfolding utf8
+utf8-three c le lt = rw (le-ltb c 0x80 (omega arith), le-ltb c 0x800 le, lt-ltb c 0x1_0000 lt) refl
+
+pub utf8-four : (c : ℕ) → 0x1_0000 ≤ c → utf8 c ≡ (0xF0 + c / 262144) ∷ continuation (c / 4096) ∷ continuation (c / 64) ∷ continuation c ∷ []
+unfolding utf8
+utf8-four c le = rw (le-ltb c 0x80 (omega arith), le-ltb c 0x800 (omega arith), le-ltb c 0x1_0000 le) refl
+
 -- two texts, one after the other
 pub size-append : (a b : List ℕ) → size (a ++ b) ≡ size a + size b
 size-append [] b = omega arith
@@ -42,22 +59,22 @@ size-is [] = refl
 size-is (c ∷ cs) = omega (arith, length-utf8 c, size-is cs, length-append (utf8 c) (bytes cs))
 
 -- only the empty text takes no byte
-pub empty-size : (t : List ℕ) → size t ≡ 0 → t ≡ []
-empty-size [] e = refl
-empty-size (c ∷ cs) e = absurd (omega (arith, width-bounds c))
+pub empty-size : {t : List ℕ} → size t ≡ 0 → t ≡ []
+empty-size {t = []} e = refl
+empty-size {t = c ∷ cs} e = absurd (omega (arith, width-bounds c))
 
 -- bytes that are UTF-8 are those of their characters, and of no other text
-pub bytes-chars : (bs : List ℕ) → IsUtf8 bs → bytes (chars bs) ≡ bs
-bytes-chars bs u = bytes-is (chars bs) ∙ encodes-chars bs u
+pub bytes-chars : {bs : List ℕ} → IsUtf8 bs → bytes (chars bs) ≡ bs
+bytes-chars {bs} u = bytes-is (chars bs) ∙ encodes-chars bs u
 
-pub bytes_same : (a b : List ℕ) → bytes a ≡ bytes b → a ≡ b
-bytes_same a b e = encodes_same a b (sym (bytes-is a) ∙ e ∙ bytes-is b)
+pub bytes_same : {a b : List ℕ} → bytes a ≡ bytes b → a ≡ b
+bytes_same {a} {b} e = encodes_same a b (sym (bytes-is a) ∙ e ∙ bytes-is b)
 
-pub chars-bytes : (bs t : List ℕ) → IsUtf8 bs → bs ≡ bytes t → chars bs ≡ t
-chars-bytes bs t u e = bytes_same (chars bs) t (bytes-chars bs u ∙ e)
+pub chars-bytes : {bs t : List ℕ} → IsUtf8 bs → bs ≡ bytes t → chars bs ≡ t
+chars-bytes u e = bytes_same (bytes-chars u ∙ e)
 
-pub size-lent : (bs : List ℕ) → IsUtf8 bs → size (chars bs) ≡ length bs
-size-lent bs u = size-is (chars bs) ∙ ap length (bytes-chars bs u)
+pub size-lent : {bs : List ℕ} → IsUtf8 bs → size (chars bs) ≡ length bs
+size-lent {bs} u = size-is (chars bs) ∙ ap length (bytes-chars u)
 
 -- where a character ends, the next begins
 pub boundary-past_char : (bs rest : List ℕ) (i c : ℕ) → i ≤ length bs → IsUtf8 (drop i bs)
@@ -70,7 +87,7 @@ pub pointwise-bytes : (a b : List ℕ) → pointwise nat_eq (bytes a) (bytes b) 
 pointwise-bytes a b =
     let by_text = bytes_decides a b in
     let by_bytes = bytes_decides (bytes a) (bytes b) in
-    same_from_decides {P = a ≡ b} _ _ (λ e. bytes_same a b (by_bytes.0 e), λ e. by_bytes.1 (ap bytes e)) by_text
+    same_from_decides {P = a ≡ b} _ _ (λ e. bytes_same (by_bytes.0 e), λ e. by_bytes.1 (ap bytes e)) by_text
 
 -- std's tests of characters
 pub scalar-is : (c : ℕ) → IsScalarValue c → scalar c ≡ true
@@ -78,7 +95,7 @@ scalar-is c (inl lt) = rw (lt-ltb c 55296 lt) refl
 scalar-is c (inr (le, lt)) =
     let past : 55296 ≤ c = omega arith in rw (le-ltb c 55296 past, le-leb 57344 c le, lt-ltb c 1114112 lt) refl
 
-pub scalars-is : (t : List ℕ) → IsText t → scalars t ≡ true
+scalars-is : (t : List ℕ) → IsText t → scalars t ≡ true
 scalars-is [] is = refl
 scalars-is (c ∷ cs) is = rw (scalar-is c is.0, scalars-is cs is.1) refl
 
@@ -87,15 +104,15 @@ text-is [] is = tt
 text-is (c ∷ cs) is = let both = and_parts (scalar c) (scalars cs) is in (scalar_cases c both.0, text-is cs both.1)
 
 -- the characters of UTF-8 are scalar values, and the bytes of a text are UTF-8
-pub text-chars : (bs : List ℕ) → IsUtf8 bs → IsText (chars bs)
-text-chars bs u = text-is (chars bs) (scalars-chars bs u)
+pub text-chars : {bs : List ℕ} → IsUtf8 bs → IsText (chars bs)
+text-chars {bs} u = text-is (chars bs) (scalars-chars bs u)
 
 pub bytes-utf8 : (t : List ℕ) → IsText t → IsUtf8 (bytes t)
 bytes-utf8 t is = (t, (scalars-is t is, sym (bytes-is t)))
 
 -- well-formed bytes are those that std takes
-pub well_formed-utf8 : (bs : List ℕ) → IsWellFormed bs → IsUtf8 bs
-well_formed-utf8 bs well = rw (← well.1.1) (bytes-utf8 well.0 well.1.0)
+pub well_formed-utf8 : {bs : List ℕ} → IsWellFormed bs → IsUtf8 bs
+well_formed-utf8 well = rw (← well.1.1) (bytes-utf8 well.0 well.1.0)
 
-pub utf8-well_formed : (bs : List ℕ) → IsUtf8 bs → IsWellFormed bs
-utf8-well_formed bs u = (chars bs, (text-chars bs u, bytes-chars bs u))
+pub utf8-well_formed : {bs : List ℕ} → IsUtf8 bs → IsWellFormed bs
+utf8-well_formed {bs} u = (chars bs, (text-chars u, bytes-chars u))

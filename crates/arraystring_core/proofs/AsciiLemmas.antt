@@ -78,7 +78,7 @@ module _ (f : ℕ → ℕ) (is : IsAsciiChange f) where
   changed-utf8 t s = rw (← bytes-change t) (bytes-utf8 (map f t) (text-change t s))
 
   pub changed-chars : (t : List ℕ) → IsText t → chars (map f (bytes t)) ≡ map f t
-  changed-chars t s = chars-bytes (map f (bytes t)) (map f t) (changed-utf8 t s) (sym (bytes-change t))
+  changed-chars t s = chars-bytes (changed-utf8 t s) (sym (bytes-change t))
 
 -- the bytes from start to end of the text that stands from p on are changed
 module _ (f : ℕ → ℕ) (is : IsAsciiChange f) (places : ℕ) (array : List ℕ) (p n : ℕ) (held : IsStored places array p n) (v : Stored)

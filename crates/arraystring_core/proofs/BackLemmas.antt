@@ -1,34 +1,12 @@
 -- A replacement that is taken back.
-use Rattle.std.proofs.Common.{◌≡◌, ℕ, ◌+◌, ◌-◌, ◌≤◌, List, [], ◌∷◌, ◌++◌, refl, sym, ap, ◌∙◌, arith, true, false, inl, inr, Bool, Option, Some, None, append_assoc, if◌then◌else◌}
-use Rattle.std.proofs.lemmas.Bool.{le-ltb, ltb-false, cases_Bool, both_ways}
+use Rattle.std.proofs.Common.{◌≡◌, ℕ, ◌+◌, ◌-◌, ◌≤◌, List, ◌++◌, sym, ap, ◌∙◌, arith, true, None, append_assoc}
+use Rattle.std.proofs.lemmas.Bool.{le-ltb, ltb-false}
 use Rattle.arraystring_base.specs.Text.{size, front, back, boundary}
 use Rattle.arraystring_base.proofs.TextLaws.{size-append}
-use Rattle.arraystring_base.proofs.CutLaws.{cut-cut}
-use Rattle.arraystring_base.proofs.BoundaryLaws.{front-size, front-back, front-is, back-is, back-size, boundary-is}
-use Rattle.arraystring_core.specs.Edits.{Test, Cause, first_cause, inside, part, replacement}
-use Rattle.arraystring_core.proofs.EditLaws.{inside-so, inside-not}
-
--- where no cause is found, no test holds
-abbrev NoneHolds : List Test → Type 0
-NoneHolds [] = Unit {0}
-NoneHolds (test ∷ rest) = (test.holds ≡ false) × NoneHolds rest
-
-chosen_none : (b : Bool) (cause : Cause) (rest : Option Cause) → (if b then Some cause else rest) ≡ None → (b ≡ false) × (rest ≡ None)
-chosen_none true cause rest e = absurd cc
-chosen_none false cause rest e = (refl, e)
-
-none_holds : (tests : List Test) → first_cause tests ≡ None → NoneHolds tests
-none_holds [] e = tt
-none_holds (test ∷ rest) e =
-    let both = chosen_none test.holds test.cause (first_cause rest) e in (both.0, none_holds rest both.1)
-
--- a place in the text that is not inside a character is a boundary
-outside-boundary : (t : List ℕ) (i : ℕ) → i ≤ size t → (inside t i).holds ≡ false → boundary t i ≡ true
-outside-boundary t i le out =
-    elim (cases_Bool (boundary t i)) [
-      | inl is ↦ is
-      | inr isnt ↦ absurd (both_ways (inside t i).holds out (inside-so t i le isnt))
-    ]
+use Rattle.arraystring_base.proofs.BoundaryLaws.{front-size, front-is, back-is, back-size, boundary-is}
+use Rattle.arraystring_core.specs.Edits.{first_cause, part, replacement}
+use Rattle.arraystring_core.proofs.EditLaws.{none-holds, inside-failed, inside-not}
+use Rattle.arraystring_core.proofs.PartLaws.{part-joined, part-size}
 
 -- what is known where a replacement has no cause
 record IsAllowed (t : List ℕ) (start end : ℕ) (given : List ℕ) (n : ℕ) : Type 0 where
@@ -41,15 +19,15 @@ record IsAllowed (t : List ℕ) (start end : ℕ) (given : List ℕ) (n : ℕ) :
 allowed-where : (t given : List ℕ) (start end n : ℕ) → first_cause (replacement t start end given n).tests ≡ None
     → IsAllowed t start end given n
 allowed-where t given start end n e =
-    let none = none_holds (replacement t start end given n).tests e in
+    let none = none-holds (replacement t start end given n).tests e in
     let le : start ≤ end = ltb-false end start none.0 in
     let reached : end ≤ size t = ltb-false (size t) end none.1.0 in
     record {
       order = le;
       within = reached;
       room = ltb-false n (size t - (end - start) + size given) none.1.1.0;
-      starts = outside-boundary t start (omega arith) none.1.1.1.0;
-      ends = outside-boundary t end reached none.1.1.1.1.0;
+      starts = inside-failed t start (omega arith) none.1.1.1.0;
+      ends = inside-failed t end reached none.1.1.1.1.0;
     }
 
 none-where : (t given : List ℕ) (start end n : ℕ) → IsAllowed t start end given n
@@ -68,15 +46,6 @@ module _ (t given : List ℕ) (start end n : ℕ) (is : IsAllowed t start end gi
   reached : size (front t start ++ given) ≡ start + size given
   reached = omega (arith, size-append (front t start) given, before)
 
-  -- the part that was taken out
-  part-joined : front t start ++ part t start end ≡ front t end
-  part-joined =
-      ap (λ l. l ++ part t start end) (sym (cut-cut t end start is.order)) ∙ front-back (front t end) start
-
-  part-size : size (part t start end) ≡ end - start
-  part-size =
-      omega (arith, size-append (front t start) (part t start end), ap size part-joined, before, front-size t end is.ends)
-
   after-size : size (front t start ++ (given ++ back t end)) ≡ size t - (end - start) + size given
   after-size =
       omega (arith, size-append (front t start) (given ++ back t end), size-append given (back t end), before, back-size t end is.ends, is.order, is.within)
@@ -85,20 +54,19 @@ module _ (t given : List ℕ) (start end n : ℕ) (is : IsAllowed t start end gi
   back-allowed le = record {
     order = omega arith;
     within = omega (arith, after-size, is.order, is.within);
-    room = omega (arith, after-size, part-size, is.order, is.within);
+    room = omega (arith, after-size, part-size t start end is.order is.starts is.ends, is.order, is.within);
     starts = boundary-is (front t start) (given ++ back t end) start before;
     ends = ap (λ l. boundary l (start + size given)) split_behind ∙ boundary-is (front t start ++ given) (back t end) (start + size given) reached;
   }
 
-  back-text : front (front t start ++ (given ++ back t end)) start ++ (part t start end ++ back (front t start ++ (given ++ back t end)) (start + size given)) ≡ t
-  back-text =
+  text-again : front (front t start ++ (given ++ back t end)) start ++ (part t start end ++ back (front t start ++ (given ++ back t end)) (start + size given)) ≡ t
+  text-again =
       let first = front-is (front t start) (given ++ back t end) start before in
       let last : back (front t start ++ (given ++ back t end)) (start + size given) ≡ back t end =
       ap (λ l. back l (start + size given)) split_behind ∙ back-is (front t start ++ given) (back t end) (start + size given) reached in
       ap (λ f. f ++ (part t start end ++ back (front t start ++ (given ++ back t end)) (start + size given))) first
       ∙ ap (λ l. front t start ++ (part t start end ++ l)) last
-      ∙ sym (append_assoc (front t start) (part t start end) (back t end))
-      ∙ ap (λ l. l ++ back t end) part-joined ∙ front-back t end
+      ∙ part-joined t start end is.order
 
 pub replaced-allowed : (t given : List ℕ) (start end n : ℕ) → size t ≤ n → first_cause (replacement t start end given n).tests ≡ None
     → first_cause (replacement (replacement t start end given n).after start (start + size given) (part t start end) n).tests ≡ None
@@ -108,4 +76,4 @@ replaced-allowed t given start end n le e =
 
 pub replaced-text : (t given : List ℕ) (start end n : ℕ) → first_cause (replacement t start end given n).tests ≡ None
     → (replacement (replacement t start end given n).after start (start + size given) (part t start end) n).after ≡ t
-replaced-text t given start end n e = back-text t given start end n (allowed-where t given start end n e)
+replaced-text t given start end n e = text-again t given start end n (allowed-where t given start end n e)

@@ -31,4 +31,4 @@ module _ (old t : List ℕ) (n : ℕ) (empty : old ≡ []) where
   fresh-cut new e = e ∙ ap (λ l. l ++ cut t (n - size old)) empty ∙ ap (cut t) fresh-room
 
   pub fresh-whole : (new : List ℕ) → size t ≤ n - size old → new ≡ old ++ cut t (n - size old) → (size t ≤ n) × (new ≡ t)
-  fresh-whole new le e = let fits : size t ≤ n = omega (arith, le, fresh-room) in (fits, fresh-cut new e ∙ cut-all t n fits)
+  fresh-whole new le e = let fits : size t ≤ n = omega (arith, le, fresh-room) in (fits, fresh-cut new e ∙ cut-all fits)

@@ -139,7 +139,7 @@ module _ (places : ℕ) (array : List ℕ) (p n i : ℕ) (held : IsStored places
   left-fits = omega (arith, left-size, held.0)
 
   pub none-left : n ≤ i → left ≡ []
-  none-left past = empty-size left (omega (arith, left-size))
+  none-left past = empty-size (omega (arith, left-size))
 
   some-left : i < n → left ≢ []
   some-left some none = absurd (omega (arith, some, left-size, ap size none))
@@ -155,10 +155,10 @@ module _ (places : ℕ) (array : List ℕ) (p n i : ℕ) (held : IsStored places
   -- where what is left is known by its bytes, and by those after its first character
   module _ (bs : List ℕ) (u : IsUtf8 bs) (shown : bs ≡ bytes left) (c : ℕ) (rest : List ℕ) (v : IsUtf8 rest) (begins : bs ≡ encode_utf8 c ++ rest) where
     begun : left ≡ c ∷ chars rest
-    begun = sym (chars-bytes bs left u shown) ∙ chars_past_char bs rest c u begins
+    begun = sym (chars-bytes u shown) ∙ chars_past_char bs rest c u begins
 
     stepped : i + width c + length rest ≡ n
-    stepped = omega (arith, given-within, left-size, ap size begun, size-lent rest v)
+    stepped = omega (arith, given-within, left-size, ap size begun, size-lent v)
 
     next : i + width c ≡ n - length rest
     next = omega (arith, stepped)

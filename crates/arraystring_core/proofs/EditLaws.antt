@@ -1,14 +1,15 @@
 -- Laws of edits: when a cause holds, and what an edit then does.
-use Rattle.std.proofs.Common.{◌≡◌, ℕ, ◌+◌, ◌<◌, ◌≤◌, List, [], ◌∷◌, ◌++◌, ap, ◌∙◌, arith, suc, true, false, inl, inr, refl, sym, subst, Option, Some, None, Result, Ok, Err}
+use Rattle.std.proofs.Common.{◌≡◌, ℕ, ◌+◌, ◌<◌, ◌≤◌, List, [], ◌∷◌, ◌++◌, ap, ◌∙◌, arith, suc, true, false, inl, inr, refl, sym, Some, None, Result, Ok, Err}
 use Rattle.std.proofs.lemmas.Bool.{cases_lt, lt-ltb, le-ltb, and_right, both_ways}
 use Rattle.std.proofs.Math.Bool.{or_assoc, or-false}
 use Rattle.std.proofs.lemmas.Bool.Decides.{nat_tests}
 use Rattle.std.specs.Char.{is_whitespace}
-use Rattle.std.specs.Prelude.{◌&&◌, ◌||◌, ◌==◌, nat_le, nat_lt}
+use Rattle.std.specs.Prelude.{Bool, if◌then◌else◌, ◌&&◌, ◌||◌, ◌==◌, nat_le, nat_lt}
 use Rattle.arraystring_base.specs.Text.{size, boundary}
 use Rattle.arraystring_base.proofs.BoundaryLaws.{boundary-end}
-use Rattle.arraystring_core.specs.Edits.{Cause, Room, Edit, Makes, first_cause, text_of, error_of, ok_unless, inside, addition, from_out_of_bounds, last_of, all_but_last, is_white_space}
+use Rattle.arraystring_core.specs.Edits.{Cause, Room, Test, Edit, Makes, NoneHolds, first_cause, error_of, ok_unless, inside, addition, last_of, all_but_last, is_white_space}
 use Rattle.arraystring_base.specs.declared.error.Error.{Error}
+use Rattle.arraystring_base.specs.declared.error.Error.TheVariants.{OutOfBounds}
 
 -- an edit with a cause, and one without
 module _ {A : Type 0} (edit : Edit A) (t : List ℕ) where
@@ -19,20 +20,15 @@ module _ {A : Type 0} (edit : Edit A) (t : List ℕ) where
       → Makes edit t (Ok answer) new
   makes answer new e a n = record { answer = ap Ok a ∙ ap (λ f. ok_unless f edit.answer) (sym e); ok = n; err = tt }
 
--- where no cause holds, the edit is made
-pub Makes-done : {A : Type 0} (edit : Edit A) (t : List ℕ) (r : Result A Error) (new : List ℕ) → first_cause edit.tests ≡ None
-    → Makes edit t r new → (r ≡ Ok edit.answer) × (new ≡ edit.after)
-Makes-done edit t r new none m =
-    let is = m.answer ∙ ap (λ f. ok_unless f edit.answer) none in (is, rw is at m.ok)
-
--- what it leaves, as one equation
-left_by : {A : Type 0} (edit : Edit A) (t new : List ℕ) (f : Option Cause) → first_cause edit.tests ≡ f
-    → Makes edit t (ok_unless f edit.answer) new → new ≡ text_of edit t
-left_by edit t new None e m = rw e m.ok
-left_by edit t new (Some cause) e m = rw e m.err
-
-pub Makes-text : {A : Type 0} (edit : Edit A) (t : List ℕ) (r : Result A Error) (new : List ℕ) → Makes edit t r new → new ≡ text_of edit t
-Makes-text edit t r new m = left_by edit t new (first_cause edit.tests) refl (subst (λ x. Makes edit t x new) m.answer m)
+-- where no cause is found, none of the tests holds
+pub none-holds : (tests : List Test) → first_cause tests ≡ None → NoneHolds tests
+none-holds [] e = tt
+none-holds (test ∷ rest) e = go test.holds e (none-holds rest)
+  where
+    go : (b : Bool) → (if b then Some test.cause else first_cause rest) ≡ None → (first_cause rest ≡ None → NoneHolds rest)
+        → (b ≡ false) × NoneHolds rest
+    go true e more = absurd (cc)
+    go false e more = (refl, more e)
 
 -- the last character of a text, and those before it
 pub last_of-push : (t : List ℕ) (c : ℕ) → last_of (t ++ c ∷ []) ≡ Some c
@@ -62,29 +58,39 @@ inside-so t i le b =
 pub inside-past : (t : List ℕ) (i : ℕ) → size t ≤ i → (inside t i).holds ≡ false
 inside-past t i ge = rw (le-ltb i (size t) ge)
 
--- an addition is refused exactly where it does not fit
-pub addition-fits : (t given : List ℕ) (n : ℕ) → size t + size given ≤ n → first_cause (addition t given n).tests ≡ None
-addition-fits t given n fits = rw (le-ltb n (size t + size given) fits) refl
+-- an index in the text that is not inside a character is a boundary
+pub inside-failed : (t : List ℕ) (i : ℕ) → i ≤ size t → (inside t i).holds ≡ false → boundary t i ≡ true
+inside-failed t i within out = go (boundary t i) refl
+  where
+    go : (b : Bool) → boundary t i ≡ b → boundary t i ≡ true
+    go true e = e
+    go false e = absurd (both_ways (inside t i).holds out (inside-so t i within e))
 
-pub addition-over : (t given : List ℕ) (n : ℕ) → n < size t + size given → first_cause (addition t given n).tests ≡ Some Room
-addition-over t given n over = rw (lt-ltb n (size t + size given) over) refl
+-- an addition has a cause exactly where it does not fit
+pub addition-no_cause : (t given : List ℕ) (n : ℕ) → size t + size given ≤ n → first_cause (addition t given n).tests ≡ None
+addition-no_cause t given n fits = rw (le-ltb n (size t + size given) fits) refl
+
+pub addition-room : (t given : List ℕ) (n : ℕ) → n < size t + size given → first_cause (addition t given n).tests ≡ Some Room
+addition-room t given n over = rw (lt-ltb n (size t + size given) over) refl
 
 -- what an addition did, by what it returned
-pub addition-ok : (E : Type 0) (t given new : List ℕ) (n : ℕ) → Makes (addition t given n) t (from_out_of_bounds {E = E} (Ok tt)) new
-    → (size t + size given ≤ n) × (new ≡ t ++ given)
-addition-ok E t given new n m =
-    elim (cases_lt n (size t + size given)) [
-      | inl over ↦ let is = m.answer ∙ ap (λ f. ok_unless f tt) (addition-over t given n over) in absurd (cc)
-      | inr fits ↦ (fits, m.ok)
-    ]
+module _ {t : List ℕ} (given : List ℕ) (n : ℕ) {new : List ℕ} where
+  pub addition-made : Makes (addition t given n) t (Ok tt) new → (size t + size given ≤ n) × (new ≡ t ++ given)
+  addition-made m =
+      elim (cases_lt n (size t + size given)) [
+        | inl over ↦ let is = m.answer ∙ ap (λ f. ok_unless f tt) (addition-room t given n over) in absurd (cc)
+        | inr fits ↦ (fits, m.ok)
+      ]
 
-pub addition-err : {E : Type 0} (t given new : List ℕ) (n : ℕ) (e : E) → Makes (addition t given n) t (from_out_of_bounds (Err e)) new
-    → (n < size t + size given) × (new ≡ t)
-addition-err t given new n e m =
-    elim (cases_lt n (size t + size given)) [
-      | inl over ↦ (over, m.err)
-      | inr fits ↦ let is = m.answer ∙ ap (λ f. ok_unless f tt) (addition-fits t given n fits) in absurd (cc)
-    ]
+  pub addition-refused : {error : Error} → Makes (addition t given n) t (Err error) new
+      → (n < size t + size given) × (error ≡ OutOfBounds) × (new ≡ t)
+  addition-refused {error} m =
+      elim (cases_lt n (size t + size given)) [
+        | inl over ↦
+            let is : Err error ≡ Err OutOfBounds = m.answer ∙ ap (λ f. ok_unless f tt) (addition-room t given n over) in
+            (over, cc, m.err)
+        | inr fits ↦ let is = m.answer ∙ ap (λ f. ok_unless f tt) (addition-no_cause t given n fits) in absurd (cc)
+      ]
 
 -- the ranges of white space are those of `char::is_whitespace`
 range-std : (a b c : ℕ) → (nat_le (suc a) c && nat_le c b) ≡ (nat_lt a c && nat_lt c (suc b))

@@ -1,6 +1,7 @@
 pub mod EditLaws
 pub mod TakenLaws
 pub mod RangeEndLaws
+pub mod PartLaws
 mod ConstructLaws
 mod JsonLaws
 mod StoredLaws
@@ -10,7 +11,6 @@ mod TakenLemmas
 mod AsciiLemmas
 mod TrimLemmas
 mod RetainLemmas
-mod RangeLemmas
 mod DrainLemmas
 mod BackLemmas
 mod WalkedLemmas

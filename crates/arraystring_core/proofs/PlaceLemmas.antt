@@ -45,8 +45,8 @@ module _ (t xs : List ℕ) (n : ℕ) (is : bytes t ≡ take n xs) (u : IsUtf8 (t
       let f = front t start in
       let r = back t end in
       let joined : bytes (f ++ (chars given ++ r)) ≡ bytes f ++ (given ++ bytes r) =
-      bytes-append f (chars given ++ r) ∙ ap (λ l. bytes f ++ l) (bytes-append (chars given) r ∙ ap (λ l. l ++ bytes r) (bytes-chars given g)) in
-      chars-bytes new (f ++ (chars given ++ r)) restored-utf8 (new-bytes ∙ sym joined)
+      bytes-append f (chars given ++ r) ∙ ap (λ l. bytes f ++ l) (bytes-append (chars given) r ∙ ap (λ l. l ++ bytes r) (bytes-chars g)) in
+      chars-bytes restored-utf8 (new-bytes ∙ sym joined)
 
 -- the same of the value that a contract sees
 module _ (places : ℕ) (array : List ℕ) (p n : ℕ) (is : IsStored places array p n) (v : Stored) (e : stored array p n ≡ v)
@@ -219,7 +219,7 @@ module _ (places : ℕ) (array : List ℕ) (p n : ℕ) (is : IsStored places arr
   dropped-stored = (omega (arith, is.0, dropped-within), is.1, ∣ dropped-utf8 ∣₁)
 
   pub dropped-chars : chars (take (n - m) (drop (p + m) array)) ≡ back v.text m
-  dropped-chars = chars-bytes _ (back v.text m) dropped-utf8 dropped-bytes
+  dropped-chars = chars-bytes dropped-utf8 dropped-bytes
 
 -- the part before the boundary m is kept
 module _ (places : ℕ) (array : List ℕ) (p n : ℕ) (is : IsStored places array p n) (v : Stored) (e : stored array p n ≡ v)
@@ -240,4 +240,4 @@ module _ (places : ℕ) (array : List ℕ) (p n : ℕ) (is : IsStored places arr
   kept-stored = (omega (arith, is.0, kept-within), is.1, ∣ kept-utf8 ∣₁)
 
   pub kept-chars : chars (take m (drop p array)) ≡ front v.text m
-  kept-chars = chars-bytes _ (front v.text m) kept-utf8 kept-bytes
+  kept-chars = chars-bytes kept-utf8 kept-bytes

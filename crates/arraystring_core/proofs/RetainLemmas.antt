@@ -156,7 +156,7 @@ module _ {F : Type 0} (can : F → ℕ → Type 0) (steps : F → ℕ → Bool �
     c-utf8 = rw (utf8-is c) (IsUtf8-encode c scalar)
 
     c-chars : chars (utf8 c) ≡ c ∷ []
-    c-chars = chars-bytes (utf8 c) (c ∷ []) c-utf8 (sym (append-nil (utf8 c)))
+    c-chars = chars-bytes c-utf8 (sym (append-nil (utf8 c)))
 
     starts-std : between array place read size ≡ encode_utf8 c ++ rest
     starts-std = starts ∙ ap (λ l. l ++ rest) (utf8-is c)

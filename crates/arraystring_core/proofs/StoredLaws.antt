@@ -18,4 +18,4 @@ module _ (places : ℕ) (array : List ℕ) (start n : ℕ) (is : IsStored places
   opened-size v e = ap (λ s. size s.text) (sym e) ∙ ghost_proof.stored-size places array start n is
 
   pub opened-text : (v : Stored) → stored array start n ≡ v → IsText v.text
-  opened-text v e = subst (λ (s : Stored). IsText s.text) e (text-chars (take n (drop start array)) (ghost_proof.stored-utf8 places array start n is))
+  opened-text v e = subst (λ (s : Stored). IsText s.text) e (text-chars (ghost_proof.stored-utf8 places array start n is))

@@ -35,7 +35,7 @@ cut-joined_past taken more n past = ap (λ l. cut l n) (joined-append taken more
 module _ {U T A B : Type 0} (becomes : U → T → Type 0) (steps : T → Option A → T → Type 0) (spelled : List A → List ℕ)
     (value : A → B) (whole : List B → List ℕ) (is : (items : List A) → spelled items ≡ whole (map value items))
     (parts : (a b : List B) → whole (a ++ b) ≡ whole a ++ whole b) where
-  pub leads-text : (it : T) (all : List B) (items : List A) (t : T) → AlwaysYields steps value it all → Yields steps it items t
+  leads-text : (it : T) (all : List B) (items : List A) (t : T) → AlwaysYields steps value it all → Yields steps it items t
       → (more : List ℕ) × (whole all ≡ spelled items ++ more)
   leads-text it all items t always yields =
       let rest = gives_left steps value items all it t always yields in (
@@ -44,17 +44,17 @@ module _ {U T A B : Type 0} (becomes : U → T → Type 0) (steps : T → Option
       )
 
   -- all that comes is its text
-  pub all-text : (it : T) (all : List B) (items : List A) → AlwaysYields steps value it all → Drains steps it items → spelled items ≡ whole all
+  all-text : (it : T) (all : List B) (items : List A) → AlwaysYields steps value it all → Drains steps it items → spelled items ≡ whole all
   all-text it all items always drains = is items ∙ ap whole (gives_Drains steps value items all it always drains)
 
   -- where all fits, whatever comes fits
-  pub gives-fit : (iter : U) (room : ℕ) (all : List B) → Gives becomes steps value iter all → size (whole all) ≤ room → Fits becomes steps spelled iter room
+  gives-fit : (iter : U) (room : ℕ) (all : List B) → Gives becomes steps value iter all → size (whole all) ≤ room → Fits becomes steps spelled iter room
   gives-fit iter room all gives fits = λ it b items rest yields.
       let lead = leads-text it all items rest (gives it b) yields in
       omega (arith, ap size lead.1, size-append (spelled items) lead.0)
 
   -- what was taken is all, or so much that it is larger than the room
-  pub takes-text : (iter : U) (room : ℕ) (items : List A) (all : List B) → Takes becomes steps spelled iter room items → Gives becomes steps value iter all
+  takes-text : (iter : U) (room : ℕ) (items : List A) (all : List B) → Takes becomes steps spelled iter room items → Gives becomes steps value iter all
       → ((spelled items ≡ whole all) × (size (spelled items) ≤ room)) ⊎ ((more : List ℕ) × (whole all ≡ spelled items ++ more) × (room < size (spelled items)))
   takes-text iter room items all takes gives = elim takes.2 [
     | inl ends ↦ inl (all-text takes.0 all items (gives takes.0 takes.1) ends.0, ends.1)
@@ -63,7 +63,7 @@ module _ {U T A B : Type 0} (becomes : U → T → Type 0) (steps : T → Option
   ]
 
   -- so its cut is the cut of all
-  pub takes-cut : (iter : U) (room : ℕ) (items : List A) (all : List B) → Takes becomes steps spelled iter room items → Gives becomes steps value iter all
+  takes-cut : (iter : U) (room : ℕ) (items : List A) (all : List B) → Takes becomes steps spelled iter room items → Gives becomes steps value iter all
       → cut (spelled items) room ≡ cut (whole all) room
   takes-cut iter room items all takes gives = elim (takes-text iter room items all takes gives) [
     | inl ends ↦ ap (λ l. cut l room) ends.0

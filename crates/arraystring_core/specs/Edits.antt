@@ -1,5 +1,5 @@
 -- What each edit does to a text: its causes in the order of its tests, what it returns, and the text after.
-use Rattle.std.specs.Prelude.{◌≡◌, ℕ, ◌+◌, ◌-◌, List, [], ◌∷◌, ◌++◌, Bool, false, not, ◌&&◌, ◌||◌, ◌==◌, Option, Some, None, Result, Ok, Err, OnOk, OnErr, if◌then◌else◌, nat_lt, nat_le, is_none, slice_index, drop, map, reverse}
+use Rattle.std.specs.Prelude.{◌≡◌, ◌⊎◌, ⊤, ℕ, ◌+◌, ◌-◌, List, [], ◌∷◌, ◌++◌, Bool, true, false, not, ◌&&◌, ◌||◌, ◌==◌, Option, Some, None, Result, Ok, Err, OnOk, OnErr, if◌then◌else◌, nat_lt, nat_le, is_none, slice_index, drop, map, reverse}
 use Rattle.std.specs.Char.{to_ascii_uppercase, to_ascii_lowercase}
 use Rattle.arraystring_base.specs.Text.{size, cut, front, back, boundary}
 use Rattle.arraystring_core.specs.Stored.{Stored}
@@ -46,6 +46,16 @@ no_room result_size n = record { holds = nat_lt n result_size; cause = Room }
 abbrev pub first_cause : List Test → Option Cause
 first_cause [] = None
 first_cause (test ∷ rest) = if test.holds then Some test.cause else first_cause rest
+
+-- the same said of the tests in turn: none of them holds
+abbrev pub NoneHolds : List Test → Type 0
+NoneHolds [] = ⊤
+NoneHolds (test ∷ rest) = (test.holds ≡ false) × NoneHolds rest
+
+-- the cause is that of the first that holds
+abbrev pub FirstHolds : List Test → Cause → Type 0
+FirstHolds [] found = ⊥
+FirstHolds (test ∷ rest) found = ((test.holds ≡ true) × (found ≡ test.cause)) ⊎ ((test.holds ≡ false) × FirstHolds rest found)
 
 -- one row: what is tested in turn, and what comes of the edit where no cause holds
 pub record Edit (A : Type 0) : Type 0 where

@@ -14,7 +14,7 @@ module _ (places : ℕ) (array : List ℕ) (start n : ℕ) (is : IsStored places
   stored-utf8 = IsUtf8-had _ is.2
 
   pub stored-bytes : bytes (stored array start n).text ≡ take n (drop start array)
-  stored-bytes = bytes-chars (take n (drop start array)) stored-utf8
+  stored-bytes = bytes-chars stored-utf8
 
   pub stored-size : size (stored array start n).text ≡ n
   stored-size =

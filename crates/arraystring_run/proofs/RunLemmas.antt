@@ -3,11 +3,10 @@ use Rattle.std.proofs.Common.{◌≡◌, ℕ, suc, ◌+◌, ◌<◌, ◌≤◌, 
 use Rattle.std.proofs.lemmas.List.{append-nil, drop_all, reverse-append}
 use Rattle.std.proofs.lemmas.Bool.{cases_lt, lt-ltb, le-ltb}
 use Rattle.std.proofs.Math.Seq.{drop-cons}
-use Rattle.arraystring.specs.Text.{size, cut, front, back, boundary}
-use Rattle.arraystring.proofs.TextLaws.{size-append}
+use Rattle.arraystring.specs.Text.{size, cut}
 use Rattle.arraystring.proofs.CutLaws.{cut-fits, cut-all}
-use Rattle.arraystring.proofs.BoundaryLaws.{front-back}
-use Rattle.arraystring.specs.Edits.{part, part_in}
+use Rattle.arraystring.proofs.BoundaryLaws.{part-fits, part_in-found}
+use Rattle.arraystring.specs.Edits.{part_in}
 use Rattle.arraystring_run.specs.Runs.{Said, edit, tight, after, first_tight_from, earlier_of}
 use Rattle.arraystring_run.specs.declared.commands.Command.{Command}
 
@@ -21,17 +20,9 @@ is_cut-larger t n =
           le-ltb n (size t) fits ∙ sym (le-ltb (size (cut t n)) (size t) (omega arith))
     ]
 
--- a part of a text is no larger than the text
-part-fits : (t : List ℕ) (start end : ℕ) → size (part t start end) ≤ size t
-part-fits t start end =
-    let of_front = ap size (front-back (front t end) start) in
-    omega (arith, of_front, ap size (front-back t end), size-append (front (front t end) start) (back (front t end) start), size-append (front t end) (back t end))
-
+-- a part that is found in a range is no larger than the text
 pub part_in-fits : (t : List ℕ) (start end : ℕ) (p : List ℕ) → part_in t start end ≡ Some p → size p ≤ size t
-part_in-fits t start end p e = found-by (nat_le start end && (boundary t start && boundary t end)) e where
-  found-by : (b : Bool) → (if b then Some (part t start end) else None) ≡ Some p → size p ≤ size t
-  found-by true found = let same : part t start end ≡ p = cc in rw (← same) (part-fits t start end)
-  found-by false found = absurd (cc)
+part_in-fits t start end p e = omega (arith, ap size (part_in-found t start end e).3, part-fits t start end)
 
 -- the last character is given, and the others are left
 pub one-back : (text left rest whole : List ℕ) (c : ℕ) → left ≡ rest ++ c ∷ [] → text ++ reverse left ≡ whole

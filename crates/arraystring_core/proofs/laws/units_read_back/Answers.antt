@@ -24,4 +24,4 @@ returns-clause-run c = λ t n items result is fits reads gives.
 pub returns-clause-lossy : goal.returns-clause-lossy
 returns-clause-lossy c = λ t n items is fits reads.
     let same = (text-reading t items is).0 reads in
-    ap (λ l. cut l n) (ap lossy_text same ∙ lossy_text-characters t) ∙ cut-all t n fits
+    ap (λ l. cut l n) (ap lossy_text same ∙ lossy_text-characters t) ∙ cut-all fits

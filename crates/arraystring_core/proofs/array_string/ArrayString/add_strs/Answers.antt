@@ -2,9 +2,8 @@ use Rattle.std.proofs.Common.{◌+◌, ◌-◌, ◌≤◌, ◌++◌, ◌∷◌, 
 use Rattle.std.proofs.iter.Next.{Yields-more}
 use Rattle.arraystring_base.specs.Text.{size, cap}
 use Rattle.arraystring_base.proofs.CutLaws.{cut-all}
-use Rattle.arraystring_base.specs.declared.error.OutOfBounds.{OutOfBounds}
 use Rattle.arraystring_core.specs.Taken.{joined_pieces, piece_text}
-use Rattle.arraystring_core.proofs.EditLaws.{addition-ok, addition-err}
+use Rattle.arraystring_core.proofs.EditLaws.{addition-made, addition-refused}
 use Rattle.arraystring_core.proofs.TakenLemmas.{joined-more, added-text, added-fits, added-past, added-part, behind}
 use Rattle.arraystring_core.proofs.array_string.ArrayString.add_strs.Goals as goal
 
@@ -17,7 +16,7 @@ loop-piece-preserved g c =
     let now = c.loop-piece.self.text in
     let new = c.try_push_str.new.self.text in
     let on = c.in-Some.ensures.goes.on inv.ends in
-    let done = addition-ok OutOfBounds now (piece_text x) new (cap g.row.N) c.in_default.ensures in
+    let done = addition-made (piece_text x) (cap g.row.N) c.in_default.ensures in
     record {
       can = on.0;
       ends = on.1;
@@ -32,7 +31,7 @@ returns-in-Err g c =
     let xs = c.loop-piece.yielded in
     let old = c.args.self.now.text in
     let now = c.loop-piece.self.text in
-    let refused = addition-err now (piece_text x) c.try_push_str.new.self.text (cap g.row.N) c.in-Err.refusal c.in-Err.ensures in
+    let refused = addition-refused (piece_text x) (cap g.row.N) c.in-Err.ensures in
     let past = added-past joined_pieces piece_text joined-more old now (cap g.row.N) xs inv.text inv.fits x refused.0 in (
       xs ++ x ∷ [],
       (
@@ -41,7 +40,7 @@ returns-in-Err g c =
         inr (c.next.new.self, Yields-more g.I.IntoIter.Iterator.next_gives _ xs _ x _ c.loop-piece.yielded_by c.in-Some.ensures.steps, past),
       ),
       past.4,
-      added-part joined_pieces piece_text joined-more old now (cap g.row.N) xs inv.text inv.fits x c.try_push_str.new.self.text c.push_str.new.self.text refused.1 c.push_str.ensures.ok,
+      added-part joined_pieces piece_text joined-more old now (cap g.row.N) xs inv.text inv.fits x c.try_push_str.new.self.text c.push_str.new.self.text refused.2 c.push_str.ensures.ok,
     )
 
 pub returns : goal.returns
@@ -58,5 +57,5 @@ returns g c =
         inl ((c.next.new.self, (c.loop-piece.piece-iterator, c.loop-piece.yielded_by, c.in-None.ensures.steps)), fits),
       ),
       fits,
-      behind old (joined_pieces xs) _ c.loop-piece.self.text inv.text (sym (cut-all (joined_pieces xs) _ fits)),
+      behind old (joined_pieces xs) _ c.loop-piece.self.text inv.text (sym (cut-all fits)),
     )

@@ -65,7 +65,7 @@ returns g c = λ passes tells.
           let found = first text c.as_str.result.now c.next.new.self.rest.now ch c.as_str.ensures.bytes begins in
           without_leading-stops passes text ch found.0 found.1 (sym (tells.at ch w.drops.result w.drops.ensures) ∙ w.if-not-drops.true)
       | in_default w ↦
-          let none : text ≡ [] = empty-size text (size-is text ∙ ap length (sym c.as_str.ensures.bytes ∙ sym c.chars.ensures.rest) ∙ w.in_default.ensures.steps.0.0) in
+          let none : text ≡ [] = empty-size (size-is text ∙ ap length (sym c.as_str.ensures.bytes ∙ sym c.chars.ensures.rest) ∙ w.in_default.ensures.steps.0.0) in
           ap (without_leading passes) none ∙ sym none
     ] in
     sym begun ∙ c.loop-ch.invariant passes tells

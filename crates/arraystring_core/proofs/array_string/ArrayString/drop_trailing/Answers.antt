@@ -22,7 +22,7 @@ overflow_cast-start g c =
     let text = c.loop-start.self.text in
     let found = c.in-Some.ensures.some in
     let parts : text ≡ found.0 ++ c.in-Some.ch ∷ [] =
-    sym (chars-bytes _ text c.as_str.utf8 c.as_str.ensures.bytes) ∙ found.1 in
+    sym (chars-bytes c.as_str.utf8 c.as_str.ensures.bytes) ∙ found.1 in
     omega (arith, ap size parts, size-append found.0 (c.in-Some.ch ∷ []), found.2, c.as_str.ensures.fits)
 
 pub keep-requires : goal.keep-requires
@@ -31,7 +31,7 @@ keep-requires g c =
     let start = c.in-Some.start in
     let found = c.in-Some.ensures.some in
     let parts : text ≡ found.0 ++ c.in-Some.ch ∷ [] =
-    sym (chars-bytes _ text c.as_str.utf8 c.as_str.ensures.bytes) ∙ found.1 in
+    sym (chars-bytes c.as_str.utf8 c.as_str.ensures.bytes) ∙ found.1 in
     let is : boundary text start ≡ true =
     ap (λ l. boundary l start) parts ∙ boundary-is found.0 (c.in-Some.ch ∷ []) start found.2 in
     (search rules, is)
@@ -42,7 +42,7 @@ loop-start-smaller g c =
     let start = c.in-Some.start in
     let found = c.in-Some.ensures.some in
     let parts : text ≡ found.0 ++ c.in-Some.ch ∷ [] =
-    sym (chars-bytes _ text c.as_str.utf8 c.as_str.ensures.bytes) ∙ found.1 in
+    sym (chars-bytes c.as_str.utf8 c.as_str.ensures.bytes) ∙ found.1 in
     let kept : c.keep.new.self.text ≡ found.0 =
     c.keep.ensures ∙ ap (λ l. front l start) parts ∙ front-is found.0 (c.in-Some.ch ∷ []) start found.2 in
     omega (arith, ap size parts, size-append found.0 (c.in-Some.ch ∷ []), ap size kept, width-bounds c.in-Some.ch)
@@ -54,7 +54,7 @@ loop-start-preserved g c =
     let ch = c.in-Some.ch in
     let found = c.in-Some.ensures.some in
     let parts : text ≡ found.0 ++ ch ∷ [] =
-    sym (chars-bytes _ text c.as_str.utf8 c.as_str.ensures.bytes) ∙ found.1 in
+    sym (chars-bytes c.as_str.utf8 c.as_str.ensures.bytes) ∙ found.1 in
     let kept : c.keep.new.self.text ≡ found.0 =
     c.keep.ensures ∙ ap (λ l. front l start) parts ∙ front-is found.0 (ch ∷ []) start found.2 in
     let inv = c.loop-start.invariant in
@@ -73,7 +73,7 @@ loop-start-preserved g c =
 pub returns-clause-text : goal.returns-clause-text
 returns-clause-text g c = λ passes tells.
     let text = c.loop-start.self.text in
-    let lent = chars-bytes _ text c.as_str.utf8 c.as_str.ensures.bytes in
+    let lent = chars-bytes c.as_str.utf8 c.as_str.ensures.bytes in
     let ended : without_trailing passes text ≡ text = elim c.match-last_char.branch [
       | in-Some+then-not-drops w ↦
           let found = w.in-Some.ensures.some in
@@ -89,11 +89,10 @@ pub returns-clause-least : goal.returns-clause-least
 returns-clause-least g c =
     let text = c.loop-start.self.text in
     let inv = c.loop-start.invariant in
-    let lent = chars-bytes _ text c.as_str.utf8 c.as_str.ensures.bytes in
     elim c.match-last_char.branch [
       | in-Some+then-not-drops w ↦ omega (arith, inv.least, w.in-Some.ensures.least)
       | in_default w ↦
-          let none : text ≡ [] = sym lent ∙ (rw w.in_default.is at c.last_char.ensures.none) in
+          let none : text ≡ [] = sym (chars-bytes c.as_str.utf8 c.as_str.ensures.bytes) ∙ (rw w.in_default.is at c.last_char.ensures.none) in
           omega (arith, inv.least, c.last_char.ensures.counted, ap length none)
     ]
 

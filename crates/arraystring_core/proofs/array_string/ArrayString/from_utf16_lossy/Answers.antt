@@ -1,10 +1,9 @@
 use Rattle.std.proofs.Common.{◌≡◌, ◌+◌, ◌≤◌, ◌<◌, [], ◌∷◌, ◌++◌, sym, ap, ◌∙◌, arith, append-nil, append_assoc}
-use Rattle.arraystring_base.specs.declared.error.OutOfBounds.{OutOfBounds}
 use Rattle.arraystring_base.specs.Text.{cap, cut, size, width}
 use Rattle.arraystring_base.proofs.TextLaws.{size-append}
 use Rattle.arraystring_base.proofs.CutLaws.{cut-is, cut-all}
 use Rattle.arraystring_base.specs.Utf16.{lossy_text}
-use Rattle.arraystring_core.proofs.EditLaws.{addition-ok, addition-err}
+use Rattle.arraystring_core.proofs.EditLaws.{addition-made, addition-refused}
 use Rattle.arraystring_core.proofs.array_string.ArrayString.from_utf16_lossy.Goals as goal
 
 pub loop-item-preserved : goal.loop-item-preserved
@@ -13,7 +12,7 @@ loop-item-preserved g c =
     let run = c.loop-item.text.text in
     let ch = c.shown.result in
     let left = lossy_text c.next.new.self in
-    let added = addition-ok OutOfBounds run (ch ∷ []) c.try_push.new.self.text (cap g.row.N) c.in-Ok.ensures in
+    let added = addition-made (ch ∷ []) (cap g.row.N) c.in-Ok.ensures in
     let first = ap lossy_text c.in-Some.ensures.steps ∙ ap (λ d. d ∷ left) (sym c.shown.ensures) in
     let fits : size (run ++ ch ∷ []) ≤ cap g.row.N = omega (arith, added.0, size-append run (ch ∷ [])) in (
       rw added.1 fits,
@@ -26,13 +25,13 @@ returns-in-Err g c = λ items is.
     let run = c.loop-item.text.text in
     let ch = c.shown.result in
     let left = lossy_text c.next.new.self in
-    let refused = addition-err run (ch ∷ []) c.try_push.new.self.text (cap g.row.N) c.in-Err.field-0 c.in-Err.ensures in
+    let refused = addition-refused (ch ∷ []) (cap g.row.N) c.in-Err.ensures in
     let past : cap g.row.N < size run + width ch = omega (arith, refused.0) in
     let first = ap lossy_text c.in-Some.ensures.steps ∙ ap (λ d. d ∷ left) (sym c.shown.ensures) in
     let same = ap lossy_text (c.only_reading.ensures.only items _ is c.new-item-items.ensures
     ∙ sym c.into_iter-item-iterator.ensures.into_iter_gives) ∙ inv.1 ∙ ap (λ l. run ++ l) first in
     let ends = cut-is run (ch ∷ left) (cap g.row.N) inv.0 (λ d es e. let one : ch ≡ d = cc in rw (← one) past) in
-    refused.1 ∙ sym (ap (λ l. cut l (cap g.row.N)) same ∙ ends)
+    refused.2 ∙ sym (ap (λ l. cut l (cap g.row.N)) same ∙ ends)
 
 pub returns : goal.returns
 returns g c = λ items is.
@@ -41,4 +40,4 @@ returns g c = λ items is.
     let same = ap lossy_text (c.only_reading.ensures.only items _ is c.new-item-items.ensures
     ∙ sym c.into_iter-item-iterator.ensures.into_iter_gives) ∙ inv.1 in
     let whole = ap (λ l. run ++ lossy_text l) c.in-None.ensures.steps.0 ∙ append-nil run in
-    sym (ap (λ l. cut l (cap g.row.N)) (same ∙ whole) ∙ cut-all run (cap g.row.N) inv.0)
+    sym (ap (λ l. cut l (cap g.row.N)) (same ∙ whole) ∙ cut-all inv.0)

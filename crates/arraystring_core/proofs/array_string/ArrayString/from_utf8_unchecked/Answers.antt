@@ -4,20 +4,20 @@ use Rattle.arraystring_base.proofs.TextLaws.{well_formed-utf8, size-lent, bytes-
 use Rattle.arraystring_core.proofs.array_string.ArrayString.from_utf8_unchecked.Goals as goal
 
 pub from_utf8_unchecked-requires : goal.from_utf8_unchecked-requires
-from_utf8_unchecked-requires g c = well_formed-utf8 c.args.given.now c.requires.well_formed
+from_utf8_unchecked-requires g c = well_formed-utf8 c.requires.well_formed
 
 pub from_str_unchecked-requires : goal.from_str_unchecked-requires
 from_str_unchecked-requires g c =
     let lent = c.from_utf8_unchecked.result.now in
     let fits : size (chars lent) ≤ cap g.row.N =
-    omega (arith, size-lent lent c.from_utf8_unchecked.utf8, ap length c.from_utf8_unchecked.ensures, c.requires.fits) in
+    omega (arith, size-lent c.from_utf8_unchecked.utf8, ap length c.from_utf8_unchecked.ensures, c.requires.fits) in
     (search rules, fits)
 
 pub returns-clause-bytes : goal.returns-clause-bytes
 returns-clause-bytes g c =
-    ap bytes c.from_str_unchecked.ensures ∙ bytes-chars c.from_utf8_unchecked.result.now c.from_utf8_unchecked.utf8
+    ap bytes c.from_str_unchecked.ensures ∙ bytes-chars c.from_utf8_unchecked.utf8
     ∙ c.from_utf8_unchecked.ensures
 
 pub returns-clause-text : goal.returns-clause-text
 returns-clause-text g c =
-    rw c.from_str_unchecked.ensures (text-chars c.from_utf8_unchecked.result.now c.from_utf8_unchecked.utf8)
+    rw c.from_str_unchecked.ensures (text-chars c.from_utf8_unchecked.utf8)

@@ -2,7 +2,7 @@ use Rattle.std.proofs.Common.{◌≡◌, ap, sym, ◌∙◌, Some}
 use Rattle.arraystring_base.specs.Text.{size}
 use Rattle.arraystring_base.proofs.TextLaws.{chars-bytes}
 use Rattle.arraystring_core.specs.Edits.{part, part_in}
-use Rattle.arraystring_core.proofs.RangeLemmas.{part_in-some}
+use Rattle.arraystring_core.proofs.PartLaws.{part_in-some}
 use Rattle.std.specs.Range.Bound.{end_index}
 use Rattle.arraystring_core.proofs.array_string.ArrayString.get.Goals as goal
 
@@ -12,7 +12,7 @@ returns g c =
     let ends = c.plain_ends-start in
     let at = sym c.is_boundary.ensures ∙ c.if-not-is_boundary.false in
     let to = sym c.is_boundary-else-not-is_boundary.ensures ∙ c.if-not-is_boundary-2.false in
-    let lent = chars-bytes _ (part t ends.result.0 ends.result.1) c.between.utf8 c.between.ensures in
+    let lent = chars-bytes c.between.utf8 c.between.ensures in
     let of = ends.ensures in
     let named = end_index of.end in
     let end : named (size t) ≡ ends.result.1 = ap named (sym c.len.ensures.value) ∙ sym {b = named c.len.result} of.holds.1 in

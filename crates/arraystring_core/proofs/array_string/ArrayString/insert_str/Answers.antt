@@ -19,7 +19,7 @@ insert_str_unchecked-requires g c =
     let t = c.args.self.now.text in
     let room = c.capacity.result - c.len-2.result in
     let added : chars c.truncate_str.result.now ≡ cut (chars c.args.string.now) room =
-    chars-bytes _ _ c.truncate_str.utf8 c.truncate_str.ensures in
+    chars-bytes c.truncate_str.utf8 c.truncate_str.ensures in
     let within : size (chars c.truncate_str.result.now) ≤ room = rw added (cut-fits (chars c.args.string.now) room) in
     let filled : size t ≤ cap g.row.N = rw (← c.len.ensures.value) c.len.ensures.fits in
     let whole : c.capacity.result ≡ cap g.row.N = c.capacity.ensures in
@@ -32,7 +32,7 @@ returns g c =
     let reached : c.args.index ≤ size t = omega arith in
     let outside = inside-not t c.args.index (sym c.is_boundary.ensures ∙ c.if-not-is_boundary.false) in
     let added : chars c.truncate_str.result.now ≡ cut (chars c.args.string.now) (c.capacity.result - c.len-2.result) =
-    chars-bytes _ _ c.truncate_str.utf8 c.truncate_str.ensures in
+    chars-bytes c.truncate_str.utf8 c.truncate_str.ensures in
     let whole : c.capacity.result ≡ cap g.row.N = c.capacity.ensures in
     let given = added ∙ ap (cut (chars c.args.string.now)) (rw (whole, c.len-2.ensures.value)) in
     makes _ _ _ _ (rw (le-ltb _ _ reached, outside)) refl

@@ -5,4 +5,4 @@ use Rattle.arraystring_core.proofs.array_string.ArrayString.is_boundary.Goals as
 
 pub returns : goal.returns
 returns g c =
-    c.is_boundary.ensures ∙ ap (λ t. boundary t c.args.at) (chars-bytes _ c.args.self.now.text c.as_str.utf8 c.as_str.ensures.bytes)
+    c.is_boundary.ensures ∙ ap (λ t. boundary t c.args.at) (chars-bytes c.as_str.utf8 c.as_str.ensures.bytes)

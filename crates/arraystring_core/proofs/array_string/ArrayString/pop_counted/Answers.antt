@@ -9,7 +9,7 @@ use Rattle.arraystring_core.proofs.array_string.ArrayString.pop_counted.Goals as
 pub returns-in_err-start-clause-edit : goal.returns-in_err-start-clause-edit
 returns-in_err-start-clause-edit g c =
     let text = c.args.self.now.text in
-    let none : text ≡ [] = sym (chars-bytes _ text c.as_str.utf8 c.as_str.ensures.bytes) ∙ c.in_err-start.ensures.none in
+    let none : text ≡ [] = sym (chars-bytes c.as_str.utf8 c.as_str.ensures.bytes) ∙ c.in_err-start.ensures.none in
     makes (popping text) text c.from_residual.result text refl (c.from_residual.ensures ∙ sym (ap last_of none))
     (none ∙ sym (ap all_but_last none))
 
@@ -18,7 +18,7 @@ overflow_cast-start g c =
     let text = c.args.self.now.text in
     let found = c.in_ok-start.ensures.some in
     let parts : text ≡ found.0 ++ c.in_ok-start.ch ∷ [] =
-    sym (chars-bytes _ text c.as_str.utf8 c.as_str.ensures.bytes) ∙ found.1 in
+    sym (chars-bytes c.as_str.utf8 c.as_str.ensures.bytes) ∙ found.1 in
     omega (arith, ap size parts, size-append found.0 (c.in_ok-start.ch ∷ []), found.2, c.as_str.ensures.fits)
 
 pub keep-requires : goal.keep-requires
@@ -27,7 +27,7 @@ keep-requires g c =
     let start = c.in_ok-start.start in
     let found = c.in_ok-start.ensures.some in
     let parts : text ≡ found.0 ++ c.in_ok-start.ch ∷ [] =
-    sym (chars-bytes _ text c.as_str.utf8 c.as_str.ensures.bytes) ∙ found.1 in
+    sym (chars-bytes c.as_str.utf8 c.as_str.ensures.bytes) ∙ found.1 in
     let is : boundary text start ≡ true =
     ap (λ l. boundary l start) parts ∙ boundary-is found.0 (c.in_ok-start.ch ∷ []) start found.2 in
     (search rules, is)
@@ -39,7 +39,7 @@ returns-clause-edit g c =
     let ch = c.in_ok-start.ch in
     let found = c.in_ok-start.ensures.some in
     let parts : text ≡ found.0 ++ ch ∷ [] =
-    sym (chars-bytes _ text c.as_str.utf8 c.as_str.ensures.bytes) ∙ found.1 in
+    sym (chars-bytes c.as_str.utf8 c.as_str.ensures.bytes) ∙ found.1 in
     let kept : c.keep.new.self.text ≡ found.0 =
     c.keep.ensures ∙ ap (λ l. front l start) parts ∙ front-is found.0 (ch ∷ []) start found.2 in
     makes (popping text) text _ c.keep.new.self.text refl

@@ -10,7 +10,7 @@ pub push_str_unchecked-requires : goal.push_str_unchecked-requires
 push_str_unchecked-requires g c =
     let room = c.capacity.result - c.len.result in
     let added : chars c.truncate_str.result.now ≡ cut (chars c.args.string.now) room =
-    chars-bytes _ _ c.truncate_str.utf8 c.truncate_str.ensures in
+    chars-bytes c.truncate_str.utf8 c.truncate_str.ensures in
     let within : size (chars c.truncate_str.result.now) ≤ room = rw added (cut-fits (chars c.args.string.now) room) in
     let filled : size c.args.self.now.text ≤ cap g.row.N = rw (← c.len.ensures.value) c.len.ensures.fits in
     let whole : c.capacity.result ≡ cap g.row.N = c.capacity.ensures in
@@ -20,7 +20,7 @@ pub returns : goal.returns
 returns g c =
     let room = c.capacity.result - c.len.result in
     let added : chars c.truncate_str.result.now ≡ cut (chars c.args.string.now) room =
-    chars-bytes _ _ c.truncate_str.utf8 c.truncate_str.ensures in
+    chars-bytes c.truncate_str.utf8 c.truncate_str.ensures in
     let whole : c.capacity.result ≡ cap g.row.N = c.capacity.ensures in
     let left : room ≡ cap g.row.N - size c.args.self.now.text = omega (arith, c.len.ensures.value) in
     makes (addition_of_cut c.args.self.now.text (chars c.args.string.now) (cap g.row.N)) c.args.self.now.text tt c.push_str_unchecked.new.self.text

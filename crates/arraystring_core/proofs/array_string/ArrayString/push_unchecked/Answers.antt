@@ -30,5 +30,5 @@ returns g c =
     let u : IsUtf8 (utf8 ch) = rw (utf8-is ch) (IsUtf8-encode ch (search rules)) in
     let room : s.start + s.size + length (utf8 ch) ≤ cap g.row.N = rw (length-utf8 ch) (c.if-not-has_room.ensures.0 refl) in
     let written = rw (← length-utf8 ch) at c.encode-len.ensures.bytes in
-    let one : chars (utf8 ch) ≡ ch ∷ [] = chars-bytes _ (ch ∷ []) u (sym (append-nil (utf8 ch))) in
+    let one : chars (utf8 ch) ≡ ch ∷ [] = chars-bytes u (sym (append-nil (utf8 ch))) in
     rw wide (appended-chars g.row.N _ _ _ c.self.invariant _ c.self.view_is (utf8 ch) u room _ written) ∙ ap (λ l. c.args.self.now.text ++ l) one

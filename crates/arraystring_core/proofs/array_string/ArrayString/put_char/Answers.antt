@@ -66,7 +66,7 @@ returns g c =
     let held : s.start + (at + (length (utf8 ch) + (s.size - at))) ≤ cap g.row.N = omega (arith, opened-size g.row.N _ _ _ c.self.invariant _ c.self.view_is, boundary-within t at c.requires.boundary, wide) in
     let u : IsUtf8 (utf8 ch) = rw (utf8-is ch) (IsUtf8-encode ch (search rules)) in
     let fits : size t - (at - at) + length (utf8 ch) ≤ cap g.row.N = omega (arith, c.requires.room, length-utf8 ch) in
-    let one : chars (utf8 ch) ≡ ch ∷ [] = chars-bytes _ (ch ∷ []) u (sym (append-nil (utf8 ch))) in
+    let one : chars (utf8 ch) ≡ ch ∷ [] = chars-bytes u (sym (append-nil (utf8 ch))) in
     rw wide (filled-chars g.row.N _ _ _ c.self.invariant _ c.self.view_is at at (utf8 ch) (omega arith) c.requires.boundary c.requires.boundary fits u
     gap.new.array c.encode.new.array s.start gap.ensures.len held gap.ensures.front (rw wide at gap.ensures.tail) (rw (← length-utf8 ch) at c.encode.ensures.bytes))
     ∙ ap (λ l. front t at ++ (l ++ back t at)) one

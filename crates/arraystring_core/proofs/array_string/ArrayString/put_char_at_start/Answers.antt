@@ -59,7 +59,7 @@ returns g c =
     let wide : c.len_utf8-len.result ≡ length (utf8 ch) = c.len_utf8-len.ensures.value ∙ sym (width-is ch) ∙ sym (length-utf8 ch) in
     let u : IsUtf8 (utf8 ch) = rw (utf8-is ch) (IsUtf8-encode ch (search rules)) in
     let fits : size t - (at - at) + length (utf8 ch) ≤ cap g.row.N = omega (arith, c.requires.room, length-utf8 ch) in
-    let one : chars (utf8 ch) ≡ ch ∷ [] = chars-bytes _ (ch ∷ []) u (sym (append-nil (utf8 ch))) in
+    let one : chars (utf8 ch) ≡ ch ∷ [] = chars-bytes u (sym (append-nil (utf8 ch))) in
     rw wide (moved-chars g.row.N _ _ _ c.self.invariant _ c.self.view_is at at (utf8 ch) (omega arith) c.requires.boundary c.requires.boundary fits u
     gap.new.array c.encode.new.array gap.ensures.len gap.ensures.front (rw wide at gap.ensures.tail) (rw (← length-utf8 ch) at c.encode.ensures.bytes))
     ∙ ap (λ l. front t at ++ (l ++ back t at)) one

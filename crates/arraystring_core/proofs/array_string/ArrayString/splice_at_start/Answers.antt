@@ -7,7 +7,7 @@ use Rattle.arraystring_core.proofs.array_string.ArrayString.splice_at_start.Goal
 
 pub open_gap_at_start-requires : goal.open_gap_at_start-requires
 open_gap_at_start-requires g c =
-    let long = size-lent c.args.given.now c.utf8.given in
+    let long = size-lent c.utf8.given in
     let fits : size c.args.self.now.text - (c.args.end - c.args.start) + length c.args.given.now ≤ cap g.row.N = omega (arith, c.requires.room, long) in
     let within = replaced-within g.row.N _ _ _ c.self.invariant _ c.self.view_is _ _ c.args.given.now c.requires.order c.requires.start c.requires.end fits in
     let room = replaced-room g.row.N _ _ _ c.self.invariant _ c.self.view_is _ _ c.args.given.now c.requires.order c.requires.start c.requires.end fits in
@@ -15,27 +15,27 @@ open_gap_at_start-requires g c =
 
 pub overflow_sub-self : goal.overflow_sub-self
 overflow_sub-self g c =
-    let long = size-lent c.args.given.now c.utf8.given in
+    let long = size-lent c.utf8.given in
     let fits : size c.args.self.now.text - (c.args.end - c.args.start) + length c.args.given.now ≤ cap g.row.N = omega (arith, c.requires.room, long) in
     replaced-within g.row.N _ _ _ c.self.invariant _ c.self.view_is _ _ c.args.given.now c.requires.order c.requires.start c.requires.end fits
 
 pub overflow_add-self-2 : goal.overflow_add-self-2
 overflow_add-self-2 g c =
-    let long = size-lent c.args.given.now c.utf8.given in
+    let long = size-lent c.utf8.given in
     let fits : size c.args.self.now.text - (c.args.end - c.args.start) + length c.args.given.now ≤ cap g.row.N = omega (arith, c.requires.room, long) in
     let room = replaced-room g.row.N _ _ _ c.self.invariant _ c.self.view_is _ _ c.args.given.now c.requires.order c.requires.start c.requires.end fits in
     omega (arith, room)
 
 pub overflow_cast-self : goal.overflow_cast-self
 overflow_cast-self g c =
-    let long = size-lent c.args.given.now c.utf8.given in
+    let long = size-lent c.utf8.given in
     let fits : size c.args.self.now.text - (c.args.end - c.args.start) + length c.args.given.now ≤ cap g.row.N = omega (arith, c.requires.room, long) in
     let room = replaced-room g.row.N _ _ _ c.self.invariant _ c.self.view_is _ _ c.args.given.now c.requires.order c.requires.start c.requires.end fits in
     omega (arith, room)
 
 pub copy_in-requires : goal.copy_in-requires
 copy_in-requires g c =
-    let long = size-lent c.args.given.now c.utf8.given in
+    let long = size-lent c.utf8.given in
     let fits : size c.args.self.now.text - (c.args.end - c.args.start) + length c.args.given.now ≤ cap g.row.N = omega (arith, c.requires.room, long) in
     let room = replaced-room g.row.N _ _ _ c.self.invariant _ c.self.view_is _ _ c.args.given.now c.requires.order c.requires.start c.requires.end fits in
     rw c.as_bytes.ensures.value (search rules, omega (arith, room))
@@ -44,7 +44,7 @@ pub invariant_of-self : goal.invariant_of-self
 invariant_of-self g c =
     let given = c.args.given.now in
     let gap = c.open_gap_at_start in
-    let fits : size c.args.self.now.text - (c.args.end - c.args.start) + length given ≤ cap g.row.N = omega (arith, c.requires.room, size-lent given c.utf8.given) in
+    let fits : size c.args.self.now.text - (c.args.end - c.args.start) + length given ≤ cap g.row.N = omega (arith, c.requires.room, size-lent c.utf8.given) in
     moved-stored g.row.N _ _ _ c.self.invariant _ c.self.view_is _ _ given c.requires.order c.requires.start c.requires.end fits c.utf8.given
     gap.new.array c.copy_in.new.array gap.ensures.len gap.ensures.front gap.ensures.tail (rw c.as_bytes.ensures.value at c.copy_in.ensures)
 
@@ -52,7 +52,7 @@ pub returns-clause-text : goal.returns-clause-text
 returns-clause-text g c =
     let given = c.args.given.now in
     let gap = c.open_gap_at_start in
-    let fits : size c.args.self.now.text - (c.args.end - c.args.start) + length given ≤ cap g.row.N = omega (arith, c.requires.room, size-lent given c.utf8.given) in
+    let fits : size c.args.self.now.text - (c.args.end - c.args.start) + length given ≤ cap g.row.N = omega (arith, c.requires.room, size-lent c.utf8.given) in
     moved-chars g.row.N _ _ _ c.self.invariant _ c.self.view_is _ _ given c.requires.order c.requires.start c.requires.end fits c.utf8.given
     gap.new.array c.copy_in.new.array gap.ensures.len gap.ensures.front gap.ensures.tail (rw c.as_bytes.ensures.value at c.copy_in.ensures)
 
@@ -61,4 +61,4 @@ returns-clause-most g c = rw (opened-size g.row.N _ _ _ c.self.invariant _ c.sel
 
 pub returns-clause-least : goal.returns-clause-least
 returns-clause-least g c =
-    rw (opened-size g.row.N _ _ _ c.self.invariant _ c.self.view_is, size-lent c.args.given.now c.utf8.given) c.open_gap_at_start.ensures.least
+    rw (opened-size g.row.N _ _ _ c.self.invariant _ c.self.view_is, size-lent c.utf8.given) c.open_gap_at_start.ensures.least

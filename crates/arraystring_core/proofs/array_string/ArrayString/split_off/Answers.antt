@@ -23,7 +23,7 @@ from_str_unchecked-rest-requires g c =
     let long = size-is c.args.self.now.text in
     let whole = ap length c.as_str.ensures.bytes in
     let filled : size c.args.self.now.text ≤ cap g.row.N = rw (← c.len.ensures.value) c.len.ensures.fits in
-    let lent = size-lent c.range_from.result.now c.range_from.utf8 in
+    let lent = size-lent c.range_from.utf8 in
     (search rules, omega (arith, long, whole, filled, c.range_from.ensures.len, lent))
 
 pub returns : goal.returns
@@ -33,6 +33,6 @@ returns g c =
     let at = sym c.is_boundary.ensures ∙ c.if-not-is_boundary.false in
     let spelled : c.range_from.result.now ≡ bytes (back t c.args.at) =
     c.range_from.ensures.value ∙ ap (drop c.args.at) c.as_str.ensures.bytes ∙ bytes-back t c.args.at at in
-    let rest = chars-bytes _ (back t c.args.at) c.range_from.utf8 spelled in
+    let rest = chars-bytes c.range_from.utf8 spelled in
     makes _ _ _ _ (rw (le-ltb _ _ reached, inside-not t c.args.at at))
     (c.from_str_unchecked-rest.ensures ∙ rest) c.keep.ensures

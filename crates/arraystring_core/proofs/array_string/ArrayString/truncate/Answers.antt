@@ -8,4 +8,4 @@ pub returns-then-size-len : goal.returns-then-size-len
 returns-then-size-len g c =
     let t = c.args.self.now.text in
     let whole : size t ≤ c.args.size = omega arith in
-    makes _ _ _ _ (rw (inside-past t c.args.size whole)) refl (sym (cut-all t c.args.size whole))
+    makes _ _ _ _ (rw (inside-past t c.args.size whole)) refl (sym (cut-all whole))

@@ -5,7 +5,7 @@ use Rattle.arraystring_core.proofs.array_string.ArrayString.try_from_str.Goals.{
 
 pub returns-then-not-fits : goal.returns-then-not-fits
 returns-then-not-fits g c =
-    (omega (arith, c.if-not-fits.true, c.capacity.ensures, size-lent c.args.string.now c.utf8.string), refl)
+    (omega (arith, c.if-not-fits.true, c.capacity.ensures, size-lent c.utf8.string), refl)
 
 pub returns-else-not-fits : goal.returns-else-not-fits
 returns-else-not-fits g c =
@@ -14,6 +14,6 @@ returns-else-not-fits g c =
     let whole : n ≡ length given = elim c.if-fits.branch [ then-fits w ↦ w.size-is | else-fits w ↦ omega (arith, w.if-fits, c.if-not-fits.false) ] in
     let copied = rw c.as_bytes.ensures.value at c.copy_in.ensures in
     let cut : take n c.copy_in.new.array ≡ take n given = rw copied (take_at (take n given) _ n (length-take-le n given (omega (arith, whole)))) in (
-      omega (arith, c.if-not-fits.false, c.capacity.ensures, size-lent given c.utf8.string),
+      omega (arith, c.if-not-fits.false, c.capacity.ensures, size-lent c.utf8.string),
       ap chars (cut ∙ take_all n given (omega (arith, whole))),
     )

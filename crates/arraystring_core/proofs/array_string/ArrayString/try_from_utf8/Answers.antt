@@ -4,18 +4,18 @@ use Rattle.arraystring_base.proofs.TextLaws.{well_formed-utf8, utf8-well_formed,
 use Rattle.arraystring_core.proofs.array_string.ArrayString.try_from_utf8.Goals as goal
 
 pub returns-in_default-clause-whole : goal.returns-in_default-clause-whole
-returns-in_default-clause-whole g c = λ t is e. absurd (c.in_default.ensures (well_formed-utf8 c.args.given.now (t, (is, e))))
+returns-in_default-clause-whole g c = λ t is e. absurd (c.in_default.ensures (well_formed-utf8 (t, (is, e))))
 
 pub returns-then-text-capacity-clause-malformed : goal.returns-then-text-capacity-clause-malformed
-returns-then-text-capacity-clause-malformed g c = λ bad. absurd (bad (utf8-well_formed c.args.given.now c.in-Ok.ensures.1))
+returns-then-text-capacity-clause-malformed g c = λ bad. absurd (bad (utf8-well_formed c.in-Ok.ensures.1))
 
 pub returns-then-text-capacity-clause-whole : goal.returns-then-text-capacity-clause-whole
 returns-then-text-capacity-clause-whole g c = λ t is e.
     let given = c.args.given.now in
     let read = c.in-Ok.ensures in
-    let same : chars given ≡ t = chars-bytes given t read.1 (sym e) in
+    let same : chars given ≡ t = chars-bytes read.1 (sym e) in
     let past : cap g.row.N < size t =
-    omega (arith, c.if-text-capacity.true, c.capacity.ensures, size-lent given read.1, ap length read.0, ap size same) in
+    omega (arith, c.if-text-capacity.true, c.capacity.ensures, size-lent read.1, ap length read.0, ap size same) in
     (past, refl)
 
 pub from_str_unchecked-requires : goal.from_str_unchecked-requires
@@ -23,7 +23,7 @@ from_str_unchecked-requires g c =
     let given = c.args.given.now in
     let read = c.in-Ok.ensures in
     let fits : size (chars c.in-Ok.text.now) ≤ cap g.row.N =
-    omega (arith, c.if-text-capacity.false, c.capacity.ensures, size-lent given read.1, ap length read.0, ap (λ l. size (chars l)) read.0) in
+    omega (arith, c.if-text-capacity.false, c.capacity.ensures, size-lent read.1, ap length read.0, ap (λ l. size (chars l)) read.0) in
     (search rules, fits)
 
 pub returns : goal.returns
@@ -32,12 +32,12 @@ returns g c =
     let read = c.in-Ok.ensures in
     let text : c.from_str_unchecked.result.text ≡ chars given = c.from_str_unchecked.ensures ∙ ap chars read.0 in
     record {
-      malformed = λ bad. absurd (bad (utf8-well_formed given read.1));
+      malformed = λ bad. absurd (bad (utf8-well_formed read.1));
       whole = λ t is e.
-          let same : chars given ≡ t = chars-bytes given t read.1 (sym e) in
+          let same : chars given ≡ t = chars-bytes read.1 (sym e) in
           let fits : size t ≤ cap g.row.N =
-          omega (arith, c.if-text-capacity.false, c.capacity.ensures, size-lent given read.1, ap length read.0, ap size same) in
+          omega (arith, c.if-text-capacity.false, c.capacity.ensures, size-lent read.1, ap length read.0, ap size same) in
           (fits, text ∙ same);
-      bytes = ap bytes text ∙ bytes-chars given read.1;
-      text = rw text (text-chars given read.1);
+      bytes = ap bytes text ∙ bytes-chars read.1;
+      text = rw text (text-chars read.1);
     }

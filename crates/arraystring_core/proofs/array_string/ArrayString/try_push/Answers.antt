@@ -2,7 +2,7 @@ use Rattle.std.proofs.Common.{◌+◌, ◌≤◌, ◌∷◌, [], refl, arith, ru
 use Rattle.arraystring_base.specs.Text.{cap, size, width}
 use Rattle.arraystring_base.proofs.TextLaws.{width-bounds}
 use Rattle.arraystring_core.specs.Edits.{addition}
-use Rattle.arraystring_core.proofs.EditLaws.{makes, addition-fits}
+use Rattle.arraystring_core.proofs.EditLaws.{makes, addition-no_cause}
 use Rattle.arraystring_core.proofs.StoredLaws.{opened-size}
 use Rattle.arraystring_core.proofs.array_string.ArrayString.try_push.Goals as goal
 
@@ -18,5 +18,5 @@ returns g c =
     let ch = c.args.ch in
     let long = opened-size g.row.N _ _ _ c.self.invariant _ c.self.view_is in
     let fits : size t + size (ch ∷ []) ≤ cap g.row.N = omega (arith, long, width-bounds ch) in
-    makes (addition t (ch ∷ []) (cap g.row.N)) t tt c.push_unchecked.new.self.text (addition-fits t (ch ∷ []) (cap g.row.N) fits) refl
+    makes (addition t (ch ∷ []) (cap g.row.N)) t tt c.push_unchecked.new.self.text (addition-no_cause t (ch ∷ []) (cap g.row.N) fits) refl
     c.push_unchecked.ensures

@@ -41,28 +41,28 @@ returns-then-last-lt128-clause-goes g c =
 pub returns-in_err-kept-clause-steps : goal.returns-in_err-kept-clause-steps
 returns-in_err-kept-clause-steps g c =
     let left = c.args.self.now.left in
-    let none : left ≡ [] = sym (chars-bytes _ left c.as_str.utf8 c.as_str.ensures.bytes) ∙ c.in_err-kept.ensures.none in
+    let none : left ≡ [] = sym (chars-bytes c.as_str.utf8 c.as_str.ensures.bytes) ∙ c.in_err-kept.ensures.none in
     rw c.from_residual.ensures (none, none)
 
 pub overflow_cast-self : goal.overflow_cast-self
 overflow_cast-self g c =
     let left = c.args.self.now.left in
     let found = c.in_ok-kept.ensures.some in
-    let ends = ap (λ d. d.left) c.self.view_is ∙ sym (chars-bytes _ left c.as_str.utf8 c.as_str.ensures.bytes) ∙ found.1 in
+    let ends = ap (λ d. d.left) c.self.view_is ∙ sym (chars-bytes c.as_str.utf8 c.as_str.ensures.bytes) ∙ found.1 in
     omega (arith, back-within g.row.N _ _ _ _ c.self.invariant.0 c.self.invariant.1 c.in_ok-kept.ch found.0 ends, found.2, c.self.invariant.0.0)
 
 pub overflow_add-self : goal.overflow_add-self
 overflow_add-self g c =
     let left = c.args.self.now.left in
     let found = c.in_ok-kept.ensures.some in
-    let ends = ap (λ d. d.left) c.self.view_is ∙ sym (chars-bytes _ left c.as_str.utf8 c.as_str.ensures.bytes) ∙ found.1 in
+    let ends = ap (λ d. d.left) c.self.view_is ∙ sym (chars-bytes c.as_str.utf8 c.as_str.ensures.bytes) ∙ found.1 in
     omega (arith, back-within g.row.N _ _ _ _ c.self.invariant.0 c.self.invariant.1 c.in_ok-kept.ch found.0 ends, found.2, c.self.invariant.0.0)
 
 pub invariant_of-self-2 : goal.invariant_of-self-2
 invariant_of-self-2 g c =
     let left = c.args.self.now.left in
     let found = c.in_ok-kept.ensures.some in
-    let ends = ap (λ d. d.left) c.self.view_is ∙ sym (chars-bytes _ left c.as_str.utf8 c.as_str.ensures.bytes) ∙ found.1 in
+    let ends = ap (λ d. d.left) c.self.view_is ∙ sym (chars-bytes c.as_str.utf8 c.as_str.ensures.bytes) ∙ found.1 in
     let held = back-held g.row.N _ _ _ _ c.self.invariant.0 c.self.invariant.1 c.in_ok-kept.ch found.0 ends in
     let given = back-given g.row.N _ _ _ _ c.self.invariant.0 c.self.invariant.1 c.in_ok-kept.ch found.0 ends in
     rw (← found.2) (held, given)
@@ -73,7 +73,7 @@ returns-clause-steps g c =
     let s = c.self.inside in
     let ch = c.in_ok-kept.ch in
     let found = c.in_ok-kept.ensures.some in
-    let lent = sym (chars-bytes _ left c.as_str.utf8 c.as_str.ensures.bytes) ∙ found.1 in
+    let lent = sym (chars-bytes c.as_str.utf8 c.as_str.ensures.bytes) ∙ found.1 in
     let ends = ap (λ d. d.left) c.self.view_is ∙ lent in
     let rest = sym (back-rest g.row.N _ _ _ _ c.self.invariant.0 c.self.invariant.1 ch found.0 ends) ∙ ap (λ k. back (stored s.array s.start (s.front + k)).text s.front) found.2 in
     lent ∙ ap (λ l. l ++ ch ∷ []) rest

@@ -8,4 +8,4 @@ returns-in-Ok-clause-ok g c _ =
     let t = c.args.self.now.text in
     let added = rw c.in-Ok.is at c.try_push_str.ensures.ok in
     ap bytes added ∙ bytes-append t (chars c.args.string.now)
-    ∙ ap (λ l. bytes t ++ l) (bytes-chars c.args.string.now c.utf8.string)
+    ∙ ap (λ l. bytes t ++ l) (bytes-chars c.utf8.string)
