@@ -23,5 +23,5 @@ from_utf8_unchecked-requires c =
     let text = c.args.text.now in
     let tried = c.in-Ok.ensures.whole (chars text) (λ it e. text-gives c.chars.result it text c.utf8.text c.chars.ensures.rest e) in
     let lent : c.as_bytes.result.now ≡ text = c.as_bytes.ensures.value in
-    let within : length c.as_bytes.result.now ≤ 63 = omega (arith, tried.0, size-lent text c.utf8.text, ap length lent) in
-    record { well_formed = subst IsWellFormed (sym lent) (utf8-well_formed text c.utf8.text); fits = within }
+    let within : length c.as_bytes.result.now ≤ 63 = omega (arith, tried.0, size-lent c.utf8.text, ap length lent) in
+    record { well_formed = subst IsWellFormed (sym lent) (utf8-well_formed c.utf8.text); fits = within }

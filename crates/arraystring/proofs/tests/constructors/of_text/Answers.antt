@@ -16,8 +16,8 @@ pub from_utf8_unchecked-requires : goal.from_utf8_unchecked-requires
 from_utf8_unchecked-requires g c =
     let text = c.args.text.now in
     let lent : c.as_bytes.result.now ≡ text = c.as_bytes.ensures.value in
-    let within : length c.as_bytes.result.now ≤ cap g.row.N = omega (arith, c.in-Ok.ensures.0, size-lent text c.utf8.text, ap length lent) in
-    (search rules, (subst IsWellFormed (sym lent) (utf8-well_formed text c.utf8.text), within))
+    let within : length c.as_bytes.result.now ≤ cap g.row.N = omega (arith, c.in-Ok.ensures.0, size-lent c.utf8.text, ap length lent) in
+    (search rules, (subst IsWellFormed (sym lent) (utf8-well_formed c.utf8.text), within))
 
 pub returns-in-Ok : goal.returns-in-Ok
 returns-in-Ok g c =
