@@ -3,7 +3,8 @@ ghost use Rattle.std.specs.Prelude.{◌≡◌, ◌+◌, ◌-◌, ◌^◌, ◌==�
 ghost use Rattle.arraystring_base.specs.Text.{bytes, cut, utf8, width, size, boundary};
 
 use crate::error::OutOfBounds;
-use crate::moves::{copy_run, move_run};
+use crate::moves::move_run;
+pub use crate::moves::write_over;
 pub use crate::steps::{Steps, look};
 use std::char;
 
@@ -131,16 +132,6 @@ pub fn shift<const N: usize>(
     }
 }
 
-/// Writes `given` over the bytes of the array from the offset `at` on. Up to 16 bytes cost no call. It
-/// must fit into the array from there. No other byte changes.
-#[inline(always)]
-pub fn write_over<const N: usize>(array: &mut [u8; N], at: usize, given: &[u8])
-    requires { at + length given.now ≤ N }
-    ensures { array.new ≡ take at array.old ++ (given.now ++ drop (at + length given.now) array.old) }
-{
-    copy_run(array, at, given);
-}
-
 /// Whether a byte continues a character that began before it.
 fn continues(byte: u8) -> bool
     ensures { IsTrue result ↔ ((128 ≤ byte) × (byte < 192)) }
@@ -185,6 +176,7 @@ fn char_before_end(text: &str, steps: &mut Steps) -> (usize, char)
     let end = all.len();
     let last = look(all, end - 1, steps) as u32;
     if last < 0x80 {
+        // SAFETY: below 0x80, so a scalar value (`last`: it is the character that is encoded there).
         return (end - 1, unsafe { char::from_u32_unchecked(last) });
     }
     let second = look(all, end - 2, steps) as u32;

@@ -3,12 +3,14 @@
 #![tactic(auto)]
 
 pub mod array_string;
+mod decode;
 pub mod drain;
 mod equal;
+mod gap;
 pub mod integration;
 pub mod laws;
-mod place;
 mod range_ends;
+mod retain;
 pub mod utils;
 mod well_formed;
 

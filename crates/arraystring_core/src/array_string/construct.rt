@@ -8,7 +8,7 @@ ghost use Rattle.arraystring_core.specs.Construct.{IsWholeOrRefused};
 ghost use Rattle.arraystring_core.specs.Taken.{Takes, TakesAll, Fits, Gives, joined, joined_pieces, piece_text};
 
 use super::ArrayString;
-use crate::place::copy_in;
+use crate::gap::write_by_call;
 use crate::well_formed::read_utf8;
 use arraystring_base::error::{Error, OutOfBounds, Utf8};
 use arraystring_base::utils::truncate_str;
@@ -27,7 +27,7 @@ impl<const N: usize> ArrayString<N> {
             start: 0,
             size: size as u8,
         };
-        copy_in(&mut made.array, 0, &string.as_bytes()[..size]);
+        write_by_call(&mut made.array, 0, &string.as_bytes()[..size]);
         let mut result = Ok(made);
         if !fits {
             result = Err(OutOfBounds);
@@ -49,7 +49,7 @@ impl<const N: usize> ArrayString<N> {
         ensures { result.text ≡ chars string.now }
     {
         let mut array = [0; N];
-        copy_in(&mut array, 0, string.as_bytes());
+        write_by_call(&mut array, 0, string.as_bytes());
         ArrayString {
             array,
             start: 0,

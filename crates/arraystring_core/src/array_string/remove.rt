@@ -6,7 +6,8 @@ ghost use Rattle.arraystring_core.specs.Edits.{Makes, from_utf8_error, with_text
 ghost use Rattle.arraystring_core.specs.Retain.{MayBeAsked};
 
 use crate::ArrayString;
-use crate::place::retain_at;
+use crate::decode::first_char;
+use crate::retain::retain_at;
 use arraystring_base::error::{Error, Utf8};
 use arraystring_base::utils::Steps;
 
@@ -116,11 +117,6 @@ impl<const N: usize> ArrayString<N> {
         ensures next { IsTrue (boundary self.now.text (at + width result.0)) }
         ensures rest { back self.now.text (at + width result.0) ≡ drop 1 (back self.now.text at) }
     {
-        let text = &self.as_str()[at..];
-        let mut rest = text.chars();
-        let Some(ch) = rest.next() else {
-            unreachable!();
-        };
-        (ch, text.len() - rest.as_str().len())
+        first_char(&self.as_str()[at..])
     }
 }

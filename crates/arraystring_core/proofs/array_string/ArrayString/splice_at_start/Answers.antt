@@ -33,8 +33,8 @@ overflow_cast-self g c =
     let room = replaced-room g.row.N _ _ _ c.self.invariant _ c.self.view_is _ _ c.args.given.now c.requires.order c.requires.start c.requires.end fits in
     omega (arith, room)
 
-pub copy_in-requires : goal.copy_in-requires
-copy_in-requires g c =
+pub write_by_call-requires : goal.write_by_call-requires
+write_by_call-requires g c =
     let long = size-lent c.utf8.given in
     let fits : size c.args.self.now.text - (c.args.end - c.args.start) + length c.args.given.now ≤ cap g.row.N = omega (arith, c.requires.room, long) in
     let room = replaced-room g.row.N _ _ _ c.self.invariant _ c.self.view_is _ _ c.args.given.now c.requires.order c.requires.start c.requires.end fits in
@@ -46,7 +46,7 @@ invariant_of-self g c =
     let gap = c.open_gap_at_start in
     let fits : size c.args.self.now.text - (c.args.end - c.args.start) + length given ≤ cap g.row.N = omega (arith, c.requires.room, size-lent c.utf8.given) in
     moved-stored g.row.N _ _ _ c.self.invariant _ c.self.view_is _ _ given c.requires.order c.requires.start c.requires.end fits c.utf8.given
-    gap.new.array c.copy_in.new.array gap.ensures.len gap.ensures.front gap.ensures.tail (rw c.as_bytes.ensures.value at c.copy_in.ensures)
+    gap.new.array c.write_by_call.new.array gap.ensures.len gap.ensures.front gap.ensures.tail (rw c.as_bytes.ensures.value at c.write_by_call.ensures)
 
 pub returns-clause-text : goal.returns-clause-text
 returns-clause-text g c =
@@ -54,7 +54,7 @@ returns-clause-text g c =
     let gap = c.open_gap_at_start in
     let fits : size c.args.self.now.text - (c.args.end - c.args.start) + length given ≤ cap g.row.N = omega (arith, c.requires.room, size-lent c.utf8.given) in
     moved-chars g.row.N _ _ _ c.self.invariant _ c.self.view_is _ _ given c.requires.order c.requires.start c.requires.end fits c.utf8.given
-    gap.new.array c.copy_in.new.array gap.ensures.len gap.ensures.front gap.ensures.tail (rw c.as_bytes.ensures.value at c.copy_in.ensures)
+    gap.new.array c.write_by_call.new.array gap.ensures.len gap.ensures.front gap.ensures.tail (rw c.as_bytes.ensures.value at c.write_by_call.ensures)
 
 pub returns-clause-most : goal.returns-clause-most
 returns-clause-most g c = rw (opened-size g.row.N _ _ _ c.self.invariant _ c.self.view_is) c.open_gap_at_start.ensures.most

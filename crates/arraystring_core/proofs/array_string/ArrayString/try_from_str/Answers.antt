@@ -12,8 +12,8 @@ returns-else-not-fits g c =
     let given = c.args.string.now in
     let n = c.if-fits.size in
     let whole : n ≡ length given = elim c.if-fits.branch [ then-fits w ↦ w.size-is | else-fits w ↦ omega (arith, w.if-fits, c.if-not-fits.false) ] in
-    let copied = rw c.as_bytes.ensures.value at c.copy_in.ensures in
-    let cut : take n c.copy_in.new.array ≡ take n given = rw copied (take_at (take n given) _ n (length-take-le n given (omega (arith, whole)))) in (
+    let copied = rw c.as_bytes.ensures.value at c.write_by_call.ensures in
+    let cut : take n c.write_by_call.new.array ≡ take n given = rw copied (take_at (take n given) _ n (length-take-le n given (omega (arith, whole)))) in (
       omega (arith, c.if-not-fits.false, c.capacity.ensures, size-lent c.utf8.string),
       ap chars (cut ∙ take_all n given (omega (arith, whole))),
     )

@@ -3,8 +3,8 @@ use Rattle.std.proofs.lemmas.List.{append-nil}
 use Rattle.std.proofs.lemmas.Str.{chars-nil}
 use Rattle.arraystring_base.specs.Text.{width, utf8}
 use Rattle.arraystring_core.proofs.RetainLemmas.{asked-now, rest-chars, retained-init, retained-keep, retained-drop, moved-bytes, none-between, kept_bytes, between}
-use Rattle.arraystring_core.proofs.place.retain_at.Goals as goal
-use Rattle.arraystring_core.proofs.place.retain_at.Goals.{then-not-f, else-not-f}
+use Rattle.arraystring_core.proofs.retain.retain_at.Goals as goal
+use Rattle.arraystring_core.proofs.retain.retain_at.Goals.{then-not-f, else-not-f}
 
 pub loop-read-init : goal.loop-read-init
 loop-read-init g c =
@@ -13,31 +13,31 @@ loop-read-init g c =
 pub f-requires : goal.f-requires
 f-requires g c =
     let l = c.loop-read in
-    let ch = c.char_at-ch.result.0 in
+    let ch = c.first_char-ch.result.0 in
     let wide : c.args.place + c.args.size - (c.args.place + l.read) ≡ c.args.size - l.read = omega arith in
-    let starts : between l.array c.args.place l.read c.args.size ≡ utf8 ch ++ c.char_at-ch.ensures.first.0 =
-    ap (λ k. take k (drop (c.args.place + l.read) l.array)) (sym wide) ∙ c.char_at-ch.ensures.first.1 in
+    let starts : between l.array c.args.place l.read c.args.size ≡ utf8 ch ++ c.first_char-ch.ensures.first.0 =
+    ap (λ k. take k (drop (c.args.place + l.read) l.array)) (sym wide) ∙ sym c.from_utf8_unchecked-text.ensures ∙ c.first_char-ch.ensures.first.1 in
     let within : c.args.place + c.args.size ≤ length l.array = omega (arith, l.invariant.long) in
-    let left = rest-chars (goal.F-pre g) (goal.F-step g) g.row.N c.args.array.now c.args.f c.args.place c.args.size l.array l.f l.kept l.run l.read l.invariant within ch (search rules) c.char_at-ch.ensures.first.0 starts l.f in
+    let left = rest-chars (goal.F-pre g) (goal.F-step g) g.row.N c.args.array.now c.args.f c.args.place c.args.size l.array l.f l.kept l.run l.read l.invariant within ch (search rules) c.first_char-ch.ensures.first.0 starts l.f in
     asked-now (goal.F-pre g) (goal.F-step g) _ _ _ (rw left at l.invariant.asked)
 
 pub loop-read-preserved : goal.loop-read-preserved
 loop-read-preserved g c =
     let l = c.loop-read in
-    let ch = c.char_at-ch.result.0 in
+    let ch = c.first_char-ch.result.0 in
     let wide : c.args.place + c.args.size - (c.args.place + l.read) ≡ c.args.size - l.read = omega arith in
-    let starts : between l.array c.args.place l.read c.args.size ≡ utf8 ch ++ c.char_at-ch.ensures.first.0 =
-    ap (λ k. take k (drop (c.args.place + l.read) l.array)) (sym wide) ∙ c.char_at-ch.ensures.first.1 in
+    let starts : between l.array c.args.place l.read c.args.size ≡ utf8 ch ++ c.first_char-ch.ensures.first.0 =
+    ap (λ k. take k (drop (c.args.place + l.read) l.array)) (sym wide) ∙ sym c.from_utf8_unchecked-text.ensures ∙ c.first_char-ch.ensures.first.1 in
     let within : c.args.place + c.args.size ≤ length l.array = omega (arith, l.invariant.long) in
-    let next : c.char_at-ch.result.1 ≡ width ch = c.char_at-ch.ensures.width in
+    let next : c.first_char-ch.result.1 ≡ width ch = c.first_char-ch.ensures.width in
     elim c.if-not-f.branch [
       | then-not-f w ↦
           rw (w.array-is, w.kept-is, w.run-is, next)
-          (retained-drop (goal.F-pre g) (goal.F-step g) g.row.N c.args.array.now c.args.f c.args.place c.args.size l.array l.f l.kept l.run l.read l.invariant within ch (search rules) c.char_at-ch.ensures.first.0 starts c.f.new.self
+          (retained-drop (goal.F-pre g) (goal.F-step g) g.row.N c.args.array.now c.args.f c.args.place c.args.size l.array l.f l.kept l.run l.read l.invariant within ch (search rules) c.first_char-ch.ensures.first.0 starts c.f.new.self
           w.shift_run.new.array w.shift_run.ensures w.if-not-f.ensures)
       | else-not-f w ↦
           rw (w.array-is, w.kept-is, w.run-is, next)
-          (retained-keep (goal.F-pre g) (goal.F-step g) g.row.N c.args.array.now c.args.f c.args.place c.args.size l.array l.f l.kept l.run l.read l.invariant within ch (search rules) c.char_at-ch.ensures.first.0 starts c.f.new.self
+          (retained-keep (goal.F-pre g) (goal.F-step g) g.row.N c.args.array.now c.args.f c.args.place c.args.size l.array l.f l.kept l.run l.read l.invariant within ch (search rules) c.first_char-ch.ensures.first.0 starts c.f.new.self
           w.if-not-f.ensures)
     ]
 

@@ -1,6 +1,6 @@
 use Rattle.std.proofs.Common.{◌+◌, ◌-◌, ◌≤◌, length, ap, ◌∙◌, arith, take}
 use Rattle.arraystring_core.proofs.GapLemmas.{shift-moved, shift-behind, shift-length}
-use Rattle.arraystring_core.proofs.place.open_gap_at_start.Goals as goal
+use Rattle.arraystring_core.proofs.gap.open_gap_at_start.Goals as goal
 
 pub returns-clause-tail : goal.returns-clause-tail
 returns-clause-tail g c =
