@@ -11,7 +11,7 @@ use Rattle.arraystring_core.specs.Stored.{Stored, stored, IsStored}
 use Rattle.arraystring_core.proofs.StoredLaws.{opened-bytes, opened-size, opened-text}
 use Rattle.arraystring_core.specs.Edits.{part}
 use Rattle.arraystring_core.proofs.GapLemmas.{written-length, written-parts}
-use Rattle.arraystring_core.proofs.PlaceLemmas.{replaced-stored, replaced-chars}
+use Rattle.arraystring_core.proofs.SpanLemmas.{replaced}
 
 -- a change of ASCII characters alone
 pub record IsAsciiChange (f : ℕ → ℕ) : Type 0 where
@@ -151,10 +151,10 @@ module _ (f : ℕ → ℕ) (is : IsAsciiChange f) (places : ℕ) (array : List �
   pub changed-stored : IsStored places after p n
   changed-stored =
       subst (λ k. IsStored places after p k) whole-length
-      (replaced-stored places array p n held v e start end given order b d room given-utf8 after p after-length fits visible)
+      ((replaced places array p n held v e start end given order b d room given-utf8 after p after-length fits visible).held)
 
   pub changed-text : chars (take n (drop p after)) ≡ front v.text start ++ (map f (part v.text start end) ++ back v.text end)
   changed-text =
       ap (λ k. chars (take k (drop p after))) (sym whole-length)
-      ∙ replaced-chars places array p n held v e start end given order b d room given-utf8 after p after-length fits visible
+      ∙ (replaced places array p n held v e start end given order b d room given-utf8 after p after-length fits visible).shown
       ∙ ap (λ l. front v.text start ++ (l ++ back v.text end)) given-chars

@@ -11,7 +11,7 @@ use Rattle.arraystring_core.specs.Stored.{Stored, stored, IsStored}
 use Rattle.arraystring_core.specs.GhostProofs.{stored-utf8, stored-size, stored-bytes}
 use Rattle.arraystring_core.specs.Drained.{IsDrained}
 use Rattle.arraystring_core.specs.Edits.{part}
-use Rattle.arraystring_core.proofs.PlaceLemmas.{dropped-stored, dropped-chars, kept-stored, kept-chars}
+use Rattle.arraystring_core.proofs.SpanLemmas.{dropped as dropped_part, kept as kept_part}
 
 -- a text that is not empty ends with a character
 pub last-split : (c : ℕ) (cs : List ℕ) → (xs : List ℕ) × (x : ℕ) × (c ∷ cs ≡ xs ++ x ∷ [])
@@ -86,18 +86,18 @@ last-low t b some e lt =
 module _ (places : ℕ) (array : List ℕ) (p n : ℕ) (is : IsStored places array p n) (v : Stored) (e : stored array p n ≡ v)
     (start end : ℕ) (order : start ≤ end) (b : boundary v.text start ≡ true) (d : boundary v.text end ≡ true) where
   kept : IsStored places array p end
-  kept = kept-stored places array p n is v e end d
+  kept = (kept_part places array p n is v e end d).held
 
   starts : boundary (stored array p end).text start ≡ true
-  starts = rw (kept-chars places array p n is v e end d) (boundary-in_front v.text start end order b)
+  starts = rw (kept_part places array p n is v e end d).shown (boundary-in_front v.text start end order b)
 
   pub part-held : IsStored places array (p + start) (end - start)
-  part-held = dropped-stored places array p end kept (stored array p end) refl start starts
+  part-held = (dropped_part places array p end kept (stored array p end) refl start starts).held
 
   pub part-text : (stored array (p + start) (end - start)).text ≡ part v.text start end
   part-text =
-      dropped-chars places array p end kept (stored array p end) refl start starts
-      ∙ ap (λ t. back t start) (kept-chars places array p n is v e end d)
+      (dropped_part places array p end kept (stored array p end) refl start starts).shown
+      ∙ ap (λ t. back t start) (kept_part places array p n is v e end d).shown
 
 module _ (places : ℕ) (array : List ℕ) (p n i : ℕ) (held : IsStored places array p n) (is : IsDrained places (stored array p n) i) where
   abbrev removed : List ℕ
@@ -119,7 +119,7 @@ module _ (places : ℕ) (array : List ℕ) (p n i : ℕ) (held : IsStored places
   left-bytes = sym (bytes-back removed i is.at) ∙ ap (drop i) (stored-bytes places array p n held)
 
   lent-stored : IsStored places array (p + i) (n - i)
-  lent-stored = dropped-stored places array p n held (stored array p n) refl i is.at
+  lent-stored = (dropped_part places array p n held (stored array p n) refl i is.at).held
 
   -- its bytes are those of the array from f to e
   module _ (f e : ℕ) (from : f ≡ p + i) (to : e ≡ p + n) where
@@ -133,7 +133,7 @@ module _ (places : ℕ) (array : List ℕ) (p n i : ℕ) (held : IsStored places
     lent-bytes =
         ap (λ k. take k (drop f array)) long ∙ ap (λ k. take (n - i) (drop k array)) from
         ∙ sym (stored-bytes places array (p + i) (n - i) lent-stored)
-        ∙ ap bytes (dropped-chars places array p n held (stored array p n) refl i is.at)
+        ∙ ap bytes (dropped_part places array p n held (stored array p n) refl i is.at).shown
 
   pub left-fits : size left ≤ cap places
   left-fits = omega (arith, left-size, held.0)
@@ -208,14 +208,14 @@ module _ (places : ℕ) (array : List ℕ) (p n i : ℕ) (held : IsStored places
 
     kept-text : (stored array p (i + size rest)).text ≡ before ++ rest
     kept-text =
-        kept-chars places array p n held (stored array p n) refl (i + size rest) last-starts
+        (kept_part places array p n held (stored array p n) refl (i + size rest) last-starts).shown
         ∙ ap (λ t. front t (i + size rest)) parts ∙ front-is (before ++ rest) (c ∷ []) (i + size rest) shorter
 
     pub back-within : i + size rest ≤ n
     back-within = omega (arith, boundary-within removed (i + size rest) last-starts, removed-size)
 
     pub back-held : IsStored places array p (i + size rest)
-    back-held = kept-stored places array p n held (stored array p n) refl (i + size rest) last-starts
+    back-held = (kept_part places array p n held (stored array p n) refl (i + size rest) last-starts).held
 
     pub back-given : IsDrained places (stored array p (i + size rest)) i
     back-given = record {

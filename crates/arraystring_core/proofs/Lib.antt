@@ -6,7 +6,7 @@ mod ConstructLaws
 mod JsonLaws
 mod StoredLaws
 mod GapLemmas
-mod PlaceLemmas
+mod SpanLemmas
 mod TakenLemmas
 mod AsciiLemmas
 mod TrimLemmas

@@ -5,7 +5,7 @@ ghost use Rattle.arraystring_base.specs.Text.{size, width, cap, front, back, bou
 ghost use Rattle.arraystring_core.specs.Edits.{Makes, from_out_of_bounds, addition};
 
 use crate::ArrayString;
-use crate::gap::{open_gap, open_gap_at_start, write_by_call};
+use crate::gap::{Span, open_gap, open_gap_at_start, write_by_call};
 use arraystring_base::error::OutOfBounds;
 use arraystring_base::utils::{Steps, encode, is_boundary, shift, write_over};
 
@@ -84,15 +84,18 @@ impl<const N: usize> ArrayString<N> {
         ensures counted { steps.old.moved ≤ steps.new.moved }
         ensures looked { steps.new.looked ≡ steps.old.looked }
     {
-        let (place, size) = (self.start as usize, self.size as usize);
+        let text = Span {
+            offset: self.start as usize,
+            size: self.size as usize,
+        };
         let len = given.len();
-        let tail = size - end;
-        if place + (start + (len + tail)) > Self::capacity() as usize {
+        let tail = text.size - end;
+        if text.offset + (start + (len + tail)) > Self::capacity() as usize {
             return self.splice_at_start(start, end, given, steps);
         }
         self.size = (start + (len + tail)) as u8;
-        open_gap(&mut self.array, place, size, start, end, len, steps);
-        write_over(&mut self.array, place + start, given.as_bytes());
+        open_gap(&mut self.array, text, start, end, len, steps);
+        write_over(&mut self.array, text.offset + start, given.as_bytes());
     }
 
     /// The same where the text moves to the start of the array for it.
@@ -110,11 +113,14 @@ impl<const N: usize> ArrayString<N> {
         ensures counted { steps.old.moved ≤ steps.new.moved }
         ensures looked { steps.new.looked ≡ steps.old.looked }
     {
-        let (place, size) = (self.start as usize, self.size as usize);
+        let text = Span {
+            offset: self.start as usize,
+            size: self.size as usize,
+        };
         let len = given.len();
         self.start = 0;
-        self.size = (start + (len + (size - end))) as u8;
-        open_gap_at_start(&mut self.array, place, size, start, end, len, steps);
+        self.size = (start + (len + (text.size - end))) as u8;
+        open_gap_at_start(&mut self.array, text, start, end, len, steps);
         write_by_call(&mut self.array, start, given.as_bytes());
     }
 
@@ -125,14 +131,17 @@ impl<const N: usize> ArrayString<N> {
         requires room { size self.old.text + width ch ≤ cap N }
         ensures { self.new.text ≡ front self.old.text at ++ (ch ∷ back self.old.text at) }
     {
-        let (place, size) = (self.start as usize, self.size as usize);
+        let text = Span {
+            offset: self.start as usize,
+            size: self.size as usize,
+        };
         let len = ch.len_utf8();
-        if place + size + len > Self::capacity() as usize {
+        if text.offset + text.size + len > Self::capacity() as usize {
             return self.insert_at_start(at, ch);
         }
-        self.size = (at + (len + (size - at))) as u8;
-        open_gap(&mut self.array, place, size, at, at, len, &mut Steps::new());
-        encode(ch, &mut self.array, place + at);
+        self.size = (at + (len + (text.size - at))) as u8;
+        open_gap(&mut self.array, text, at, at, len, &mut Steps::new());
+        encode(ch, &mut self.array, text.offset + at);
     }
 
     /// The same where the text moves to the start of the array for it, as a call.
@@ -153,11 +162,14 @@ impl<const N: usize> ArrayString<N> {
         requires room { size self.old.text + width ch ≤ cap N }
         ensures { self.new.text ≡ front self.old.text at ++ (ch ∷ back self.old.text at) }
     {
-        let (place, size) = (self.start as usize, self.size as usize);
+        let text = Span {
+            offset: self.start as usize,
+            size: self.size as usize,
+        };
         let len = ch.len_utf8();
         self.start = 0;
-        self.size = (at + (len + (size - at))) as u8;
-        open_gap_at_start(&mut self.array, place, size, at, at, len, &mut Steps::new());
+        self.size = (at + (len + (text.size - at))) as u8;
+        open_gap_at_start(&mut self.array, text, at, at, len, &mut Steps::new());
         encode(ch, &mut self.array, at);
     }
 
@@ -177,10 +189,10 @@ impl<const N: usize> ArrayString<N> {
         if start == 0 {
             return self.drop_front(end);
         }
-        let (place, size) = (self.start as usize, self.size as usize);
+        let (offset, size) = (self.start as usize, self.size as usize);
         let tail = size - end;
         self.size = (start + tail) as u8;
-        shift(&mut self.array, place + end, place + start, tail, steps);
+        shift(&mut self.array, offset + end, offset + start, tail, steps);
     }
 
     /// Drops the part before a boundary, without a move.

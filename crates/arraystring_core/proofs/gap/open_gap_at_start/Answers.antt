@@ -4,12 +4,12 @@ use Rattle.arraystring_core.proofs.gap.open_gap_at_start.Goals as goal
 
 pub returns-clause-tail : goal.returns-clause-tail
 returns-clause-tail g c =
-    let tail = c.args.size - c.args.end in
+    let tail = c.args.text.size - c.args.end in
     let first = c.shift.ensures.bytes in
-    let fits : c.args.place + c.args.start ≤ length c.args.array.now = omega (arith, c.told-array) in
+    let fits : c.args.text.offset + c.args.start ≤ length c.args.array.now = omega (arith, c.told-array) in
     let room : 0 + c.args.start ≤ length c.args.array.now = omega (arith, c.told-array) in
-    let long = shift-length c.args.array.now c.shift.new.array c.args.place 0 c.args.start fits room first in
-    let behind = shift-behind c.args.array.now c.shift.new.array c.args.place 0 c.args.start fits room first (c.args.place + c.args.end) (omega arith) in
-    let moved = shift-moved c.shift.new.array _ (c.args.place + c.args.end) (c.args.start + c.args.len) tail
+    let long = shift-length c.args.array.now c.shift.new.array c.args.text.offset 0 c.args.start fits room first in
+    let behind = shift-behind c.args.array.now c.shift.new.array c.args.text.offset 0 c.args.start fits room first (c.args.text.offset + c.args.end) (omega arith) in
+    let moved = shift-moved c.shift.new.array _ (c.args.text.offset + c.args.end) (c.args.start + c.args.len) tail
     (omega (arith, long, c.told-array)) (omega (arith, long, c.told-array)) c.shift-2.ensures.bytes in
     moved ∙ ap (take tail) behind

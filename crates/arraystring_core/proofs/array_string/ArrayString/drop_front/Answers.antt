@@ -1,5 +1,5 @@
 use Rattle.std.proofs.Common.{arith}
-use Rattle.arraystring_core.proofs.PlaceLemmas.{dropped-within, dropped-stored, dropped-chars}
+use Rattle.arraystring_core.proofs.SpanLemmas.{dropped-within, dropped}
 use Rattle.arraystring_core.proofs.array_string.ArrayString.drop_front.Goals as goal
 
 pub overflow_add-self : goal.overflow_add-self
@@ -14,7 +14,7 @@ pub overflow_sub-self : goal.overflow_sub-self
 overflow_sub-self g c = dropped-within g.row.N _ _ _ c.self.invariant _ c.self.view_is c.args.end c.requires
 
 pub invariant_of-self : goal.invariant_of-self
-invariant_of-self g c = dropped-stored g.row.N _ _ _ c.self.invariant _ c.self.view_is c.args.end c.requires
+invariant_of-self g c = (dropped g.row.N _ _ _ c.self.invariant _ c.self.view_is c.args.end c.requires).held
 
 pub returns : goal.returns
-returns g c = dropped-chars g.row.N _ _ _ c.self.invariant _ c.self.view_is c.args.end c.requires
+returns g c = (dropped g.row.N _ _ _ c.self.invariant _ c.self.view_is c.args.end c.requires).shown

@@ -1,18 +1,20 @@
-use Rattle.std.proofs.Common.{◌+◌, ◌≤◌, length, arith}
+use Rattle.std.proofs.Common.{◌+◌, ◌≤◌, ◌++◌, chars, length, arith}
 use Rattle.arraystring_base.specs.Text.{cap}
-use Rattle.arraystring_core.proofs.PlaceLemmas.{appended-stored, appended-chars}
+use Rattle.arraystring_core.proofs.SpanLemmas.{Lies, appended}
+use Rattle.arraystring_core.proofs.array_string.ArrayString.push_str_unchecked.Given as given
 use Rattle.arraystring_core.proofs.array_string.ArrayString.push_str_unchecked.Goals as goal
 
-pub invariant_of-self : goal.invariant_of-self
-invariant_of-self g c =
+-- what is then in the array
+written : (g : given.Over) (c : goal.After-write_by_call g)
+    → Lies g.row.N c.write_by_call.new.array c.self.inside.start (c.self.inside.size + length c.args.string.now) (c.args.self.now.text ++ chars c.args.string.now)
+written g c =
     let s = c.self.inside in
     let room : s.start + s.size + length c.args.string.now ≤ cap g.row.N = omega (arith, c.if-end-string.false, c.capacity.ensures) in
     let copied = rw c.as_bytes.ensures.value at c.write_by_call.ensures in
-    appended-stored g.row.N _ _ _ c.self.invariant _ c.self.view_is c.args.string.now c.utf8.string room _ copied
+    appended g.row.N _ _ _ c.self.invariant _ c.self.view_is c.args.string.now c.utf8.string room _ copied
+
+pub invariant_of-self : goal.invariant_of-self
+invariant_of-self g c = (written g c).held
 
 pub returns : goal.returns
-returns g c =
-    let s = c.self.inside in
-    let room : s.start + s.size + length c.args.string.now ≤ cap g.row.N = omega (arith, c.if-end-string.false, c.capacity.ensures) in
-    let copied = rw c.as_bytes.ensures.value at c.write_by_call.ensures in
-    appended-chars g.row.N _ _ _ c.self.invariant _ c.self.view_is c.args.string.now c.utf8.string room _ copied
+returns g c = (written g c).shown

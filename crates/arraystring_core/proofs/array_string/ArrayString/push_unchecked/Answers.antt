@@ -3,7 +3,8 @@ use Rattle.std.proofs.lemmas.Str.{IsUtf8-encode}
 use Rattle.std.proofs.lemmas.List.{append-nil}
 use Rattle.arraystring_base.specs.Text.{utf8, width, cap}
 use Rattle.arraystring_base.proofs.TextLaws.{chars-bytes, utf8-is, length-utf8}
-use Rattle.arraystring_core.proofs.PlaceLemmas.{appended-stored, appended-chars}
+use Rattle.arraystring_core.proofs.SpanLemmas.{Lies, appended}
+use Rattle.arraystring_core.proofs.array_string.ArrayString.push_unchecked.Given as given
 use Rattle.arraystring_core.proofs.array_string.ArrayString.push_unchecked.Goals as goal
 
 pub encode-len-requires : goal.encode-len-requires
@@ -12,23 +13,23 @@ encode-len-requires g c =
     let within : c.self.inside.start + c.self.inside.size + width c.args.ch ≤ g.row.N = omega (arith, room) in
     (search rules, within)
 
-pub invariant_of-self : goal.invariant_of-self
-invariant_of-self g c =
+-- what is then in the array
+written : (g : given.Over) (c : goal.After-self-1 g)
+    → Lies g.row.N c.encode-len.new.array c.self.inside.start (c.self.inside.size + c.encode-len.result) (c.args.self.now.text ++ chars (utf8 c.args.ch))
+written g c =
     let s = c.self.inside in
     let ch = c.args.ch in
     let wide : c.encode-len.result ≡ length (utf8 ch) = c.encode-len.ensures.width ∙ sym (length-utf8 ch) in
     let u : IsUtf8 (utf8 ch) = rw (utf8-is ch) (IsUtf8-encode ch (search rules)) in
     let room : s.start + s.size + length (utf8 ch) ≤ cap g.row.N = rw (length-utf8 ch) (c.if-not-has_room.ensures.0 refl) in
-    let written = rw (← length-utf8 ch) at c.encode-len.ensures.bytes in
-    rw wide (appended-stored g.row.N _ _ _ c.self.invariant _ c.self.view_is (utf8 ch) u room _ written)
+    let bytes_in = rw (← length-utf8 ch) at c.encode-len.ensures.bytes in
+    rw wide (appended g.row.N _ _ _ c.self.invariant _ c.self.view_is (utf8 ch) u room _ bytes_in)
+
+pub invariant_of-self : goal.invariant_of-self
+invariant_of-self g c = (written g c).held
 
 pub returns : goal.returns
 returns g c =
-    let s = c.self.inside in
-    let ch = c.args.ch in
-    let wide : c.encode-len.result ≡ length (utf8 ch) = c.encode-len.ensures.width ∙ sym (length-utf8 ch) in
-    let u : IsUtf8 (utf8 ch) = rw (utf8-is ch) (IsUtf8-encode ch (search rules)) in
-    let room : s.start + s.size + length (utf8 ch) ≤ cap g.row.N = rw (length-utf8 ch) (c.if-not-has_room.ensures.0 refl) in
-    let written = rw (← length-utf8 ch) at c.encode-len.ensures.bytes in
-    let one : chars (utf8 ch) ≡ ch ∷ [] = chars-bytes u (sym (append-nil (utf8 ch))) in
-    rw wide (appended-chars g.row.N _ _ _ c.self.invariant _ c.self.view_is (utf8 ch) u room _ written) ∙ ap (λ l. c.args.self.now.text ++ l) one
+    let u : IsUtf8 (utf8 c.args.ch) = rw (utf8-is c.args.ch) (IsUtf8-encode c.args.ch (search rules)) in
+    let one : chars (utf8 c.args.ch) ≡ c.args.ch ∷ [] = chars-bytes u (sym (append-nil (utf8 c.args.ch))) in
+    (written g c).shown ∙ ap (λ l. c.args.self.now.text ++ l) one

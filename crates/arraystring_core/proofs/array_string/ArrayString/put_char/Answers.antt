@@ -5,7 +5,8 @@ use Rattle.arraystring_base.specs.Text.{utf8, width, size, cap, front, back}
 use Rattle.arraystring_base.proofs.TextLaws.{chars-bytes, utf8-is, width-is, length-utf8}
 use Rattle.arraystring_base.proofs.BoundaryLaws.{boundary-within}
 use Rattle.arraystring_core.proofs.StoredLaws.{opened-size}
-use Rattle.arraystring_core.proofs.PlaceLemmas.{filled-stored, filled-chars}
+use Rattle.arraystring_core.proofs.SpanLemmas.{Lies, filled}
+use Rattle.arraystring_core.proofs.array_string.ArrayString.put_char.Given as given
 use Rattle.arraystring_core.proofs.array_string.ArrayString.put_char.Goals as goal
 
 pub open_gap-requires : goal.open_gap-requires
@@ -29,8 +30,8 @@ overflow_cast-self g c =
     let long = opened-size g.row.N _ _ _ c.self.invariant _ c.self.view_is in
     omega (arith, long, boundary-within c.args.self.now.text c.args.at c.requires.boundary)
 
-pub overflow_add-place-3 : goal.overflow_add-place-3
-overflow_add-place-3 g c =
+pub overflow_add-text-3 : goal.overflow_add-text-3
+overflow_add-text-3 g c =
     let long = opened-size g.row.N _ _ _ c.self.invariant _ c.self.view_is in
     omega (arith, long, boundary-within c.args.self.now.text c.args.at c.requires.boundary)
 
@@ -41,8 +42,11 @@ encode-requires g c =
     let within : c.self.inside.start + c.args.at + width c.args.ch ≤ g.row.N = omega (arith, long, boundary-within c.args.self.now.text c.args.at c.requires.boundary, wide) in
     (search rules, within)
 
-pub invariant_of-self : goal.invariant_of-self
-invariant_of-self g c =
+-- what is then in the array
+written : (g : given.Over) (c : goal.After-encode g)
+    → Lies g.row.N c.encode.new.array c.self.inside.start (c.args.at + (c.len_utf8-len.result + (c.self.inside.size - c.args.at)))
+    (front c.args.self.now.text c.args.at ++ (chars (utf8 c.args.ch) ++ back c.args.self.now.text c.args.at))
+written g c =
     let s = c.self.inside in
     let t = c.args.self.now.text in
     let ch = c.args.ch in
@@ -52,21 +56,16 @@ invariant_of-self g c =
     let held : s.start + (at + (length (utf8 ch) + (s.size - at))) ≤ cap g.row.N = omega (arith, opened-size g.row.N _ _ _ c.self.invariant _ c.self.view_is, boundary-within t at c.requires.boundary, wide) in
     let u : IsUtf8 (utf8 ch) = rw (utf8-is ch) (IsUtf8-encode ch (search rules)) in
     let fits : size t - (at - at) + length (utf8 ch) ≤ cap g.row.N = omega (arith, c.requires.room, length-utf8 ch) in
-    rw wide (filled-stored g.row.N _ _ _ c.self.invariant _ c.self.view_is at at (utf8 ch) (omega arith) c.requires.boundary c.requires.boundary fits u
+    rw wide (filled g.row.N _ _ _ c.self.invariant _ c.self.view_is at at (utf8 ch) (omega arith) c.requires.boundary c.requires.boundary fits u
     gap.new.array c.encode.new.array s.start gap.ensures.len held gap.ensures.front (rw wide at gap.ensures.tail) (rw (← length-utf8 ch) at c.encode.ensures.bytes))
+
+pub invariant_of-self : goal.invariant_of-self
+invariant_of-self g c = (written g c).held
 
 pub returns : goal.returns
 returns g c =
-    let s = c.self.inside in
     let t = c.args.self.now.text in
     let ch = c.args.ch in
-    let at = c.args.at in
-    let gap = c.open_gap in
-    let wide : c.len_utf8-len.result ≡ length (utf8 ch) = c.len_utf8-len.ensures.value ∙ sym (width-is ch) ∙ sym (length-utf8 ch) in
-    let held : s.start + (at + (length (utf8 ch) + (s.size - at))) ≤ cap g.row.N = omega (arith, opened-size g.row.N _ _ _ c.self.invariant _ c.self.view_is, boundary-within t at c.requires.boundary, wide) in
     let u : IsUtf8 (utf8 ch) = rw (utf8-is ch) (IsUtf8-encode ch (search rules)) in
-    let fits : size t - (at - at) + length (utf8 ch) ≤ cap g.row.N = omega (arith, c.requires.room, length-utf8 ch) in
     let one : chars (utf8 ch) ≡ ch ∷ [] = chars-bytes u (sym (append-nil (utf8 ch))) in
-    rw wide (filled-chars g.row.N _ _ _ c.self.invariant _ c.self.view_is at at (utf8 ch) (omega arith) c.requires.boundary c.requires.boundary fits u
-    gap.new.array c.encode.new.array s.start gap.ensures.len held gap.ensures.front (rw wide at gap.ensures.tail) (rw (← length-utf8 ch) at c.encode.ensures.bytes))
-    ∙ ap (λ l. front t at ++ (l ++ back t at)) one
+    (written g c).shown ∙ ap (λ l. front t c.args.at ++ (l ++ back t c.args.at)) one

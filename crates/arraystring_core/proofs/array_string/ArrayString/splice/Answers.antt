@@ -1,8 +1,9 @@
-use Rattle.std.proofs.Common.{◌+◌, ◌-◌, ◌≤◌, length, arith, rules}
-use Rattle.arraystring_base.specs.Text.{size, cap}
+use Rattle.std.proofs.Common.{◌+◌, ◌-◌, ◌≤◌, ◌++◌, chars, length, arith, rules}
+use Rattle.arraystring_base.specs.Text.{size, cap, front, back}
 use Rattle.arraystring_base.proofs.TextLaws.{size-lent}
 use Rattle.arraystring_core.proofs.StoredLaws.{opened-size}
-use Rattle.arraystring_core.proofs.PlaceLemmas.{replaced-within, replaced-room, filled-stored, filled-chars}
+use Rattle.arraystring_core.proofs.SpanLemmas.{Lies, replaced-within, replaced-room, filled}
+use Rattle.arraystring_core.proofs.array_string.ArrayString.splice.Given as given
 use Rattle.arraystring_core.proofs.array_string.ArrayString.splice.Goals as goal
 
 pub open_gap-requires : goal.open_gap-requires
@@ -26,39 +27,38 @@ overflow_add-start g c =
     let room = replaced-room g.row.N _ _ _ c.self.invariant _ c.self.view_is _ _ c.args.given.now c.requires.order c.requires.start c.requires.end fits in
     omega (arith, room)
 
-pub overflow_add-place : goal.overflow_add-place
-overflow_add-place g c =
+pub overflow_add-text : goal.overflow_add-text
+overflow_add-text g c =
     let long = size-lent c.utf8.given in
     let fits : size c.args.self.now.text - (c.args.end - c.args.start) + length c.args.given.now ≤ cap g.row.N = omega (arith, c.requires.room, long) in
     let room = replaced-room g.row.N _ _ _ c.self.invariant _ c.self.view_is _ _ c.args.given.now c.requires.order c.requires.start c.requires.end fits in
     omega (arith, room)
 
-pub returns-then-place-start-clause-tail_alone : goal.returns-then-place-start-clause-tail_alone
-returns-then-place-start-clause-tail_alone g c small =
+pub returns-then-text-start-clause-tail_alone : goal.returns-then-text-start-clause-tail_alone
+returns-then-text-start-clause-tail_alone g c small =
     let long = size-lent c.utf8.given in
     let within = replaced-within g.row.N _ _ _ c.self.invariant _ c.self.view_is _ _ c.args.given.now c.requires.order c.requires.start c.requires.end
     (omega (arith, c.requires.room, long)) in
     omega (arith, small, long, within, c.self.invariant.0, c.requires.order)
 
-pub invariant_of-self : goal.invariant_of-self
-invariant_of-self g c =
+-- what is then in the array
+written : (g : given.Over) (c : goal.After-write_over g)
+    → Lies g.row.N c.write_over.new.array c.self.inside.start (c.args.start + (length c.args.given.now + (c.self.inside.size - c.args.end)))
+    (front c.args.self.now.text c.args.start ++ (chars c.args.given.now ++ back c.args.self.now.text c.args.end))
+written g c =
     let s = c.self.inside in
     let given = c.args.given.now in
     let gap = c.open_gap in
     let fits : size c.args.self.now.text - (c.args.end - c.args.start) + length given ≤ cap g.row.N = omega (arith, c.requires.room, size-lent c.utf8.given) in
     let held : s.start + (c.args.start + (length given + (s.size - c.args.end))) ≤ cap g.row.N = omega arith in
-    filled-stored g.row.N _ _ _ c.self.invariant _ c.self.view_is _ _ given c.requires.order c.requires.start c.requires.end fits c.utf8.given
+    filled g.row.N _ _ _ c.self.invariant _ c.self.view_is _ _ given c.requires.order c.requires.start c.requires.end fits c.utf8.given
     gap.new.array c.write_over.new.array s.start gap.ensures.len held gap.ensures.front gap.ensures.tail (rw c.as_bytes.ensures.value at c.write_over.ensures)
 
+pub invariant_of-self : goal.invariant_of-self
+invariant_of-self g c = (written g c).held
+
 pub returns-clause-text : goal.returns-clause-text
-returns-clause-text g c =
-    let s = c.self.inside in
-    let given = c.args.given.now in
-    let gap = c.open_gap in
-    let fits : size c.args.self.now.text - (c.args.end - c.args.start) + length given ≤ cap g.row.N = omega (arith, c.requires.room, size-lent c.utf8.given) in
-    let held : s.start + (c.args.start + (length given + (s.size - c.args.end))) ≤ cap g.row.N = omega arith in
-    filled-chars g.row.N _ _ _ c.self.invariant _ c.self.view_is _ _ given c.requires.order c.requires.start c.requires.end fits c.utf8.given
-    gap.new.array c.write_over.new.array s.start gap.ensures.len held gap.ensures.front gap.ensures.tail (rw c.as_bytes.ensures.value at c.write_over.ensures)
+returns-clause-text g c = (written g c).shown
 
 pub returns-clause-tail_alone : goal.returns-clause-tail_alone
 returns-clause-tail_alone g c = rw (opened-size g.row.N _ _ _ c.self.invariant _ c.self.view_is) (λ _. c.open_gap.ensures.most)

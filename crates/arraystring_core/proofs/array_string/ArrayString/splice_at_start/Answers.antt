@@ -1,8 +1,9 @@
-use Rattle.std.proofs.Common.{◌+◌, ◌-◌, ◌≤◌, length, arith, rules}
-use Rattle.arraystring_base.specs.Text.{size, cap}
+use Rattle.std.proofs.Common.{◌+◌, ◌-◌, ◌≤◌, ◌++◌, chars, length, arith, rules}
+use Rattle.arraystring_base.specs.Text.{size, cap, front, back}
 use Rattle.arraystring_base.proofs.TextLaws.{size-lent}
 use Rattle.arraystring_core.proofs.StoredLaws.{opened-size}
-use Rattle.arraystring_core.proofs.PlaceLemmas.{replaced-within, replaced-room, moved-stored, moved-chars}
+use Rattle.arraystring_core.proofs.SpanLemmas.{Lies, replaced-within, replaced-room, moved_to_start}
+use Rattle.arraystring_core.proofs.array_string.ArrayString.splice_at_start.Given as given
 use Rattle.arraystring_core.proofs.array_string.ArrayString.splice_at_start.Goals as goal
 
 pub open_gap_at_start-requires : goal.open_gap_at_start-requires
@@ -40,21 +41,22 @@ write_by_call-requires g c =
     let room = replaced-room g.row.N _ _ _ c.self.invariant _ c.self.view_is _ _ c.args.given.now c.requires.order c.requires.start c.requires.end fits in
     rw c.as_bytes.ensures.value (search rules, omega (arith, room))
 
-pub invariant_of-self : goal.invariant_of-self
-invariant_of-self g c =
+-- what is then in the array
+written : (g : given.Over) (c : goal.After-write_by_call g)
+    → Lies g.row.N c.write_by_call.new.array 0 (c.args.start + (length c.args.given.now + (c.self.inside.size - c.args.end)))
+    (front c.args.self.now.text c.args.start ++ (chars c.args.given.now ++ back c.args.self.now.text c.args.end))
+written g c =
     let given = c.args.given.now in
     let gap = c.open_gap_at_start in
     let fits : size c.args.self.now.text - (c.args.end - c.args.start) + length given ≤ cap g.row.N = omega (arith, c.requires.room, size-lent c.utf8.given) in
-    moved-stored g.row.N _ _ _ c.self.invariant _ c.self.view_is _ _ given c.requires.order c.requires.start c.requires.end fits c.utf8.given
+    moved_to_start g.row.N _ _ _ c.self.invariant _ c.self.view_is _ _ given c.requires.order c.requires.start c.requires.end fits c.utf8.given
     gap.new.array c.write_by_call.new.array gap.ensures.len gap.ensures.front gap.ensures.tail (rw c.as_bytes.ensures.value at c.write_by_call.ensures)
 
+pub invariant_of-self : goal.invariant_of-self
+invariant_of-self g c = (written g c).held
+
 pub returns-clause-text : goal.returns-clause-text
-returns-clause-text g c =
-    let given = c.args.given.now in
-    let gap = c.open_gap_at_start in
-    let fits : size c.args.self.now.text - (c.args.end - c.args.start) + length given ≤ cap g.row.N = omega (arith, c.requires.room, size-lent c.utf8.given) in
-    moved-chars g.row.N _ _ _ c.self.invariant _ c.self.view_is _ _ given c.requires.order c.requires.start c.requires.end fits c.utf8.given
-    gap.new.array c.write_by_call.new.array gap.ensures.len gap.ensures.front gap.ensures.tail (rw c.as_bytes.ensures.value at c.write_by_call.ensures)
+returns-clause-text g c = (written g c).shown
 
 pub returns-clause-most : goal.returns-clause-most
 returns-clause-most g c = rw (opened-size g.row.N _ _ _ c.self.invariant _ c.self.view_is) c.open_gap_at_start.ensures.most

@@ -2,7 +2,7 @@ use Rattle.std.proofs.Common.{◌++◌, arith, rules, ap, sym, ◌∙◌}
 use Rattle.arraystring_base.specs.Text.{front, back}
 use Rattle.arraystring_base.proofs.BoundaryLaws.{front-start}
 use Rattle.arraystring_core.proofs.StoredLaws.{opened-size}
-use Rattle.arraystring_core.proofs.PlaceLemmas.{dropped-within, closed-stored, closed-chars}
+use Rattle.arraystring_core.proofs.SpanLemmas.{dropped-within, closed}
 use Rattle.arraystring_core.proofs.array_string.ArrayString.take_out.Goals as goal
 
 pub returns-then-start-eq0-clause-text : goal.returns-then-start-eq0-clause-text
@@ -18,13 +18,13 @@ overflow_cast-self g c =
     let within = dropped-within g.row.N _ _ _ c.self.invariant _ c.self.view_is c.args.end c.requires.end in
     omega (arith, within, c.requires.order, c.self.invariant.0)
 
-pub overflow_add-place : goal.overflow_add-place
-overflow_add-place g c =
+pub overflow_add-offset : goal.overflow_add-offset
+overflow_add-offset g c =
     let within = dropped-within g.row.N _ _ _ c.self.invariant _ c.self.view_is c.args.end c.requires.end in
     omega (arith, within, c.self.invariant.0)
 
-pub overflow_add-place-2 : goal.overflow_add-place-2
-overflow_add-place-2 g c =
+pub overflow_add-offset-2 : goal.overflow_add-offset-2
+overflow_add-offset-2 g c =
     let within = dropped-within g.row.N _ _ _ c.self.invariant _ c.self.view_is c.args.end c.requires.end in
     omega (arith, within, c.requires.order, c.self.invariant.0)
 
@@ -35,11 +35,11 @@ shift-requires g c =
 
 pub invariant_of-self : goal.invariant_of-self
 invariant_of-self g c =
-    closed-stored g.row.N _ _ _ c.self.invariant _ c.self.view_is c.args.start c.args.end c.requires.order c.requires.start c.requires.end _ c.shift.ensures.bytes
+    (closed g.row.N _ _ _ c.self.invariant _ c.self.view_is c.args.start c.args.end c.requires.order c.requires.start c.requires.end _ c.shift.ensures.bytes).held
 
 pub returns-clause-text : goal.returns-clause-text
 returns-clause-text g c =
-    closed-chars g.row.N _ _ _ c.self.invariant _ c.self.view_is c.args.start c.args.end c.requires.order c.requires.start c.requires.end _ c.shift.ensures.bytes
+    (closed g.row.N _ _ _ c.self.invariant _ c.self.view_is c.args.start c.args.end c.requires.order c.requires.start c.requires.end _ c.shift.ensures.bytes).shown
 
 pub returns-clause-tail_alone : goal.returns-clause-tail_alone
 returns-clause-tail_alone g c = rw (opened-size g.row.N _ _ _ c.self.invariant _ c.self.view_is) (search rules)

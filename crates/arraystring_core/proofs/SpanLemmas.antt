@@ -11,6 +11,11 @@ use Rattle.arraystring_core.specs.GhostProofs.{stored-utf8}
 use Rattle.arraystring_core.proofs.StoredLaws.{opened-bytes, opened-size}
 use Rattle.arraystring_core.proofs.GapLemmas.{gap-filled, written-length, written-from-zero, tail-from-zero, shift-before, shift-moved, shift-length}
 
+-- the n bytes of the array from the offset p on are the text t, and end within the capacity
+pub record Lies (places : ℕ) (array : List ℕ) (p n : ℕ) (t : List ℕ) : Type 0 where
+  pub held : IsStored places array p n
+  pub shown : chars (take n (drop p array)) ≡ t
+
 -- xs shows the text t in its first n bytes; `new` shows it with `given` in place of the part from start to end
 module _ (t xs : List ℕ) (n : ℕ) (is : bytes t ≡ take n xs) (u : IsUtf8 (take n xs)) (given : List ℕ) (g : IsUtf8 given)
     (start end : ℕ) (low : start ≤ n) (high : end ≤ n) (b : boundary t start ≡ true) (d : boundary t end ≡ true)
@@ -36,11 +41,11 @@ module _ (t xs : List ℕ) (n : ℕ) (is : bytes t ≡ take n xs) (u : IsUtf8 (t
   new-bytes = written ∙ ap (λ f. f ++ (given ++ take (n - end) (drop end xs))) shown-front
       ∙ ap (λ l. bytes (front t start) ++ (given ++ l)) shown-back
 
-  pub restored-utf8 : IsUtf8 new
+  restored-utf8 : IsUtf8 new
   restored-utf8 =
       rw new-bytes (IsUtf8-append (bytes (front t start)) (given ++ bytes (back t end)) front-utf8 (IsUtf8-append given (bytes (back t end)) g back-utf8))
 
-  pub replaced-text : chars new ≡ front t start ++ (chars given ++ back t end)
+  replaced-text : chars new ≡ front t start ++ (chars given ++ back t end)
   replaced-text =
       let f = front t start in
       let r = back t end in
@@ -62,15 +67,15 @@ module _ (places : ℕ) (array : List ℕ) (p n : ℕ) (is : IsStored places arr
   module _ (u : IsUtf8 given) (after : List ℕ) (q : ℕ) (long : length after ≡ places)
       (held : q + (start + (length given + (n - end))) ≤ cap places)
       (written : take (start + (length given + (n - end))) (drop q after) ≡ take start (drop p array) ++ (given ++ take (n - end) (drop end (drop p array)))) where
-    pub replaced-stored : IsStored places after q (start + (length given + (n - end)))
-    replaced-stored =
+    pub replaced : Lies places after q (start + (length given + (n - end))) (front v.text start ++ (chars given ++ back v.text end))
+    replaced =
         let low : start ≤ n = omega (arith, replaced-within) in
-        (held, long, ∣ restored-utf8 v.text (drop p array) n (opened-bytes places array p n is v e) (stored-utf8 places array p n is) given u start end low replaced-within b d _ written ∣₁)
-
-    pub replaced-chars : chars (take (start + (length given + (n - end))) (drop q after)) ≡ front v.text start ++ (chars given ++ back v.text end)
-    replaced-chars =
-        let low : start ≤ n = omega (arith, replaced-within) in
-        replaced-text v.text (drop p array) n (opened-bytes places array p n is v e) (stored-utf8 places array p n is) given u start end low replaced-within b d _ written
+        let old = opened-bytes places array p n is v e in
+        let old_utf8 = stored-utf8 places array p n is in
+        record {
+          held = (held, long, ∣ restored-utf8 v.text (drop p array) n old old_utf8 given u start end low replaced-within b d _ written ∣₁);
+          shown = replaced-text v.text (drop p array) n old old_utf8 given u start end low replaced-within b d _ written;
+        }
 
   -- the text was moved to offset q, and `given` was written into the gap
   module _ (u : IsUtf8 given) (gapped after : List ℕ) (q : ℕ) (long : length gapped ≡ places)
@@ -81,17 +86,14 @@ module _ (places : ℕ) (array : List ℕ) (p n : ℕ) (is : IsStored places arr
     within : q + start + length given ≤ length gapped
     within = omega (arith, held, long)
 
-    filled : take (start + (length given + (n - end))) (drop q after) ≡ take start (drop p array) ++ (given ++ take (n - end) (drop end (drop p array)))
-    filled = gap-filled array gapped after given p q start end (n - end) within moved tail written
+    written-parts : take (start + (length given + (n - end))) (drop q after) ≡ take start (drop p array) ++ (given ++ take (n - end) (drop end (drop p array)))
+    written-parts = gap-filled array gapped after given p q start end (n - end) within moved tail written
 
     same : length after ≡ places
     same = written-length gapped after given (q + start) within written ∙ long
 
-    pub filled-stored : IsStored places after q (start + (length given + (n - end)))
-    filled-stored = replaced-stored u after q same held filled
-
-    pub filled-chars : chars (take (start + (length given + (n - end))) (drop q after)) ≡ front v.text start ++ (chars given ++ back v.text end)
-    filled-chars = replaced-chars u after q same held filled
+    pub filled : Lies places after q (start + (length given + (n - end))) (front v.text start ++ (chars given ++ back v.text end))
+    filled = replaced u after q same held written-parts
 
   -- and to offset 0
   module _ (u : IsUtf8 given) (gapped after : List ℕ) (long : length gapped ≡ places)
@@ -107,11 +109,8 @@ module _ (places : ℕ) (array : List ℕ) (p n : ℕ) (is : IsStored places arr
     abbrev written-at : after ≡ take (0 + start) gapped ++ (given ++ drop (0 + start + length given) gapped)
     written-at = written-from-zero gapped after given start written
 
-    pub moved-stored : IsStored places after 0 (start + (length given + (n - end)))
-    moved-stored = filled-stored u gapped after 0 long from-zero moved tail-at written-at
-
-    pub moved-chars : chars (take (start + (length given + (n - end))) (drop 0 after)) ≡ front v.text start ++ (chars given ++ back v.text end)
-    moved-chars = filled-chars u gapped after 0 long from-zero moved tail-at written-at
+    pub moved_to_start : Lies places after 0 (start + (length given + (n - end))) (front v.text start ++ (chars given ++ back v.text end))
+    moved_to_start = filled u gapped after 0 long from-zero moved tail-at written-at
 
 -- `given` was written after the text
 module _ (places : ℕ) (array : List ℕ) (p n : ℕ) (is : IsStored places array p n) (v : Stored) (e : stored array p n ≡ v)
@@ -134,22 +133,21 @@ module _ (places : ℕ) (array : List ℕ) (p n : ℕ) (is : IsStored places arr
       let none : n - n ≡ 0 = omega arith in
       gap-filled array array after given p p n n (n - n) appended-within refl (rw none refl) written
 
-  pub appended-stored : IsStored places after p (n + length given)
-  appended-stored =
+  appended-lies : Lies places after p (n + (length given + (n - n))) (front v.text n ++ (chars given ++ back v.text n))
+  appended-lies =
       let held : p + (n + (length given + (n - n))) ≤ cap places = omega (arith, room) in
       let long = written-length array after given (p + n) appended-within written ∙ is.1 in
-      rw (← appended-size)
-      (replaced-stored places array p n is v e n n given (omega arith) appended-end appended-end appended-fits u after p long held appended-parts)
+      replaced places array p n is v e n n given (omega arith) appended-end appended-end appended-fits u after p long held appended-parts
 
-  pub appended-chars : chars (take (n + length given) (drop p after)) ≡ v.text ++ chars given
-  appended-chars =
-      let held : p + (n + (length given + (n - n))) ≤ cap places = omega (arith, room) in
-      let long = written-length array after given (p + n) appended-within written ∙ is.1 in
-      ap (λ m. chars (take m (drop p after))) (sym appended-size)
-      ∙ replaced-chars places array p n is v e n n given (omega arith) appended-end appended-end appended-fits u after p long held appended-parts
-      ∙ ap (λ m. front v.text m ++ (chars given ++ back v.text m)) (sym (opened-size places array p n is v e))
-      ∙ ap (λ l. l ++ (chars given ++ back v.text (size v.text))) (front-end v.text)
-      ∙ ap (λ l. v.text ++ (chars given ++ l)) (back-end v.text) ∙ ap (λ l. v.text ++ l) (append-nil (chars given))
+  pub appended : Lies places after p (n + length given) (v.text ++ chars given)
+  appended = record {
+    held = rw (← appended-size) appended-lies.held;
+    shown =
+        ap (λ m. chars (take m (drop p after))) (sym appended-size) ∙ appended-lies.shown
+        ∙ ap (λ m. front v.text m ++ (chars given ++ back v.text m)) (sym (opened-size places array p n is v e))
+        ∙ ap (λ l. l ++ (chars given ++ back v.text (size v.text))) (front-end v.text)
+        ∙ ap (λ l. v.text ++ (chars given ++ l)) (back-end v.text) ∙ ap (λ l. v.text ++ l) (append-nil (chars given));
+  }
 
 -- the bytes from the boundary `end` on were moved to the boundary `start`
 module _ (places : ℕ) (array : List ℕ) (p n : ℕ) (is : IsStored places array p n) (v : Stored) (e : stored array p n ≡ v)
@@ -185,16 +183,16 @@ module _ (places : ℕ) (array : List ℕ) (p n : ℕ) (is : IsStored places arr
   closed-held : p + (start + (length {A = ℕ} [] + (n - end))) ≤ cap places
   closed-held = omega (arith, closed-within, is.0)
 
-  pub closed-stored : IsStored places after p (start + (n - end))
-  closed-stored =
-      rw (← closed-size)
-      (replaced-stored places array p n is v e start end [] order b d closed-fits IsUtf8-nil after p closed-long closed-held closed-parts)
+  closed-lies : Lies places after p (start + (length {A = ℕ} [] + (n - end))) (front v.text start ++ (chars [] ++ back v.text end))
+  closed-lies = replaced places array p n is v e start end [] order b d closed-fits IsUtf8-nil after p closed-long closed-held closed-parts
 
-  pub closed-chars : chars (take (start + (n - end)) (drop p after)) ≡ front v.text start ++ back v.text end
-  closed-chars =
-      ap (λ m. chars (take m (drop p after))) (sym closed-size)
-      ∙ replaced-chars places array p n is v e start end [] order b d closed-fits IsUtf8-nil after p closed-long closed-held closed-parts
-      ∙ ap (λ l. front v.text start ++ (l ++ back v.text end)) chars-nil
+  pub closed : Lies places after p (start + (n - end)) (front v.text start ++ back v.text end)
+  closed = record {
+    held = rw (← closed-size) closed-lies.held;
+    shown =
+        ap (λ m. chars (take m (drop p after))) (sym closed-size) ∙ closed-lies.shown
+        ∙ ap (λ l. front v.text start ++ (l ++ back v.text end)) chars-nil;
+  }
 
 -- the part before the boundary m is dropped
 module _ (places : ℕ) (array : List ℕ) (p n : ℕ) (is : IsStored places array p n) (v : Stored) (e : stored array p n ≡ v)
@@ -215,11 +213,11 @@ module _ (places : ℕ) (array : List ℕ) (p n : ℕ) (is : IsStored places arr
   dropped-utf8 =
       rw (dropped-bytes, ← bytes-back v.text m b) (IsUtf8-drop (bytes v.text) m whole-utf8 (boundary-to_bytes v.text (bytes v.text) m whole-utf8 refl b))
 
-  pub dropped-stored : IsStored places array (p + m) (n - m)
-  dropped-stored = (omega (arith, is.0, dropped-within), is.1, ∣ dropped-utf8 ∣₁)
-
-  pub dropped-chars : chars (take (n - m) (drop (p + m) array)) ≡ back v.text m
-  dropped-chars = chars-bytes dropped-utf8 dropped-bytes
+  pub dropped : Lies places array (p + m) (n - m) (back v.text m)
+  dropped = record {
+    held = (omega (arith, is.0, dropped-within), is.1, ∣ dropped-utf8 ∣₁);
+    shown = chars-bytes dropped-utf8 dropped-bytes;
+  }
 
 -- the part before the boundary m is kept
 module _ (places : ℕ) (array : List ℕ) (p n : ℕ) (is : IsStored places array p n) (v : Stored) (e : stored array p n ≡ v)
@@ -236,8 +234,8 @@ module _ (places : ℕ) (array : List ℕ) (p n : ℕ) (is : IsStored places arr
       let u : IsUtf8 (bytes v.text) = rw (opened-bytes places array p n is v e) (stored-utf8 places array p n is) in
       rw (kept-bytes, ← bytes-front v.text m b) (IsUtf8-take (bytes v.text) m u (boundary-to_bytes v.text (bytes v.text) m u refl b))
 
-  pub kept-stored : IsStored places array p m
-  kept-stored = (omega (arith, is.0, kept-within), is.1, ∣ kept-utf8 ∣₁)
-
-  pub kept-chars : chars (take m (drop p array)) ≡ front v.text m
-  kept-chars = chars-bytes kept-utf8 kept-bytes
+  pub kept : Lies places array p m (front v.text m)
+  kept = record {
+    held = (omega (arith, is.0, kept-within), is.1, ∣ kept-utf8 ∣₁);
+    shown = chars-bytes kept-utf8 kept-bytes;
+  }
