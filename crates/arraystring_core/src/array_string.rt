@@ -102,6 +102,7 @@ impl<const N: usize> ArrayString<N> {
     {
         let start = self.start as usize;
         let all = &self.array[..];
+        // SAFETY: the type's `invariant`: the `size` bytes from `start` on are UTF-8.
         unsafe { str::from_utf8_unchecked(&all[start..start + self.size as usize]) }
     }
 

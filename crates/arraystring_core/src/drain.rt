@@ -75,6 +75,7 @@ impl<const N: usize> Drain<N> {
         let all = &self.array[..];
         let start = self.start as usize;
         let (front, end) = (start + self.front as usize, start + self.size as usize);
+        // SAFETY: the type's `invariant`: the removed text is UTF-8, and `front` is a boundary of it.
         unsafe { str::from_utf8_unchecked(&all[front..end]) }
     }
 }

@@ -36,7 +36,13 @@ pub(crate) fn open_gap<const N: usize>(
     ensures looked { steps.new.looked ≡ steps.old.looked }
 {
     let tail = text.size - end;
-    shift(array, text.offset + end, text.offset + (start + len), tail, steps);
+    shift(
+        array,
+        text.offset + end,
+        text.offset + (start + len),
+        tail,
+        steps,
+    );
 }
 
 /// The same for a text that moves to the start of the array. Each byte moves at most once.

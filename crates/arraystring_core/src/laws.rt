@@ -4,7 +4,7 @@ ghost use Rattle.std.specs.Prelude.{◌≡◌, ◌≢◌, ◌+◌, ◌-◌, ◌<
 ghost use Rattle.std.specs.Char.{is_whitespace};
 ghost use Rattle.std.specs.Cmp.Lexicographic.{pointwise};
 ghost use Rattle.std.specs.Hash as fed;
-ghost use Rattle.arraystring_base.specs.Text.{IsText, bytes, cut, size};
+ghost use Rattle.arraystring_base.specs.Text.{IsText, bytes, cap, cut, size};
 ghost use Rattle.arraystring_base.specs.declared.error.Error.{Error};
 ghost use Rattle.arraystring_base.specs.declared.error.Utf16.{Utf16};
 ghost use Rattle.arraystring_base.specs.declared.utf16.Unit16.{Unit16};
@@ -15,6 +15,26 @@ ghost use Rattle.arraystring_core.specs.FromUtf16.{GivesWhole, GivesRun};
 ghost use Rattle.arraystring_core.specs.Json.{json_text, text_within};
 ghost use Rattle.arraystring_core.specs.Stored.{Stored};
 ghost use Rattle.arraystring_core.specs.Taken.{joined};
+
+use crate::{ArrayString, Drain};
+
+/// The text of a string fits its capacity.
+#[inline]
+pub fn text_fits<const N: usize>(string: &ArrayString<N>)
+    ensures { size string.now.text ≤ cap N }
+{
+    // The invariant of a type is known of a value only where something is asked of it.
+    let _ = string.len();
+}
+
+/// What is left of a drain fits the capacity of the string from which it was taken.
+#[inline]
+pub fn left_fits<const N: usize>(drained: &Drain<N>)
+    ensures { size drained.now.left ≤ cap N }
+{
+    // As in `text_fits`.
+    let _ = drained.as_str();
+}
 
 /// What comes after characters or pieces that no longer fit changes no cut.
 pub fn what_comes_past_the_room()

@@ -31,7 +31,7 @@ pub(crate) fn retain_at<const N: usize, F: FnMut(char) -> bool + Drop>(
     let mut read = 0;
     while read < size {
         let all = &array[..];
-        // SAFETY: a character of the text begins at `read`, and the text ends at `size`.
+        // SAFETY: the clause `text`: what was not read yet is UTF-8, since a character begins at `read`.
         let text = unsafe { str::from_utf8_unchecked(&all[place + read..place + size]) };
         let (ch, width) = first_char(text);
         if !f(ch) {

@@ -11,6 +11,7 @@ pub(crate) fn read_utf8(given: &[u8]) -> Result<&str, Utf8>
     ensures { MatchResult result (λ string. (string.now ≡ given.now) × IsUtf8 given.now) (λ _. ¬ (IsUtf8 given.now)) }
 {
     if given.len() >= 16 && is_ascii(given) {
+        // SAFETY: ASCII is UTF-8 (the clause of `is_ascii`).
         return Ok(unsafe { str::from_utf8_unchecked(given) });
     }
     match str::from_utf8(given) {

@@ -194,6 +194,7 @@ impl<const N: usize> ArrayString<N> {
         ensures bytes { bytes result.text ≡ given.now }
         ensures text { IsText result.text }
     {
+        // SAFETY: the precondition `well_formed`.
         Self::from_str_unchecked(unsafe { str::from_utf8_unchecked(given) })
     }
 }

@@ -101,7 +101,13 @@ impl<const N: usize> ArrayString<N> {
     /// The same where the text moves to the start of the array for it.
     #[cold]
     #[inline(never)]
-    pub(super) fn splice_at_start(&mut self, start: usize, end: usize, given: &str, steps: &mut Steps)
+    pub(super) fn splice_at_start(
+        &mut self,
+        start: usize,
+        end: usize,
+        given: &str,
+        steps: &mut Steps,
+    )
         requires order { start ≤ end }
         requires start { IsTrue (boundary self.old.text start) }
         requires end { IsTrue (boundary self.old.text end) }

@@ -7,6 +7,7 @@ ghost use Rattle.arraystring_core.specs.Edits.{Makes, addition_of_cut};
 ghost use Rattle.arraystring_core.specs.Taken.{Takes, Gives, joined, joined_pieces, piece_text};
 
 use super::ArrayString;
+use crate::laws::text_fits;
 use arraystring_base::error::OutOfBounds;
 
 impl<const N: usize> ArrayString<N> {
@@ -46,8 +47,7 @@ impl<const N: usize> ArrayString<N> {
             × MatchResult result (λ _. size taken ≤ cap N - size self.old.text) (λ _. cap N - size self.old.text < size taken)
             × (self.new.text ≡ self.old.text ++ cut taken (cap N - size self.old.text)) }
     {
-        // From here on it is known that the text fits.
-        let _ = self.len();
+        text_fits(self);
         for ch in characters {
             if let Err(refusal) = self.try_push(ch) {
                 return Err(refusal);
@@ -67,8 +67,7 @@ impl<const N: usize> ArrayString<N> {
             × MatchResult result (λ _. size (joined_pieces taken) ≤ cap N - size self.old.text) (λ _. cap N - size self.old.text < size (joined_pieces taken))
             × (self.new.text ≡ self.old.text ++ cut (joined_pieces taken) (cap N - size self.old.text)) }
     {
-        // From here on it is known that the text fits.
-        let _ = self.len();
+        text_fits(self);
         for piece in pieces {
             if let Err(refusal) = self.try_push_str(piece) {
                 self.push_str(piece);

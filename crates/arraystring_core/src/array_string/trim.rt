@@ -4,6 +4,7 @@ ghost use Rattle.arraystring_core.specs.Retain.{AnswersAs};
 ghost use Rattle.arraystring_core.specs.Edits.{Makes, trimming, is_space, is_white_space, without_leading, without_trailing};
 
 use crate::ArrayString;
+use crate::laws::text_fits;
 use arraystring_base::utils::{Steps, last_char};
 
 impl<const N: usize> ArrayString<N> {
@@ -51,8 +52,7 @@ impl<const N: usize> ArrayString<N> {
         ensures least { steps.old.looked + min (length self.old.text) (length self.old.text - length self.new.text + 1) ≤ steps.new.looked }
         ensures counted { steps.old.looked ≤ steps.new.looked }
     {
-        // A look at a field, after which the proof knows that the text fits.
-        let _ = &self.array;
+        text_fits(self);
         while let Some((start, ch)) = last_char(self.as_str(), steps) {
             if !drops(ch) {
                 break;

@@ -10,8 +10,7 @@ use Rattle.arraystring_core.proofs.array_string.ArrayString.drop_trailing.Goals.
 
 pub loop-start-init : goal.loop-start-init
 loop-start-init g c =
-    let long = opened-size g.row.N _ _ _ c.self.invariant _ c.self.view_is in
-    record { same = λ passes tells. refl; looked = omega arith; few = omega arith; fits = omega (arith, long, c.self.invariant.0); least = omega arith; counted = omega arith; moved = refl }
+    record { same = λ passes tells. refl; looked = omega arith; few = omega arith; fits = omega (arith, c.text_fits.ensures); least = omega arith; counted = omega arith; moved = refl }
 
 pub last_char-requires : goal.last_char-requires
 last_char-requires g c =
