@@ -7,7 +7,7 @@ use Rattle.arraystring.specs.Edits.{Test, Cause, Room, no_room, past, crossed, i
 use Rattle.arraystring_run.specs.Runs.{Done, Edited, leaves, said_of, edit, tight, adds_less, is_room, after, first_tight_from}
 use Rattle.arraystring_run.specs.Agreement.{untight, Agrees, AllAgree, IsNoSooner}
 use Rattle.arraystring_run.specs.declared.commands.Command.{Command}
-use Rattle.arraystring_run.specs.declared.commands.Command.TheVariants.{TryPush, TryPushStr, PushStr, Pop, Truncate, Trim, Remove, RetainNot, TryInsert, TryInsertStr, InsertStr, SplitOff, Clear, Drain, DrainThrough, DrainBack, ReplaceRange, Upper, Lower, Get, Len, Capacity, AsStr}
+use Rattle.arraystring_run.specs.declared.commands.Command.TheVariants as command
 use Rattle.arraystring_run.proofs.RunLemmas.{is_cut-larger}
 
 -- what one command does where it isn't tight at the lesser capacity
@@ -65,7 +65,7 @@ module _ (t given : List ℕ) (n m : ℕ) (le : n ≤ m) (loose : adds_less t gi
   same_cut = cut-all fits ∙ sym (cut-all fits_more)
 
 -- an insertion of a cut is the same at both capacities
-insert-same : (i : ℕ) (given : _) (t : List ℕ) (n m : ℕ) → n ≤ m → tight (InsertStr i given) t n ≡ false → IsSameStep (InsertStr i given) t n m
+insert-same : (i : ℕ) (given : _) (t : List ℕ) (n m : ℕ) → n ≤ m → tight (command.InsertStr i given) t n ≡ false → IsSameStep (command.InsertStr i given) t n m
 insert-same i given t n m le loose = go (first_cause (past t i ∷ inside t i ∷ [])) refl loose
   where
     g : List ℕ
@@ -75,7 +75,7 @@ insert-same i given t n m le loose = go (first_cause (past t i ∷ inside t i �
     whole k = (insertion_of_cut t i g k).after
 
     go : (cause : Option Cause) → first_cause (past t i ∷ inside t i ∷ []) ≡ cause → (is_none cause && adds_less t g n) ≡ false
-        → IsSameStep (InsertStr i given) t n m
+        → IsSameStep (command.InsertStr i given) t n m
     go None e is = let same = same_cut t g n m le is in record {
       untight = ap (λ c. is_none c && adds_less t g m) e ∙ adds_all t g n m le is;
       text = ap (λ l. (by_cause t (insertion t i l n).after (first_cause (past t i ∷ inside t i ∷ []))).text) same;
@@ -88,25 +88,25 @@ insert-same i given t n m le loose = go (first_cause (past t i ∷ inside t i �
     }
 
 pub same-step : (c : Command) (t : List ℕ) (n m : ℕ) → n ≤ m → tight c t n ≡ false → IsSameStep c t n m
-same-step (TryPush ch) t n m le loose =
+same-step (command.TryPush ch) t n m le loose =
     let r = size t + size (ch ∷ []) in let same = same_cause r n m le [] [] loose in record {
       untight = still_loose r n m le [] [] loose;
       text = ap (λ c. (by_cause t (t ++ ch ∷ []) c).text) same;
       agrees = ap (λ c. (by_cause t (t ++ ch ∷ []) c).reply) same;
     }
-same-step (TryPushStr given) t n m le loose =
+same-step (command.TryPushStr given) t n m le loose =
     let g = chars given.now in let r = size t + size g in let same = same_cause r n m le [] [] loose in record {
       untight = still_loose r n m le [] [] loose;
       text = ap (λ c. (by_cause t (t ++ g) c).text) same;
       agrees = ap (λ c. (by_cause t (t ++ g) c).reply) same;
     }
-same-step (PushStr given) t n m le loose =
+same-step (command.PushStr given) t n m le loose =
     let g = chars given.now in record {
       untight = adds_all t g n m le loose;
       text = ap (λ l. t ++ l) (same_cut t g n m le loose);
       agrees = refl;
     }
-same-step (TryInsert i ch) t n m le loose =
+same-step (command.TryInsert i ch) t n m le loose =
     let r = size t + size (ch ∷ []) in
     let before = past t i ∷ [] in let behind = inside t i ∷ [] in
     let same = same_cause r n m le before behind loose in
@@ -115,7 +115,7 @@ same-step (TryInsert i ch) t n m le loose =
       text = ap (λ c. (by_cause t result c).text) same;
       agrees = ap (λ c. (by_cause t result c).reply) same;
     }
-same-step (TryInsertStr i given) t n m le loose =
+same-step (command.TryInsertStr i given) t n m le loose =
     let g = chars given.now in let r = size t + size g in
     let before = past t i ∷ [] in let behind = inside t i ∷ [] in
     let same = same_cause r n m le before behind loose in
@@ -124,8 +124,8 @@ same-step (TryInsertStr i given) t n m le loose =
       text = ap (λ c. (by_cause t result c).text) same;
       agrees = ap (λ c. (by_cause t result c).reply) same;
     }
-same-step (InsertStr i given) t n m le loose = insert-same i given t n m le loose
-same-step (ReplaceRange start end given) t n m le loose =
+same-step (command.InsertStr i given) t n m le loose = insert-same i given t n m le loose
+same-step (command.ReplaceRange start end given) t n m le loose =
     let g = chars given.now in let r = size t - (end - start) + size g in
     let before = crossed start end ∷ past t end ∷ [] in let behind = inside t start ∷ inside t end ∷ [] in
     let same = same_cause r n m le before behind loose in
@@ -134,22 +134,22 @@ same-step (ReplaceRange start end given) t n m le loose =
       text = ap (λ c. (by_cause t result c).text) same;
       agrees = ap (λ c. (by_cause t result c).reply) same;
     }
-same-step Pop t n m le loose = record { untight = refl; text = refl; agrees = refl }
-same-step (Truncate i) t n m le loose = record { untight = refl; text = refl; agrees = refl }
-same-step Trim t n m le loose = record { untight = refl; text = refl; agrees = refl }
-same-step (Remove i) t n m le loose = record { untight = refl; text = refl; agrees = refl }
-same-step (RetainNot c) t n m le loose = record { untight = refl; text = refl; agrees = refl }
-same-step (SplitOff i) t n m le loose = record { untight = refl; text = refl; agrees = refl }
-same-step Clear t n m le loose = record { untight = refl; text = refl; agrees = refl }
-same-step (Drain start end) t n m le loose = record { untight = refl; text = refl; agrees = refl }
-same-step (DrainThrough start last) t n m le loose = record { untight = refl; text = refl; agrees = refl }
-same-step (DrainBack start end) t n m le loose = record { untight = refl; text = refl; agrees = refl }
-same-step Upper t n m le loose = record { untight = refl; text = refl; agrees = refl }
-same-step Lower t n m le loose = record { untight = refl; text = refl; agrees = refl }
-same-step (Get start end) t n m le loose = record { untight = refl; text = refl; agrees = refl }
-same-step Len t n m le loose = record { untight = refl; text = refl; agrees = refl }
-same-step Capacity t n m le loose = record { untight = refl; text = refl; agrees = tt }
-same-step AsStr t n m le loose = record { untight = refl; text = refl; agrees = refl }
+same-step command.Pop t n m le loose = record { untight = refl; text = refl; agrees = refl }
+same-step (command.Truncate i) t n m le loose = record { untight = refl; text = refl; agrees = refl }
+same-step command.Trim t n m le loose = record { untight = refl; text = refl; agrees = refl }
+same-step (command.Remove i) t n m le loose = record { untight = refl; text = refl; agrees = refl }
+same-step (command.RetainNot c) t n m le loose = record { untight = refl; text = refl; agrees = refl }
+same-step (command.SplitOff i) t n m le loose = record { untight = refl; text = refl; agrees = refl }
+same-step command.Clear t n m le loose = record { untight = refl; text = refl; agrees = refl }
+same-step (command.Drain start end) t n m le loose = record { untight = refl; text = refl; agrees = refl }
+same-step (command.DrainThrough start last) t n m le loose = record { untight = refl; text = refl; agrees = refl }
+same-step (command.DrainBack start end) t n m le loose = record { untight = refl; text = refl; agrees = refl }
+same-step command.Upper t n m le loose = record { untight = refl; text = refl; agrees = refl }
+same-step command.Lower t n m le loose = record { untight = refl; text = refl; agrees = refl }
+same-step (command.Get start end) t n m le loose = record { untight = refl; text = refl; agrees = refl }
+same-step command.Len t n m le loose = record { untight = refl; text = refl; agrees = refl }
+same-step command.Capacity t n m le loose = record { untight = refl; text = refl; agrees = tt }
+same-step command.AsStr t n m le loose = record { untight = refl; text = refl; agrees = refl }
 
 -- a position, counted from one command further on
 abbrev pub next : Option ℕ → Option ℕ

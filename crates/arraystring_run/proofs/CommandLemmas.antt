@@ -4,7 +4,7 @@ use Rattle.std.specs.Cmp.Lexicographic.{pointwise}
 use Rattle.arraystring.specs.Text.{size}
 use Rattle.arraystring.specs.Edits.{part_in, addition, addition_of_cut, popping, truncation, trimming, is_white_space, removal, insertion, insertion_of_cut, split, clearing, draining, replacement, uppercase, lowercase}
 use Rattle.arraystring_run.specs.declared.commands.Command.{Command}
-use Rattle.arraystring_run.specs.declared.commands.Command.TheVariants.{TryPush, TryPushStr, PushStr, Pop, Truncate, Trim, Remove, RetainNot, TryInsert, TryInsertStr, InsertStr, SplitOff, Clear, Drain, DrainThrough, DrainBack, ReplaceRange, Upper, Lower, Get, Len, Capacity, AsStr}
+use Rattle.arraystring_run.specs.declared.commands.Command.TheVariants as command
 use Rattle.arraystring_run.specs.Runs.{Done, Char, Edited, edit, made, done, leaves, char_or_none, text_or_none, without, end_through}
 use Rattle.arraystring_run.specs.Runs as said
 use Rattle.arraystring_run.specs.Grammar.{Argument, Number, Character, Text, word, arguments}
@@ -102,26 +102,26 @@ told l k f e = record { letters = l; kinds = k; numbers = f; edits = e }
 
 pub told-by_word : (c : Command) → IsToldByWord c
 unfolding are_letters shape number_of chars_of heard
-told-by_word (TryPush c) = told refl refl refl (λ t n. refl)
-told-by_word (TryPushStr given) = told refl refl refl (λ t n. refl)
-told-by_word (PushStr given) = told refl refl refl (λ t n. refl)
-told-by_word Pop = told refl refl refl (λ t n. refl)
-told-by_word (Truncate i) = told refl refl refl (λ t n. refl)
-told-by_word Trim = told refl refl refl (λ t n. refl)
-told-by_word (Remove i) = told refl refl refl (λ t n. refl)
-told-by_word (RetainNot c) = told refl refl refl (λ t n. refl)
-told-by_word (TryInsert i c) = told refl refl refl (λ t n. refl)
-told-by_word (TryInsertStr i given) = told refl refl refl (λ t n. refl)
-told-by_word (InsertStr i given) = told refl refl refl (λ t n. refl)
-told-by_word (SplitOff i) = told refl refl refl (λ t n. refl)
-told-by_word Clear = told refl refl refl (λ t n. refl)
-told-by_word (Drain start end) = told refl refl refl (λ t n. refl)
-told-by_word (DrainThrough start last) = told refl refl refl (λ t n. refl)
-told-by_word (DrainBack start end) = told refl refl refl (λ t n. refl)
-told-by_word (ReplaceRange start end given) = told refl refl refl (λ t n. refl)
-told-by_word Upper = told refl refl refl (λ t n. refl)
-told-by_word Lower = told refl refl refl (λ t n. refl)
-told-by_word (Get start end) = told refl refl refl (λ t n. refl)
-told-by_word Len = told refl refl refl (λ t n. refl)
-told-by_word Capacity = told refl refl refl (λ t n. refl)
-told-by_word AsStr = told refl refl refl (λ t n. refl)
+told-by_word (command.TryPush c) = told refl refl refl (λ t n. refl)
+told-by_word (command.TryPushStr given) = told refl refl refl (λ t n. refl)
+told-by_word (command.PushStr given) = told refl refl refl (λ t n. refl)
+told-by_word command.Pop = told refl refl refl (λ t n. refl)
+told-by_word (command.Truncate i) = told refl refl refl (λ t n. refl)
+told-by_word command.Trim = told refl refl refl (λ t n. refl)
+told-by_word (command.Remove i) = told refl refl refl (λ t n. refl)
+told-by_word (command.RetainNot c) = told refl refl refl (λ t n. refl)
+told-by_word (command.TryInsert i c) = told refl refl refl (λ t n. refl)
+told-by_word (command.TryInsertStr i given) = told refl refl refl (λ t n. refl)
+told-by_word (command.InsertStr i given) = told refl refl refl (λ t n. refl)
+told-by_word (command.SplitOff i) = told refl refl refl (λ t n. refl)
+told-by_word command.Clear = told refl refl refl (λ t n. refl)
+told-by_word (command.Drain start end) = told refl refl refl (λ t n. refl)
+told-by_word (command.DrainThrough start last) = told refl refl refl (λ t n. refl)
+told-by_word (command.DrainBack start end) = told refl refl refl (λ t n. refl)
+told-by_word (command.ReplaceRange start end given) = told refl refl refl (λ t n. refl)
+told-by_word command.Upper = told refl refl refl (λ t n. refl)
+told-by_word command.Lower = told refl refl refl (λ t n. refl)
+told-by_word (command.Get start end) = told refl refl refl (λ t n. refl)
+told-by_word command.Len = told refl refl refl (λ t n. refl)
+told-by_word command.Capacity = told refl refl refl (λ t n. refl)
+told-by_word command.AsStr = told refl refl refl (λ t n. refl)

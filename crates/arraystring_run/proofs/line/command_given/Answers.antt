@@ -1,7 +1,7 @@
 use Rattle.std.proofs.Common.{◌≡◌, ◌∷◌, [], length, refl, ap, arith}
 use Rattle.arraystring.specs.TextLaws.{utf8-well_formed, well_formed-utf8}
 use Rattle.arraystring_run.specs.declared.commands.Command.{Command}
-use Rattle.arraystring_run.specs.declared.commands.Command.TheVariants.{TryPush, TryPushStr, PushStr, Pop, Truncate, Trim, Remove, RetainNot, TryInsert, TryInsertStr, InsertStr, SplitOff, Clear, Drain, DrainThrough, DrainBack, ReplaceRange, Upper, Lower, Get, Len, Capacity, AsStr}
+use Rattle.arraystring_run.specs.declared.commands.Command.TheVariants as command
 use Rattle.arraystring_run.specs.Grammar.{Number, Character, Text, word, arguments, AreSpelled, space}
 use Rattle.arraystring_run.proofs.CommandLemmas.{shape}
 use Rattle.arraystring_run.proofs.GrammarLemmas.{reads, reads-two, reads-before, reads-behind, reads-character, line-parts, line-given, spelled-one, spelled-before, number-behind}
@@ -9,27 +9,27 @@ use Rattle.arraystring_run.proofs.line.command_given.Goals as goal
 
 pub returns-in_ok-only_char-in-try_push-clause-some : goal.returns-in_ok-only_char-in-try_push-clause-some
 returns-in_ok-only_char-in-try_push-clause-some c =
-    line-given (TryPush c.in_ok-only_char-in-try_push.field-0) c.args.word.now c.args.rest.now c.in-try_push.is (spelled-one (Character c.in_ok-only_char-in-try_push.field-0) c.args.rest.now c.in_ok-only_char-in-try_push.ensures.some)
+    line-given (command.TryPush c.in_ok-only_char-in-try_push.field-0) c.args.word.now c.args.rest.now c.in-try_push.is (spelled-one (Character c.in_ok-only_char-in-try_push.field-0) c.args.rest.now c.in_ok-only_char-in-try_push.ensures.some)
 
 pub returns-in-try_push_str-clause-some : goal.returns-in-try_push_str-clause-some
 returns-in-try_push_str-clause-some c =
-    line-given (TryPushStr c.args.rest) c.args.word.now c.args.rest.now c.in-try_push_str.is (spelled-one (Text c.args.rest.now) c.args.rest.now (utf8-well_formed c.utf8.rest, refl))
+    line-given (command.TryPushStr c.args.rest) c.args.word.now c.args.rest.now c.in-try_push_str.is (spelled-one (Text c.args.rest.now) c.args.rest.now (utf8-well_formed c.utf8.rest, refl))
 
 pub returns-in-push_str-clause-some : goal.returns-in-push_str-clause-some
 returns-in-push_str-clause-some c =
-    line-given (PushStr c.args.rest) c.args.word.now c.args.rest.now c.in-push_str.is (spelled-one (Text c.args.rest.now) c.args.rest.now (utf8-well_formed c.utf8.rest, refl))
+    line-given (command.PushStr c.args.rest) c.args.word.now c.args.rest.now c.in-push_str.is (spelled-one (Text c.args.rest.now) c.args.rest.now (utf8-well_formed c.utf8.rest, refl))
 
 pub returns-in_ok-number-in-truncate-clause-some : goal.returns-in_ok-number-in-truncate-clause-some
 returns-in_ok-number-in-truncate-clause-some c =
-    line-given (Truncate c.in_ok-number-in-truncate.field-0) c.args.word.now c.args.rest.now c.in-truncate.is (spelled-one (Number c.in_ok-number-in-truncate.field-0) c.args.rest.now c.in_ok-number-in-truncate.ensures.some)
+    line-given (command.Truncate c.in_ok-number-in-truncate.field-0) c.args.word.now c.args.rest.now c.in-truncate.is (spelled-one (Number c.in_ok-number-in-truncate.field-0) c.args.rest.now c.in_ok-number-in-truncate.ensures.some)
 
 pub returns-in_ok-number-in-remove-clause-some : goal.returns-in_ok-number-in-remove-clause-some
 returns-in_ok-number-in-remove-clause-some c =
-    line-given (Remove c.in_ok-number-in-remove.field-0) c.args.word.now c.args.rest.now c.in-remove.is (spelled-one (Number c.in_ok-number-in-remove.field-0) c.args.rest.now c.in_ok-number-in-remove.ensures.some)
+    line-given (command.Remove c.in_ok-number-in-remove.field-0) c.args.word.now c.args.rest.now c.in-remove.is (spelled-one (Number c.in_ok-number-in-remove.field-0) c.args.rest.now c.in_ok-number-in-remove.ensures.some)
 
 pub returns-in_ok-only_char-in-retain_not-clause-some : goal.returns-in_ok-only_char-in-retain_not-clause-some
 returns-in_ok-only_char-in-retain_not-clause-some c =
-    line-given (RetainNot c.in_ok-only_char-in-retain_not.field-0) c.args.word.now c.args.rest.now c.in-retain_not.is (spelled-one (Character c.in_ok-only_char-in-retain_not.field-0) c.args.rest.now c.in_ok-only_char-in-retain_not.ensures.some)
+    line-given (command.RetainNot c.in_ok-only_char-in-retain_not.field-0) c.args.word.now c.args.rest.now c.in-retain_not.is (spelled-one (Character c.in_ok-only_char-in-retain_not.field-0) c.args.rest.now c.in_ok-only_char-in-retain_not.ensures.some)
 
 pub returns-in_err-index-in-try_insert-clause-none : goal.returns-in_err-index-in-try_insert-clause-none
 unfolding shape
@@ -54,7 +54,7 @@ returns-in_ok-only_char-in-try_insert-clause-some c =
     let before = c.in_ok-index-in-try_insert.ensures.some in
     let given = c.in_ok-index-in-try_insert.given.now in
     let ch = c.in_ok-only_char-in-try_insert.field-0 in
-    line-given (TryInsert c.in_ok-index-in-try_insert.index ch) c.args.word.now c.args.rest.now c.in-try_insert.is (spelled-before c.args.rest.now c.in_ok-index-in-try_insert.index given (Character ch ∷ []) before (spelled-one (Character ch) given c.in_ok-only_char-in-try_insert.ensures.some))
+    line-given (command.TryInsert c.in_ok-index-in-try_insert.index ch) c.args.word.now c.args.rest.now c.in-try_insert.is (spelled-before c.args.rest.now c.in_ok-index-in-try_insert.index given (Character ch ∷ []) before (spelled-one (Character ch) given c.in_ok-only_char-in-try_insert.ensures.some))
 
 pub returns-in_err-index-in-try_insert_str-clause-none : goal.returns-in_err-index-in-try_insert_str-clause-none
 unfolding shape
@@ -68,7 +68,7 @@ pub returns-in_ok-index-in-try_insert_str-clause-some : goal.returns-in_ok-index
 returns-in_ok-index-in-try_insert_str-clause-some c =
     let before = c.in_ok-index-in-try_insert_str.ensures.some in
     let given = c.in_ok-index-in-try_insert_str.given.now in
-    line-given (TryInsertStr c.in_ok-index-in-try_insert_str.index c.in_ok-index-in-try_insert_str.given) c.args.word.now c.args.rest.now c.in-try_insert_str.is (spelled-before c.args.rest.now c.in_ok-index-in-try_insert_str.index given (Text given ∷ []) before (spelled-one (Text given) given (number-behind c.args.rest.now c.in_ok-index-in-try_insert_str.index given c.utf8.rest before, refl)))
+    line-given (command.TryInsertStr c.in_ok-index-in-try_insert_str.index c.in_ok-index-in-try_insert_str.given) c.args.word.now c.args.rest.now c.in-try_insert_str.is (spelled-before c.args.rest.now c.in_ok-index-in-try_insert_str.index given (Text given ∷ []) before (spelled-one (Text given) given (number-behind c.args.rest.now c.in_ok-index-in-try_insert_str.index given c.utf8.rest before, refl)))
 
 pub returns-in_err-index-in-insert_str-clause-none : goal.returns-in_err-index-in-insert_str-clause-none
 unfolding shape
@@ -82,11 +82,11 @@ pub returns-in_ok-index-in-insert_str-clause-some : goal.returns-in_ok-index-in-
 returns-in_ok-index-in-insert_str-clause-some c =
     let before = c.in_ok-index-in-insert_str.ensures.some in
     let given = c.in_ok-index-in-insert_str.given.now in
-    line-given (InsertStr c.in_ok-index-in-insert_str.index c.in_ok-index-in-insert_str.given) c.args.word.now c.args.rest.now c.in-insert_str.is (spelled-before c.args.rest.now c.in_ok-index-in-insert_str.index given (Text given ∷ []) before (spelled-one (Text given) given (number-behind c.args.rest.now c.in_ok-index-in-insert_str.index given c.utf8.rest before, refl)))
+    line-given (command.InsertStr c.in_ok-index-in-insert_str.index c.in_ok-index-in-insert_str.given) c.args.word.now c.args.rest.now c.in-insert_str.is (spelled-before c.args.rest.now c.in_ok-index-in-insert_str.index given (Text given ∷ []) before (spelled-one (Text given) given (number-behind c.args.rest.now c.in_ok-index-in-insert_str.index given c.utf8.rest before, refl)))
 
 pub returns-in_ok-number-in-split_off-clause-some : goal.returns-in_ok-number-in-split_off-clause-some
 returns-in_ok-number-in-split_off-clause-some c =
-    line-given (SplitOff c.in_ok-number-in-split_off.field-0) c.args.word.now c.args.rest.now c.in-split_off.is (spelled-one (Number c.in_ok-number-in-split_off.field-0) c.args.rest.now c.in_ok-number-in-split_off.ensures.some)
+    line-given (command.SplitOff c.in_ok-number-in-split_off.field-0) c.args.word.now c.args.rest.now c.in-split_off.is (spelled-one (Number c.in_ok-number-in-split_off.field-0) c.args.rest.now c.in_ok-number-in-split_off.ensures.some)
 
 pub returns-in_err-start-in-drain-clause-none : goal.returns-in_err-start-in-drain-clause-none
 unfolding shape
@@ -99,7 +99,7 @@ returns-in_err-start-in-drain-clause-none c =
 pub returns-in_ok-start-in-drain-clause-some : goal.returns-in_ok-start-in-drain-clause-some
 returns-in_ok-start-in-drain-clause-some c =
     let both = c.in_ok-start-in-drain.ensures.some in
-    line-given (Drain c.in_ok-start-in-drain.start c.in_ok-start-in-drain.end) c.args.word.now c.args.rest.now c.in-drain.is (spelled-before c.args.rest.now c.in_ok-start-in-drain.start both.0 (Number c.in_ok-start-in-drain.end ∷ []) both.1 (spelled-one (Number c.in_ok-start-in-drain.end) both.0 both.2))
+    line-given (command.Drain c.in_ok-start-in-drain.start c.in_ok-start-in-drain.end) c.args.word.now c.args.rest.now c.in-drain.is (spelled-before c.args.rest.now c.in_ok-start-in-drain.start both.0 (Number c.in_ok-start-in-drain.end ∷ []) both.1 (spelled-one (Number c.in_ok-start-in-drain.end) both.0 both.2))
 
 pub returns-in_err-start-in-drain_through-clause-none : goal.returns-in_err-start-in-drain_through-clause-none
 unfolding shape
@@ -112,7 +112,7 @@ returns-in_err-start-in-drain_through-clause-none c =
 pub returns-in_ok-start-in-drain_through-clause-some : goal.returns-in_ok-start-in-drain_through-clause-some
 returns-in_ok-start-in-drain_through-clause-some c =
     let both = c.in_ok-start-in-drain_through.ensures.some in
-    line-given (DrainThrough c.in_ok-start-in-drain_through.start c.in_ok-start-in-drain_through.last) c.args.word.now c.args.rest.now c.in-drain_through.is (spelled-before c.args.rest.now c.in_ok-start-in-drain_through.start both.0 (Number c.in_ok-start-in-drain_through.last ∷ []) both.1 (spelled-one (Number c.in_ok-start-in-drain_through.last) both.0 both.2))
+    line-given (command.DrainThrough c.in_ok-start-in-drain_through.start c.in_ok-start-in-drain_through.last) c.args.word.now c.args.rest.now c.in-drain_through.is (spelled-before c.args.rest.now c.in_ok-start-in-drain_through.start both.0 (Number c.in_ok-start-in-drain_through.last ∷ []) both.1 (spelled-one (Number c.in_ok-start-in-drain_through.last) both.0 both.2))
 
 pub returns-in_err-start-in-drain_back-clause-none : goal.returns-in_err-start-in-drain_back-clause-none
 unfolding shape
@@ -125,7 +125,7 @@ returns-in_err-start-in-drain_back-clause-none c =
 pub returns-in_ok-start-in-drain_back-clause-some : goal.returns-in_ok-start-in-drain_back-clause-some
 returns-in_ok-start-in-drain_back-clause-some c =
     let both = c.in_ok-start-in-drain_back.ensures.some in
-    line-given (DrainBack c.in_ok-start-in-drain_back.start c.in_ok-start-in-drain_back.end) c.args.word.now c.args.rest.now c.in-drain_back.is (spelled-before c.args.rest.now c.in_ok-start-in-drain_back.start both.0 (Number c.in_ok-start-in-drain_back.end ∷ []) both.1 (spelled-one (Number c.in_ok-start-in-drain_back.end) both.0 both.2))
+    line-given (command.DrainBack c.in_ok-start-in-drain_back.start c.in_ok-start-in-drain_back.end) c.args.word.now c.args.rest.now c.in-drain_back.is (spelled-before c.args.rest.now c.in_ok-start-in-drain_back.start both.0 (Number c.in_ok-start-in-drain_back.end ∷ []) both.1 (spelled-one (Number c.in_ok-start-in-drain_back.end) both.0 both.2))
 
 pub returns-in_err-start-in-replace_range-clause-none : goal.returns-in_err-start-in-replace_range-clause-none
 unfolding shape
@@ -153,7 +153,7 @@ returns-in_ok-end-in-replace_range-clause-some c =
     let given = c.in_ok-end-in-replace_range.given.now in
     let u = well_formed-utf8 {bs = rest} (number-behind c.args.rest.now c.in_ok-start-in-replace_range.start rest c.utf8.rest before) in
     let well = number-behind rest c.in_ok-end-in-replace_range.end given u next in
-    line-given (ReplaceRange c.in_ok-start-in-replace_range.start c.in_ok-end-in-replace_range.end c.in_ok-end-in-replace_range.given) c.args.word.now c.args.rest.now c.in-replace_range.is (spelled-before c.args.rest.now c.in_ok-start-in-replace_range.start rest (Number c.in_ok-end-in-replace_range.end ∷ Text given ∷ []) before (spelled-before rest c.in_ok-end-in-replace_range.end given (Text given ∷ []) next (spelled-one (Text given) given (well, refl))))
+    line-given (command.ReplaceRange c.in_ok-start-in-replace_range.start c.in_ok-end-in-replace_range.end c.in_ok-end-in-replace_range.given) c.args.word.now c.args.rest.now c.in-replace_range.is (spelled-before c.args.rest.now c.in_ok-start-in-replace_range.start rest (Number c.in_ok-end-in-replace_range.end ∷ Text given ∷ []) before (spelled-before rest c.in_ok-end-in-replace_range.end given (Text given ∷ []) next (spelled-one (Text given) given (well, refl))))
 
 pub returns-in_err-start-in-get-clause-none : goal.returns-in_err-start-in-get-clause-none
 unfolding shape
@@ -166,31 +166,31 @@ returns-in_err-start-in-get-clause-none c =
 pub returns-in_ok-start-in-get-clause-some : goal.returns-in_ok-start-in-get-clause-some
 returns-in_ok-start-in-get-clause-some c =
     let both = c.in_ok-start-in-get.ensures.some in
-    line-given (Get c.in_ok-start-in-get.start c.in_ok-start-in-get.end) c.args.word.now c.args.rest.now c.in-get.is (spelled-before c.args.rest.now c.in_ok-start-in-get.start both.0 (Number c.in_ok-start-in-get.end ∷ []) both.1 (spelled-one (Number c.in_ok-start-in-get.end) both.0 both.2))
+    line-given (command.Get c.in_ok-start-in-get.start c.in_ok-start-in-get.end) c.args.word.now c.args.rest.now c.in-get.is (spelled-before c.args.rest.now c.in_ok-start-in-get.start both.0 (Number c.in_ok-start-in-get.end ∷ []) both.1 (spelled-one (Number c.in_ok-start-in-get.end) both.0 both.2))
 
 pub returns-in_default-clause-none : goal.returns-in_default-clause-none
 returns-in_default-clause-none c = λ d line. let parts = line-parts c.args.word.now c.args.rest.now d c.requires line in unknown d parts.0 parts.1 where
   unknown : (d : Command) → c.args.word.now ≡ word d → AreSpelled (space ∷ c.args.rest.now) (arguments d) → ⊥
-  unknown (TryPush ch) e spelled = c.in_default.not-try_push e
-  unknown (TryPushStr given) e spelled = c.in_default.not-try_push_str e
-  unknown (PushStr given) e spelled = c.in_default.not-push_str e
-  unknown Pop e spelled = omega (arith, ap length spelled)
-  unknown (Truncate i) e spelled = c.in_default.not-truncate e
-  unknown Trim e spelled = omega (arith, ap length spelled)
-  unknown (Remove i) e spelled = c.in_default.not-remove e
-  unknown (RetainNot ch) e spelled = c.in_default.not-retain_not e
-  unknown (TryInsert i ch) e spelled = c.in_default.not-try_insert e
-  unknown (TryInsertStr i given) e spelled = c.in_default.not-try_insert_str e
-  unknown (InsertStr i given) e spelled = c.in_default.not-insert_str e
-  unknown (SplitOff i) e spelled = c.in_default.not-split_off e
-  unknown Clear e spelled = omega (arith, ap length spelled)
-  unknown (Drain start end) e spelled = c.in_default.not-drain e
-  unknown (DrainThrough start last) e spelled = c.in_default.not-drain_through e
-  unknown (DrainBack start end) e spelled = c.in_default.not-drain_back e
-  unknown (ReplaceRange start end given) e spelled = c.in_default.not-replace_range e
-  unknown Upper e spelled = omega (arith, ap length spelled)
-  unknown Lower e spelled = omega (arith, ap length spelled)
-  unknown (Get start end) e spelled = c.in_default.not-get e
-  unknown Len e spelled = omega (arith, ap length spelled)
-  unknown Capacity e spelled = omega (arith, ap length spelled)
-  unknown AsStr e spelled = omega (arith, ap length spelled)
+  unknown (command.TryPush ch) e spelled = c.in_default.not-try_push e
+  unknown (command.TryPushStr given) e spelled = c.in_default.not-try_push_str e
+  unknown (command.PushStr given) e spelled = c.in_default.not-push_str e
+  unknown command.Pop e spelled = omega (arith, ap length spelled)
+  unknown (command.Truncate i) e spelled = c.in_default.not-truncate e
+  unknown command.Trim e spelled = omega (arith, ap length spelled)
+  unknown (command.Remove i) e spelled = c.in_default.not-remove e
+  unknown (command.RetainNot ch) e spelled = c.in_default.not-retain_not e
+  unknown (command.TryInsert i ch) e spelled = c.in_default.not-try_insert e
+  unknown (command.TryInsertStr i given) e spelled = c.in_default.not-try_insert_str e
+  unknown (command.InsertStr i given) e spelled = c.in_default.not-insert_str e
+  unknown (command.SplitOff i) e spelled = c.in_default.not-split_off e
+  unknown command.Clear e spelled = omega (arith, ap length spelled)
+  unknown (command.Drain start end) e spelled = c.in_default.not-drain e
+  unknown (command.DrainThrough start last) e spelled = c.in_default.not-drain_through e
+  unknown (command.DrainBack start end) e spelled = c.in_default.not-drain_back e
+  unknown (command.ReplaceRange start end given) e spelled = c.in_default.not-replace_range e
+  unknown command.Upper e spelled = omega (arith, ap length spelled)
+  unknown command.Lower e spelled = omega (arith, ap length spelled)
+  unknown (command.Get start end) e spelled = c.in_default.not-get e
+  unknown command.Len e spelled = omega (arith, ap length spelled)
+  unknown command.Capacity e spelled = omega (arith, ap length spelled)
+  unknown command.AsStr e spelled = omega (arith, ap length spelled)
