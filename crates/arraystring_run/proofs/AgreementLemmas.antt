@@ -3,18 +3,29 @@ use Rattle.std.proofs.Common.{◌≡◌, ℕ, suc, ◌+◌, ◌-◌, ◌≤◌, 
 use Rattle.std.proofs.lemmas.Bool.{le-ltb, ltb-false}
 use Rattle.arraystring.specs.Text.{size, cut}
 use Rattle.arraystring.specs.CutLaws.{cut-all}
-use Rattle.arraystring.specs.Edits.{Test, Cause, Room, no_room, past, crossed, inside, first_cause, ok_unless, insertion, insertion_of_cut, replacement}
-use Rattle.arraystring_run.specs.Runs.{Done, Edited, leaves, said_of, edit, tight, adds_less, is_room, after, first_tight_from}
+use Rattle.arraystring.specs.Edits.{Test, Cause, Room, no_room, past, crossed, inside, first_cause, ok_unless, insertion, replacement}
+use Rattle.arraystring_run.specs.Runs.{Said, Done, Edited, leaves, said_of, edit, tight, adds_less, is_room, after, first_tight_from}
 use Rattle.arraystring_run.specs.Agreement.{untight, Agrees, AllAgree, IsNoSooner}
 use Rattle.arraystring_run.specs.declared.commands.Command.{Command}
 use Rattle.arraystring_run.specs.declared.commands.Command.TheVariants as command
 use Rattle.arraystring_run.proofs.RunLemmas.{is_cut-larger}
 
--- what one command does where it isn't tight at the lesser capacity
+-- a command that isn't tight at the lesser capacity isn't at the greater, where it does the same
 pub record IsSameStep (c : Command) (t : List ℕ) (n m : ℕ) : Type 0 where
   pub untight : tight c t m ≡ false
   pub text : (edit c t n).text ≡ (edit c t m).text
   pub agrees : Agrees c (edit c t n).reply (edit c t m).reply
+
+replies-agree : (c : Command) (r s : Said) → r ≡ s → Agrees c r s
+replies-agree command.Capacity r s e = tt
+replies-agree _ r s e = e
+
+by_edit : (c : Command) (t : List ℕ) (n m : ℕ) → (tight c t m ≡ false) × (edit c t n ≡ edit c t m) → IsSameStep c t n m
+by_edit c t n m (untight, same) = record {
+  untight = untight;
+  text = ap (λ (e : Edited). e.text) same;
+  agrees = replies-agree c (edit c t n).reply (edit c t m).reply (ap (λ (e : Edited). e.reply) same);
+}
 
 -- what a row that is answered Done makes of t, by its first cause
 abbrev by_cause : List ℕ → List ℕ → Option Cause → Edited
@@ -43,113 +54,50 @@ roomy r n m le (test ∷ before) behind loose = go test.holds (roomy r n m le be
     go false rest is = rest is
 
 -- a row whose tests are `before`, room for r bytes, and `behind`
-module _ (r n m : ℕ) (le : n ≤ m) (before behind : List Test) (loose : is_room (first_cause (before ++ (no_room r n ∷ behind))) ≡ false) where
-  same_cause : first_cause (before ++ (no_room r n ∷ behind)) ≡ first_cause (before ++ (no_room r m ∷ behind))
-  same_cause = roomy r n m le before behind loose
+room-same : (t : List ℕ) (r n m : ℕ) → n ≤ m → (before behind : List Test) (result : List ℕ)
+    → is_room (first_cause (before ++ (no_room r n ∷ behind))) ≡ false
+    → (is_room (first_cause (before ++ (no_room r m ∷ behind))) ≡ false)
+    × (by_cause t result (first_cause (before ++ (no_room r n ∷ behind))) ≡ by_cause t result (first_cause (before ++ (no_room r m ∷ behind))))
+room-same t r n m le before behind result loose =
+    let same = roomy r n m le before behind loose in (sym (ap is_room same) ∙ loose, ap (by_cause t result) same)
 
-  still_loose : is_room (first_cause (before ++ (no_room r m ∷ behind))) ≡ false
-  still_loose = sym (ap is_room same_cause) ∙ loose
+-- a row whose result has what fits of `given`
+cut-same : (t given : List ℕ) (n m : ℕ) → n ≤ m → (result : List ℕ → List ℕ) (cause : Option Cause)
+    → (is_none cause && adds_less t given n) ≡ false
+    → ((is_none cause && adds_less t given m) ≡ false)
+    × (by_cause t (result (cut given (n - size t))) cause ≡ by_cause t (result (cut given (m - size t))) cause)
+cut-same t given n m le result None loose =
+    let fits : size given ≤ n - size t = ltb-false (n - size t) (size given) (is_cut-larger given (n - size t) ∙ loose) in
+    let fits_more : size given ≤ m - size t = omega arith in (
+      sym (is_cut-larger given (m - size t)) ∙ le-ltb (m - size t) (size given) fits_more,
+      ap (λ l. by_cause t (result l) None) (cut-all fits ∙ sym (cut-all fits_more)),
+    )
+cut-same t given n m le result (Some cause) loose = (refl, refl)
 
--- a text that fits whole at n does so at m
-module _ (t given : List ℕ) (n m : ℕ) (le : n ≤ m) (loose : adds_less t given n ≡ false) where
-  fits : size given ≤ n - size t
-  fits = ltb-false (n - size t) (size given) (is_cut-larger given (n - size t) ∙ loose)
-
-  fits_more : size given ≤ m - size t
-  fits_more = let f = fits in omega arith
-
-  adds_all : adds_less t given m ≡ false
-  adds_all = sym (is_cut-larger given (m - size t)) ∙ le-ltb (m - size t) (size given) fits_more
-
-  same_cut : cut given (n - size t) ≡ cut given (m - size t)
-  same_cut = cut-all fits ∙ sym (cut-all fits_more)
-
--- an insertion of a cut is the same at both capacities
-insert-same : (i : ℕ) (given : _) (t : List ℕ) (n m : ℕ) → n ≤ m → tight (command.InsertStr i given) t n ≡ false → IsSameStep (command.InsertStr i given) t n m
-insert-same i given t n m le loose = go (first_cause (past t i ∷ inside t i ∷ [])) refl loose
-  where
-    g : List ℕ
-    g = chars given.now
-
-    whole : ℕ → List ℕ
-    whole k = (insertion_of_cut t i g k).after
-
-    go : (cause : Option Cause) → first_cause (past t i ∷ inside t i ∷ []) ≡ cause → (is_none cause && adds_less t g n) ≡ false
-        → IsSameStep (command.InsertStr i given) t n m
-    go None e is = let same = same_cut t g n m le is in record {
-      untight = ap (λ c. is_none c && adds_less t g m) e ∙ adds_all t g n m le is;
-      text = ap (λ l. (by_cause t (insertion t i l n).after (first_cause (past t i ∷ inside t i ∷ []))).text) same;
-      agrees = refl;
-    }
-    go (Some cause) e is = record {
-      untight = ap (λ c. is_none c && adds_less t g m) e;
-      text = ap (λ c. (by_cause t (whole n) c).text) e ∙ sym (ap (λ c. (by_cause t (whole m) c).text) e);
-      agrees = refl;
-    }
-
+-- the commands that can be tight; any other does the same by its definition
 pub same-step : (c : Command) (t : List ℕ) (n m : ℕ) → n ≤ m → tight c t n ≡ false → IsSameStep c t n m
 same-step (command.TryPush ch) t n m le loose =
-    let r = size t + size (ch ∷ []) in let same = same_cause r n m le [] [] loose in record {
-      untight = still_loose r n m le [] [] loose;
-      text = ap (λ c. (by_cause t (t ++ ch ∷ []) c).text) same;
-      agrees = ap (λ c. (by_cause t (t ++ ch ∷ []) c).reply) same;
-    }
+    by_edit (command.TryPush ch) t n m (room-same t (size t + size (ch ∷ [])) n m le [] [] (t ++ ch ∷ []) loose)
 same-step (command.TryPushStr given) t n m le loose =
-    let g = chars given.now in let r = size t + size g in let same = same_cause r n m le [] [] loose in record {
-      untight = still_loose r n m le [] [] loose;
-      text = ap (λ c. (by_cause t (t ++ g) c).text) same;
-      agrees = ap (λ c. (by_cause t (t ++ g) c).reply) same;
-    }
+    let g = chars given.now in
+    by_edit (command.TryPushStr given) t n m (room-same t (size t + size g) n m le [] [] (t ++ g) loose)
 same-step (command.PushStr given) t n m le loose =
-    let g = chars given.now in record {
-      untight = adds_all t g n m le loose;
-      text = ap (λ l. t ++ l) (same_cut t g n m le loose);
-      agrees = refl;
-    }
+    by_edit (command.PushStr given) t n m (cut-same t (chars given.now) n m le (λ l. t ++ l) None loose)
 same-step (command.TryInsert i ch) t n m le loose =
-    let r = size t + size (ch ∷ []) in
-    let before = past t i ∷ [] in let behind = inside t i ∷ [] in
-    let same = same_cause r n m le before behind loose in
-    let result = (insertion t i (ch ∷ []) n).after in record {
-      untight = still_loose r n m le before behind loose;
-      text = ap (λ c. (by_cause t result c).text) same;
-      agrees = ap (λ c. (by_cause t result c).reply) same;
-    }
+    let g = ch ∷ [] in
+    by_edit (command.TryInsert i ch) t n m (room-same t (size t + size g) n m le (past t i ∷ []) (inside t i ∷ []) (insertion t i g n).after loose)
 same-step (command.TryInsertStr i given) t n m le loose =
-    let g = chars given.now in let r = size t + size g in
-    let before = past t i ∷ [] in let behind = inside t i ∷ [] in
-    let same = same_cause r n m le before behind loose in
-    let result = (insertion t i g n).after in record {
-      untight = still_loose r n m le before behind loose;
-      text = ap (λ c. (by_cause t result c).text) same;
-      agrees = ap (λ c. (by_cause t result c).reply) same;
-    }
-same-step (command.InsertStr i given) t n m le loose = insert-same i given t n m le loose
+    let g = chars given.now in
+    by_edit (command.TryInsertStr i given) t n m (room-same t (size t + size g) n m le (past t i ∷ []) (inside t i ∷ []) (insertion t i g n).after loose)
+same-step (command.InsertStr i given) t n m le loose =
+    by_edit (command.InsertStr i given) t n m
+    (cut-same t (chars given.now) n m le (λ l. (insertion t i l n).after) (first_cause (past t i ∷ inside t i ∷ [])) loose)
 same-step (command.ReplaceRange start end given) t n m le loose =
-    let g = chars given.now in let r = size t - (end - start) + size g in
-    let before = crossed start end ∷ past t end ∷ [] in let behind = inside t start ∷ inside t end ∷ [] in
-    let same = same_cause r n m le before behind loose in
-    let result = (replacement t start end g n).after in record {
-      untight = still_loose r n m le before behind loose;
-      text = ap (λ c. (by_cause t result c).text) same;
-      agrees = ap (λ c. (by_cause t result c).reply) same;
-    }
-same-step command.Pop t n m le loose = record { untight = refl; text = refl; agrees = refl }
-same-step (command.Truncate i) t n m le loose = record { untight = refl; text = refl; agrees = refl }
-same-step command.Trim t n m le loose = record { untight = refl; text = refl; agrees = refl }
-same-step (command.Remove i) t n m le loose = record { untight = refl; text = refl; agrees = refl }
-same-step (command.RetainNot c) t n m le loose = record { untight = refl; text = refl; agrees = refl }
-same-step (command.SplitOff i) t n m le loose = record { untight = refl; text = refl; agrees = refl }
-same-step command.Clear t n m le loose = record { untight = refl; text = refl; agrees = refl }
-same-step (command.Drain start end) t n m le loose = record { untight = refl; text = refl; agrees = refl }
-same-step (command.DrainThrough start last) t n m le loose = record { untight = refl; text = refl; agrees = refl }
-same-step (command.DrainBack start end) t n m le loose = record { untight = refl; text = refl; agrees = refl }
-same-step command.Upper t n m le loose = record { untight = refl; text = refl; agrees = refl }
-same-step command.Lower t n m le loose = record { untight = refl; text = refl; agrees = refl }
-same-step (command.Get start end) t n m le loose = record { untight = refl; text = refl; agrees = refl }
-same-step command.Len t n m le loose = record { untight = refl; text = refl; agrees = refl }
+    let g = chars given.now in
+    by_edit (command.ReplaceRange start end given) t n m
+    (room-same t (size t - (end - start) + size g) n m le (crossed start end ∷ past t end ∷ []) (inside t start ∷ inside t end ∷ []) (replacement t start end g n).after loose)
 same-step command.Capacity t n m le loose = record { untight = refl; text = refl; agrees = tt }
-same-step command.AsStr t n m le loose = record { untight = refl; text = refl; agrees = refl }
+same-step _ t n m le loose = record { untight = refl; text = refl; agrees = refl }
 
 -- a position, counted from one command further on
 abbrev pub next : Option ℕ → Option ℕ

@@ -14,7 +14,7 @@ use Rattle.std.specs.Result.{OkIff, result_ok}
 use Rattle.arraystring.specs.Text.{utf8, IsScalarValue, IsWellFormed}
 use Rattle.arraystring.specs.TextLaws.{bytes-utf8, well_formed-utf8, utf8-well_formed}
 use Rattle.arraystring_run.specs.declared.commands.Command.{Command}
-use Rattle.arraystring_run.proofs.CommandLemmas.{are_letters, kind, shape, told-by_word}
+use Rattle.arraystring_run.proofs.CommandLemmas.{are_letters, word-letters, kind, kinds, namesakes}
 use Rattle.arraystring_run.specs.Grammar.{Argument, Number, Character, Text, word, arguments, AreDigits, value_after, IsNumber, IsNumberBefore, IsSpelled, AreSpelled, IsLineOf, IsOneWord, space, spellings, line_of, AreArguments}
 
 head-of : (x y : ℕ) (xs ys : List ℕ) → x ∷ xs ≡ y ∷ ys → x ≡ y
@@ -57,7 +57,12 @@ one-from_letters [] are = tt
 one-from_letters (b ∷ bs) are = (λ e. omega (arith, are.0), one-from_letters bs are.2)
 
 pub one-word : (c : Command) → IsOneWord (word c)
-one-word c = one-from_letters (word c) (letters-from_test (word c) ((told-by_word c).letters))
+one-word c = one-from_letters (word c) (letters-from_test (word c) (word-letters c))
+
+-- a space is followed by an argument
+pub has-argument : (rest : List ℕ) (given : List Argument) → AreSpelled (space ∷ rest) given → given ≢ []
+has-argument rest [] none e = omega (arith, ap length none)
+has-argument rest (a ∷ given) spelled e = omega (arith, ap length e)
 
 -- what is after a word and a space, read as arguments of these kinds
 abbrev pub Reads : List ℕ → List ℕ → Type 0
@@ -76,12 +81,13 @@ pub line-parts : (w rest : List ℕ) (c : Command) → IsOneWord w → IsLineOf 
     → (w ≡ word c) × AreSpelled (space ∷ rest) (arguments c)
 line-parts w rest c one (more, e, spelled) = split-line w (word c) rest more (arguments c) one (one-word c) e spelled
 
-pub reads : (w rest kinds : List ℕ) (c : Command) → IsOneWord w → shape w ≡ kinds → IsLineOf (w ++ space ∷ rest) c → Reads rest kinds
-reads w rest kinds c one known line =
+-- those of a line whose word is that of d
+pub reads : (w rest : List ℕ) (d c : Command) → IsOneWord w → w ≡ word d → IsLineOf (w ++ space ∷ rest) c → Reads rest (kinds d)
+reads w rest d c one known line =
     let found = line-parts w rest c one line in
-    (arguments c, (told-by_word c).kinds ∙ ap shape (sym found.0) ∙ known, found.1)
+    (arguments c, (namesakes c d (sym found.0 ∙ known)).same_kinds, found.1)
 
--- the arguments of each shape
+-- the arguments of each list of kinds
 last-of : (rest first others : List ℕ) → space ∷ rest ≡ space ∷ (first ++ others) → others ≡ [] → rest ≡ first
 last-of rest first others whole none =
     tail-of space space rest (first ++ others) whole ∙ ap (λ l. first ++ l) none ∙ append-nil first
@@ -178,7 +184,7 @@ arguments-utf8 (a ∷ given) bs (first, others, whole, spelled, next) =
 
 pub line-utf8 : (bs : List ℕ) (c : Command) → IsLineOf bs c → IsUtf8 bs
 line-utf8 bs c (rest, whole, spelled) =
-    rw whole (IsUtf8-append (word c) rest (letters-utf8 (word c) (letters-from_test (word c) ((told-by_word c).letters))) (arguments-utf8 (arguments c) rest spelled))
+    rw whole (IsUtf8-append (word c) rest (letters-utf8 (word c) (letters-from_test (word c) (word-letters c))) (arguments-utf8 (arguments c) rest spelled))
 
 -- what follows a space is well formed
 pub behind-space : (front rest : List ℕ) → IsUtf8 (front ++ space ∷ rest) → IsWellFormed rest
