@@ -1,4 +1,5 @@
--- What the word of a command tells. Each proof is one for all commands: the command that it names makes it go through them.
+-- What the word of a command tells. Each proof goes through all commands, and is the same for each: it names one because a
+-- catch-all is split into cases only below a clause that has one.
 use Rattle.std.proofs.Common.{◌≡◌, ℕ, List, [], ◌∷◌, map, refl, subst, nat_eq, nat_le, Bool, true, ◌==◌, ◌&&◌}
 use Rattle.std.specs.Cmp.Lexicographic.{pointwise}
 use Rattle.arraystring_run.specs.declared.commands.Command.{Command}

@@ -81,11 +81,12 @@ pub line-parts : (w rest : List ℕ) (c : Command) → IsOneWord w → IsLineOf 
     → (w ≡ word c) × AreSpelled (space ∷ rest) (arguments c)
 line-parts w rest c one (more, e, spelled) = split-line w (word c) rest more (arguments c) one (one-word c) e spelled
 
--- those of a line whose word is that of d
-pub reads : (w rest : List ℕ) (d c : Command) → IsOneWord w → w ≡ word d → IsLineOf (w ++ space ∷ rest) c → Reads rest (kinds d)
-reads w rest d c one known line =
+-- no line has the word of d where what follows can't be read as arguments of those kinds
+pub unread : (d : Command) (w rest : List ℕ) → IsOneWord w → w ≡ word d → (Reads rest (kinds d) → ⊥)
+    → (c : Command) → IsLineOf (w ++ space ∷ rest) c → ⊥
+unread d w rest one known bad c line =
     let found = line-parts w rest c one line in
-    (arguments c, (namesakes c d (sym found.0 ∙ known)).same_kinds, found.1)
+    bad (arguments c, (namesakes c d (sym found.0 ∙ known)).same_kinds, found.1)
 
 -- the arguments of each list of kinds
 last-of : (rest first others : List ℕ) → space ∷ rest ≡ space ∷ (first ++ others) → others ≡ [] → rest ≡ first
@@ -121,10 +122,18 @@ reads-before rest k kinds (Number n ∷ a ∷ given, e, (first, others, whole, n
 reads-before rest k kinds (Character c ∷ given, e, spelled) = absurd (omega (arith, head-of 1 0 (map kind given) (k ∷ kinds) e))
 reads-before rest k kinds (Text t ∷ given, e, spelled) = absurd (omega (arith, head-of 2 0 (map kind given) (k ∷ kinds) e))
 
-pub reads-two : (rest : List ℕ) → Reads rest (0 ∷ 0 ∷ []) → (m n : ℕ) × (behind : List ℕ) × IsNumberBefore rest m behind × IsNumber behind n
-reads-two rest read =
+pub no-character : (rest : List ℕ) → ((c : ℕ) → IsScalarValue c → rest ≡ utf8 c → ⊥) → Reads rest (1 ∷ []) → ⊥
+no-character rest bad read = let found = reads-character rest read in bad found.0 found.1 found.2
+
+pub no-before : (rest : List ℕ) {k : ℕ} {others : List ℕ} → ((n : ℕ) (behind : List ℕ) → IsNumberBefore rest n behind → ⊥)
+    → Reads rest (0 ∷ k ∷ others) → ⊥
+no-before rest {k} {others} bad read = let found = reads-before rest k others read in bad found.0 found.1 found.2
+
+pub no-two : (rest : List ℕ) → ((m n : ℕ) (behind : List ℕ) → IsNumberBefore rest m behind → IsNumber behind n → ⊥)
+    → Reads rest (0 ∷ 0 ∷ []) → ⊥
+no-two rest bad read =
     let found = reads-before rest 0 [] read in
-    let last = reads-number found.1 found.3 in (found.0, last.0, found.1, found.2, last.1)
+    let last = reads-number found.1 found.3 in bad found.0 last.0 found.1 found.2 last.1
 
 -- digits have no space, so the number before the first space is one alone
 digits-one : (bs : List ℕ) → AreDigits bs → IsOneWord bs
@@ -156,6 +165,11 @@ pub spelled-before : (rest : List ℕ) (n : ℕ) (behind : List ℕ) (given : Li
     → AreSpelled (space ∷ behind) given → AreSpelled (space ∷ rest) (Number n ∷ given)
 spelled-before rest n behind given (digits, number, e) spelled =
     (digits, space ∷ behind, ap (λ l. space ∷ l) e, number, spelled)
+
+pub spelled-two : (rest : List ℕ) (m n : ℕ) → (behind : List ℕ) × IsNumberBefore rest m behind × IsNumber behind n
+    → AreSpelled (space ∷ rest) (Number m ∷ Number n ∷ [])
+spelled-two rest m n (behind, before, number) =
+    spelled-before rest m behind (Number n ∷ []) before (spelled-one (Number n) behind number)
 
 -- the line of a command is UTF-8
 low-utf8 : (b : ℕ) (bs : List ℕ) → b < 128 → IsUtf8 bs → IsUtf8 (b ∷ bs)
