@@ -1,10 +1,10 @@
 -- Runs of the same commands at two capacities.
-use Rattle.std.proofs.Common.{◌≡◌, ℕ, suc, ◌+◌, ◌-◌, ◌≤◌, List, [], ◌∷◌, ◌++◌, take, refl, sym, ap, subst, ◌∙◌, arith, Option, Some, None, Bool, true, false, ◌&&◌, is_none, nat_lt, if◌then◌else◌, chars}
+use Rattle.std.proofs.Common.{◌≡◌, ℕ, suc, ◌+◌, ◌-◌, ◌≤◌, List, [], ◌∷◌, take, refl, sym, ap, subst, ◌∙◌, arith, Option, Some, None, Bool, true, false, if◌then◌else◌}
+use Rattle.std.proofs.lemmas.Bool.Decides.{nat_tests}
 use Rattle.std.proofs.lemmas.Bool.{le-ltb, ltb-false}
 use Rattle.arraystring.specs.Text.{size, cut}
 use Rattle.arraystring.specs.CutLaws.{cut-all}
-use Rattle.arraystring.specs.Edits.{Test, Cause, Room, no_room, past, crossed, inside, first_cause, ok_unless, insertion, replacement}
-use Rattle.arraystring_run.specs.Runs.{Said, Done, Edited, leaves, said_of, edit, tight, adds_less, is_room, after, first_tight_from}
+use Rattle.arraystring_run.specs.Runs.{Edited, edit, tight, adds_less, after, first_tight_from}
 use Rattle.arraystring_run.specs.Agreement.{untight, Agrees, AllAgree, IsNoSooner}
 use Rattle.arraystring_run.specs.declared.commands.Command.{Command}
 use Rattle.arraystring_run.specs.declared.commands.Command.TheVariants as command
@@ -16,88 +16,30 @@ pub record IsSameStep (c : Command) (t : List ℕ) (n m : ℕ) : Type 0 where
   pub text : (edit c t n).text ≡ (edit c t m).text
   pub agrees : Agrees c (edit c t n).reply (edit c t m).reply
 
-replies-agree : (c : Command) (r s : Said) → r ≡ s → Agrees c r s
-replies-agree command.Capacity r s e = tt
-replies-agree _ r s e = e
+-- a text that fits whole at n does so at m
+module _ (t : List ℕ) (n m : ℕ) (le : n ≤ m) where
+  fits : (given : List ℕ) → adds_less t given n ≡ false → size given ≤ n - size t
+  fits given whole = ltb-false (n - size t) (size given) (is_cut-larger given (n - size t) ∙ whole)
 
-by_edit : (c : Command) (t : List ℕ) (n m : ℕ) → (tight c t m ≡ false) × (edit c t n ≡ edit c t m) → IsSameStep c t n m
-by_edit c t n m (untight, same) = record {
-  untight = untight;
-  text = ap (λ (e : Edited). e.text) same;
-  agrees = replies-agree c (edit c t n).reply (edit c t m).reply (ap (λ (e : Edited). e.reply) same);
-}
+  adds_all : (given : List ℕ) → adds_less t given n ≡ false → adds_less t given m ≡ false
+  adds_all given whole =
+      let f = fits given whole in
+      sym (is_cut-larger given (m - size t)) ∙ le-ltb (m - size t) (size given) (omega arith)
 
--- what a row that is answered Done makes of t, by its first cause
-abbrev by_cause : List ℕ → List ℕ → Option Cause → Edited
-by_cause t result cause = leaves (said_of (λ _. Done) (ok_unless cause (tt {0}))) (if is_none cause then result else t)
+  same_cut : (given : List ℕ) → adds_less t given n ≡ false → cut given (n - size t) ≡ cut given (m - size t)
+  same_cut given whole =
+      let f = fits given whole in
+      let more : size given ≤ m - size t = omega arith in cut-all f ∙ sym (cut-all more)
 
--- where room is not the first cause at n, the first cause at m is the same
-roomy : (r n m : ℕ) → n ≤ m → (before behind : List Test)
-    → is_room (first_cause (before ++ (no_room r n ∷ behind))) ≡ false
-    → first_cause (before ++ (no_room r n ∷ behind)) ≡ first_cause (before ++ (no_room r m ∷ behind))
-roomy r n m le [] behind loose = go (nat_lt n r) refl loose
-  where
-    go : (b : Bool) → nat_lt n r ≡ b → is_room (if b then Some Room else first_cause behind) ≡ false
-        → (if b then Some Room else first_cause behind) ≡ (if nat_lt m r then Some Room else first_cause behind)
-    go true e is = cc
-    go false e is =
-        let fits : r ≤ n = ltb-false n r e in
-        ap (λ b. if b then Some Room else first_cause behind) (sym (le-ltb m r (omega arith)))
-roomy r n m le (test ∷ before) behind loose = go test.holds (roomy r n m le before behind) loose
-  where
-    at : ℕ → Option Cause
-    at k = first_cause (before ++ (no_room r k ∷ behind))
-
-    go : (b : Bool) → (is_room (at n) ≡ false → at n ≡ at m) → is_room (if b then Some test.cause else at n) ≡ false
-        → (if b then Some test.cause else at n) ≡ (if b then Some test.cause else at m)
-    go true rest is = refl
-    go false rest is = rest is
-
--- a row whose tests are `before`, room for r bytes, and `behind`
-room-same : (t : List ℕ) (r n m : ℕ) → n ≤ m → (before behind : List Test) (result : List ℕ)
-    → is_room (first_cause (before ++ (no_room r n ∷ behind))) ≡ false
-    → (is_room (first_cause (before ++ (no_room r m ∷ behind))) ≡ false)
-    × (by_cause t result (first_cause (before ++ (no_room r n ∷ behind))) ≡ by_cause t result (first_cause (before ++ (no_room r m ∷ behind))))
-room-same t r n m le before behind result loose =
-    let same = roomy r n m le before behind loose in (sym (ap is_room same) ∙ loose, ap (by_cause t result) same)
-
--- a row whose result has what fits of `given`
-cut-same : (t given : List ℕ) (n m : ℕ) → n ≤ m → (result : List ℕ → List ℕ) (cause : Option Cause)
-    → (is_none cause && adds_less t given n) ≡ false
-    → ((is_none cause && adds_less t given m) ≡ false)
-    × (by_cause t (result (cut given (n - size t))) cause ≡ by_cause t (result (cut given (m - size t))) cause)
-cut-same t given n m le result None loose =
-    let fits : size given ≤ n - size t = ltb-false (n - size t) (size given) (is_cut-larger given (n - size t) ∙ loose) in
-    let fits_more : size given ≤ m - size t = omega arith in (
-      sym (is_cut-larger given (m - size t)) ∙ le-ltb (m - size t) (size given) fits_more,
-      ap (λ l. by_cause t (result l) None) (cut-all fits ∙ sym (cut-all fits_more)),
-    )
-cut-same t given n m le result (Some cause) loose = (refl, refl)
-
--- the commands that can be tight; any other does the same by its definition
+-- for all commands at once, but that whose replies are set aside
 pub same-step : (c : Command) (t : List ℕ) (n m : ℕ) → n ≤ m → tight c t n ≡ false → IsSameStep c t n m
-same-step (command.TryPush ch) t n m le loose =
-    by_edit (command.TryPush ch) t n m (room-same t (size t + size (ch ∷ [])) n m le [] [] (t ++ ch ∷ []) loose)
-same-step (command.TryPushStr given) t n m le loose =
-    let g = chars given.now in
-    by_edit (command.TryPushStr given) t n m (room-same t (size t + size g) n m le [] [] (t ++ g) loose)
-same-step (command.PushStr given) t n m le loose =
-    by_edit (command.PushStr given) t n m (cut-same t (chars given.now) n m le (λ l. t ++ l) None loose)
-same-step (command.TryInsert i ch) t n m le loose =
-    let g = ch ∷ [] in
-    by_edit (command.TryInsert i ch) t n m (room-same t (size t + size g) n m le (past t i ∷ []) (inside t i ∷ []) (insertion t i g n).after loose)
-same-step (command.TryInsertStr i given) t n m le loose =
-    let g = chars given.now in
-    by_edit (command.TryInsertStr i given) t n m (room-same t (size t + size g) n m le (past t i ∷ []) (inside t i ∷ []) (insertion t i g n).after loose)
-same-step (command.InsertStr i given) t n m le loose =
-    by_edit (command.InsertStr i given) t n m
-    (cut-same t (chars given.now) n m le (λ l. (insertion t i l n).after) (first_cause (past t i ∷ inside t i ∷ [])) loose)
-same-step (command.ReplaceRange start end given) t n m le loose =
-    let g = chars given.now in
-    by_edit (command.ReplaceRange start end given) t n m
-    (room-same t (size t - (end - start) + size g) n m le (crossed start end ∷ past t end ∷ []) (inside t start ∷ inside t end ∷ []) (replacement t start end g n).after loose)
 same-step command.Capacity t n m le loose = record { untight = refl; text = refl; agrees = tt }
-same-step _ t n m le loose = record { untight = refl; text = refl; agrees = refl }
+same-step c t n m le loose =
+    let same : edit c t n ≡ edit c t m = grind (arith, nat_tests, same_cut t n m le) in record {
+      untight = grind (arith, nat_tests, adds_all t n m le);
+      text = ap (λ (e : Edited). e.text) same;
+      agrees = ap (λ (e : Edited). e.reply) same;
+    }
 
 -- a position, counted from one command further on
 abbrev pub next : Option ℕ → Option ℕ
