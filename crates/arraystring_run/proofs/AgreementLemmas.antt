@@ -1,155 +1,45 @@
 -- Runs of the same commands at two capacities.
-use Rattle.std.proofs.Common.{◌≡◌, ℕ, suc, ◌+◌, ◌-◌, ◌≤◌, List, [], ◌∷◌, ◌++◌, take, refl, sym, ap, subst, ◌∙◌, arith, Option, Some, None, Bool, true, false, ◌&&◌, is_none, nat_lt, if◌then◌else◌, chars}
+use Rattle.std.proofs.Common.{◌≡◌, ℕ, suc, ◌+◌, ◌-◌, ◌≤◌, List, [], ◌∷◌, take, refl, sym, ap, subst, ◌∙◌, arith, Option, Some, None, Bool, true, false, if◌then◌else◌}
+use Rattle.std.proofs.lemmas.Bool.Decides.{nat_tests}
 use Rattle.std.proofs.lemmas.Bool.{le-ltb, ltb-false}
 use Rattle.arraystring.specs.Text.{size, cut}
 use Rattle.arraystring.proofs.CutLaws.{cut-all}
-use Rattle.arraystring.specs.Edits.{Test, Cause, Room, no_room, past, crossed, inside, first_cause, ok_unless, insertion, insertion_of_cut, replacement}
-use Rattle.arraystring_run.specs.Runs.{Done, Edited, leaves, said_of, edit, tight, adds_less, is_room, after, first_tight_from}
+use Rattle.arraystring_run.specs.Runs.{Edited, edit, tight, adds_less, after, first_tight_from}
 use Rattle.arraystring_run.specs.Agreement.{untight, Agrees, AllAgree, IsNoSooner}
 use Rattle.arraystring_run.specs.declared.commands.Command.{Command}
-use Rattle.arraystring_run.specs.declared.commands.Command.TheVariants.{TryPush, TryPushStr, PushStr, Pop, Truncate, Trim, Remove, RetainNot, TryInsert, TryInsertStr, InsertStr, SplitOff, Clear, Drain, DrainThrough, DrainBack, ReplaceRange, Upper, Lower, Get, Len, Capacity, AsStr}
+use Rattle.arraystring_run.specs.declared.commands.Command.TheVariants as command
 use Rattle.arraystring_run.proofs.RunLemmas.{is_cut-larger}
 
--- what one command does where it isn't tight at the lesser capacity
+-- a command that isn't tight at the lesser capacity isn't at the greater, where it does the same
 pub record IsSameStep (c : Command) (t : List ℕ) (n m : ℕ) : Type 0 where
   pub untight : tight c t m ≡ false
   pub text : (edit c t n).text ≡ (edit c t m).text
   pub agrees : Agrees c (edit c t n).reply (edit c t m).reply
 
--- what a row that is answered Done makes of t, by its first cause
-abbrev by_cause : List ℕ → List ℕ → Option Cause → Edited
-by_cause t result cause = leaves (said_of (λ _. Done) (ok_unless cause (tt {0}))) (if is_none cause then result else t)
-
--- where room is not the first cause at n, the first cause at m is the same
-roomy : (r n m : ℕ) → n ≤ m → (before behind : List Test)
-    → is_room (first_cause (before ++ (no_room r n ∷ behind))) ≡ false
-    → first_cause (before ++ (no_room r n ∷ behind)) ≡ first_cause (before ++ (no_room r m ∷ behind))
-roomy r n m le [] behind loose = go (nat_lt n r) refl loose
-  where
-    go : (b : Bool) → nat_lt n r ≡ b → is_room (if b then Some Room else first_cause behind) ≡ false
-        → (if b then Some Room else first_cause behind) ≡ (if nat_lt m r then Some Room else first_cause behind)
-    go true e is = cc
-    go false e is =
-        let fits : r ≤ n = ltb-false n r e in
-        ap (λ b. if b then Some Room else first_cause behind) (sym (le-ltb m r (omega arith)))
-roomy r n m le (test ∷ before) behind loose = go test.holds (roomy r n m le before behind) loose
-  where
-    at : ℕ → Option Cause
-    at k = first_cause (before ++ (no_room r k ∷ behind))
-
-    go : (b : Bool) → (is_room (at n) ≡ false → at n ≡ at m) → is_room (if b then Some test.cause else at n) ≡ false
-        → (if b then Some test.cause else at n) ≡ (if b then Some test.cause else at m)
-    go true rest is = refl
-    go false rest is = rest is
-
--- a row whose tests are `before`, room for r bytes, and `behind`
-module _ (r n m : ℕ) (le : n ≤ m) (before behind : List Test) (loose : is_room (first_cause (before ++ (no_room r n ∷ behind))) ≡ false) where
-  same_cause : first_cause (before ++ (no_room r n ∷ behind)) ≡ first_cause (before ++ (no_room r m ∷ behind))
-  same_cause = roomy r n m le before behind loose
-
-  still_loose : is_room (first_cause (before ++ (no_room r m ∷ behind))) ≡ false
-  still_loose = sym (ap is_room same_cause) ∙ loose
-
 -- a text that fits whole at n does so at m
-module _ (t given : List ℕ) (n m : ℕ) (le : n ≤ m) (loose : adds_less t given n ≡ false) where
-  fits : size given ≤ n - size t
-  fits = ltb-false (n - size t) (size given) (is_cut-larger given (n - size t) ∙ loose)
+module _ (t : List ℕ) (n m : ℕ) (le : n ≤ m) where
+  fits : (given : List ℕ) → adds_less t given n ≡ false → size given ≤ n - size t
+  fits given whole = ltb-false (n - size t) (size given) (is_cut-larger given (n - size t) ∙ whole)
 
-  fits_more : size given ≤ m - size t
-  fits_more = let f = fits in omega arith
+  adds_all : (given : List ℕ) → adds_less t given n ≡ false → adds_less t given m ≡ false
+  adds_all given whole =
+      let f = fits given whole in
+      sym (is_cut-larger given (m - size t)) ∙ le-ltb (m - size t) (size given) (omega arith)
 
-  adds_all : adds_less t given m ≡ false
-  adds_all = sym (is_cut-larger given (m - size t)) ∙ le-ltb (m - size t) (size given) fits_more
+  same_cut : (given : List ℕ) → adds_less t given n ≡ false → cut given (n - size t) ≡ cut given (m - size t)
+  same_cut given whole =
+      let f = fits given whole in
+      let more : size given ≤ m - size t = omega arith in cut-all f ∙ sym (cut-all more)
 
-  same_cut : cut given (n - size t) ≡ cut given (m - size t)
-  same_cut = cut-all fits ∙ sym (cut-all fits_more)
-
--- an insertion of a cut is the same at both capacities
-insert-same : (i : ℕ) (given : _) (t : List ℕ) (n m : ℕ) → n ≤ m → tight (InsertStr i given) t n ≡ false → IsSameStep (InsertStr i given) t n m
-insert-same i given t n m le loose = go (first_cause (past t i ∷ inside t i ∷ [])) refl loose
-  where
-    g : List ℕ
-    g = chars given.now
-
-    whole : ℕ → List ℕ
-    whole k = (insertion_of_cut t i g k).after
-
-    go : (cause : Option Cause) → first_cause (past t i ∷ inside t i ∷ []) ≡ cause → (is_none cause && adds_less t g n) ≡ false
-        → IsSameStep (InsertStr i given) t n m
-    go None e is = let same = same_cut t g n m le is in record {
-      untight = ap (λ c. is_none c && adds_less t g m) e ∙ adds_all t g n m le is;
-      text = ap (λ l. (by_cause t (insertion t i l n).after (first_cause (past t i ∷ inside t i ∷ []))).text) same;
-      agrees = refl;
-    }
-    go (Some cause) e is = record {
-      untight = ap (λ c. is_none c && adds_less t g m) e;
-      text = ap (λ c. (by_cause t (whole n) c).text) e ∙ sym (ap (λ c. (by_cause t (whole m) c).text) e);
-      agrees = refl;
-    }
-
+-- for all commands at once, but that whose replies are set aside
 pub same-step : (c : Command) (t : List ℕ) (n m : ℕ) → n ≤ m → tight c t n ≡ false → IsSameStep c t n m
-same-step (TryPush ch) t n m le loose =
-    let r = size t + size (ch ∷ []) in let same = same_cause r n m le [] [] loose in record {
-      untight = still_loose r n m le [] [] loose;
-      text = ap (λ c. (by_cause t (t ++ ch ∷ []) c).text) same;
-      agrees = ap (λ c. (by_cause t (t ++ ch ∷ []) c).reply) same;
+same-step command.Capacity t n m le loose = record { untight = refl; text = refl; agrees = tt }
+same-step c t n m le loose =
+    let same : edit c t n ≡ edit c t m = grind (arith, nat_tests, same_cut t n m le) in record {
+      untight = grind (arith, nat_tests, adds_all t n m le);
+      text = ap (λ (e : Edited). e.text) same;
+      agrees = ap (λ (e : Edited). e.reply) same;
     }
-same-step (TryPushStr given) t n m le loose =
-    let g = chars given.now in let r = size t + size g in let same = same_cause r n m le [] [] loose in record {
-      untight = still_loose r n m le [] [] loose;
-      text = ap (λ c. (by_cause t (t ++ g) c).text) same;
-      agrees = ap (λ c. (by_cause t (t ++ g) c).reply) same;
-    }
-same-step (PushStr given) t n m le loose =
-    let g = chars given.now in record {
-      untight = adds_all t g n m le loose;
-      text = ap (λ l. t ++ l) (same_cut t g n m le loose);
-      agrees = refl;
-    }
-same-step (TryInsert i ch) t n m le loose =
-    let r = size t + size (ch ∷ []) in
-    let before = past t i ∷ [] in let behind = inside t i ∷ [] in
-    let same = same_cause r n m le before behind loose in
-    let result = (insertion t i (ch ∷ []) n).after in record {
-      untight = still_loose r n m le before behind loose;
-      text = ap (λ c. (by_cause t result c).text) same;
-      agrees = ap (λ c. (by_cause t result c).reply) same;
-    }
-same-step (TryInsertStr i given) t n m le loose =
-    let g = chars given.now in let r = size t + size g in
-    let before = past t i ∷ [] in let behind = inside t i ∷ [] in
-    let same = same_cause r n m le before behind loose in
-    let result = (insertion t i g n).after in record {
-      untight = still_loose r n m le before behind loose;
-      text = ap (λ c. (by_cause t result c).text) same;
-      agrees = ap (λ c. (by_cause t result c).reply) same;
-    }
-same-step (InsertStr i given) t n m le loose = insert-same i given t n m le loose
-same-step (ReplaceRange start end given) t n m le loose =
-    let g = chars given.now in let r = size t - (end - start) + size g in
-    let before = crossed start end ∷ past t end ∷ [] in let behind = inside t start ∷ inside t end ∷ [] in
-    let same = same_cause r n m le before behind loose in
-    let result = (replacement t start end g n).after in record {
-      untight = still_loose r n m le before behind loose;
-      text = ap (λ c. (by_cause t result c).text) same;
-      agrees = ap (λ c. (by_cause t result c).reply) same;
-    }
-same-step Pop t n m le loose = record { untight = refl; text = refl; agrees = refl }
-same-step (Truncate i) t n m le loose = record { untight = refl; text = refl; agrees = refl }
-same-step Trim t n m le loose = record { untight = refl; text = refl; agrees = refl }
-same-step (Remove i) t n m le loose = record { untight = refl; text = refl; agrees = refl }
-same-step (RetainNot c) t n m le loose = record { untight = refl; text = refl; agrees = refl }
-same-step (SplitOff i) t n m le loose = record { untight = refl; text = refl; agrees = refl }
-same-step Clear t n m le loose = record { untight = refl; text = refl; agrees = refl }
-same-step (Drain start end) t n m le loose = record { untight = refl; text = refl; agrees = refl }
-same-step (DrainThrough start last) t n m le loose = record { untight = refl; text = refl; agrees = refl }
-same-step (DrainBack start end) t n m le loose = record { untight = refl; text = refl; agrees = refl }
-same-step Upper t n m le loose = record { untight = refl; text = refl; agrees = refl }
-same-step Lower t n m le loose = record { untight = refl; text = refl; agrees = refl }
-same-step (Get start end) t n m le loose = record { untight = refl; text = refl; agrees = refl }
-same-step Len t n m le loose = record { untight = refl; text = refl; agrees = refl }
-same-step Capacity t n m le loose = record { untight = refl; text = refl; agrees = tt }
-same-step AsStr t n m le loose = record { untight = refl; text = refl; agrees = refl }
 
 -- a position, counted from one command further on
 abbrev pub next : Option ℕ → Option ℕ

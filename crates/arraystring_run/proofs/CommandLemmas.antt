@@ -1,12 +1,10 @@
--- What the word of a command tells. The one list of all commands among the proofs of the grammar.
-use Rattle.std.proofs.Common.{◌≡◌, ℕ, List, [], ◌∷◌, map, get_or, refl, codes, chars, reverse, nat_eq, nat_le, Bool, true, ◌==◌, ◌&&◌, if◌then◌else◌}
+-- What the word of a command tells. Each proof goes through all commands, and is the same for each: it names one because a
+-- catch-all is split into cases only below a clause that has one.
+use Rattle.std.proofs.Common.{◌≡◌, ℕ, List, [], ◌∷◌, map, refl, subst, nat_eq, nat_le, Bool, true, ◌==◌, ◌&&◌}
 use Rattle.std.specs.Cmp.Lexicographic.{pointwise}
-use Rattle.arraystring.specs.Text.{size}
-use Rattle.arraystring.specs.Edits.{part_in, addition, addition_of_cut, popping, truncation, trimming, is_white_space, removal, insertion, insertion_of_cut, split, clearing, draining, replacement, uppercase, lowercase}
 use Rattle.arraystring_run.specs.declared.commands.Command.{Command}
-use Rattle.arraystring_run.specs.declared.commands.Command.TheVariants.{TryPush, TryPushStr, PushStr, Pop, Truncate, Trim, Remove, RetainNot, TryInsert, TryInsertStr, InsertStr, SplitOff, Clear, Drain, DrainThrough, DrainBack, ReplaceRange, Upper, Lower, Get, Len, Capacity, AsStr}
-use Rattle.arraystring_run.specs.Runs.{Done, Char, Edited, edit, made, done, leaves, char_or_none, text_or_none, without, end_through}
-use Rattle.arraystring_run.specs.Runs as said
+use Rattle.arraystring_run.specs.declared.commands.Command.TheVariants as command
+use Rattle.arraystring_run.specs.Runs.{edit}
 use Rattle.arraystring_run.specs.Grammar.{Argument, Number, Character, Text, word, arguments}
 
 -- small letters and underscores
@@ -14,114 +12,47 @@ unfoldable pub are_letters : List ℕ → Bool
 are_letters [] = true
 are_letters (b ∷ bs) = (nat_le 0x5F b && nat_le b 0x7A) && are_letters bs
 
+pub word-letters : (c : Command) → are_letters (word c) ≡ true
+unfolding are_letters
+word-letters command.Pop = refl
+word-letters _ = refl
+
 -- the kind of an argument
 abbrev pub kind : Argument → ℕ
 kind (Number n) = 0
 kind (Character c) = 1
 kind (Text given) = 2
 
-abbrev pub equals : List ℕ → List ℕ → Bool
-equals w v = pointwise nat_eq w v
-
--- the kinds of the arguments of a word
-unfoldable pub shape : List ℕ → List ℕ
-shape w =
-    if equals w (codes "try_push") then 1 ∷ [] else
-    if equals w (codes "try_push_str") then 2 ∷ [] else
-    if equals w (codes "push_str") then 2 ∷ [] else
-    if equals w (codes "truncate") then 0 ∷ [] else
-    if equals w (codes "remove") then 0 ∷ [] else
-    if equals w (codes "retain_not") then 1 ∷ [] else
-    if equals w (codes "try_insert") then 0 ∷ 1 ∷ [] else
-    if equals w (codes "try_insert_str") then 0 ∷ 2 ∷ [] else
-    if equals w (codes "insert_str") then 0 ∷ 2 ∷ [] else
-    if equals w (codes "split_off") then 0 ∷ [] else
-    if equals w (codes "drain") then 0 ∷ 0 ∷ [] else
-    if equals w (codes "drain_through") then 0 ∷ 0 ∷ [] else
-    if equals w (codes "drain_back") then 0 ∷ 0 ∷ [] else
-    if equals w (codes "replace_range") then 0 ∷ 0 ∷ 2 ∷ [] else
-    if equals w (codes "get") then 0 ∷ 0 ∷ [] else []
+abbrev pub kinds : Command → List ℕ
+kinds c = map kind (arguments c)
 
 -- only the last argument is no number
 abbrev pub numbers_first : List ℕ → Bool
 numbers_first [] = true
 numbers_first (k ∷ []) = true
-numbers_first (k ∷ l ∷ kinds) = (k == 0) && numbers_first (l ∷ kinds)
+numbers_first (k ∷ l ∷ others) = (k == 0) && numbers_first (l ∷ others)
 
--- the edit of a word and arguments
-unfoldable pub number_of : Argument → ℕ
-number_of (Number n) = n
-number_of (Character c) = c
-number_of (Text t) = 0
+pub kinds-numbers_first : (c : Command) → numbers_first (kinds c) ≡ true
+kinds-numbers_first command.Pop = refl
+kinds-numbers_first _ = refl
 
-unfoldable pub chars_of : Argument → List ℕ
-chars_of (Number n) = []
-chars_of (Character c) = []
-chars_of (Text t) = chars t
+-- commands whose arguments are of the same kinds, and which make the same edit where these are equal
+pub record IsNamesake (c d : Command) : Type 0 where
+  pub same_kinds : kinds c ≡ kinds d
+  pub same_edit : arguments c ≡ arguments d → (t : List ℕ) (n : ℕ) → edit c t n ≡ edit d t n
 
-unfoldable pub heard : List ℕ → List Argument → List ℕ → ℕ → Edited
-heard w given t n =
-    let a = number_of (get_or given 0 (Number 0)) in
-    let b = number_of (get_or given 1 (Number 0)) in
-    let text = λ (i : ℕ). chars_of (get_or given i (Number 0)) in
-    if equals w (codes "try_push") then done (addition t (a ∷ []) n) t else
-    if equals w (codes "try_push_str") then done (addition t (text 0) n) t else
-    if equals w (codes "push_str") then done (addition_of_cut t (text 0) n) t else
-    if equals w (codes "pop") then made char_or_none (popping t) t else
-    if equals w (codes "truncate") then done (truncation t a) t else
-    if equals w (codes "trim") then done (trimming is_white_space t) t else
-    if equals w (codes "remove") then made Char (removal t a) t else
-    if equals w (codes "retain_not") then leaves Done (without a t) else
-    if equals w (codes "try_insert") then done (insertion t a (b ∷ []) n) t else
-    if equals w (codes "try_insert_str") then done (insertion t a (text 1) n) t else
-    if equals w (codes "insert_str") then done (insertion_of_cut t a (text 1) n) t else
-    if equals w (codes "split_off") then made said.Text (split t a) t else
-    if equals w (codes "clear") then done clearing t else
-    if equals w (codes "drain") then made said.Text (draining t a b) t else
-    if equals w (codes "drain_through") then made said.Text (draining t a (end_through b)) t else
-    if equals w (codes "drain_back") then made (λ removed. said.Text (reverse removed)) (draining t a b) t else
-    if equals w (codes "replace_range") then done (replacement t a b (text 2) n) t else
-    if equals w (codes "upper") then done (uppercase t) t else
-    if equals w (codes "lower") then done (lowercase t) t else
-    if equals w (codes "get") then leaves (text_or_none (part_in t a b)) t else
-    if equals w (codes "len") then leaves (said.Number (size t)) t else
-    if equals w (codes "capacity") then leaves (said.Number n) t else
-    leaves (said.Text t) t
+-- whether c and d have one word
+abbrev share_word : Command → Command → Bool
+share_word c d = pointwise nat_eq (word c) (word d)
 
--- the word is made of letters, and tells the kinds of the arguments, of which only the last is no number; and word and
--- arguments tell the edit
-pub record IsToldByWord (c : Command) : Type 0 where
-  pub letters : are_letters (word c) ≡ true
-  pub kinds : map kind (arguments c) ≡ shape (word c)
-  pub numbers : numbers_first (map kind (arguments c)) ≡ true
-  pub edits : (t : List ℕ) (n : ℕ) → edit c t n ≡ heard (word c) (arguments c) t n
+shares-own : (c : Command) → share_word c c ≡ true
+shares-own command.Pop = refl
+shares-own _ = refl
 
-told : {c : Command} → are_letters (word c) ≡ true → map kind (arguments c) ≡ shape (word c) → numbers_first (map kind (arguments c)) ≡ true
-    → ((t : List ℕ) (n : ℕ) → edit c t n ≡ heard (word c) (arguments c) t n) → IsToldByWord c
-told l k f e = record { letters = l; kinds = k; numbers = f; edits = e }
+by_test : (c d : Command) → share_word c d ≡ true → IsNamesake c d
+by_test command.Pop command.Pop one = record { same_kinds = cc; same_edit = λ same t n. cc }
+by_test _ command.Pop one = record { same_kinds = cc; same_edit = λ same t n. cc }
+by_test _ _ one = record { same_kinds = cc; same_edit = λ same t n. cc }
 
-pub told-by_word : (c : Command) → IsToldByWord c
-unfolding are_letters shape number_of chars_of heard
-told-by_word (TryPush c) = told refl refl refl (λ t n. refl)
-told-by_word (TryPushStr given) = told refl refl refl (λ t n. refl)
-told-by_word (PushStr given) = told refl refl refl (λ t n. refl)
-told-by_word Pop = told refl refl refl (λ t n. refl)
-told-by_word (Truncate i) = told refl refl refl (λ t n. refl)
-told-by_word Trim = told refl refl refl (λ t n. refl)
-told-by_word (Remove i) = told refl refl refl (λ t n. refl)
-told-by_word (RetainNot c) = told refl refl refl (λ t n. refl)
-told-by_word (TryInsert i c) = told refl refl refl (λ t n. refl)
-told-by_word (TryInsertStr i given) = told refl refl refl (λ t n. refl)
-told-by_word (InsertStr i given) = told refl refl refl (λ t n. refl)
-told-by_word (SplitOff i) = told refl refl refl (λ t n. refl)
-told-by_word Clear = told refl refl refl (λ t n. refl)
-told-by_word (Drain start end) = told refl refl refl (λ t n. refl)
-told-by_word (DrainThrough start last) = told refl refl refl (λ t n. refl)
-told-by_word (DrainBack start end) = told refl refl refl (λ t n. refl)
-told-by_word (ReplaceRange start end given) = told refl refl refl (λ t n. refl)
-told-by_word Upper = told refl refl refl (λ t n. refl)
-told-by_word Lower = told refl refl refl (λ t n. refl)
-told-by_word (Get start end) = told refl refl refl (λ t n. refl)
-told-by_word Len = told refl refl refl (λ t n. refl)
-told-by_word Capacity = told refl refl refl (λ t n. refl)
-told-by_word AsStr = told refl refl refl (λ t n. refl)
+pub namesakes : (c d : Command) → word c ≡ word d → IsNamesake c d
+namesakes c d one = by_test c d (subst (λ w. pointwise nat_eq (word c) w ≡ true) one (shares-own c))

@@ -14,7 +14,7 @@ use Rattle.std.specs.Result.{OkIff, result_ok}
 use Rattle.arraystring.specs.Text.{utf8, IsScalarValue, IsWellFormed}
 use Rattle.arraystring.proofs.TextLaws.{bytes-utf8, well_formed-utf8, utf8-well_formed}
 use Rattle.arraystring_run.specs.declared.commands.Command.{Command}
-use Rattle.arraystring_run.proofs.CommandLemmas.{are_letters, kind, shape, told-by_word}
+use Rattle.arraystring_run.proofs.CommandLemmas.{are_letters, word-letters, kind, kinds, namesakes}
 use Rattle.arraystring_run.specs.Grammar.{Argument, Number, Character, Text, word, arguments, AreDigits, value_after, IsNumber, IsNumberBefore, IsSpelled, AreSpelled, IsLineOf, IsOneWord, space, spellings, line_of, AreArguments}
 
 head-of : (x y : ℕ) (xs ys : List ℕ) → x ∷ xs ≡ y ∷ ys → x ≡ y
@@ -57,7 +57,12 @@ one-from_letters [] are = tt
 one-from_letters (b ∷ bs) are = (λ e. omega (arith, are.0), one-from_letters bs are.2)
 
 pub one-word : (c : Command) → IsOneWord (word c)
-one-word c = one-from_letters (word c) (letters-from_test (word c) ((told-by_word c).letters))
+one-word c = one-from_letters (word c) (letters-from_test (word c) (word-letters c))
+
+-- a space is followed by an argument
+pub has-argument : (rest : List ℕ) (given : List Argument) → AreSpelled (space ∷ rest) given → given ≢ []
+has-argument rest [] none e = omega (arith, ap length none)
+has-argument rest (a ∷ given) spelled e = omega (arith, ap length e)
 
 -- what is after a word and a space, read as arguments of these kinds
 abbrev pub Reads : List ℕ → List ℕ → Type 0
@@ -76,12 +81,14 @@ pub line-parts : (w rest : List ℕ) (c : Command) → IsOneWord w → IsLineOf 
     → (w ≡ word c) × AreSpelled (space ∷ rest) (arguments c)
 line-parts w rest c one (more, e, spelled) = split-line w (word c) rest more (arguments c) one (one-word c) e spelled
 
-pub reads : (w rest kinds : List ℕ) (c : Command) → IsOneWord w → shape w ≡ kinds → IsLineOf (w ++ space ∷ rest) c → Reads rest kinds
-reads w rest kinds c one known line =
+-- no line has the word of d where what follows can't be read as arguments of those kinds
+pub unread : (d : Command) (w rest : List ℕ) → IsOneWord w → w ≡ word d → (Reads rest (kinds d) → ⊥)
+    → (c : Command) → IsLineOf (w ++ space ∷ rest) c → ⊥
+unread d w rest one known bad c line =
     let found = line-parts w rest c one line in
-    (arguments c, (told-by_word c).kinds ∙ ap shape (sym found.0) ∙ known, found.1)
+    bad (arguments c, (namesakes c d (sym found.0 ∙ known)).same_kinds, found.1)
 
--- the arguments of each shape
+-- the arguments of each list of kinds
 last-of : (rest first others : List ℕ) → space ∷ rest ≡ space ∷ (first ++ others) → others ≡ [] → rest ≡ first
 last-of rest first others whole none =
     tail-of space space rest (first ++ others) whole ∙ ap (λ l. first ++ l) none ∙ append-nil first
@@ -115,10 +122,18 @@ reads-before rest k kinds (Number n ∷ a ∷ given, e, (first, others, whole, n
 reads-before rest k kinds (Character c ∷ given, e, spelled) = absurd (omega (arith, head-of 1 0 (map kind given) (k ∷ kinds) e))
 reads-before rest k kinds (Text t ∷ given, e, spelled) = absurd (omega (arith, head-of 2 0 (map kind given) (k ∷ kinds) e))
 
-pub reads-two : (rest : List ℕ) → Reads rest (0 ∷ 0 ∷ []) → (m n : ℕ) × (behind : List ℕ) × IsNumberBefore rest m behind × IsNumber behind n
-reads-two rest read =
+pub no-character : (rest : List ℕ) → ((c : ℕ) → IsScalarValue c → rest ≡ utf8 c → ⊥) → Reads rest (1 ∷ []) → ⊥
+no-character rest bad read = let found = reads-character rest read in bad found.0 found.1 found.2
+
+pub no-before : (rest : List ℕ) {k : ℕ} {others : List ℕ} → ((n : ℕ) (behind : List ℕ) → IsNumberBefore rest n behind → ⊥)
+    → Reads rest (0 ∷ k ∷ others) → ⊥
+no-before rest {k} {others} bad read = let found = reads-before rest k others read in bad found.0 found.1 found.2
+
+pub no-two : (rest : List ℕ) → ((m n : ℕ) (behind : List ℕ) → IsNumberBefore rest m behind → IsNumber behind n → ⊥)
+    → Reads rest (0 ∷ 0 ∷ []) → ⊥
+no-two rest bad read =
     let found = reads-before rest 0 [] read in
-    let last = reads-number found.1 found.3 in (found.0, last.0, found.1, found.2, last.1)
+    let last = reads-number found.1 found.3 in bad found.0 last.0 found.1 found.2 last.1
 
 -- digits have no space, so the number before the first space is one alone
 digits-one : (bs : List ℕ) → AreDigits bs → IsOneWord bs
@@ -151,6 +166,11 @@ pub spelled-before : (rest : List ℕ) (n : ℕ) (behind : List ℕ) (given : Li
 spelled-before rest n behind given (digits, number, e) spelled =
     (digits, space ∷ behind, ap (λ l. space ∷ l) e, number, spelled)
 
+pub spelled-two : (rest : List ℕ) (m n : ℕ) → (behind : List ℕ) × IsNumberBefore rest m behind × IsNumber behind n
+    → AreSpelled (space ∷ rest) (Number m ∷ Number n ∷ [])
+spelled-two rest m n (behind, before, number) =
+    spelled-before rest m behind (Number n ∷ []) before (spelled-one (Number n) behind number)
+
 -- the line of a command is UTF-8
 low-utf8 : (b : ℕ) (bs : List ℕ) → b < 128 → IsUtf8 bs → IsUtf8 (b ∷ bs)
 low-utf8 b bs low u = IsUtf8-append (b ∷ []) bs (IsUtf8-from_ascii (b ∷ []) (IsAscii-cons b [] low IsAscii-nil)) u
@@ -178,7 +198,7 @@ arguments-utf8 (a ∷ given) bs (first, others, whole, spelled, next) =
 
 pub line-utf8 : (bs : List ℕ) (c : Command) → IsLineOf bs c → IsUtf8 bs
 line-utf8 bs c (rest, whole, spelled) =
-    rw whole (IsUtf8-append (word c) rest (letters-utf8 (word c) (letters-from_test (word c) ((told-by_word c).letters))) (arguments-utf8 (arguments c) rest spelled))
+    rw whole (IsUtf8-append (word c) rest (letters-utf8 (word c) (letters-from_test (word c) (word-letters c))) (arguments-utf8 (arguments c) rest spelled))
 
 -- what follows a space is well formed
 pub behind-space : (front rest : List ℕ) → IsUtf8 (front ++ space ∷ rest) → IsWellFormed rest

@@ -1,10 +1,10 @@
-pub mod RunLemmas
-pub mod CommandLemmas
-pub mod GrammarLemmas
-pub mod ScriptLemmas
-pub mod SpaceLemmas
-pub mod PrintLemmas
-pub mod OneReadingLemmas
-pub mod LineLemmas
-pub mod AgreementLemmas
-pub mod FirstTightLemmas
+mod RunLemmas
+mod CommandLemmas
+mod GrammarLemmas
+mod ScriptLemmas
+mod SpaceLemmas
+mod PrintLemmas
+mod OneReadingLemmas
+mod LineLemmas
+mod AgreementLemmas
+mod FirstTightLemmas

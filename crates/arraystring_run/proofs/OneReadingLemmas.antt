@@ -8,7 +8,7 @@ use Rattle.arraystring_run.specs.declared.commands.Command.{Command}
 use Rattle.arraystring_run.specs.Runs.{Edited, edit, Ran, after}
 use Rattle.arraystring_run.specs.Grammar.{Argument, Number, Character, Text, word, arguments, IsSpelled, AreSpelled, IsLineOf, IsOneWord, space}
 use Rattle.arraystring_run.specs.Script.{AreLinesOf, IsBadAt}
-use Rattle.arraystring_run.proofs.CommandLemmas.{kind, shape, numbers_first, heard, told-by_word}
+use Rattle.arraystring_run.proofs.CommandLemmas.{kind, numbers_first, kinds-numbers_first, namesakes}
 use Rattle.arraystring_run.proofs.GrammarLemmas.{first-space, no-space, one-word, number-one}
 
 -- two words, each with arguments or alone, that make one line
@@ -65,13 +65,13 @@ arguments-same (a ∷ x ∷ given) (b ∷ y ∷ also) bs e first (f, o, whole, s
     arguments-same (x ∷ given) (y ∷ also) p (ap (drop 1) e) parts.1 (subst (λ l. AreSpelled l (x ∷ given)) same.1 more) also_more in
     ap (λ c. c ∷ x ∷ given) head ∙ ap (λ l. b ∷ l) tail
 
-heard-same : (line : List ℕ) (c d : Command) (t : List ℕ) (n : ℕ) → IsLineOf line c → IsLineOf line d → edit c t n ≡ edit d t n
-heard-same line c d t n (x, line_is, spelled) (y, also, too) =
+edit-same : (line : List ℕ) (c d : Command) (t : List ℕ) (n : ℕ) → IsLineOf line c → IsLineOf line d → edit c t n ≡ edit d t n
+edit-same line c d t n (x, line_is, spelled) (y, also, too) =
     let parts = rest-same (word c) (word d) x y (arguments c) (arguments d) (one-word c) (one-word d) (sym line_is ∙ also) spelled too in
-    let kinds : map kind (arguments c) ≡ map kind (arguments d) = (told-by_word c).kinds ∙ ap shape parts.0 ∙ sym ((told-by_word d).kinds) in
+    let pair = namesakes c d parts.0 in
     let given : arguments c ≡ arguments d =
-    arguments-same (arguments c) (arguments d) y kinds (told-by_word c).numbers (subst (λ l. AreSpelled l (arguments c)) parts.1 spelled) too in
-    (told-by_word c).edits t n ∙ ap (λ w. heard w (arguments c) t n) parts.0 ∙ ap (λ l. heard (word d) l t n) given ∙ sym ((told-by_word d).edits t n)
+    arguments-same (arguments c) (arguments d) y pair.same_kinds (kinds-numbers_first c) (subst (λ l. AreSpelled l (arguments c)) parts.1 spelled) too in
+    pair.same_edit given t n
 
 pub one-reading : (all : List (List ℕ)) (cs ds : List Command) (t : List ℕ) (n : ℕ) → AreLinesOf all cs → AreLinesOf all ds
     → after cs t n ≡ after ds t n
@@ -81,7 +81,7 @@ one-reading [] (c ∷ cs) ds t n are also = absurd are
 one-reading (line ∷ rest) [] ds t n are also = absurd are
 one-reading (line ∷ rest) (c ∷ cs) [] t n are also = absurd also
 one-reading (line ∷ rest) (c ∷ cs) (d ∷ ds) t n are also =
-    let same : edit c t n ≡ edit d t n = heard-same line c d t n are.0 also.0 in
+    let same : edit c t n ≡ edit d t n = edit-same line c d t n are.0 also.0 in
     let others = one-reading rest cs ds (edit d t n).text n are.1 also.1 in
     ap (λ (e : Edited). record { replies = e.reply ∷ (after cs e.text n).replies; text = (after cs e.text n).text }) same
     ∙ ap (λ (r : Ran). record { replies = (edit d t n).reply ∷ r.replies; text = r.text }) others

@@ -2,7 +2,7 @@
 use Rattle.std.specs.Prelude.{◌≡◌, ◌≤◌, ⊤, ℕ, List, [], ◌∷◌, take, Option, Some, None}
 use Rattle.arraystring_run.specs.Runs.{Said}
 use Rattle.arraystring_run.specs.declared.commands.Command.{Command}
-use Rattle.arraystring_run.specs.declared.commands.Command.TheVariants.{Capacity}
+use Rattle.arraystring_run.specs.declared.commands.Command.TheVariants as command
 
 -- the commands before the first tight one
 abbrev pub untight : List Command → Option ℕ → List Command
@@ -11,7 +11,7 @@ untight cs (Some k) = take k cs
 
 -- two replies to a command are the same; those to `Capacity` are set aside
 abbrev pub Agrees : Command → Said → Said → Type 0
-Agrees Capacity r s = ⊤
+Agrees command.Capacity r s = ⊤
 Agrees _ r s = r ≡ s
 
 -- so do the replies to each of the commands, which come first in both lists

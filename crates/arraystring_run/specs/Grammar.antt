@@ -2,7 +2,7 @@
 use Rattle.std.specs.Prelude.{◌≡◌, ◌≢◌, ℕ, ◌+◌, ◌-◌, ◌*◌, ◌≤◌, ⊤, length, List, [], ◌∷◌, ◌++◌, codes, decimal}
 use Rattle.arraystring.specs.Text.{utf8, IsScalarValue, IsWellFormed}
 use Rattle.arraystring_run.specs.declared.commands.Command.{Command}
-use Rattle.arraystring_run.specs.declared.commands.Command.TheVariants.{TryPush, TryPushStr, PushStr, Pop, Truncate, Trim, Remove, RetainNot, TryInsert, TryInsertStr, InsertStr, SplitOff, Clear, Drain, DrainThrough, DrainBack, ReplaceRange, Upper, Lower, Get, Len, Capacity, AsStr}
+use Rattle.arraystring_run.specs.declared.commands.Command.TheVariants as command
 
 -- an argument: a number, a character, or a text, given by its bytes
 pub data Argument : Type 0 where
@@ -11,47 +11,47 @@ pub data Argument : Type 0 where
   Text : List ℕ → Argument
 
 abbrev pub word : Command → List ℕ
-word (TryPush c) = codes "try_push"
-word (TryPushStr given) = codes "try_push_str"
-word (PushStr given) = codes "push_str"
-word Pop = codes "pop"
-word (Truncate i) = codes "truncate"
-word Trim = codes "trim"
-word (Remove i) = codes "remove"
-word (RetainNot c) = codes "retain_not"
-word (TryInsert i c) = codes "try_insert"
-word (TryInsertStr i given) = codes "try_insert_str"
-word (InsertStr i given) = codes "insert_str"
-word (SplitOff i) = codes "split_off"
-word Clear = codes "clear"
-word (Drain start end) = codes "drain"
-word (DrainThrough start last) = codes "drain_through"
-word (DrainBack start end) = codes "drain_back"
-word (ReplaceRange start end given) = codes "replace_range"
-word Upper = codes "upper"
-word Lower = codes "lower"
-word (Get start end) = codes "get"
-word Len = codes "len"
-word Capacity = codes "capacity"
-word AsStr = codes "as_str"
+word (command.TryPush c) = codes "try_push"
+word (command.TryPushStr given) = codes "try_push_str"
+word (command.PushStr given) = codes "push_str"
+word command.Pop = codes "pop"
+word (command.Truncate i) = codes "truncate"
+word command.Trim = codes "trim"
+word (command.Remove i) = codes "remove"
+word (command.RetainNot c) = codes "retain_not"
+word (command.TryInsert i c) = codes "try_insert"
+word (command.TryInsertStr i given) = codes "try_insert_str"
+word (command.InsertStr i given) = codes "insert_str"
+word (command.SplitOff i) = codes "split_off"
+word command.Clear = codes "clear"
+word (command.Drain start end) = codes "drain"
+word (command.DrainThrough start last) = codes "drain_through"
+word (command.DrainBack start end) = codes "drain_back"
+word (command.ReplaceRange start end given) = codes "replace_range"
+word command.Upper = codes "upper"
+word command.Lower = codes "lower"
+word (command.Get start end) = codes "get"
+word command.Len = codes "len"
+word command.Capacity = codes "capacity"
+word command.AsStr = codes "as_str"
 
 -- a character or a text comes last, and is the whole rest of the line
 abbrev pub arguments : Command → List Argument
-arguments (TryPush c) = Character c ∷ []
-arguments (TryPushStr given) = Text given.now ∷ []
-arguments (PushStr given) = Text given.now ∷ []
-arguments (Truncate i) = Number i ∷ []
-arguments (Remove i) = Number i ∷ []
-arguments (RetainNot c) = Character c ∷ []
-arguments (TryInsert i c) = Number i ∷ Character c ∷ []
-arguments (TryInsertStr i given) = Number i ∷ Text given.now ∷ []
-arguments (InsertStr i given) = Number i ∷ Text given.now ∷ []
-arguments (SplitOff i) = Number i ∷ []
-arguments (Drain start end) = Number start ∷ Number end ∷ []
-arguments (DrainThrough start last) = Number start ∷ Number last ∷ []
-arguments (DrainBack start end) = Number start ∷ Number end ∷ []
-arguments (ReplaceRange start end given) = Number start ∷ Number end ∷ Text given.now ∷ []
-arguments (Get start end) = Number start ∷ Number end ∷ []
+arguments (command.TryPush c) = Character c ∷ []
+arguments (command.TryPushStr given) = Text given.now ∷ []
+arguments (command.PushStr given) = Text given.now ∷ []
+arguments (command.Truncate i) = Number i ∷ []
+arguments (command.Remove i) = Number i ∷ []
+arguments (command.RetainNot c) = Character c ∷ []
+arguments (command.TryInsert i c) = Number i ∷ Character c ∷ []
+arguments (command.TryInsertStr i given) = Number i ∷ Text given.now ∷ []
+arguments (command.InsertStr i given) = Number i ∷ Text given.now ∷ []
+arguments (command.SplitOff i) = Number i ∷ []
+arguments (command.Drain start end) = Number start ∷ Number end ∷ []
+arguments (command.DrainThrough start last) = Number start ∷ Number last ∷ []
+arguments (command.DrainBack start end) = Number start ∷ Number end ∷ []
+arguments (command.ReplaceRange start end given) = Number start ∷ Number end ∷ Text given.now ∷ []
+arguments (command.Get start end) = Number start ∷ Number end ∷ []
 arguments _ = []
 
 -- ASCII digits, 0 to 9

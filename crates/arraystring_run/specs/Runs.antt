@@ -5,7 +5,7 @@ use Rattle.arraystring.specs.Text.{size, cut}
 use Rattle.arraystring.specs.Edits.{Edit, Cause, Room, answer_of, text_of, first_cause, part_in, addition, addition_of_cut, popping, truncation, trimming, is_white_space, removal, insertion, insertion_of_cut, split, clearing, draining, replacement, uppercase, lowercase}
 use Rattle.arraystring.specs.Refusals.{Error, OutOfBounds}
 use Rattle.arraystring_run.specs.declared.commands.Command.{Command}
-use Rattle.arraystring_run.specs.declared.commands.Command.TheVariants.{TryPush, TryPushStr, PushStr, Pop, Truncate, Trim, Remove, RetainNot, TryInsert, TryInsertStr, InsertStr, SplitOff, Clear, Drain, DrainThrough, DrainBack, ReplaceRange, Upper, Lower, Get, Len, Capacity, AsStr}
+use Rattle.arraystring_run.specs.declared.commands.Command.TheVariants as command
 use Rattle.arraystring_run.specs.declared.commands.Reply.{Reply}
 use Rattle.arraystring_run.specs.declared.commands.Reply.TheVariants as reply
 
@@ -67,29 +67,29 @@ end_through last = min (last + 1) 255
 
 -- what a command does to t at the capacity n
 abbrev pub edit : Command → List ℕ → ℕ → Edited
-edit (TryPush c) t n = done (addition t (c ∷ []) n) t
-edit (TryPushStr given) t n = done (addition t (chars given.now) n) t
-edit (PushStr given) t n = done (addition_of_cut t (chars given.now) n) t
-edit Pop t n = made char_or_none (popping t) t
-edit (Truncate i) t n = done (truncation t i) t
-edit Trim t n = done (trimming is_white_space t) t
-edit (Remove i) t n = made Char (removal t i) t
-edit (RetainNot c) t n = leaves Done (without c t)
-edit (TryInsert i c) t n = done (insertion t i (c ∷ []) n) t
-edit (TryInsertStr i given) t n = done (insertion t i (chars given.now) n) t
-edit (InsertStr i given) t n = done (insertion_of_cut t i (chars given.now) n) t
-edit (SplitOff i) t n = made Text (split t i) t
-edit Clear t n = done clearing t
-edit (Drain start end) t n = made Text (draining t start end) t
-edit (DrainThrough start last) t n = made Text (draining t start (end_through last)) t
-edit (DrainBack start end) t n = made (λ removed. Text (reverse removed)) (draining t start end) t
-edit (ReplaceRange start end given) t n = done (replacement t start end (chars given.now) n) t
-edit Upper t n = done (uppercase t) t
-edit Lower t n = done (lowercase t) t
-edit (Get start end) t n = leaves (text_or_none (part_in t start end)) t
-edit Len t n = leaves (Number (size t)) t
-edit Capacity t n = leaves (Number n) t
-edit AsStr t n = leaves (Text t) t
+edit (command.TryPush c) t n = done (addition t (c ∷ []) n) t
+edit (command.TryPushStr given) t n = done (addition t (chars given.now) n) t
+edit (command.PushStr given) t n = done (addition_of_cut t (chars given.now) n) t
+edit command.Pop t n = made char_or_none (popping t) t
+edit (command.Truncate i) t n = done (truncation t i) t
+edit command.Trim t n = done (trimming is_white_space t) t
+edit (command.Remove i) t n = made Char (removal t i) t
+edit (command.RetainNot c) t n = leaves Done (without c t)
+edit (command.TryInsert i c) t n = done (insertion t i (c ∷ []) n) t
+edit (command.TryInsertStr i given) t n = done (insertion t i (chars given.now) n) t
+edit (command.InsertStr i given) t n = done (insertion_of_cut t i (chars given.now) n) t
+edit (command.SplitOff i) t n = made Text (split t i) t
+edit command.Clear t n = done clearing t
+edit (command.Drain start end) t n = made Text (draining t start end) t
+edit (command.DrainThrough start last) t n = made Text (draining t start (end_through last)) t
+edit (command.DrainBack start end) t n = made (λ removed. Text (reverse removed)) (draining t start end) t
+edit (command.ReplaceRange start end given) t n = done (replacement t start end (chars given.now) n) t
+edit command.Upper t n = done (uppercase t) t
+edit command.Lower t n = done (lowercase t) t
+edit (command.Get start end) t n = leaves (text_or_none (part_in t start end)) t
+edit command.Len t n = leaves (Number (size t)) t
+edit command.Capacity t n = leaves (Number n) t
+edit command.AsStr t n = leaves (Text t) t
 
 -- whether a result is the refusal of an index past the text, or of a result that does not fit
 abbrev pub is_out_of_bounds : {A : Type 0} → Result A Error → Bool
@@ -113,13 +113,13 @@ adds_less t given n = nat_lt (size (cut given (n - size t))) (size given)
 
 -- whether a command is refused for `Room`, or adds less than all of what it is given
 abbrev pub tight : Command → List ℕ → ℕ → Bool
-tight (TryPush c) t n = lacks_room (addition t (c ∷ []) n)
-tight (TryPushStr given) t n = lacks_room (addition t (chars given.now) n)
-tight (PushStr given) t n = adds_less t (chars given.now) n
-tight (TryInsert i c) t n = lacks_room (insertion t i (c ∷ []) n)
-tight (TryInsertStr i given) t n = lacks_room (insertion t i (chars given.now) n)
-tight (InsertStr i given) t n = is_made (insertion_of_cut t i (chars given.now) n) && adds_less t (chars given.now) n
-tight (ReplaceRange start end given) t n = lacks_room (replacement t start end (chars given.now) n)
+tight (command.TryPush c) t n = lacks_room (addition t (c ∷ []) n)
+tight (command.TryPushStr given) t n = lacks_room (addition t (chars given.now) n)
+tight (command.PushStr given) t n = adds_less t (chars given.now) n
+tight (command.TryInsert i c) t n = lacks_room (insertion t i (c ∷ []) n)
+tight (command.TryInsertStr i given) t n = lacks_room (insertion t i (chars given.now) n)
+tight (command.InsertStr i given) t n = is_made (insertion_of_cut t i (chars given.now) n) && adds_less t (chars given.now) n
+tight (command.ReplaceRange start end given) t n = lacks_room (replacement t start end (chars given.now) n)
 tight _ t n = false
 
 -- the replies and the last text of a run of commands, each on the text that the one before left

@@ -1,196 +1,134 @@
-use Rattle.std.proofs.Common.{◌≡◌, ◌∷◌, [], length, refl, ap, arith}
+use Rattle.std.proofs.Common.{◌∷◌, [], refl, arith}
 use Rattle.arraystring.proofs.TextLaws.{utf8-well_formed, well_formed-utf8}
-use Rattle.arraystring_run.specs.declared.commands.Command.{Command}
-use Rattle.arraystring_run.specs.declared.commands.Command.TheVariants.{TryPush, TryPushStr, PushStr, Pop, Truncate, Trim, Remove, RetainNot, TryInsert, TryInsertStr, InsertStr, SplitOff, Clear, Drain, DrainThrough, DrainBack, ReplaceRange, Upper, Lower, Get, Len, Capacity, AsStr}
-use Rattle.arraystring_run.specs.Grammar.{Number, Character, Text, word, arguments, AreSpelled, space}
-use Rattle.arraystring_run.proofs.CommandLemmas.{shape}
-use Rattle.arraystring_run.proofs.GrammarLemmas.{reads, reads-two, reads-before, reads-behind, reads-character, line-parts, line-given, spelled-one, spelled-before, number-behind}
+use Rattle.arraystring_run.specs.declared.commands.Command.TheVariants as command
+use Rattle.arraystring_run.specs.Grammar.{Number, Character, Text, arguments}
+use Rattle.arraystring_run.proofs.GrammarLemmas.{unread, no-two, no-before, no-character, reads-behind, line-parts, line-given, has-argument, spelled-one, spelled-two, spelled-before, number-behind}
 use Rattle.arraystring_run.proofs.line.command_given.Goals as goal
 
 pub returns-in_ok-only_char-in-try_push-clause-some : goal.returns-in_ok-only_char-in-try_push-clause-some
 returns-in_ok-only_char-in-try_push-clause-some c =
-    line-given (TryPush c.in_ok-only_char-in-try_push.field-0) c.args.word.now c.args.rest.now c.in-try_push.is (spelled-one (Character c.in_ok-only_char-in-try_push.field-0) c.args.rest.now c.in_ok-only_char-in-try_push.ensures.some)
+    line-given (command.TryPush _) _ _ c.in-try_push.is (spelled-one (Character _) _ c.in_ok-only_char-in-try_push.ensures.some)
 
 pub returns-in-try_push_str-clause-some : goal.returns-in-try_push_str-clause-some
 returns-in-try_push_str-clause-some c =
-    line-given (TryPushStr c.args.rest) c.args.word.now c.args.rest.now c.in-try_push_str.is (spelled-one (Text c.args.rest.now) c.args.rest.now (utf8-well_formed c.utf8.rest, refl))
+    line-given (command.TryPushStr c.args.rest) _ _ c.in-try_push_str.is (spelled-one (Text _) _ (utf8-well_formed c.utf8.rest, refl))
 
 pub returns-in-push_str-clause-some : goal.returns-in-push_str-clause-some
 returns-in-push_str-clause-some c =
-    line-given (PushStr c.args.rest) c.args.word.now c.args.rest.now c.in-push_str.is (spelled-one (Text c.args.rest.now) c.args.rest.now (utf8-well_formed c.utf8.rest, refl))
+    line-given (command.PushStr c.args.rest) _ _ c.in-push_str.is (spelled-one (Text _) _ (utf8-well_formed c.utf8.rest, refl))
 
 pub returns-in_ok-number-in-truncate-clause-some : goal.returns-in_ok-number-in-truncate-clause-some
 returns-in_ok-number-in-truncate-clause-some c =
-    line-given (Truncate c.in_ok-number-in-truncate.field-0) c.args.word.now c.args.rest.now c.in-truncate.is (spelled-one (Number c.in_ok-number-in-truncate.field-0) c.args.rest.now c.in_ok-number-in-truncate.ensures.some)
+    line-given (command.Truncate _) _ _ c.in-truncate.is (spelled-one (Number _) _ c.in_ok-number-in-truncate.ensures.some)
 
 pub returns-in_ok-number-in-remove-clause-some : goal.returns-in_ok-number-in-remove-clause-some
 returns-in_ok-number-in-remove-clause-some c =
-    line-given (Remove c.in_ok-number-in-remove.field-0) c.args.word.now c.args.rest.now c.in-remove.is (spelled-one (Number c.in_ok-number-in-remove.field-0) c.args.rest.now c.in_ok-number-in-remove.ensures.some)
+    line-given (command.Remove _) _ _ c.in-remove.is (spelled-one (Number _) _ c.in_ok-number-in-remove.ensures.some)
 
 pub returns-in_ok-only_char-in-retain_not-clause-some : goal.returns-in_ok-only_char-in-retain_not-clause-some
 returns-in_ok-only_char-in-retain_not-clause-some c =
-    line-given (RetainNot c.in_ok-only_char-in-retain_not.field-0) c.args.word.now c.args.rest.now c.in-retain_not.is (spelled-one (Character c.in_ok-only_char-in-retain_not.field-0) c.args.rest.now c.in_ok-only_char-in-retain_not.ensures.some)
+    line-given (command.RetainNot _) _ _ c.in-retain_not.is (spelled-one (Character _) _ c.in_ok-only_char-in-retain_not.ensures.some)
 
 pub returns-in_err-index-in-try_insert-clause-none : goal.returns-in_err-index-in-try_insert-clause-none
-unfolding shape
 returns-in_err-index-in-try_insert-clause-none c =
-    rw c.from_residual-in_err-index-in-try_insert.ensures (λ d line.
-    let read = reads c.args.word.now c.args.rest.now (0 ∷ 1 ∷ []) d c.requires (ap shape c.in-try_insert.is) line in
-    let found = reads-before c.args.rest.now 1 [] read in
-    c.in_err-index-in-try_insert.ensures.none found.0 found.1 found.2)
+    rw c.from_residual-in_err-index-in-try_insert.ensures
+    (unread (command.TryInsert 0 0) _ _ c.requires c.in-try_insert.is (no-before _ c.in_err-index-in-try_insert.ensures.none))
 
 pub returns-in_err-only_char-in-try_insert-clause-none : goal.returns-in_err-only_char-in-try_insert-clause-none
-unfolding shape
 returns-in_err-only_char-in-try_insert-clause-none c =
-    rw c.from_residual-in_err-only_char-in-try_insert.ensures (λ d line.
-    let read = reads c.args.word.now c.args.rest.now (0 ∷ 1 ∷ []) d c.requires (ap shape c.in-try_insert.is) line in
-    let before = c.in_ok-index-in-try_insert.ensures.some in
-    let given = c.in_ok-index-in-try_insert.given.now in
-    let found = reads-character given (reads-behind c.args.rest.now c.in_ok-index-in-try_insert.index given 1 [] before read) in
-    c.in_err-only_char-in-try_insert.ensures.none found.0 found.1 found.2)
+    rw c.from_residual-in_err-only_char-in-try_insert.ensures
+    (unread (command.TryInsert 0 0) _ _ c.requires c.in-try_insert.is (λ read.
+    no-character _ c.in_err-only_char-in-try_insert.ensures.none (reads-behind _ _ _ _ _ c.in_ok-index-in-try_insert.ensures.some read)))
 
 pub returns-in_ok-only_char-in-try_insert-clause-some : goal.returns-in_ok-only_char-in-try_insert-clause-some
 returns-in_ok-only_char-in-try_insert-clause-some c =
-    let before = c.in_ok-index-in-try_insert.ensures.some in
-    let given = c.in_ok-index-in-try_insert.given.now in
-    let ch = c.in_ok-only_char-in-try_insert.field-0 in
-    line-given (TryInsert c.in_ok-index-in-try_insert.index ch) c.args.word.now c.args.rest.now c.in-try_insert.is (spelled-before c.args.rest.now c.in_ok-index-in-try_insert.index given (Character ch ∷ []) before (spelled-one (Character ch) given c.in_ok-only_char-in-try_insert.ensures.some))
+    line-given (command.TryInsert _ _) _ _ c.in-try_insert.is
+    (spelled-before _ _ _ (Character _ ∷ []) c.in_ok-index-in-try_insert.ensures.some (spelled-one (Character _) _ c.in_ok-only_char-in-try_insert.ensures.some))
 
 pub returns-in_err-index-in-try_insert_str-clause-none : goal.returns-in_err-index-in-try_insert_str-clause-none
-unfolding shape
 returns-in_err-index-in-try_insert_str-clause-none c =
-    rw c.from_residual-in_err-index-in-try_insert_str.ensures (λ d line.
-    let read = reads c.args.word.now c.args.rest.now (0 ∷ 2 ∷ []) d c.requires (ap shape c.in-try_insert_str.is) line in
-    let found = reads-before c.args.rest.now 2 [] read in
-    c.in_err-index-in-try_insert_str.ensures.none found.0 found.1 found.2)
+    rw c.from_residual-in_err-index-in-try_insert_str.ensures
+    (unread (command.TryInsertStr 0 c.args.rest) _ _ c.requires c.in-try_insert_str.is (no-before _ c.in_err-index-in-try_insert_str.ensures.none))
 
 pub returns-in_ok-index-in-try_insert_str-clause-some : goal.returns-in_ok-index-in-try_insert_str-clause-some
 returns-in_ok-index-in-try_insert_str-clause-some c =
     let before = c.in_ok-index-in-try_insert_str.ensures.some in
-    let given = c.in_ok-index-in-try_insert_str.given.now in
-    line-given (TryInsertStr c.in_ok-index-in-try_insert_str.index c.in_ok-index-in-try_insert_str.given) c.args.word.now c.args.rest.now c.in-try_insert_str.is (spelled-before c.args.rest.now c.in_ok-index-in-try_insert_str.index given (Text given ∷ []) before (spelled-one (Text given) given (number-behind c.args.rest.now c.in_ok-index-in-try_insert_str.index given c.utf8.rest before, refl)))
+    line-given (command.TryInsertStr _ c.in_ok-index-in-try_insert_str.given) _ _ c.in-try_insert_str.is
+    (spelled-before _ _ _ (Text _ ∷ []) before (spelled-one (Text _) _ (number-behind _ _ _ c.utf8.rest before, refl)))
 
 pub returns-in_err-index-in-insert_str-clause-none : goal.returns-in_err-index-in-insert_str-clause-none
-unfolding shape
 returns-in_err-index-in-insert_str-clause-none c =
-    rw c.from_residual-in_err-index-in-insert_str.ensures (λ d line.
-    let read = reads c.args.word.now c.args.rest.now (0 ∷ 2 ∷ []) d c.requires (ap shape c.in-insert_str.is) line in
-    let found = reads-before c.args.rest.now 2 [] read in
-    c.in_err-index-in-insert_str.ensures.none found.0 found.1 found.2)
+    rw c.from_residual-in_err-index-in-insert_str.ensures
+    (unread (command.InsertStr 0 c.args.rest) _ _ c.requires c.in-insert_str.is (no-before _ c.in_err-index-in-insert_str.ensures.none))
 
 pub returns-in_ok-index-in-insert_str-clause-some : goal.returns-in_ok-index-in-insert_str-clause-some
 returns-in_ok-index-in-insert_str-clause-some c =
     let before = c.in_ok-index-in-insert_str.ensures.some in
-    let given = c.in_ok-index-in-insert_str.given.now in
-    line-given (InsertStr c.in_ok-index-in-insert_str.index c.in_ok-index-in-insert_str.given) c.args.word.now c.args.rest.now c.in-insert_str.is (spelled-before c.args.rest.now c.in_ok-index-in-insert_str.index given (Text given ∷ []) before (spelled-one (Text given) given (number-behind c.args.rest.now c.in_ok-index-in-insert_str.index given c.utf8.rest before, refl)))
+    line-given (command.InsertStr _ c.in_ok-index-in-insert_str.given) _ _ c.in-insert_str.is
+    (spelled-before _ _ _ (Text _ ∷ []) before (spelled-one (Text _) _ (number-behind _ _ _ c.utf8.rest before, refl)))
 
 pub returns-in_ok-number-in-split_off-clause-some : goal.returns-in_ok-number-in-split_off-clause-some
 returns-in_ok-number-in-split_off-clause-some c =
-    line-given (SplitOff c.in_ok-number-in-split_off.field-0) c.args.word.now c.args.rest.now c.in-split_off.is (spelled-one (Number c.in_ok-number-in-split_off.field-0) c.args.rest.now c.in_ok-number-in-split_off.ensures.some)
+    line-given (command.SplitOff _) _ _ c.in-split_off.is (spelled-one (Number _) _ c.in_ok-number-in-split_off.ensures.some)
 
 pub returns-in_err-start-in-drain-clause-none : goal.returns-in_err-start-in-drain-clause-none
-unfolding shape
 returns-in_err-start-in-drain-clause-none c =
-    rw c.from_residual-in_err-start-in-drain.ensures (λ d line.
-    let read = reads c.args.word.now c.args.rest.now (0 ∷ 0 ∷ []) d c.requires (ap shape c.in-drain.is) line in
-    let found = reads-two c.args.rest.now read in
-    c.in_err-start-in-drain.ensures.none found.0 found.1 found.2 found.3 found.4)
+    rw c.from_residual-in_err-start-in-drain.ensures
+    (unread (command.Drain 0 0) _ _ c.requires c.in-drain.is (no-two _ c.in_err-start-in-drain.ensures.none))
 
 pub returns-in_ok-start-in-drain-clause-some : goal.returns-in_ok-start-in-drain-clause-some
 returns-in_ok-start-in-drain-clause-some c =
-    let both = c.in_ok-start-in-drain.ensures.some in
-    line-given (Drain c.in_ok-start-in-drain.start c.in_ok-start-in-drain.end) c.args.word.now c.args.rest.now c.in-drain.is (spelled-before c.args.rest.now c.in_ok-start-in-drain.start both.0 (Number c.in_ok-start-in-drain.end ∷ []) both.1 (spelled-one (Number c.in_ok-start-in-drain.end) both.0 both.2))
+    line-given (command.Drain _ _) _ _ c.in-drain.is (spelled-two _ _ _ c.in_ok-start-in-drain.ensures.some)
 
 pub returns-in_err-start-in-drain_through-clause-none : goal.returns-in_err-start-in-drain_through-clause-none
-unfolding shape
 returns-in_err-start-in-drain_through-clause-none c =
-    rw c.from_residual-in_err-start-in-drain_through.ensures (λ d line.
-    let read = reads c.args.word.now c.args.rest.now (0 ∷ 0 ∷ []) d c.requires (ap shape c.in-drain_through.is) line in
-    let found = reads-two c.args.rest.now read in
-    c.in_err-start-in-drain_through.ensures.none found.0 found.1 found.2 found.3 found.4)
+    rw c.from_residual-in_err-start-in-drain_through.ensures
+    (unread (command.DrainThrough 0 0) _ _ c.requires c.in-drain_through.is (no-two _ c.in_err-start-in-drain_through.ensures.none))
 
 pub returns-in_ok-start-in-drain_through-clause-some : goal.returns-in_ok-start-in-drain_through-clause-some
 returns-in_ok-start-in-drain_through-clause-some c =
-    let both = c.in_ok-start-in-drain_through.ensures.some in
-    line-given (DrainThrough c.in_ok-start-in-drain_through.start c.in_ok-start-in-drain_through.last) c.args.word.now c.args.rest.now c.in-drain_through.is (spelled-before c.args.rest.now c.in_ok-start-in-drain_through.start both.0 (Number c.in_ok-start-in-drain_through.last ∷ []) both.1 (spelled-one (Number c.in_ok-start-in-drain_through.last) both.0 both.2))
+    line-given (command.DrainThrough _ _) _ _ c.in-drain_through.is (spelled-two _ _ _ c.in_ok-start-in-drain_through.ensures.some)
 
 pub returns-in_err-start-in-drain_back-clause-none : goal.returns-in_err-start-in-drain_back-clause-none
-unfolding shape
 returns-in_err-start-in-drain_back-clause-none c =
-    rw c.from_residual-in_err-start-in-drain_back.ensures (λ d line.
-    let read = reads c.args.word.now c.args.rest.now (0 ∷ 0 ∷ []) d c.requires (ap shape c.in-drain_back.is) line in
-    let found = reads-two c.args.rest.now read in
-    c.in_err-start-in-drain_back.ensures.none found.0 found.1 found.2 found.3 found.4)
+    rw c.from_residual-in_err-start-in-drain_back.ensures
+    (unread (command.DrainBack 0 0) _ _ c.requires c.in-drain_back.is (no-two _ c.in_err-start-in-drain_back.ensures.none))
 
 pub returns-in_ok-start-in-drain_back-clause-some : goal.returns-in_ok-start-in-drain_back-clause-some
 returns-in_ok-start-in-drain_back-clause-some c =
-    let both = c.in_ok-start-in-drain_back.ensures.some in
-    line-given (DrainBack c.in_ok-start-in-drain_back.start c.in_ok-start-in-drain_back.end) c.args.word.now c.args.rest.now c.in-drain_back.is (spelled-before c.args.rest.now c.in_ok-start-in-drain_back.start both.0 (Number c.in_ok-start-in-drain_back.end ∷ []) both.1 (spelled-one (Number c.in_ok-start-in-drain_back.end) both.0 both.2))
+    line-given (command.DrainBack _ _) _ _ c.in-drain_back.is (spelled-two _ _ _ c.in_ok-start-in-drain_back.ensures.some)
 
 pub returns-in_err-start-in-replace_range-clause-none : goal.returns-in_err-start-in-replace_range-clause-none
-unfolding shape
 returns-in_err-start-in-replace_range-clause-none c =
-    rw c.from_residual-in_err-start-in-replace_range.ensures (λ d line.
-    let read = reads c.args.word.now c.args.rest.now (0 ∷ 0 ∷ 2 ∷ []) d c.requires (ap shape c.in-replace_range.is) line in
-    let found = reads-before c.args.rest.now 0 (2 ∷ []) read in
-    c.in_err-start-in-replace_range.ensures.none found.0 found.1 found.2)
+    rw c.from_residual-in_err-start-in-replace_range.ensures
+    (unread (command.ReplaceRange 0 0 c.args.rest) _ _ c.requires c.in-replace_range.is (no-before _ c.in_err-start-in-replace_range.ensures.none))
 
 pub returns-in_err-end-in-replace_range-clause-none : goal.returns-in_err-end-in-replace_range-clause-none
-unfolding shape
 returns-in_err-end-in-replace_range-clause-none c =
-    rw c.from_residual-in_err-end-in-replace_range.ensures (λ d line.
-    let read = reads c.args.word.now c.args.rest.now (0 ∷ 0 ∷ 2 ∷ []) d c.requires (ap shape c.in-replace_range.is) line in
-    let before = c.in_ok-start-in-replace_range.ensures.some in
-    let rest = c.in_ok-start-in-replace_range.rest.now in
-    let found = reads-before rest 2 [] (reads-behind c.args.rest.now c.in_ok-start-in-replace_range.start rest 0 (2 ∷ []) before read) in
-    c.in_err-end-in-replace_range.ensures.none found.0 found.1 found.2)
+    rw c.from_residual-in_err-end-in-replace_range.ensures
+    (unread (command.ReplaceRange 0 0 c.args.rest) _ _ c.requires c.in-replace_range.is (λ read.
+    no-before _ c.in_err-end-in-replace_range.ensures.none (reads-behind _ _ _ _ _ c.in_ok-start-in-replace_range.ensures.some read)))
 
 pub returns-in_ok-end-in-replace_range-clause-some : goal.returns-in_ok-end-in-replace_range-clause-some
 returns-in_ok-end-in-replace_range-clause-some c =
     let before = c.in_ok-start-in-replace_range.ensures.some in
-    let rest = c.in_ok-start-in-replace_range.rest.now in
     let next = c.in_ok-end-in-replace_range.ensures.some in
-    let given = c.in_ok-end-in-replace_range.given.now in
-    let u = well_formed-utf8 {bs = rest} (number-behind c.args.rest.now c.in_ok-start-in-replace_range.start rest c.utf8.rest before) in
-    let well = number-behind rest c.in_ok-end-in-replace_range.end given u next in
-    line-given (ReplaceRange c.in_ok-start-in-replace_range.start c.in_ok-end-in-replace_range.end c.in_ok-end-in-replace_range.given) c.args.word.now c.args.rest.now c.in-replace_range.is (spelled-before c.args.rest.now c.in_ok-start-in-replace_range.start rest (Number c.in_ok-end-in-replace_range.end ∷ Text given ∷ []) before (spelled-before rest c.in_ok-end-in-replace_range.end given (Text given ∷ []) next (spelled-one (Text given) given (well, refl))))
+    let well = number-behind _ _ _ (well_formed-utf8 (number-behind _ _ _ c.utf8.rest before)) next in
+    line-given (command.ReplaceRange _ _ c.in_ok-end-in-replace_range.given) _ _ c.in-replace_range.is
+    (spelled-before _ _ _ (Number _ ∷ Text _ ∷ []) before (spelled-before _ _ _ (Text _ ∷ []) next (spelled-one (Text _) _ (well, refl))))
 
 pub returns-in_err-start-in-get-clause-none : goal.returns-in_err-start-in-get-clause-none
-unfolding shape
 returns-in_err-start-in-get-clause-none c =
-    rw c.from_residual-in_err-start-in-get.ensures (λ d line.
-    let read = reads c.args.word.now c.args.rest.now (0 ∷ 0 ∷ []) d c.requires (ap shape c.in-get.is) line in
-    let found = reads-two c.args.rest.now read in
-    c.in_err-start-in-get.ensures.none found.0 found.1 found.2 found.3 found.4)
+    rw c.from_residual-in_err-start-in-get.ensures
+    (unread (command.Get 0 0) _ _ c.requires c.in-get.is (no-two _ c.in_err-start-in-get.ensures.none))
 
 pub returns-in_ok-start-in-get-clause-some : goal.returns-in_ok-start-in-get-clause-some
 returns-in_ok-start-in-get-clause-some c =
-    let both = c.in_ok-start-in-get.ensures.some in
-    line-given (Get c.in_ok-start-in-get.start c.in_ok-start-in-get.end) c.args.word.now c.args.rest.now c.in-get.is (spelled-before c.args.rest.now c.in_ok-start-in-get.start both.0 (Number c.in_ok-start-in-get.end ∷ []) both.1 (spelled-one (Number c.in_ok-start-in-get.end) both.0 both.2))
+    line-given (command.Get _ _) _ _ c.in-get.is (spelled-two _ _ _ c.in_ok-start-in-get.ensures.some)
 
+-- `grind` goes through the commands: the word of each is none of those above, or it has no argument
 pub returns-in_default-clause-none : goal.returns-in_default-clause-none
-returns-in_default-clause-none c = λ d line. let parts = line-parts c.args.word.now c.args.rest.now d c.requires line in unknown d parts.0 parts.1 where
-  unknown : (d : Command) → c.args.word.now ≡ word d → AreSpelled (space ∷ c.args.rest.now) (arguments d) → ⊥
-  unknown (TryPush ch) e spelled = c.in_default.not-try_push e
-  unknown (TryPushStr given) e spelled = c.in_default.not-try_push_str e
-  unknown (PushStr given) e spelled = c.in_default.not-push_str e
-  unknown Pop e spelled = omega (arith, ap length spelled)
-  unknown (Truncate i) e spelled = c.in_default.not-truncate e
-  unknown Trim e spelled = omega (arith, ap length spelled)
-  unknown (Remove i) e spelled = c.in_default.not-remove e
-  unknown (RetainNot ch) e spelled = c.in_default.not-retain_not e
-  unknown (TryInsert i ch) e spelled = c.in_default.not-try_insert e
-  unknown (TryInsertStr i given) e spelled = c.in_default.not-try_insert_str e
-  unknown (InsertStr i given) e spelled = c.in_default.not-insert_str e
-  unknown (SplitOff i) e spelled = c.in_default.not-split_off e
-  unknown Clear e spelled = omega (arith, ap length spelled)
-  unknown (Drain start end) e spelled = c.in_default.not-drain e
-  unknown (DrainThrough start last) e spelled = c.in_default.not-drain_through e
-  unknown (DrainBack start end) e spelled = c.in_default.not-drain_back e
-  unknown (ReplaceRange start end given) e spelled = c.in_default.not-replace_range e
-  unknown Upper e spelled = omega (arith, ap length spelled)
-  unknown Lower e spelled = omega (arith, ap length spelled)
-  unknown (Get start end) e spelled = c.in_default.not-get e
-  unknown Len e spelled = omega (arith, ap length spelled)
-  unknown Capacity e spelled = omega (arith, ap length spelled)
-  unknown AsStr e spelled = omega (arith, ap length spelled)
+returns-in_default-clause-none c = λ d line.
+    let parts = line-parts c.args.word.now c.args.rest.now d c.requires line in
+    let given = has-argument c.args.rest.now (arguments d) parts.1 in
+    grind arith
