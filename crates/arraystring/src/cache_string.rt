@@ -275,6 +275,3 @@ impl fmt::Write for CacheString {
         self.0.write_str(string)
     }
 }
-
-#[cfg(test)]
-mod tests;

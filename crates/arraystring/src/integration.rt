@@ -28,6 +28,3 @@ impl CacheString {
         Ok(CacheString(ArrayString::from_value(value)?))
     }
 }
-
-#[cfg(test)]
-mod tests;

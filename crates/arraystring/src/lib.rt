@@ -1,4 +1,5 @@
-//! `ArrayString`, a string of bounded size in an array inside the value, under all its paths.
+//! `ArrayString`, a string of bounded size in an array inside the value, under all its paths. Its tests
+//! are in `crates/arraystring_tests`.
 #![tactic(auto)]
 
 mod cache_string;
@@ -31,6 +32,3 @@ pub mod prelude {
     pub use crate::error::{OutOfBounds, Utf8, Utf16};
     pub use crate::{ArrayString, CacheString, MaxString, SmallString};
 }
-
-#[cfg(test)]
-mod tests;

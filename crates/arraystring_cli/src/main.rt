@@ -1,4 +1,5 @@
-//! Plays a script of commands from standard input to standard output.
+//! Plays a script of commands from standard input to standard output. The tests of its functions
+//! are in `tests.rt`, those of scripts in `crates/arraystring_run_tests`.
 #![tactic(auto)]
 
 ghost use Rattle.std.specs.Prelude.{◌≡◌, ◌≢◌, ℕ, ⊤, List, [], Result};

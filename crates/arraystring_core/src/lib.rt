@@ -1,5 +1,5 @@
 //! `ArrayString`, a string of bounded size in an array inside the value, and its laws. It takes no
-//! memory, but where a JSON value is made.
+//! memory, but where a JSON value is made. Its tests are in `crates/arraystring_tests`.
 #![tactic(auto)]
 
 pub mod array_string;

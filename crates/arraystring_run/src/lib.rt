@@ -1,4 +1,5 @@
 //! Commands that edit a string of bounded size: runs of them, and scripts that are played.
+//! Its tests are in `crates/arraystring_run_tests`.
 #![tactic(auto)]
 
 mod commands;

@@ -1,4 +1,4 @@
-//! Uses of `arraystring`, as a caller writes them.
+//! Uses of `arraystring`, as a caller writes them. Its tests are in `tests.rt`.
 #![tactic(auto)]
 
 pub mod greeting;

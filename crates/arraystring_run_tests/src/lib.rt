@@ -1,0 +1,21 @@
+//! Tests of `arraystring_run`: what no contract says of commands, runs and scripts, on values worked out
+//! by hand. A module is named as the module that it tests. `capacities`, `devices` and `memory` play
+//! scripts at each capacity, on devices that fail, and where memory is refused.
+#![tactic(auto)]
+
+#[cfg(test)]
+mod capacities;
+#[cfg(test)]
+mod devices;
+#[cfg(test)]
+mod line;
+#[cfg(test)]
+mod memory;
+#[cfg(test)]
+mod player;
+#[cfg(test)]
+mod runs;
+#[cfg(test)]
+mod surface;
+#[cfg(test)]
+mod table;

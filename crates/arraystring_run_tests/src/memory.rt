@@ -1,0 +1,203 @@
+//! Memory that is refused, at each growth: of the script, of the list of commands, of each list of
+//! replies.
+use super::player::{EXAMPLE, EXAMPLE_OUTPUT};
+use super::runs::text_of;
+use super::table::agree;
+use arraystring::ArrayString;
+use arraystring_run::{Command, PlayFault, play, run, run_both, serve};
+use std::alloc::Global;
+use std::io;
+use std::process::Abort;
+use std::test::Fail;
+use test_support::memory::{ScarceMemory, TIMES};
+
+/// Where ever more memory is left, from none up, `serve` reports each growth that is refused.
+#[test]
+fn want_of_memory_is_served(rt: HostRuntime) -> Result<(), Fail> {
+    let mut output = Vec::with_capacity(rt.alloc(), 1000)?;
+    let mut errors = Vec::with_capacity(rt.alloc(), 1000)?;
+    let Some(mut scarce) = ScarceMemory::take(rt.alloc())? else {
+        return Ok(());
+    };
+    let mut refused = 0u32;
+    let mut status = 3;
+    for _ in 0..TIMES {
+        scarce.leave_more(rt.alloc())?;
+        let mut input = EXAMPLE.as_bytes();
+        let word = Some("small");
+        status = serve(rt.alloc(), word, &mut input, &mut output, &mut errors);
+        if status != 3 {
+            break;
+        }
+        refused = refused.saturating_add(1);
+        assert_eq!(rt; output.len(), 0);
+        assert_eq!(rt; errors.as_slice(), b"out of memory\n".as_slice());
+        errors.clear();
+    }
+    drop(scarce);
+    // the script, the commands and the replies
+    assert!(rt; refused >= 3);
+    assert_eq!(rt; status, 0);
+    assert_eq!(rt; output.as_slice(), EXAMPLE_OUTPUT.as_bytes());
+    assert_eq!(rt; errors.len(), 0);
+    Ok(())
+}
+
+/// Where ever more memory is left, from none up, `play` reports each growth that is refused.
+#[test]
+fn want_of_memory_is_told(rt: HostRuntime) -> Result<(), Fail> {
+    let mut output = Vec::with_capacity(rt.alloc(), 1000)?;
+    let Some(mut scarce) = ScarceMemory::take(rt.alloc())? else {
+        return Ok(());
+    };
+    let mut refused = 0u32;
+    let mut played = Err(PlayFault::Memory);
+    for _ in 0..TIMES {
+        scarce.leave_more(rt.alloc())?;
+        let mut input = EXAMPLE.as_bytes();
+        played = play::<23, &[u8], Vec<u8>>(rt.alloc(), &mut input, &mut output);
+        if played != Err(PlayFault::Memory) {
+            break;
+        }
+        refused = refused.saturating_add(1);
+        assert_eq!(rt; output.len(), 0);
+    }
+    drop(scarce);
+    // the script, the commands and the replies
+    assert!(rt; refused >= 3);
+    assert_eq!(rt; played, Ok(()));
+    assert_eq!(rt; output.as_slice(), EXAMPLE_OUTPUT.as_bytes());
+    Ok(())
+}
+
+/// A script of 100 lines: the first, the second, 97 lines `len`, and the last.
+fn hundred_lines(rt: &(impl Abort + AllocGlobal), first: &str, second: &str, last: &str) -> String {
+    let between = "len\n".repeat(rt.alloc(), 97).expect(rt, "memory");
+    format!(in rt.alloc(); "{first}\n{second}\n{between}{last}\n").expect(rt, "memory")
+}
+
+/// Plays a script and serves it, and compares what is returned, the status and what was written.
+fn answers(
+    rt: &impl Abort,
+    alloc: Global,
+    output: &mut Vec<u8>,
+    script: &str,
+    answer: Result<(), PlayFault>,
+    told: &str,
+) {
+    let mut input = script.as_bytes();
+    let played = play::<255, &[u8], Vec<u8>>(alloc, &mut input, output);
+    agree(rt, "what is returned", played, answer);
+    agree(
+        rt,
+        "the output",
+        output.len(),
+        if answer.is_ok() { 907 } else { 0 },
+    );
+    output.clear();
+    let mut input = script.as_bytes();
+    let mut none = io::sink();
+    let _ = serve(alloc, Some("max"), &mut input, &mut none, output);
+    agree(rt, "the errors", output.as_slice(), told.as_bytes());
+    output.clear();
+}
+
+/// Each growth that is refused is told. The script has 400 bytes, the commands more than 2,000, and
+/// the replies, each with room for 255 bytes, more than 25,000. So where 1,000 bytes are left, it is
+/// the commands that are refused, since the script is read to its bad first line; and the replies where
+/// 10,000 are, since it is then judged to its bad last line. Of want of memory and a bad line,
+/// whichever is met first is told.
+#[test]
+fn each_refused_growth_is_told(rt: HostRuntime) -> Result<(), Fail> {
+    let alloc = rt.alloc();
+    let bad_first = hundred_lines(&rt, "Len", "len", "len");
+    let bad_second = hundred_lines(&rt, "len", "Len", "len");
+    let bad_last = hundred_lines(&rt, "len", "len", "Len");
+    let good = hundred_lines(&rt, "len", "len", "len");
+    let none = Err(PlayFault::Memory);
+    let wanting = "out of memory\n";
+    let mut output = Vec::with_capacity(alloc, 1000)?;
+    let Some(mut scarce) = ScarceMemory::take(alloc)? else {
+        return Ok(());
+    };
+    scarce.leave(alloc, 0)?;
+    answers(&rt, alloc, &mut output, &bad_first, none, wanting);
+    scarce.leave(alloc, 1000)?;
+    let bad = Err(PlayFault::BadLine(1));
+    answers(&rt, alloc, &mut output, &bad_first, bad, "bad line 1\n");
+    let bad = Err(PlayFault::BadLine(2));
+    answers(&rt, alloc, &mut output, &bad_second, bad, "bad line 2\n");
+    answers(&rt, alloc, &mut output, &bad_last, none, wanting);
+    scarce.leave(alloc, 10000)?;
+    let bad = Err(PlayFault::BadLine(100));
+    answers(&rt, alloc, &mut output, &bad_last, bad, "bad line 100\n");
+    answers(&rt, alloc, &mut output, &good, none, wanting);
+    scarce.leave(alloc, 50000)?;
+    answers(&rt, alloc, &mut output, &good, Ok(()), "");
+    drop(scarce);
+    Ok(())
+}
+
+/// Where ever more memory is left, from none up, a refused growth of `run` leaves the text.
+#[test]
+fn want_of_memory_leaves_the_text(rt: HostRuntime) -> Result<(), Fail> {
+    let commands = [Command::TryPush('c'); 100];
+    let mut text: ArrayString<23> = text_of("ab");
+    let Some(mut scarce) = ScarceMemory::take(rt.alloc())? else {
+        return Ok(());
+    };
+    let mut refused = 0u32;
+    let mut made = 0usize;
+    for _ in 0..TIMES {
+        scarce.leave_more(rt.alloc())?;
+        if let Ok(outcome) = run(rt.alloc(), &mut text, &commands) {
+            made = outcome.replies.len();
+            break;
+        }
+        refused = refused.saturating_add(1);
+        assert_eq!(rt; text.as_str(), "ab");
+    }
+    drop(scarce);
+    assert!(rt; refused >= 1);
+    assert_eq!(rt; made, 100);
+    assert_eq!(rt; text.as_str(), "abccccccccccccccccccccc");
+    Ok(())
+}
+
+/// Both lists are reserved before the first command is made. Where there is memory for either list
+/// alone and not for both, the texts are as they were; so they are where there is none for either.
+#[test]
+fn want_of_memory_leaves_both_texts(rt: HostRuntime) -> Result<(), Fail> {
+    let commands = [Command::TryPush('c'); 300];
+    let mut alone: ArrayString<23> = text_of("ab");
+    let mut other: ArrayString<4> = text_of("ab");
+    let mut first: ArrayString<23> = text_of("ab");
+    let mut second: ArrayString<4> = text_of("ab");
+    let Some(mut scarce) = ScarceMemory::take(rt.alloc())? else {
+        return Ok(());
+    };
+    let mut refused = 0u32;
+    let mut refused_first = 0u32;
+    let mut refused_second = 0u32;
+    let mut made = 0usize;
+    for _ in 0..TIMES {
+        scarce.leave_more(rt.alloc())?;
+        if run(rt.alloc(), &mut alone, &commands).is_err() {
+            refused_first = refused_first.saturating_add(1);
+        }
+        if run(rt.alloc(), &mut other, &commands).is_err() {
+            refused_second = refused_second.saturating_add(1);
+        }
+        if let Ok(outcomes) = run_both(rt.alloc(), &mut first, &mut second, &commands) {
+            made = outcomes.1.replies.len();
+            break;
+        }
+        refused = refused.saturating_add(1);
+        assert_eq!(rt; (first.as_str(), second.as_str()), ("ab", "ab"));
+    }
+    drop(scarce);
+    assert!(rt; 1 <= refused_second && refused_second < refused_first && refused_first < refused);
+    assert_eq!(rt; made, 300);
+    assert_eq!(rt; (first.len(), second.as_str()), (23, "abcc"));
+    Ok(())
+}

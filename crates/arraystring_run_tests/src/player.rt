@@ -1,0 +1,283 @@
+//! Scripts that are played and served over memory.
+use super::devices::FakeReader;
+use super::table::{agree, printed};
+use arraystring_run::{PlayFault, names_capacity, play, serve};
+use std::alloc::Global;
+use std::io::ErrorKind;
+use std::process::Abort;
+use test_support::table::{column, rows};
+
+pub(super) const SCRIPT: &str = "try_push_str ABCD\ntry_push 🤔\nlen\npop\nas_str\n";
+
+pub(super) const OUTPUT: &str = "done\ndone\nnumber 8\nchar 🤔\ntext ABCD\nfinal ABCD\n";
+
+/// Plays `script` at 23 bytes, and compares what is returned and what is written.
+pub(super) fn plays(
+    rt: &impl Abort,
+    alloc: Global,
+    script: &[u8],
+    answer: Result<(), PlayFault>,
+    wanted: &[u8],
+) {
+    let mut output = Vec::new(alloc);
+    let mut input = script;
+    let played = play::<23, &[u8], Vec<u8>>(alloc, &mut input, &mut output);
+    agree(rt, "what is returned", played, answer);
+    agree(rt, "what is printed", output.as_slice(), wanted);
+}
+
+#[test]
+fn scripts_are_played(rt: HostRuntime) {
+    plays(
+        &rt,
+        rt.alloc(),
+        SCRIPT.as_bytes(),
+        Ok(()),
+        OUTPUT.as_bytes(),
+    );
+    plays(&rt, rt.alloc(), b"len", Ok(()), b"number 0\nfinal \n");
+    plays(&rt, rt.alloc(), b"", Ok(()), b"final \n");
+    plays(
+        &rt,
+        rt.alloc(),
+        b"len\npop ",
+        Err(PlayFault::BadLine(2)),
+        b"",
+    );
+    let trimmed = "push_str \ta\u{3000}\ntrim\nlen\n";
+    let wanted = b"done\ndone\nnumber 1\nfinal a\n";
+    plays(&rt, rt.alloc(), trimmed.as_bytes(), Ok(()), wanted);
+    let refused = b"push_str 0123456789abcdefghijklm\ntry_push n\npop\npop\n";
+    let wanted = b"done\nrefused OutOfBounds\nchar m\nchar l\nfinal 0123456789abcdefghijk\n";
+    plays(&rt, rt.alloc(), refused, Ok(()), wanted);
+    plays(
+        &rt,
+        rt.alloc(),
+        b"pop\ncapacity\n",
+        Ok(()),
+        b"no char\nnumber 23\nfinal \n",
+    );
+    let inside = "push_str é\nremove 1\ntruncate 1\n".as_bytes();
+    let wanted = "done\nrefused Utf8\nrefused Utf8\nfinal é\n".as_bytes();
+    plays(&rt, rt.alloc(), inside, Ok(()), wanted);
+}
+
+/// A character past the first plane and U+FFFD, by the bytes of their UTF-8.
+#[test]
+fn characters_are_printed_in_utf8(rt: HostRuntime) {
+    let script = "push_str \u{1D11E}\u{FFFD}\nas_str\npop\npop\ntry_push \u{1D11E}\n";
+    let wanted = b"done\ntext \xF0\x9D\x84\x9E\xEF\xBF\xBD\nchar \xEF\xBF\xBD\n\
+        char \xF0\x9D\x84\x9E\ndone\nfinal \xF0\x9D\x84\x9E\n";
+    plays(&rt, rt.alloc(), script.as_bytes(), Ok(()), wanted);
+}
+
+#[test]
+fn names_of_capacities(rt: HostRuntime) {
+    for word in ["small", "cache", "max"] {
+        assert!(rt; names_capacity(Some(word)));
+    }
+    for word in [None, Some(""), Some("Small"), Some("small "), Some("big")] {
+        assert!(rt; !names_capacity(word));
+    }
+}
+
+/// More than a thousand lines, 64 KiB, a hundred reads and a thousand bytes of capacity.
+#[test]
+fn long_scripts_are_played(rt: HostRuntime) {
+    let mut script = Vec::new(rt.alloc());
+    let mut wanted = Vec::new(rt.alloc());
+    for _ in 0..6000u16 {
+        script
+            .extend_from_slice(b"push_str ab\n")
+            .expect(&rt, "memory");
+        wanted.extend_from_slice(b"done\n").expect(&rt, "memory");
+    }
+    wanted.extend_from_slice(b"final ").expect(&rt, "memory");
+    for _ in 0..127u8 {
+        wanted.extend_from_slice(b"ab").expect(&rt, "memory");
+    }
+    wanted.extend_from_slice(b"a\n").expect(&rt, "memory");
+    let mut input = FakeReader {
+        bytes: &script,
+        step: 500,
+        reads: 0,
+        faults: 0,
+        again: 0,
+        kind: ErrorKind::Other,
+    };
+    let mut output = Vec::new(rt.alloc());
+    let played = play::<2000, FakeReader, Vec<u8>>(rt.alloc(), &mut input, &mut output);
+    agree(&rt, "what is returned", played, Ok(()));
+    agree(&rt, "the output", output.as_slice(), wanted.as_slice());
+    script.extend_from_slice(b"Len\n").expect(&rt, "memory");
+    plays(&rt, rt.alloc(), &script, Err(PlayFault::BadLine(6001)), b"");
+}
+
+pub(super) const EXAMPLE: &str =
+    "push_str ABCD🤔\ntry_insert 1 A\ntry_insert_str 2 B\ndrain_back 4 10\n\
+    get 0 9\nremove 9\nas_str\n";
+
+pub(super) const EXAMPLE_OUTPUT: &str =
+    "done\ndone\ndone\ntext 🤔DC\nno text\nrefused OutOfBounds\ntext AABB\n\
+    final AABB\n";
+
+/// What is printed of the example where it is cut at a byte; cut elsewhere, its last line is bad. The
+/// columns of a row are
+///
+///     byte | printed replies | last text
+const CUTS: &str = "
+    0  |                                                                             |
+    9  | done                                                                        |
+    10 | done                                                                        | A
+    11 | done                                                                        | AB
+    12 | done                                                                        | ABC
+    13 | done                                                                        | ABCD
+    17 | done                                                                        | ABCD🤔
+    18 | done                                                                        | ABCD🤔
+    32 | done, done                                                                  | AABCD🤔
+    33 | done, done                                                                  | AABCD🤔
+    50 | done, done, done                                                            | AABCD🤔
+    51 | done, done, done                                                            | AABBCD🤔
+    52 | done, done, done                                                            | AABBCD🤔
+    66 | done, done, done, refused OutOfBounds                                       | AABBCD🤔
+    67 | done, done, done, text 🤔DC                                                 | AABB
+    68 | done, done, done, text 🤔DC                                                 | AABB
+    75 | done, done, done, text 🤔DC, no text                                        | AABB
+    76 | done, done, done, text 🤔DC, no text                                        | AABB
+    84 | done, done, done, text 🤔DC, no text, refused OutOfBounds                   | AABB
+    85 | done, done, done, text 🤔DC, no text, refused OutOfBounds                   | AABB
+    91 | done, done, done, text 🤔DC, no text, refused OutOfBounds, text AABB        | AABB
+    92 | done, done, done, text 🤔DC, no text, refused OutOfBounds, text AABB        | AABB
+    ";
+
+/// The row of a cut.
+fn cut_at(end: usize) -> Option<&'static str> {
+    for row in rows(CUTS) {
+        if column(row, 0).parse() == Ok(end) {
+            return Some(row);
+        }
+    }
+    None
+}
+
+#[test]
+fn the_example_cut_at_each_byte(rt: HostRuntime) {
+    let whole = EXAMPLE.as_bytes();
+    agree(&rt, "the example", whole.len(), 92);
+    let (mut number, mut cuts) = (1usize, 0usize);
+    for end in 0..=whole.len() {
+        let script = &whole[..end];
+        if script.last() == Some(&b'\n') {
+            number = number.saturating_add(1);
+        }
+        if let Some(row) = cut_at(end) {
+            let wanted = printed(&rt, column(row, 1), column(row, 2));
+            plays(&rt, rt.alloc(), script, Ok(()), wanted.as_bytes());
+            cuts = cuts.saturating_add(1);
+        } else {
+            let bad = Err(PlayFault::BadLine(number));
+            plays(&rt, rt.alloc(), script, bad, b"");
+        }
+    }
+    agree(&rt, "the cuts", cuts, 22);
+}
+
+/// Serves `script`, and compares the status, the output and the line of the fault.
+fn serves(
+    rt: &impl Abort,
+    alloc: Global,
+    word: Option<&str>,
+    script: &[u8],
+    status: u8,
+    wanted: &[u8],
+    told: &[u8],
+) {
+    let mut output = Vec::new(alloc);
+    let mut errors = Vec::new(alloc);
+    let mut input = script;
+    let served = serve(alloc, word, &mut input, &mut output, &mut errors);
+    agree(rt, "the status", served, status);
+    agree(rt, "the output", output.as_slice(), wanted);
+    agree(rt, "the errors", errors.as_slice(), told);
+    let left = if told.starts_with(b"usage") {
+        script.len()
+    } else {
+        0
+    };
+    agree(rt, "the input", input.len(), left);
+}
+
+#[test]
+fn words_are_served(rt: HostRuntime) {
+    let usage = b"usage: arraystring_run small or cache or max\n";
+    for word in [None, Some("big"), Some(""), Some("Small"), Some("small ")] {
+        serves(&rt, rt.alloc(), word, b"len\n", 2, b"", usage);
+    }
+    serves(
+        &rt,
+        rt.alloc(),
+        Some("small"),
+        b"capacity",
+        0,
+        b"number 23\nfinal \n",
+        b"",
+    );
+    serves(
+        &rt,
+        rt.alloc(),
+        Some("cache"),
+        b"capacity",
+        0,
+        b"number 63\nfinal \n",
+        b"",
+    );
+    serves(
+        &rt,
+        rt.alloc(),
+        Some("max"),
+        b"capacity",
+        0,
+        b"number 255\nfinal \n",
+        b"",
+    );
+    serves(
+        &rt,
+        rt.alloc(),
+        Some("small"),
+        SCRIPT.as_bytes(),
+        0,
+        OUTPUT.as_bytes(),
+        b"",
+    );
+    serves(
+        &rt,
+        rt.alloc(),
+        Some("cache"),
+        b"Pop\n",
+        2,
+        b"",
+        b"bad line 1\n",
+    );
+    serves(
+        &rt,
+        rt.alloc(),
+        Some("max"),
+        b"pop\nlen\n\n",
+        2,
+        b"",
+        b"bad line 3\n",
+    );
+}
+
+#[test]
+fn the_example_is_served(rt: HostRuntime) {
+    serves(
+        &rt,
+        rt.alloc(),
+        Some("small"),
+        EXAMPLE.as_bytes(),
+        0,
+        EXAMPLE_OUTPUT.as_bytes(),
+        b"",
+    );
+}

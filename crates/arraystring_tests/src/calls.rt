@@ -1,0 +1,488 @@
+//! Tables of calls. The columns of a row are
+//!
+//!     text before | call | index or range | what is given | result | text after | number
+//!
+//! With no text before, the call goes on with the string that the row above left; `new` is a new
+//! string, and `again` the last one that a row began with. Several calls may be in a row, each on the
+//! text before. A text in quotes keeps its spaces, and `255 x` is a text of so many letters. Pieces
+//! are written with `,` between them.
+//!
+//! The result is a text or a character itself, `ok` for a call that returns nothing, `None`, or the
+//! name of the refusal; bytes are as `{:?}` writes them. An unchecked call is made where its
+//! conditions hold, and else gives `None`. The number is what `len` and `capacity` return, how many
+//! bytes `pop_counted` looked at, and how many bytes any other call that counts moved.
+//!
+//! A range is written as in Rust, or as two bounds in brackets: `(` and `)` exclude an index, `[`
+//! and `]` include it. With `~` before them, it is of a type that does not tell its bounds, and
+//! `walked` is an inclusive range that was iterated to its end. `slice` has no row with `..=`.
+ghost use Rattle.std.specs.Prelude.{◌≤◌};
+
+use super::table::{agree, character, hash_of, number, order_of, returned, string};
+use arraystring::utils::{Steps, is_char_boundary};
+use arraystring::{ArrayString, MaxString};
+use std::fmt::Write;
+use std::ops::{Bound, RangeBounds, RangeInclusive};
+use std::process::Abort;
+use test_support::table::{column, rows};
+
+/// Makes the calls of a table in blocks. The line over a block is `# 8 | what it shows`, where 8 is
+/// the capacity.
+pub(crate) fn check_table(rt: &(impl Abort + AllocGlobal), table: &str) {
+    for block in table.split('#') {
+        let (heading, rows) = block.split_once('\n').unwrap_or_default();
+        match column(heading, 0).parse().unwrap_or(u16::MAX) {
+            0 => check_rows::<0>(rt, rows),
+            1 => check_rows::<1>(rt, rows),
+            3 => check_rows::<3>(rt, rows),
+            4 => check_rows::<4>(rt, rows),
+            5 => check_rows::<5>(rt, rows),
+            8 => check_rows::<8>(rt, rows),
+            9 => check_rows::<9>(rt, rows),
+            10 => check_rows::<10>(rt, rows),
+            23 => check_rows::<23>(rt, rows),
+            32 => check_rows::<32>(rt, rows),
+            255 => check_rows::<255>(rt, rows),
+            300 => check_rows::<300>(rt, rows),
+            _ => agree(rt, "rows of no such capacity", block.trim(), ""),
+        }
+    }
+}
+
+/// Makes the calls of a table on strings of one capacity, the first on a default string where its row
+/// says no other, and asserts what each returns and leaves.
+pub(crate) fn check_rows<const N: usize>(rt: &(impl Abort + AllocGlobal), table: &str)
+    requires { N ≤ 300 }
+{
+    let mut text = ArrayString::<N>::default();
+    let mut first = text;
+    for row in rows(table) {
+        match column(row, 0) {
+            "" => first = text,
+            "again" => {}
+            "new" => first = ArrayString::new(),
+            before => first = string(before),
+        }
+        text = first;
+        check_row(rt, &mut text, row);
+    }
+}
+
+/// Makes each call of a row, and asserts what it returns and leaves.
+pub(crate) fn check_row<R: Abort + AllocGlobal, const N: usize>(
+    rt: &R,
+    text: &mut ArrayString<N>,
+    row: &str,
+)
+    requires { N ≤ 300 }
+{
+    let before = *text;
+    let after = column(row, 5);
+    for call in column(row, 1).split(' ') {
+        *text = before;
+        let was_made = quiet(rt, text, call, row)
+            || at_the_end(rt, text, call, row)
+            || compared(rt, text, call, row)
+            || counted(rt, text, call, row)
+            || at_index(rt, text, call, row)
+            || in_range(rt, text, call, row);
+        agree(rt, call, was_made, true);
+        agree(rt, row, text.as_str(), after);
+        agree(rt, row, text.as_bytes(), after.as_bytes());
+        agree(rt, row, text.len() as usize, after.len());
+        agree(rt, row, text.is_empty(), after.is_empty());
+    }
+}
+
+/// The calls that return nothing, and the numbers of a string. Like each function below, it makes
+/// the call of a row, asserts what it returns, and tells whether it has such a call. The arms are in
+/// the order of the names: a number costs a proof less than a name does.
+fn quiet<R: Abort + AllocGlobal, const N: usize>(
+    rt: &R,
+    text: &mut ArrayString<N>,
+    call: &str,
+    row: &str,
+) -> bool {
+    let given = column(row, 3);
+    let order = order_of(
+        call,
+        "push_str extend_chars extend_strs trim trim_spaces clear retain_without \
+        make_ascii_uppercase make_ascii_lowercase add len capacity",
+    );
+    match order {
+        0 => text.push_str(given),
+        1 => text.extend_chars(given.chars()),
+        2 => text.extend_strs(given.split(',')),
+        3 => text.trim(),
+        4 => text.trim_spaces(),
+        5 => text.clear(),
+        6 => {
+            let _ = retained(text, "", given);
+        }
+        7 => text.make_ascii_uppercase(),
+        8 => text.make_ascii_lowercase(),
+        9 => *text = *text + given,
+        10 => agree(rt, row, text.len(), number(rt, row, 6)),
+        11 => agree(rt, row, ArrayString::<N>::capacity(), number(rt, row, 6)),
+        _ => return false,
+    }
+    returned(rt, row, ());
+    true
+}
+
+/// The calls at the end of the text, and those on all of it.
+fn at_the_end<R: Abort + AllocGlobal, const N: usize>(
+    rt: &R,
+    text: &mut ArrayString<N>,
+    call: &str,
+    row: &str,
+) -> bool {
+    let given = column(row, 3);
+    match order_of(
+        call,
+        "try_push try_push_str write_str pop push_unchecked push_str_unchecked clone as_bytes \
+        retain_in_turn",
+    ) {
+        0 => returned(rt, row, text.try_push(character(rt, row, 3))),
+        1 => returned(rt, row, text.try_push_str(given)),
+        2 => returned(rt, row, text.write_str(given)),
+        3 => returned(rt, row, text.pop()),
+        4 => returned(rt, row, put(text, None, character(rt, row, 3))),
+        5 => returned(rt, row, put_str(text, None, given)),
+        6 => {
+            let copy: Result<_, _> = text.clone();
+            returned(rt, row, copy);
+        }
+        7 => returned(rt, row, text.as_bytes()),
+        8 => returned(rt, row, retained(text, given, "")),
+        _ => return false,
+    }
+    true
+}
+
+/// Keeps the characters at whose turn no `-` is given and that are not among the dropped ones, and
+/// returns all that were asked about.
+fn retained<const N: usize>(text: &mut ArrayString<N>, answers: &str, dropped: &str) -> MaxString {
+    let mut asked = MaxString::new();
+    let mut answers = answers.chars();
+    text.retain(|ch| {
+        let _ = asked.try_push(ch);
+        answers.next() != Some('-') && !dropped.contains(ch)
+    });
+    asked
+}
+
+/// The calls that compare the string with that which is given: each comparison has to tell their
+/// order, and each hash has to be that of the text.
+fn compared<R: Abort + AllocGlobal, const N: usize>(
+    rt: &R,
+    text: &ArrayString<N>,
+    call: &str,
+    row: &str,
+) -> bool
+    requires { N ≤ 300 }
+{
+    let other = &ArrayString::<N>::from(column(row, 3));
+    match order_of(call, "cmp hash") {
+        0 => {
+            let order = text.cmp(other);
+            agree(rt, row, text.partial_cmp(other), Some(order));
+            agree(rt, row, *text == *other, order.is_eq());
+            agree(rt, row, *text != *other, order.is_ne());
+            returned(rt, row, order);
+        }
+        1 => {
+            let hash = hash_of(text);
+            agree(rt, row, hash, hash_of(other));
+            agree(rt, row, hash, hash_of(&other.as_str()));
+            returned(rt, row, ());
+        }
+        _ => return false,
+    }
+    true
+}
+
+/// Adds `ch` by `push_unchecked`, or puts it before an index by `insert_unchecked`, where the
+/// conditions hold.
+fn put<const N: usize>(text: &mut ArrayString<N>, index: Option<u8>, ch: char) -> Option<()> {
+    let size = text.len() as usize + ch.len_utf8();
+    if size > ArrayString::<N>::capacity() as usize {
+        return None;
+    }
+    let Some(index) = index else {
+        text.push_unchecked(ch);
+        return Some(());
+    };
+    let Ok(()) = is_char_boundary(text, index) else {
+        return None;
+    };
+    text.insert_unchecked(index, ch);
+    Some(())
+}
+
+/// Adds `given` by `push_str_unchecked`, or puts it before an index by `insert_str_unchecked`, where
+/// the conditions hold.
+fn put_str<const N: usize>(
+    text: &mut ArrayString<N>,
+    index: Option<u8>,
+    given: &str,
+) -> Option<()> {
+    let size = text.len() as usize + given.len();
+    if size > ArrayString::<N>::capacity() as usize {
+        return None;
+    }
+    let Some(index) = index else {
+        text.push_str_unchecked(given);
+        return Some(());
+    };
+    let Ok(()) = is_char_boundary(text, index) else {
+        return None;
+    };
+    text.insert_str_unchecked(index, given);
+    Some(())
+}
+
+/// The calls that count, but those on a range.
+fn counted<R: Abort + AllocGlobal, const N: usize>(
+    rt: &R,
+    text: &mut ArrayString<N>,
+    call: &str,
+    row: &str,
+) -> bool {
+    let given = column(row, 3);
+    let order = order_of(
+        call,
+        "pop_counted trim_counted remove_counted try_insert_str_counted",
+    );
+    if order > 3 {
+        return false;
+    }
+    let mut steps = Steps::new();
+    let mut moved = number(rt, row, 6) as u64;
+    match order {
+        0 => {
+            returned(rt, row, text.pop_counted(&mut steps));
+            agree(rt, row, steps.looked(), moved);
+            moved = 0;
+        }
+        1 => returned(rt, row, text.trim_counted(&mut steps)),
+        2 => {
+            let answer = text.remove_counted(number(rt, row, 2), &mut steps);
+            returned(rt, row, answer);
+        }
+        _ => {
+            let answer = text.try_insert_str_counted(number(rt, row, 2), given, &mut steps);
+            returned(rt, row, answer);
+        }
+    }
+    agree(rt, row, steps.moved(), moved);
+    true
+}
+
+/// The calls at an index.
+fn at_index<R: Abort + AllocGlobal, const N: usize>(
+    rt: &R,
+    text: &mut ArrayString<N>,
+    call: &str,
+    row: &str,
+) -> bool
+    requires { N ≤ 300 }
+{
+    let Ok(index) = column(row, 2).parse::<u8>() else {
+        return false;
+    };
+    let given = column(row, 3);
+    match order_of(
+        call,
+        "try_insert insert_str try_insert_str remove truncate split_off is_char_boundary \
+        insert_unchecked insert_str_unchecked",
+    ) {
+        0 => returned(rt, row, text.try_insert(index, character(rt, row, 3))),
+        1 => returned(rt, row, text.insert_str(index, given)),
+        2 => returned(rt, row, text.try_insert_str(index, given)),
+        3 => returned(rt, row, text.remove(index)),
+        4 => returned(rt, row, text.truncate(index)),
+        5 => returned(rt, row, text.split_off(index)),
+        6 => returned(rt, row, is_char_boundary(text, index)),
+        7 => returned(rt, row, put(text, Some(index), character(rt, row, 3))),
+        8 => returned(rt, row, put_str(text, Some(index), given)),
+        _ => return false,
+    }
+    true
+}
+
+/// The calls on a range.
+fn in_range<R: Abort + AllocGlobal, const N: usize>(
+    rt: &R,
+    text: &mut ArrayString<N>,
+    call: &str,
+    row: &str,
+) -> bool
+    requires { N ≤ 300 }
+{
+    let given = column(row, 2);
+    let sign = given.chars().next().unwrap_or(' ');
+    if sign == 'w' {
+        return of_range(rt, text, call, row, walked());
+    }
+    let (start, end) = given.split_once("..").expect(rt, "a range in the column");
+    let order = order_of(
+        call,
+        "slice make_ascii_uppercase_in make_ascii_lowercase_in",
+    );
+    if sign == '~' || sign == '(' || sign == '[' {
+        let (first, last) = (bound(rt, start), bound(rt, end));
+        if sign == '~' {
+            return of_range(rt, text, call, row, Untold { first, last });
+        }
+        if order != 0 {
+            return of_range(rt, text, call, row, (first, last));
+        }
+        match text.get((first, last)) {
+            Some(_) => returned(rt, row, Some(text.slice((first, last)))),
+            None => returned(rt, row, None::<&str>),
+        }
+        return true;
+    }
+    if order > 2 {
+        return in_rust_range(rt, text, call, row, start, end);
+    }
+    part(rt, text, order, row, start, end);
+    true
+}
+
+/// The calls that want a part of the text, on a range of Rust: for 0 `slice`, and for 1 and 2 those
+/// that turn letters to upper case and to lower case. They are made where `get` finds a part.
+fn part<R: Abort + AllocGlobal, const N: usize>(
+    rt: &R,
+    text: &mut ArrayString<N>,
+    order: usize,
+    row: &str,
+    start: &str,
+    end: &str,
+) {
+    let (first, last) = (place(rt, start), place(rt, end));
+    if end.is_empty() {
+        if text.get(..).is_some() {
+            return returned(rt, row, Some(text.slice(..)));
+        }
+    } else if end.starts_with('=') {
+        if text.get(first..=last).is_some() {
+            match order {
+                1 => text.make_ascii_uppercase_in(first..=last),
+                _ => text.make_ascii_lowercase_in(first..=last),
+            }
+            return returned(rt, row, ());
+        }
+    } else if text.get(first..last).is_some() {
+        match order {
+            0 => return returned(rt, row, Some(text.slice(first..last))),
+            1 => text.make_ascii_uppercase_in(first..last),
+            _ => text.make_ascii_lowercase_in(first..last),
+        }
+        return returned(rt, row, ());
+    }
+    returned(rt, row, None::<&str>);
+}
+
+/// The calls on a range of Rust with these ends.
+fn in_rust_range<R: Abort + AllocGlobal, const N: usize>(
+    rt: &R,
+    text: &mut ArrayString<N>,
+    call: &str,
+    row: &str,
+    start: &str,
+    end: &str,
+) -> bool
+    requires { N ≤ 300 }
+{
+    let (first, last) = (place(rt, start), place(rt, end));
+    match (start.is_empty(), end.is_empty(), end.starts_with('=')) {
+        (true, true, _) => of_range(rt, text, call, row, ..),
+        (false, true, _) => of_range(rt, text, call, row, first..),
+        (true, false, true) => of_range(rt, text, call, row, ..=last),
+        (true, false, false) => of_range(rt, text, call, row, ..last),
+        (false, false, true) => of_range(rt, text, call, row, first..=last),
+        (false, false, false) => of_range(rt, text, call, row, first..last),
+    }
+}
+
+/// Makes the call of a row on a range.
+fn of_range<R: Abort + AllocGlobal, B: RangeBounds<u8> + Drop, const N: usize>(
+    rt: &R,
+    text: &mut ArrayString<N>,
+    call: &str,
+    row: &str,
+    range: B,
+) -> bool
+    requires { N ≤ 300 }
+{
+    let mut steps = Steps::new();
+    let given = column(row, 3);
+    let order = order_of(
+        call,
+        "get drain replace_range drain_counted replace_range_counted",
+    );
+    match order {
+        0 => returned(rt, row, text.get(range)),
+        1 => returned(rt, row, text.drain(range)),
+        2 => returned(rt, row, text.replace_range(range, given)),
+        3 => returned(rt, row, text.drain_counted(range, &mut steps)),
+        4 => {
+            let answer = text.replace_range_counted(range, given, &mut steps);
+            returned(rt, row, answer);
+        }
+        _ => return false,
+    }
+    if order > 2 {
+        agree(rt, row, steps.moved(), number(rt, row, 6) as u64);
+    }
+    true
+}
+
+/// A range type that does not tell contracts which bounds it has.
+#[derive(Drop)]
+struct Untold {
+    first: Bound<u8>,
+    last: Bound<u8>,
+}
+
+impl RangeBounds<u8> for Untold {
+    fn start_bound(&self) -> Bound<&u8> {
+        self.first.as_ref()
+    }
+
+    fn end_bound(&self) -> Bound<&u8> {
+        self.last.as_ref()
+    }
+}
+
+/// `1..=3` after all three numbers were taken from it: it is empty and is at 3.
+fn walked() -> RangeInclusive<u8> {
+    let mut range = 1..=3;
+    for _ in 0..3 {
+        let _ = range.next();
+    }
+    range
+}
+
+/// A place in a range, or any where none is written.
+fn place(rt: &impl Abort, written: &str) -> u8 {
+    let digits = written.trim_start_matches('=');
+    if digits.is_empty() {
+        return 0;
+    }
+    digits.parse().expect(rt, "a place in the range")
+}
+
+/// The bound that is written with its bracket, as `[3` or `3)`.
+fn bound(rt: &impl Abort, written: &str) -> Bound<u8> {
+    let written = written.trim_start_matches('~');
+    let excluded = written.trim_matches('(').trim_matches(')');
+    if excluded.is_empty() {
+        return Bound::Unbounded;
+    }
+    if excluded.len() < written.len() {
+        return Bound::Excluded(place(rt, excluded));
+    }
+    Bound::Included(place(rt, written.trim_matches('[').trim_matches(']')))
+}

@@ -1,0 +1,175 @@
+//! Walks over what was taken out, and what is left of it, on values worked out by hand.
+ghost use Rattle.std.specs.Prelude.{◌≤◌};
+
+use super::printing::{debugs, debugs_as, derived};
+use super::table::{agree, hash_of, number, returned, string};
+use arraystring::{ArrayString, Drain};
+use std::process::Abort;
+use test_support::table::{column, rows};
+
+/// What `[ ]` has in it of a text, taken out of it.
+fn taken_out<const N: usize>(written: &str) -> Drain<N> {
+    let (before, rest) = written.split_once('[').unwrap_or_default();
+    let (inside, after) = rest.split_once(']').unwrap_or_default();
+    let mut text: ArrayString<N> = string(before);
+    let start = text.len();
+    text.push_str(inside);
+    let end = text.len();
+    text.push_str(after);
+    text.drain(start..end).unwrap_or_default()
+}
+
+/// Asserts what steps over a drain give. The columns of a row are
+///
+///     text, with what is taken out in `[ ]` | step | result | what is left
+///
+/// With no text, the step is one of the drain that the row above left, and first of a default drain.
+/// With no result, it gives no character.
+fn check_table<const N: usize>(rt: &impl Abort, table: &str)
+    requires { N ≤ 300 }
+{
+    let mut drain = Drain::<N>::default();
+    for row in rows(table) {
+        if !column(row, 0).is_empty() {
+            drain = taken_out(column(row, 0));
+        }
+        let answer = match column(row, 1) {
+            "next" => drain.next(),
+            _ => drain.next_back(),
+        };
+        agree(rt, row, answer, column(row, 2).chars().next());
+        agree(rt, row, drain.as_str(), column(row, 3));
+    }
+}
+
+#[test]
+fn steps_from_both_ends(rt: HostRuntime) {
+    check_table::<23>(
+        &rt,
+        "
+        [A🤔B]   | next      | A    | 🤔B
+                 | next_back | B    | 🤔
+                 | next      | 🤔   |
+                 | next_back |      |
+                 | next      |      |
+                 | next      |      |
+        [A🤔B]   | next_back | B    | A🤔
+        [ABC]D🤔 | next      | A    | BC
+                 | next      | B    | C
+                 | next      | C    |
+                 | next      |      |
+        ",
+    );
+    // Nothing was taken out.
+    check_table::<4>(
+        &rt,
+        "
+         | next      |      |
+         | next_back |      |
+        ",
+    );
+    check_table::<0>(
+        &rt,
+        "
+        [] | next      |      |
+           | next_back |      |
+        ",
+    );
+    // A copy keeps what it had.
+    let mut drain = taken_out::<23>("[A🤔B]");
+    let mut copy = drain;
+    agree(&rt, "the front", drain.next(), Some('A'));
+    agree(&rt, "the back of the copy", copy.next_back(), Some('B'));
+    agree(&rt, "what is left", drain.as_str(), "🤔B");
+    agree(&rt, "what is left of the copy", copy.as_str(), "A🤔");
+}
+
+/// Walks all of a text by one choice of ends: the back where the choice has a bit. What is left is
+/// printed after each step.
+fn walk_by(rt: &(impl Abort + AllocGlobal), text: &str, choice: u32) {
+    let mut drain = string::<23>(text).drain(..).unwrap_or_default();
+    let mut wanted = text.chars();
+    let mut choice = choice;
+    for _ in text.chars() {
+        debugs_as(rt, &drain, &derived::Drain(wanted.as_str()));
+        if choice & 1 == 0 {
+            agree(rt, text, drain.next(), wanted.next());
+        } else {
+            agree(rt, text, drain.next_back(), wanted.next_back());
+        }
+        choice >>= 1;
+    }
+    agree(rt, text, drain.as_str(), "");
+    debugs_as(rt, &drain, &derived::Drain(""));
+    agree(rt, text, drain.next(), None);
+    agree(rt, text, drain.next_back(), None);
+}
+
+#[test]
+fn each_walk(rt: HostRuntime) {
+    let table = "
+        1  |
+        2  | a
+        4  | aé
+        8  | aé€
+        16 | aé€🤔
+        32 | aé€🤔b
+        64 | aé€🤔bé
+        ";
+    for row in rows(table) {
+        for choice in 0..number(&rt, row, 0) {
+            walk_by(&rt, column(row, 1), choice as u32);
+        }
+    }
+}
+
+/// A drain of a text, of which `[ ]` has in it what is left after a step from each end where there is
+/// a character before or after it.
+fn left(written: &str) -> Drain<8> {
+    let (before, rest) = written.split_once('[').unwrap_or_default();
+    let (inside, after) = rest.split_once(']').unwrap_or_default();
+    let mut text: ArrayString<8> = ArrayString::from(before);
+    text.push_str(inside);
+    text.push_str(after);
+    let mut drain = text.drain(..).unwrap_or_default();
+    if !before.is_empty() {
+        drain.next();
+    }
+    if !after.is_empty() {
+        drain.next_back();
+    }
+    drain
+}
+
+/// Asserts that each comparison tells the order of the row, that what is equal has one hash, and that
+/// this is the hash of the text. The columns are
+///
+///     one drain | `cmp` | | the other | order
+fn check_comparison(rt: &(impl Abort + AllocGlobal), row: &str) {
+    let (one, other) = (left(column(row, 0)), left(column(row, 3)));
+    let order = Ord::cmp(&one, &other);
+    returned(rt, row, order);
+    agree(rt, row, PartialOrd::partial_cmp(&one, &other), Some(order));
+    agree(rt, row, one == other, order.is_eq());
+    agree(rt, row, one != other, order.is_ne());
+    let hash = hash_of(&one);
+    agree(rt, row, hash == hash_of(&other), order.is_eq());
+    agree(rt, row, hash, hash_of(&one.as_str()));
+}
+
+#[test]
+fn what_is_left_is_compared_and_printed(rt: HostRuntime) {
+    let table = "
+        a[bc]d     | cmp | | x[bc]       | Equal
+        a[bc]d     | cmp | | [abcd]      | Greater
+        [\u{FFFF}] | cmp | | [\u{10000}] | Less
+        [a]        | cmp | | [ab]        | Less
+        ";
+    for row in rows(table) {
+        check_comparison(&rt, row);
+    }
+    let wanted = "Drain(\"\")|Drain(\n    \"\",\n)|Drain(\"\")|Drain(\"\")|Drain(\"\")";
+    debugs(&rt, &Drain::<5>::default(), wanted);
+    let wanted = "Drain(\"bc\")|Drain(\n    \"bc\",\n)|Drain(\"bc\")|Drain(\"bc\")|Drain(\"bc\")";
+    debugs(&rt, &left("a[bc]"), wanted);
+}

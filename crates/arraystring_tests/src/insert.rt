@@ -1,0 +1,136 @@
+//! What is put into a string, on values worked out by hand.
+use super::calls::check_table;
+use super::table::agree;
+use arraystring::prelude::SmallString;
+use arraystring::{ArrayString, Error};
+
+#[test]
+fn insertions(rt: HostRuntime) {
+    check_table(
+        &rt,
+        "
+        # 23 | characters and texts are inserted
+        ABCD🤔                   | try_insert           | 1  | A                       | ok          | AABCD🤔
+                                | try_insert           | 2  | B                       | ok          | AABBCD🤔
+                                | try_insert           | 20 | C                       | OutOfBounds | AABBCD🤔
+                                | try_insert           | 8  | D                       | Utf8        | AABBCD🤔
+                                | try_insert           | 0  | é                       | ok          | éAABBCD🤔
+                                | try_insert           | 12 | €                       | ok          | éAABBCD🤔€
+        ABCD🤔                   | insert_unchecked     | 1  | A                       | ok          | AABCD🤔
+                                | insert_unchecked     | 1  | B                       | ok          | ABABCD🤔
+        ABCD🤔                   | insert_str           | 1  | AB                      | ok          | AABBCD🤔
+                                | insert_str           | 1  | BC                      | ok          | ABCABBCD🤔
+                                | insert_str           | 20 | C                       | OutOfBounds | ABCABBCD🤔
+                                | insert_str           | 10 | D                       | Utf8        | ABCABBCD🤔
+        ABCD🤔                   | try_insert_str       | 1  | AB                      | ok          | AABBCD🤔
+                                | try_insert_str       | 1  | BC                      | ok          | ABCABBCD🤔
+                                | try_insert_str       | 20 | C                       | OutOfBounds | ABCABBCD🤔
+                                | try_insert_str       | 10 | D                       | Utf8        | ABCABBCD🤔
+                                | try_insert_str       | 1  | 00000000000000000000000 | OutOfBounds | ABCABBCD🤔
+        ABCD🤔                   | insert_str_unchecked | 1  | AB                      | ok          | AABBCD🤔
+                                | insert_str_unchecked | 1  | BC                      | ok          | ABCABBCD🤔
+        abcdefghijklmnopqrstuvw | len                  |    |                         | ok          | abcdefghijklmnopqrstuvw | 23
+                                | try_insert           | 0  | C                       | OutOfBounds | abcdefghijklmnopqrstuvw
+        00000000000000000000000 | try_insert           | 0  | C                       | OutOfBounds | 00000000000000000000000
+        # 10 | what does not fit is cut
+        AB | insert_str | 1 | 🤔🤔🤔 | ok | A🤔🤔B
+        # 9 | what does not fit is cut
+        AB | insert_str | 1 | 🤔🤔🤔 | ok | A🤔B
+        # 23 | what does not fit is cut
+        new | insert_str | 0 | 000000000000000000000000000000000 | ok | 00000000000000000000000
+        # 23 | moves of insertions
+        ABCD | try_insert_str_counted | 1 | xy                      | ok          | AxyBCD | 3
+        ABCD | try_insert_str_counted | 0 | xy                      | ok          | xyABCD | 4
+        ABCD | try_insert_str_counted | 4 | xy                      | ok          | ABCDxy | 0
+        ABCD | try_insert_str_counted | 2 |                         | ok          | ABCD   | 0
+        ABCD | try_insert_str_counted | 5 | xy                      | OutOfBounds | ABCD   | 0
+        ABCD | try_insert_str_counted | 1 | 00000000000000000000000 | OutOfBounds | ABCD   | 0
+        🤔   | try_insert_str_counted | 2 | xy                      | Utf8        | 🤔     | 0
+        # 4 | a full string takes the empty text alone
+        abcd | try_insert           | 0 | x | OutOfBounds | abcd
+             | try_insert           | 1 | x | OutOfBounds | abcd
+             | try_insert           | 2 | x | OutOfBounds | abcd
+             | try_insert           | 3 | x | OutOfBounds | abcd
+             | try_insert           | 4 | x | OutOfBounds | abcd
+        abcd | try_insert_str       | 0 | x | OutOfBounds | abcd
+             | try_insert_str       | 0 |   | ok          | abcd
+             | try_insert_str       | 1 | x | OutOfBounds | abcd
+             | try_insert_str       | 1 |   | ok          | abcd
+             | try_insert_str       | 2 | x | OutOfBounds | abcd
+             | try_insert_str       | 2 |   | ok          | abcd
+             | try_insert_str       | 3 | x | OutOfBounds | abcd
+             | try_insert_str       | 3 |   | ok          | abcd
+             | try_insert_str       | 4 | x | OutOfBounds | abcd
+             | try_insert_str       | 4 |   | ok          | abcd
+        abcd | insert_str           | 0 | x | ok          | abcd
+             | insert_str           | 1 | x | ok          | abcd
+             | insert_str           | 2 | x | ok          | abcd
+             | insert_str           | 3 | x | ok          | abcd
+             | insert_str           | 4 | x | ok          | abcd
+             | insert_str           | 5 |   | OutOfBounds | abcd
+        abcd | insert_unchecked     | 0 | x | None        | abcd
+             | insert_unchecked     | 1 | x | None        | abcd
+             | insert_unchecked     | 2 | x | None        | abcd
+             | insert_unchecked     | 3 | x | None        | abcd
+             | insert_unchecked     | 4 | x | None        | abcd
+        abcd | insert_str_unchecked | 0 |   | ok          | abcd
+             | insert_str_unchecked | 1 |   | ok          | abcd
+             | insert_str_unchecked | 2 |   | ok          | abcd
+             | insert_str_unchecked | 3 |   | ok          | abcd
+             | insert_str_unchecked | 4 |   | ok          | abcd
+        🤔    | try_insert           | 1 | x | OutOfBounds | 🤔
+             | try_insert_str       | 1 | x | OutOfBounds | 🤔
+             | try_insert_str       | 1 |   | Utf8        | 🤔
+             | insert_str           | 1 | x | Utf8        | 🤔
+             | try_insert           | 2 | x | OutOfBounds | 🤔
+             | try_insert_str       | 2 | x | OutOfBounds | 🤔
+             | try_insert_str       | 2 |   | Utf8        | 🤔
+             | insert_str           | 2 | x | Utf8        | 🤔
+             | try_insert           | 3 | x | OutOfBounds | 🤔
+             | try_insert_str       | 3 | x | OutOfBounds | 🤔
+             | try_insert_str       | 3 |   | Utf8        | 🤔
+             | insert_str           | 3 | x | Utf8        | 🤔
+        # 0 | capacities
+        new | try_insert     | 0 | x | OutOfBounds |
+            | try_insert_str | 0 |   | ok          |
+            | insert_str     | 0 | x | ok          |
+            | insert_str     | 1 |   | OutOfBounds |
+        # 1 | capacities
+        new | insert_str | 0 | éa | ok          |
+            | try_insert | 0 | é  | OutOfBounds |
+            | try_insert | 0 | a  | ok          | a
+        # 300 | a string of the most letters
+        255 x | insert_str     | 255 | x | ok          | 255 x
+              | try_insert_str | 255 |   | ok          | 255 x
+              | try_insert     | 255 | x | OutOfBounds | 255 x
+              | try_insert     | 0   | x | OutOfBounds | 255 x
+        # 255 | more letters than fit
+        new | try_insert_str | 0 | 256 x | OutOfBounds |
+            | insert_str     | 0 | 256 x | ok          | 255 x
+        ",
+    );
+}
+
+#[test]
+fn room_is_asked_before_the_place(rt: HostRuntime) {
+    let mut text = SmallString::from("ABCD🤔");
+    agree(&rt, "A at 1", text.try_insert(1, 'A'), Ok(()));
+    agree(&rt, "B at 2", text.try_insert(2, 'B'), Ok(()));
+    agree(&rt, "the text", text.as_str(), "AABBCD🤔");
+    let refused = Err(Error::OutOfBounds);
+    agree(&rt, "C at 20", text.try_insert(20, 'C'), refused);
+    agree(&rt, "D at 8", text.try_insert(8, 'D'), Err(Error::Utf8));
+    agree(&rt, "the same text", text.as_str(), "AABBCD🤔");
+}
+
+#[test]
+fn a_full_string_has_no_room_at_any_place(rt: HostRuntime) {
+    let refused = Err(Error::OutOfBounds);
+    let mut full = SmallString::from("abcdefghijklmnopqrstuvw");
+    agree(&rt, "C at 0", full.try_insert(0, 'C'), refused);
+    agree(&rt, "letters", full.as_str(), "abcdefghijklmnopqrstuvw");
+    let mut face = ArrayString::<4>::from("🤔");
+    agree(&rt, "whole", face.try_insert(1, 'x'), refused);
+    agree(&rt, "cut", face.insert_str(1, "x"), Err(Error::Utf8));
+    agree(&rt, "a face", face.as_str(), "🤔");
+}

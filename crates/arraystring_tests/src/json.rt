@@ -1,0 +1,178 @@
+//! Strings to JSON values and back, worked out by hand.
+use super::table::agree;
+use arraystring::integration::NotText;
+use arraystring::{ArrayString, CacheString};
+use serde_json::Value;
+use std::alloc::{AllocError, Global};
+use std::process::Abort;
+use std::test::Fail;
+use test_support::memory::{ScarceMemory, TIMES};
+
+/// As many letters as fit.
+const LETTERS: &str = "abcdefghijklmnopqrstuvwxyzABCDEFGHIJKLMNOPQRSTUVWXYZabcdefghijk";
+
+/// The longest leading run of whole characters that takes at most so many bytes.
+fn leading(text: &str, most: usize) -> &str {
+    for size in (0..=most).rev() {
+        if let Some(front) = text.get(..size) {
+            return front;
+        }
+    }
+    text
+}
+
+/// Asserts that what was made of a JSON text is the text, that it is written as it, and read back.
+fn kept<S: Json>(rt: &(impl Abort + AllocGlobal), given: &Value, wanted: &str) {
+    let string = S::read(given).expect(rt, "a string of a JSON text");
+    agree(rt, wanted, string.text(), wanted);
+    let value = string.value(rt.alloc()).expect(rt, "memory for the value");
+    agree(rt, wanted, value.as_str(), Some(wanted));
+    let back = S::read(&value).expect(rt, "the same string");
+    agree(rt, wanted, back.text(), wanted);
+    let printed = value.to_string(rt.alloc()).expect(rt, "memory for it");
+    let inside = printed.as_str().strip_prefix('"').unwrap_or_default();
+    agree(rt, wanted, inside.strip_suffix('"'), Some(wanted));
+}
+
+/// Texts of each size up to 300 bytes, of letters and of characters of each width.
+#[test]
+fn texts_of_each_size_are_read_back(rt: HostRuntime) -> Result<(), Fail> {
+    let letters = "abcdefg".repeat(rt.alloc(), 50)?;
+    let wide = "aé€🤔".repeat(rt.alloc(), 35)?;
+    for text in [letters.as_str(), wide.as_str()] {
+        for start in 0..10usize {
+            for size in 0..301usize {
+                if let Some(text) = text.get(start..start + size) {
+                    let given = Value::String(String::from_str(rt.alloc(), text)?);
+                    kept::<ArrayString<8>>(&rt, &given, leading(text, 8));
+                    kept::<ArrayString<63>>(&rt, &given, leading(text, 63));
+                    kept::<ArrayString<255>>(&rt, &given, leading(text, 255));
+                    kept::<CacheString>(&rt, &given, leading(text, 63));
+                }
+            }
+        }
+    }
+    Ok(())
+}
+
+#[test]
+fn a_text_is_cut_to_63_bytes(rt: HostRuntime) -> Result<(), Fail> {
+    let json = "\"abcdefghijabcdefghijabcdefghijabcdefghijabcdefghijabcdefghijabcdefghij\"";
+    let value = Value::from_str(rt.alloc(), json)?;
+    let cut = "abcdefghijabcdefghijabcdefghijabcdefghijabcdefghijabcdefghijabc";
+    let string = ArrayString::<63>::from_value(&value)?;
+    agree(&rt, "the text", string.as_str(), cut);
+    let cached = CacheString::from_value(&value)?;
+    agree(&rt, "the cached text", cached.0, string);
+    Ok(())
+}
+
+#[test]
+fn escapes_are_characters(rt: HostRuntime) -> Result<(), Fail> {
+    let value = Value::from_str(rt.alloc(), "\"a\\u00e9\\n\"")?;
+    let string = ArrayString::<8>::from_value(&value)?;
+    agree(&rt, "a, é and the end of a line", string.as_str(), "aé\n");
+    Ok(())
+}
+
+#[test]
+fn other_values_are_not_texts(rt: HostRuntime) -> Result<(), Fail> {
+    for json in "null true false 7 -7 0.5 1e300 [] [\"a\"] {}".split(' ') {
+        let value = Value::from_str(rt.alloc(), json)?;
+        let string = ArrayString::<63>::from_value(&value);
+        agree(&rt, json, string, Err(NotText));
+        agree(&rt, json, CacheString::from_value(&value), Err(NotText));
+    }
+    Ok(())
+}
+
+/// A string that becomes a JSON value.
+trait Json: Drop {
+    fn value(&self, alloc: Global) -> Result<Value, AllocError>;
+
+    fn read(value: &Value) -> Result<Self, NotText>;
+
+    fn text(&self) -> &str;
+}
+
+impl<const N: usize> Json for ArrayString<N> {
+    fn value(&self, alloc: Global) -> Result<Value, AllocError> {
+        self.to_value(alloc)
+    }
+
+    fn read(value: &Value) -> Result<Self, NotText> {
+        Self::from_value(value)
+    }
+
+    fn text(&self) -> &str {
+        self.as_str()
+    }
+}
+
+impl Json for CacheString {
+    fn value(&self, alloc: Global) -> Result<Value, AllocError> {
+        self.to_value(alloc)
+    }
+
+    fn read(value: &Value) -> Result<Self, NotText> {
+        Self::from_value(value)
+    }
+
+    fn text(&self) -> &str {
+        self.0.as_str()
+    }
+}
+
+/// The value of a string where ever more memory is left, from none up. A refused growth leaves the
+/// string.
+fn value_at_last<S: Json>(
+    rt: &impl Abort,
+    alloc: Global,
+    mut scarce: ScarceMemory,
+    string: &S,
+) -> Result<Value, Fail> {
+    let mut refused = 0u32;
+    let mut made = Err(AllocError);
+    for _ in 0..TIMES {
+        scarce.leave_more(alloc)?;
+        made = string.value(alloc);
+        if made.is_ok() {
+            break;
+        }
+        refused = refused.saturating_add(1);
+        agree(rt, "the string", string.text(), LETTERS);
+    }
+    drop(scarce);
+    agree(rt, "refusals", refused >= 1, true);
+    Ok(made?)
+}
+
+#[test]
+fn want_of_memory_leaves_the_string(rt: HostRuntime) -> Result<(), Fail> {
+    let string: ArrayString<63> = ArrayString::from_str_truncate(LETTERS);
+    let Some(scarce) = ScarceMemory::take(rt.alloc())? else {
+        return Ok(());
+    };
+    let made = value_at_last(&rt, rt.alloc(), scarce, &string)?;
+    agree(&rt, "at last", made.as_str(), Some(LETTERS));
+    let back = ArrayString::from_value(&made);
+    agree(&rt, "read back", back, Ok(string));
+    let anew = string.to_value(rt.alloc())?;
+    agree(&rt, "once more", anew, made);
+    Ok(())
+}
+
+#[test]
+fn want_of_memory_leaves_the_cache_string(rt: HostRuntime) -> Result<(), Fail> {
+    let string = CacheString::from_str_truncate(LETTERS);
+    let Some(scarce) = ScarceMemory::take(rt.alloc())? else {
+        return Ok(());
+    };
+    let made = value_at_last(&rt, rt.alloc(), scarce, &string)?;
+    agree(&rt, "at last", made.as_str(), Some(LETTERS));
+    let back = CacheString::from_value(&made);
+    agree(&rt, "read back", back, Ok(string));
+    let anew = string.to_value(rt.alloc())?;
+    agree(&rt, "once more", anew, made);
+    Ok(())
+}

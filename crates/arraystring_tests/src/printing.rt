@@ -1,0 +1,183 @@
+//! How values are printed; for debugging, as Rust's derived forms print the same fields.
+ghost use Rattle.std.specs.Prelude.{◌≤◌};
+
+use super::table::{MANY_LETTERS, agree, string};
+use arraystring::ArrayString;
+use arraystring::prelude::*;
+use std::fmt;
+use std::fmt::{Debug, Display};
+use std::process::Abort;
+
+/// Asserts that a value is printed as a text, in each form that could pad or cut it, at each width.
+pub(crate) fn displays<T: Display>(rt: &(impl Abort + AllocGlobal), value: &T, wanted: &str) {
+    for width in 0..300usize {
+        let printed = format!(in rt.alloc();
+            "{value}{value:#}{value:width$}{value:<width$}{value:>width$}{value:*^width$}\
+            {value:0width$}{value:#width$}{value:.width$}{value:>width$.1}"
+        );
+        let printed = printed.expect(rt, "memory for what is printed");
+        let rest = printed.as_str().trim_start_matches(wanted);
+        agree(rt, wanted, rest, "");
+        agree(rt, wanted, printed.len() / 10, wanted.len());
+        agree(rt, wanted, printed.len() % 10, 0);
+    }
+}
+
+/// Asserts how a value is printed for debugging: plainly, on lines, and in three widths.
+pub(crate) fn debugs<T: Debug>(rt: &(impl Abort + AllocGlobal), value: &T, wanted: &str) {
+    let printed = format!(in rt.alloc();
+        "{value:?}|{value:#?}|{value:4?}|{value:12?}|{value:>12?}"
+    );
+    let printed = printed.expect(rt, "memory for what is printed");
+    agree(rt, "each form", printed.as_str(), wanted);
+}
+
+/// A text that is printed alone.
+#[derive(Drop)]
+pub(crate) struct Alone<'a>(pub(crate) &'a str);
+
+impl Debug for Alone<'_> {
+    fn fmt<W: fmt::Write>(&self, f: &mut fmt::Formatter<W>) -> fmt::Result {
+        f.write_str(self.0)
+    }
+}
+
+/// Types whose derived forms are those of the strings.
+pub(crate) mod derived {
+    #[derive(Debug, Drop)]
+    pub(crate) struct ArrayString<'a> {
+        pub(crate) array: &'a str,
+        pub(crate) size: usize,
+    }
+
+    #[derive(Debug, Drop)]
+    pub(crate) struct CacheString<'a>(pub(crate) ArrayString<'a>);
+
+    #[derive(Debug, Drop)]
+    pub(crate) struct Drain<'a>(pub(crate) &'a str);
+}
+
+/// How a value is printed for debugging in each form that could pad or cut it.
+fn forms<T: Debug>(rt: &(impl Abort + AllocGlobal), value: &T, width: usize) -> String {
+    let printed = format!(in rt.alloc();
+        "{value:?}|{value:#?}|{value:width$?}|{value:<width$?}|{value:>width$?}|{value:*^width$?}|\
+        {value:0width$?}|{value:#width$?}|{value:.width$?}|{value:>width$.1?}"
+    );
+    printed.expect(rt, "memory for what is printed")
+}
+
+/// Asserts that one value is printed for debugging as the other, in each form, at each width.
+pub(crate) fn debugs_as<T: Debug, W: Debug>(
+    rt: &(impl Abort + AllocGlobal),
+    value: &T,
+    wanted: &W,
+) {
+    for width in 0..30usize {
+        agree(
+            rt,
+            "each width",
+            forms(rt, value, width),
+            forms(rt, wanted, width),
+        );
+    }
+}
+
+#[test]
+fn texts_are_printed_as_they_are(rt: HostRuntime) {
+    for text in "| a | é | € | 🤔 | aé€🤔bé | ab | abc".split('|') {
+        let text = text.trim_matches(' ');
+        displays(&rt, &SmallString::from(text), text);
+        displays(&rt, &CacheString::from_str_truncate(text), text);
+    }
+    displays(&rt, &MaxString::from(MANY_LETTERS), MANY_LETTERS);
+    let cached = CacheString::from_str_truncate(MANY_LETTERS);
+    displays(
+        &rt,
+        &cached,
+        "abcdeabcdeabcdeabcdeabcdeabcdeabcdeabcdeabcdeabcdeabcdeabcdeabc",
+    );
+}
+
+/// Asserts how a string of a text that fits is printed, and what is drained from it.
+fn shows<const N: usize>(rt: &(impl Abort + AllocGlobal), text: &str)
+    requires { N ≤ 300 }
+{
+    let mut string: ArrayString<N> = string(text);
+    displays(rt, &string, text);
+    let wanted = derived::ArrayString {
+        array: text,
+        size: text.len(),
+    };
+    debugs_as(rt, &string, &wanted);
+    let drained = string.drain(..).unwrap_or_default();
+    debugs_as(rt, &drained, &derived::Drain(text));
+}
+
+/// The same of a string of 63 bytes.
+fn shows_cached(rt: &(impl Abort + AllocGlobal), text: &str) {
+    let string = CacheString::from_str_truncate(text);
+    displays(rt, &string, text);
+    let wanted = derived::ArrayString {
+        array: text,
+        size: text.len(),
+    };
+    debugs_as(rt, &string, &derived::CacheString(wanted));
+}
+
+#[test]
+fn texts_of_many_sizes_are_printed(rt: HostRuntime) {
+    for count in 0..52usize {
+        let size = count * 5;
+        let text = MANY_LETTERS.get(..size).unwrap_or_default();
+        match size {
+            0..4 => shows::<3>(&rt, text),
+            4..24 => shows::<23>(&rt, text),
+            24..200 => shows::<300>(&rt, text),
+            _ => shows::<255>(&rt, text),
+        }
+        if size < 64 {
+            shows_cached(&rt, text);
+        }
+    }
+}
+
+#[test]
+fn strings_are_printed_for_debugging(rt: HostRuntime) {
+    let wanted = "ArrayString { array: \"\", size: 0 }|\
+        ArrayString {\n    array: \"\",\n    size: 0,\n}|\
+        ArrayString { array: \"\", size:    0 }|\
+        ArrayString { array: \"\", size:            0 }|\
+        ArrayString { array: \"\", size:            0 }";
+    debugs(&rt, &SmallString::new(), wanted);
+    let wanted = "ArrayString { array: \"abc\", size: 3 }|\
+        ArrayString {\n    array: \"abc\",\n    size: 3,\n}|\
+        ArrayString { array: \"abc\", size:    3 }|\
+        ArrayString { array: \"abc\", size:            3 }|\
+        ArrayString { array: \"abc\", size:            3 }";
+    debugs(&rt, &ArrayString::<8>::from("abc"), wanted);
+    debugs(&rt, &SmallString::from("abc"), wanted);
+    let mut text: ArrayString<8> = ArrayString::from("aé");
+    let _ = text.remove(0);
+    let wanted = "ArrayString { array: \"é\", size: 2 }|\
+        ArrayString {\n    array: \"é\",\n    size: 2,\n}|\
+        ArrayString { array: \"é\", size:    2 }|\
+        ArrayString { array: \"é\", size:            2 }|\
+        ArrayString { array: \"é\", size:            2 }";
+    debugs(&rt, &text, wanted);
+}
+
+#[test]
+fn cached_strings_are_printed_for_debugging(rt: HostRuntime) {
+    let wanted = "CacheString(ArrayString { array: \"\", size: 0 })|\
+        CacheString(\n    ArrayString {\n        array: \"\",\n        size: 0,\n    },\n)|\
+        CacheString(ArrayString { array: \"\", size:    0 })|\
+        CacheString(ArrayString { array: \"\", size:            0 })|\
+        CacheString(ArrayString { array: \"\", size:            0 })";
+    debugs(&rt, &CacheString::new(), wanted);
+    let wanted = "CacheString(ArrayString { array: \"aé€🤔\", size: 10 })|\
+        CacheString(\n    ArrayString {\n        array: \"aé€🤔\",\n        size: 10,\n    },\n)|\
+        CacheString(ArrayString { array: \"aé€🤔\", size:   10 })|\
+        CacheString(ArrayString { array: \"aé€🤔\", size:           10 })|\
+        CacheString(ArrayString { array: \"aé€🤔\", size:           10 })";
+    debugs(&rt, &CacheString::from_str_truncate("aé€🤔"), wanted);
+}

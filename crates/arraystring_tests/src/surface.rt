@@ -1,0 +1,140 @@
+//! The paths by which callers reach the crate, and the traits of the types at those paths.
+use super::table::agree;
+use arraystring::drain::Drain;
+use arraystring::error::{OutOfBounds, Utf8, Utf16};
+use arraystring::integration::NotText;
+use arraystring::utf16::{Unit16, Units};
+use arraystring::{
+    ArrayString, CacheString, Error, MaxString, SmallString, drain, error, laws, prelude,
+};
+use std::error::Error as StdError;
+use std::fmt::{Debug, Display, Write};
+use std::hash::Hash;
+use std::iter::FusedIterator;
+use std::ops::Add;
+use std::str::{FromStr, Utf8Error};
+
+fn is_plain<T: Copy + Clone + PartialEq + Eq + Debug>() {}
+
+fn has_default<T: Default>() {}
+
+fn is_refusal<T: Display + StdError>() {}
+
+fn is_ordered<T: PartialOrd + Ord + Hash>() {}
+
+fn becomes_an_error<T>()
+where
+    Error: From<T>,
+{}
+
+fn is_a_string<'a, T: Display + FromStr<Err = OutOfBounds> + Write + Add<&'a str, Output = T>>() {}
+
+fn is_walked_from_both_ends<T: DoubleEndedIterator<Item = char> + FusedIterator>() {}
+
+fn is_walked<T: Iterator<Item = Unit16> + FusedIterator>() {}
+
+#[test]
+fn each_type_has_its_traits(rt: HostRuntime) {
+    is_plain::<Error>();
+    is_plain::<Utf8>();
+    is_plain::<Utf16>();
+    is_plain::<OutOfBounds>();
+    is_plain::<NotText>();
+    is_plain::<Unit16>();
+    is_plain::<ArrayString<5>>();
+    is_plain::<Drain<5>>();
+    is_plain::<CacheString>();
+
+    has_default::<Utf8>();
+    has_default::<Utf16>();
+    has_default::<OutOfBounds>();
+    has_default::<ArrayString<5>>();
+    has_default::<Drain<5>>();
+    has_default::<CacheString>();
+
+    is_refusal::<Error>();
+    is_refusal::<Utf8>();
+    is_refusal::<Utf16>();
+    is_refusal::<OutOfBounds>();
+    is_refusal::<NotText>();
+
+    becomes_an_error::<Utf8>();
+    becomes_an_error::<Utf16>();
+    becomes_an_error::<OutOfBounds>();
+    becomes_an_error::<Utf8Error>();
+
+    is_ordered::<ArrayString<5>>();
+    is_ordered::<Drain<5>>();
+    is_ordered::<CacheString>();
+
+    is_a_string::<ArrayString<5>>();
+    is_a_string::<CacheString>();
+
+    is_walked_from_both_ends::<Drain<5>>();
+    is_walked::<Units<'static>>();
+
+    // What is at hand is the default: nothing is refused, and nothing is left.
+    agree(&rt, "a drain", Drain::<5>::default().next(), None);
+    let string = ArrayString::<5>::default();
+    agree(&rt, "a string", string.as_str(), "");
+}
+
+/// It takes two values of one type alone.
+#[test]
+fn each_path_names_the_same(rt: HostRuntime) {
+    let small = ArrayString::<23>::new();
+    agree(&rt, "small", small, SmallString::new());
+    agree(&rt, "small, taken", small, prelude::SmallString::new());
+    let most = ArrayString::<255>::new();
+    agree(&rt, "most", most, MaxString::new());
+    agree(&rt, "most, taken", most, prelude::MaxString::new());
+    let cached = prelude::CacheString::new();
+    agree(&rt, "cached", CacheString::new(), cached);
+    let mut text = prelude::ArrayString::<5>::from("abc");
+    let removed: Result<prelude::Drain<5>, Error> = text.drain(1..);
+    let left: drain::Drain<5> = removed.unwrap_or_default();
+    agree(&rt, "drained", left.as_str(), "bc");
+    agree(&rt, "UTF-8", error::Utf8, prelude::Utf8);
+    agree(&rt, "UTF-16", error::Utf16, prelude::Utf16);
+    agree(&rt, "bounds", error::OutOfBounds, prelude::OutOfBounds);
+    agree(&rt, "an error", error::Error::Utf8, Error::from(Utf8));
+}
+
+/// Each law is called by its path; it does nothing.
+#[test]
+fn the_laws_are_at_hand(_rt: HostRuntime) {
+    laws::boundaries();
+    laws::cut_of_cut();
+    laws::equal_texts();
+    laws::json_reads_back();
+    let mut text = ArrayString::<5>::from("é");
+    laws::text_fits(&text);
+    if let Ok(drained) = text.drain(..) {
+        laws::left_fits(&drained);
+    }
+    laws::lent_text("a");
+    laws::longest_cut();
+    laws::one_stop();
+    laws::one_text();
+    laws::only_reading(&[0xD800]);
+    laws::order_of_bytes();
+    laws::order_of_texts();
+    laws::parts();
+    laws::pieces_make_one_text("a");
+    laws::popped();
+    laws::replaced_back();
+    laws::size_is_length();
+    laws::split_back();
+    laws::text_reading();
+    laws::trimmed();
+    laws::units_read_back();
+    laws::walks();
+    laws::what_comes_past_the_room();
+    laws::white_space();
+}
+
+#[test]
+fn the_aliases_have_their_capacities(rt: HostRuntime) {
+    agree(&rt, "small", SmallString::capacity(), 23);
+    agree(&rt, "greatest", MaxString::capacity(), 255);
+}

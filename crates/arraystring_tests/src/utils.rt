@@ -1,0 +1,133 @@
+//! The calls of `utils`, on values worked out by hand.
+use super::table::{agree, number};
+use arraystring::ArrayString;
+use arraystring::error::{OutOfBounds, Utf8};
+use arraystring::utils::{
+    Steps, encode, is_boundary, is_char_boundary, is_inside_boundary, look, shift, truncate_str,
+    truncate_str_counted,
+};
+use arraystring_base::utils::{last_char, write_over};
+use test_support::table::{column, rows};
+
+#[test]
+fn sizes_inside_a_limit(rt: HostRuntime) {
+    agree(&rt, "5 of 5", is_inside_boundary(5, 5), Ok(()));
+    agree(&rt, "6 of 5", is_inside_boundary(6, 5), Err(OutOfBounds));
+    let inside = is_char_boundary(&ArrayString::<5>::from("é"), 1);
+    agree(&rt, "inside a character", inside, Err(Utf8));
+}
+
+/// The columns are a text, a size, and the text cut to it. The size is a boundary where the cut has it.
+#[test]
+fn texts_are_cut_at_boundaries(rt: HostRuntime) {
+    let table = "
+        A🤔    | 0  |
+        A🤔    | 1  | A
+        A🤔    | 2  | A
+        A🤔    | 4  | A
+        A🤔    | 5  | A🤔
+        A🤔    | 6  | A🤔
+        i      | 10 | i
+        iiiiii | 3  | iii
+        🤔🤔🤔 | 5  | 🤔
+        🤔🤔🤔 | 3  |
+        🤔🤔   | 7  | 🤔
+        aé     | 2  | a
+        aé     | 3  | aé
+        a€b    | 3  | a
+        a€b    | 4  | a€
+        ";
+    for row in rows(table) {
+        let (text, size, wanted) = (column(row, 0), number(&rt, row, 1), column(row, 2));
+        let is_whole = wanted.len() == size as usize;
+        agree(&rt, row, is_boundary(text, size as usize), is_whole);
+        agree(&rt, row, truncate_str(text, size), wanted);
+        let mut steps = Steps::new();
+        let cut = truncate_str_counted(text, size, &mut steps);
+        agree(&rt, row, cut, wanted);
+        agree(&rt, row, (steps.looked() <= 4, steps.moved()), (true, 0));
+    }
+}
+
+/// The columns are a text, where its last character begins, and that character.
+#[test]
+fn the_last_character(rt: HostRuntime) {
+    let table = "
+                     | 0 |
+        \u{7F}       | 0 | \u{7F}
+        a\u{80}      | 1 | \u{80}
+        a\u{7FF}     | 1 | \u{7FF}
+        \u{800}      | 0 | \u{800}
+        ab\u{FFFF}   | 2 | \u{FFFF}
+        \u{10000}    | 0 | \u{10000}
+        é\u{10FFFF}  | 2 | \u{10FFFF}
+        ";
+    for row in rows(table) {
+        let wanted = Some(number(&rt, row, 1) as usize).zip(column(row, 2).chars().next());
+        let mut steps = Steps::new();
+        agree(&rt, row, last_char(column(row, 0), &mut steps), wanted);
+        agree(&rt, row, (steps.looked() <= 4, steps.moved()), (true, 0));
+    }
+}
+
+#[test]
+#[tactic(auto, unfolding(arraystring_base::specs::Text::width))]
+fn characters_are_encoded_in_place(rt: HostRuntime) {
+    let mut array = [b'.'; 6];
+    agree(&rt, "one byte", encode('a', &mut array, 0), 1);
+    agree(&rt, "four bytes", encode('🤔', &mut array, 1), 4);
+    agree(&rt, "both", array, *b"a\xF0\x9F\xA4\x94.");
+    let chars = "\u{7F}\u{80}\u{7FF}\u{800}\u{FFFF}\u{10000}\u{10FFFF}";
+    let bytes = b"\x7F...\
+        \xC2\x80..\
+        \xDF\xBF..\
+        \xE0\xA0\x80.\
+        \xEF\xBF\xBF.\
+        \xF0\x90\x80\x80\
+        \xF4\x8F\xBF\xBF";
+    for (ch, wanted) in chars.chars().zip(bytes.chunks(4)) {
+        let mut array = [b'.'; 4];
+        encode(ch, &mut array, 0);
+        agree(&rt, "encoded", array.as_slice(), wanted);
+    }
+}
+
+#[test]
+fn bytes_are_shifted(rt: HostRuntime) {
+    let mut array = *b"abcdefg.....";
+    let mut steps = Steps::new();
+    agree(&rt, "a look", look(&array, 1, &mut steps), b'b');
+    shift(&mut array, 0, 4, 7, &mut steps);
+    agree(&rt, "up", array, *b"abcdabcdefg.");
+    agree(&rt, "7 moves", (steps.looked(), steps.moved()), (1, 7));
+    let mut array = *b"abcdefg.....";
+    shift(&mut array, 1, 0, 6, &mut steps);
+    agree(&rt, "down", array, *b"bcdefgg.....");
+    agree(&rt, "6 more", steps.moved(), 13);
+    shift(&mut array, 0, 0, 7, &mut steps);
+    agree(&rt, "nowhere", array, *b"bcdefgg.....");
+    agree(&rt, "no more", (steps.looked(), steps.moved()), (1, 13));
+}
+
+/// Each row is the array after letters were written over its dots from the second on.
+#[test]
+fn bytes_are_written_over(rt: HostRuntime) {
+    let table = "
+        ..................
+        .a................
+        .abc..............
+        .abcdefg..........
+        .abcdefghijklmno..
+        .abcdefghijklmnop.
+        .abcdefghijklmnopq
+        ";
+    for row in rows(table) {
+        let row = row.trim_matches(' ');
+        let given = row.trim_matches('.').as_bytes();
+        let mut array = [b'.'; 18];
+        if given.len() <= 17 {
+            write_over(&mut array, 1, given);
+        }
+        agree(&rt, row, array.as_slice(), row.as_bytes());
+    }
+}

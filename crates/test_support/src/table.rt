@@ -1,0 +1,33 @@
+//! Tables of cases: a line of a text is a case, and `|` is between its columns. However many lines a
+//! table has, the test that walks over it is proved once.
+use std::str::Lines;
+
+/// 256 letters, one more than fit into any string.
+pub const LETTERS: &str = "xxxxxxxxxxxxxxxxxxxxxxxxxxxxxxxxxxxxxxxxxxxxxxxxxxxxxxxxxxxxxxxx\
+    xxxxxxxxxxxxxxxxxxxxxxxxxxxxxxxxxxxxxxxxxxxxxxxxxxxxxxxxxxxxxxxx\
+    xxxxxxxxxxxxxxxxxxxxxxxxxxxxxxxxxxxxxxxxxxxxxxxxxxxxxxxxxxxxxxxx\
+    xxxxxxxxxxxxxxxxxxxxxxxxxxxxxxxxxxxxxxxxxxxxxxxxxxxxxxxxxxxxxxxx";
+
+/// The rows of a table.
+pub fn rows(table: &str) -> Lines {
+    table.trim().lines()
+}
+
+/// A column of a row, without the spaces round it and without the quotes in which a text may be.
+/// `255 x` is so many letters.
+pub fn column(row: &str, at: usize) -> &str {
+    let column = row
+        .split('|')
+        .nth(at)
+        .unwrap_or("no column")
+        .trim_matches(' ');
+    if let Some(rest) = column.strip_prefix('\'') {
+        return rest.strip_suffix('\'').unwrap_or(column);
+    }
+    let Some(count) = column.strip_suffix(" x") else {
+        return column;
+    };
+    LETTERS
+        .get(..count.parse().unwrap_or(usize::MAX))
+        .unwrap_or(column)
+}
