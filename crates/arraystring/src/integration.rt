@@ -42,3 +42,5 @@ impl CacheString {
 
 #[cfg(test)]
 mod tests;
+#[cfg(test)]
+mod try_from_value_tests;

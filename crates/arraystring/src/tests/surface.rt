@@ -2,7 +2,7 @@
 use super::table::agree;
 use crate::drain::Drain;
 use crate::error::{OutOfBounds, Utf8, Utf16};
-use crate::integration::NotText;
+use crate::integration::{NotText, ValueError};
 use crate::utf16::{Unit16, Units};
 use crate::{ArrayString, CacheString, Error, MaxString, SmallString, drain, error, laws, prelude};
 use std::error::Error as StdError;
@@ -38,6 +38,7 @@ fn each_type_has_its_traits(rt: HostRuntime) {
     is_plain::<Utf16>();
     is_plain::<OutOfBounds>();
     is_plain::<NotText>();
+    is_plain::<ValueError>();
     is_plain::<Unit16>();
     is_plain::<ArrayString<5>>();
     is_plain::<Drain<5>>();
@@ -55,6 +56,7 @@ fn each_type_has_its_traits(rt: HostRuntime) {
     is_refusal::<Utf16>();
     is_refusal::<OutOfBounds>();
     is_refusal::<NotText>();
+    is_refusal::<ValueError>();
 
     becomes_an_error::<Utf8>();
     becomes_an_error::<Utf16>();
@@ -105,6 +107,7 @@ fn the_laws_are_at_hand(_rt: HostRuntime) {
     laws::cut_of_cut();
     laws::equal_texts();
     laws::json_reads_back();
+    laws::json_reads_whole();
     let mut text = ArrayString::<5>::from("é");
     laws::text_fits(&text);
     if let Ok(drained) = text.drain(..) {
