@@ -2,7 +2,8 @@
 use Rattle.std.proofs.Common.{◌≡◌, ◌≢◌, ℕ, List, [], ◌∷◌, map, Bool, true, false, cond, Option, Some, refl, sym, ap, ◌∙◌}
 use Rattle.std.specs.List.{AllByRecursion, AllPairs}
 use Rattle.std.specs.List.Sorted.{IsStrictlySortedBy}
-use Rattle.std.specs.Option.{option_map}
+use Rattle.std.specs.Option.{option_map, option_copied}
+use Rattle.std.proofs.Common.{Bor}
 use Rattle.std.specs.Ordering.{nat_cmp, eq_by_cmp}
 use Rattle.std.specs.declared.cmp.Ordering.TheVariants.{Less}
 use Rattle.std.specs.Cmp.{eq_by_cmp_equiv}
@@ -20,7 +21,8 @@ use Rattle.arraystring.specs.Stored.{Stored}
 use Rattle.arraystring.specs.Text.{IsBefore}
 use Rattle.arraystring.specs.OrderLaws.{order-says}
 use Rattle.bounded_records.specs.declared.user.User.{User}
-use Rattle.bounded_records.specs.Users.{by_text, texts}
+use Rattle.std.specs.Prelude.{IfSome, None}
+use Rattle.bounded_records.specs.Users.{by_text, texts, AreUnderTheirNames}
 
 -- the map from the texts
 abbrev pub users_of : List (Stored × User) → finite.FinMap (slice_cmp nat_cmp) (List ℕ × List ℕ)
@@ -107,3 +109,30 @@ first-texts (e ∷ es) = ap (λ l. e.0.text ∷ l) (first-texts es)
 pub keys_users : (es : List (Stored × User)) → IsStrictlySortedBy (λ a b. slice_cmp nat_cmp a.text b.text) (keys_of es)
     → finite.keys (users_of es) ≡ key_texts (keys_of es)
 keys_users es is = ap keys_of (entries-users es is) ∙ first-texts es
+
+-- each user stands under its own username
+own-none : (o : Option (List ℕ × List ℕ)) (q : List ℕ) → o ≡ None → IfSome o (λ u. u.0 ≡ q)
+own-none o q is = rw is tt
+
+pub own-new : (es : List (Stored × User)) → es ≡ [] → AreUnderTheirNames (users_of es)
+own-new es is q = own-none (finite.get (users_of es) q) q (ap (λ l. finite.get (users_of l) q) is ∙ finite.get-empty _ q)
+
+pub own-map : (m n : finite.FinMap (slice_cmp nat_cmp) (List ℕ × List ℕ)) → n ≡ m → AreUnderTheirNames m → AreUnderTheirNames n
+own-map m n is own q = rw is (own q)
+
+own-cond : (t r q : List ℕ) (old : Option (List ℕ × List ℕ)) (b : Bool) → (b ≡ true → q ≡ t) → IfSome old (λ u. u.0 ≡ q) → IfSome (cond b (Some (t, r)) old) (λ u. u.0 ≡ q)
+own-cond t r q old true same is = sym (same refl)
+own-cond t r q old false same is = is
+
+pub own-insert : (m : finite.FinMap (slice_cmp nat_cmp) (List ℕ × List ℕ)) (t r : List ℕ) → AreUnderTheirNames m → AreUnderTheirNames (finite.insert m t (t, r))
+own-insert m t r is q =
+    rw (finite.get-insert nat_list_cmp_total m t (t, r) q)
+    (own-cond t r q (finite.get m q) (eq_by_cmp (slice_cmp nat_cmp) q t) (λ e. tells_apart exact_bytes q t e) (is q))
+
+pub own-found : (o : Option User) (m : finite.FinMap (slice_cmp nat_cmp) (List ℕ × List ℕ)) (q : List ℕ) → AreUnderTheirNames m → option_map texts o ≡ finite.get m q → IfSome o (λ u. u.username.text ≡ q)
+own-found None m q own is = tt
+own-found (Some u) m q own is = rw (← is) at (own q)
+
+pub own-got : (o : Option (Bor User)) (q : List ℕ) → IfSome (option_copied o) (λ u. u.username.text ≡ q) → IfSome o (λ u. u.now.username.text ≡ q)
+own-got None q own = tt
+own-got (Some u) q own = own

@@ -1,5 +1,5 @@
 //! `Directory`: users by their usernames.
-ghost use Rattle.std.specs.Prelude.{◌≡◌, ◌≢◌, ◌<◌, ◌^◌, ℕ, IfOk, OnOk, OnErr, None, Some, List, length};
+ghost use Rattle.std.specs.Prelude.{◌≡◌, ◌≢◌, ◌<◌, ◌^◌, ℕ, IfOk, IfSome, OnOk, OnErr, None, Some, List, length};
 ghost use Rattle.std.specs.Iterator.{YieldsFirstBy, item_count};
 ghost use Rattle.std.specs.Option.{option_copied, option_map};
 ghost use Rattle.std.specs.List.{AllPairs};
@@ -30,13 +30,15 @@ impl Model for Directory {
     ghost use Rattle.std.specs.Cmp.Lexicographic.{slice_cmp};
     ghost use Rattle.std.specs.FinMap as map;
     ghost use Rattle.std.specs.Coded.{coded_list, coded_ℕ, coded×};
-    ghost use Rattle.bounded_records.specs.Users.{by_text};
+    ghost use Rattle.bounded_records.specs.Users.{by_text, AreUnderTheirNames};
 
     ghost Value = { map.FinMap (slice_cmp nat_cmp) (List ℕ × List ℕ) };
 
     ghost coded = { map.code (coded_list coded_ℕ) (coded× (coded_list coded_ℕ) (coded_list coded_ℕ)) };
 
     ghost view = { λ d. map.from_entries (by_text d.users.entries) };
+
+    ghost invariant = { λ d. AreUnderTheirNames (map.from_entries (by_text d.users.entries)) };
 }
 
 impl Directory {
@@ -67,7 +69,8 @@ impl Directory {
     /// The user under `username`; `None` where there is none. It takes no memory.
     #[tactic(auto, using(crate::proofs::MapLemmas::get_users))]
     pub fn get(&self, username: &ArrayString<20>) -> Option<&User>
-        ensures { option_map texts (option_copied result) ≡ map.get self.now username.now.text }
+        ensures found { option_map texts (option_copied result) ≡ map.get self.now username.now.text }
+        ensures own { IfSome result (λ user. user.now.username.text ≡ username.now.text) }
     {
         self.users.get(username)
     }
