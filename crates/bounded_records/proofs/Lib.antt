@@ -1,3 +1,5 @@
 pub mod FieldLemmas
 pub mod DecodeLemmas
 pub mod MapLemmas
+pub mod OwnNameLemmas
+pub mod WalkLemmas

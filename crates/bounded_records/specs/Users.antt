@@ -10,6 +10,10 @@ use Rattle.bounded_records.specs.declared.user.User.{User}
 abbrev pub texts : User → List ℕ × List ℕ
 texts user = (user.username.text, user.role.text)
 
+-- the usernames of users
+abbrev pub names_of : List (List ℕ × List ℕ) → List (List ℕ)
+names_of users = map (λ user. user.0) users
+
 -- the entries of a map from strings to users, by the texts of both
 abbrev pub by_text : List (Stored × User) → List (List ℕ × (List ℕ × List ℕ))
 by_text entries = map (λ e. (e.0.text, texts e.1)) entries
