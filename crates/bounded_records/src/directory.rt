@@ -5,7 +5,7 @@ ghost use Rattle.std.specs.List.{AllPairs};
 ghost use Rattle.std.specs.FinMap as map;
 ghost use Rattle.arraystring.specs.Text.{IsBefore};
 ghost use Rattle.bounded_records.specs.Users.{texts, names_of};
-ghost use Rattle.bounded_records.specs.Walks.{GivesInOrder, GivesInReverse, name_text, user_texts};
+ghost use Rattle.bounded_records.specs.Walks.{GivesInOrder, GivesInReverse, GivesCopiesInOrder, name_text, stored_text, user_texts};
 
 use crate::User;
 use crate::walks::{Names, Users};
@@ -149,9 +149,10 @@ impl Directory {
         ensures countable { length result < 2 ^ 63 }
         ensures runs { GivesInOrder name_text }
         ensures runs_back { GivesInReverse name_text }
+        ensures copies { GivesCopiesInOrder stored_text }
     {
         Names {
-            left: self.users.keys(),
+            keys: self.users.keys(),
         }
     }
 
@@ -164,9 +165,10 @@ impl Directory {
         ensures countable { length result < 2 ^ 63 }
         ensures runs { GivesInOrder user_texts }
         ensures runs_back { GivesInReverse user_texts }
+        ensures copies { GivesCopiesInOrder texts }
     {
         Users {
-            left: self.users.values(),
+            values: self.users.values(),
         }
     }
 }

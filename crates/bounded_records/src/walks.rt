@@ -16,7 +16,7 @@ use std::marker::Model;
 /// Contracts see the list of the texts of those that are left.
 #[derive(Drop)]
 pub struct Names<'a> {
-    pub(crate) left: Keys<'a, ArrayString<20>, User>,
+    pub(crate) keys: Keys<'a, ArrayString<20>, User>,
 }
 
 impl<'a> Model for Names<'a> {
@@ -24,7 +24,7 @@ impl<'a> Model for Names<'a> {
 
     ghost Value = { List (List ℕ) };
 
-    ghost view = { λ n. map (λ name. name.text) n.left };
+    ghost view = { λ names. map (λ name. name.text) names.keys };
 }
 
 /// As many of the same are left in the clone. It takes no memory and is never refused.
@@ -35,7 +35,7 @@ impl<'a> Clone for Names<'a> {
 
     fn clone(&self) -> Result<Self, AllocError> {
         Ok(Names {
-            left: self.left.clone()?,
+            keys: self.keys.clone()?,
         })
     }
 }
@@ -50,12 +50,12 @@ impl<'a> Iterator for Names<'a> {
 
     /// The first username that is left; `None` where none is, and from then on.
     fn next(&mut self) -> Option<&'a ArrayString<20>> {
-        self.left.next()
+        self.keys.next()
     }
 
     /// How many are left, twice.
     fn size_hint(&self) -> (usize, Option<usize>) {
-        self.left.size_hint()
+        self.keys.size_hint()
     }
 }
 
@@ -64,14 +64,14 @@ impl<'a> DoubleEndedIterator for Names<'a> {
 
     /// The last username that is left; `None` where none is, and from then on.
     fn next_back(&mut self) -> Option<&'a ArrayString<20>> {
-        self.left.next_back()
+        self.keys.next_back()
     }
 }
 
 impl ExactSizeIterator for Names<'_> {
     /// How many are left.
     fn len(&self) -> usize {
-        self.left.len()
+        self.keys.len()
     }
 }
 
@@ -80,7 +80,7 @@ impl FusedIterator for Names<'_> {}
 /// The list of those that are left.
 impl fmt::Debug for Names<'_> {
     fn fmt<W: fmt::Write>(&self, f: &mut fmt::Formatter<W>) -> fmt::Result {
-        self.left.fmt(f)
+        self.keys.fmt(f)
     }
 }
 
@@ -89,7 +89,7 @@ impl fmt::Debug for Names<'_> {
 /// Contracts see the list of the texts of those that are left.
 #[derive(Drop)]
 pub struct Users<'a> {
-    pub(crate) left: Values<'a, ArrayString<20>, User>,
+    pub(crate) values: Values<'a, ArrayString<20>, User>,
 }
 
 impl<'a> Model for Users<'a> {
@@ -98,7 +98,7 @@ impl<'a> Model for Users<'a> {
 
     ghost Value = { List (List ℕ × List ℕ) };
 
-    ghost view = { λ u. map texts u.left };
+    ghost view = { λ users. map texts users.values };
 }
 
 /// As many of the same are left in the clone. It takes no memory and is never refused.
@@ -109,7 +109,7 @@ impl<'a> Clone for Users<'a> {
 
     fn clone(&self) -> Result<Self, AllocError> {
         Ok(Users {
-            left: self.left.clone()?,
+            values: self.values.clone()?,
         })
     }
 }
@@ -124,12 +124,12 @@ impl<'a> Iterator for Users<'a> {
 
     /// The first user that is left; `None` where none is, and from then on.
     fn next(&mut self) -> Option<&'a User> {
-        self.left.next()
+        self.values.next()
     }
 
     /// How many are left, twice.
     fn size_hint(&self) -> (usize, Option<usize>) {
-        self.left.size_hint()
+        self.values.size_hint()
     }
 }
 
@@ -138,14 +138,14 @@ impl<'a> DoubleEndedIterator for Users<'a> {
 
     /// The last user that is left; `None` where none is, and from then on.
     fn next_back(&mut self) -> Option<&'a User> {
-        self.left.next_back()
+        self.values.next_back()
     }
 }
 
 impl ExactSizeIterator for Users<'_> {
     /// How many are left.
     fn len(&self) -> usize {
-        self.left.len()
+        self.values.len()
     }
 }
 
@@ -154,6 +154,6 @@ impl FusedIterator for Users<'_> {}
 /// The list of those that are left.
 impl fmt::Debug for Users<'_> {
     fn fmt<W: fmt::Write>(&self, f: &mut fmt::Formatter<W>) -> fmt::Result {
-        self.left.fmt(f)
+        self.values.fmt(f)
     }
 }

@@ -1,10 +1,10 @@
 use Rattle.std.proofs.Common.{◌∙◌, ap, sym}
 use Rattle.std.specs.FinMap as finite
 use Rattle.std.proofs.lemmas.List.{length-map}
-use Rattle.bounded_records.specs.Walks.{name_text}
+use Rattle.bounded_records.specs.Walks.{name_text, stored_text}
 use Rattle.bounded_records.proofs.MapLemmas.{ascending_texts, len_users}
 use Rattle.bounded_records.proofs.OwnNameLemmas.{names-found}
-use Rattle.bounded_records.proofs.WalkLemmas.{in_order, in_reverse}
+use Rattle.bounded_records.proofs.WalkLemmas.{in_order, in_reverse, copies_in_order}
 use Rattle.bounded_records.proofs.directory.Directory.names.Goals as goal
 
 pub returns-clause-ascending : goal.returns-clause-ascending
@@ -23,3 +23,6 @@ returns-clause-runs c = in_order name_text
 
 pub returns-clause-runs_back : goal.returns-clause-runs_back
 returns-clause-runs_back c = in_reverse name_text
+
+pub returns-clause-copies : goal.returns-clause-copies
+returns-clause-copies c = copies_in_order stored_text

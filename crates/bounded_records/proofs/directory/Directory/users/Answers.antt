@@ -5,7 +5,7 @@ use Rattle.bounded_records.specs.Users.{names_of, texts}
 use Rattle.bounded_records.specs.Walks.{user_texts}
 use Rattle.bounded_records.proofs.MapLemmas.{keys_users, len_users, values_users}
 use Rattle.bounded_records.proofs.OwnNameLemmas.{names-users, users-found}
-use Rattle.bounded_records.proofs.WalkLemmas.{in_order, in_reverse}
+use Rattle.bounded_records.proofs.WalkLemmas.{in_order, in_reverse, copies_in_order}
 use Rattle.bounded_records.proofs.directory.Directory.users.Goals as goal
 
 pub returns-clause-users : goal.returns-clause-users
@@ -32,3 +32,6 @@ returns-clause-runs c = in_order user_texts
 
 pub returns-clause-runs_back : goal.returns-clause-runs_back
 returns-clause-runs_back c = in_reverse user_texts
+
+pub returns-clause-copies : goal.returns-clause-copies
+returns-clause-copies c = copies_in_order texts
