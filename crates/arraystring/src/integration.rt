@@ -1,11 +1,11 @@
 //! Strings as JSON values of `serde_json`.
-ghost use Rattle.std.specs.Prelude.{◌≡◌, Some, None, IfOk, MatchResult};
+ghost use Rattle.std.specs.Prelude.{◌≡◌, Some, None, IfOk, IfErr, MatchResult};
 ghost use Rattle.serde_json.specs.View.{view};
-ghost use Rattle.arraystring_core.specs.Json.{json_text, text_within};
+ghost use Rattle.arraystring_core.specs.Json.{json_text, text_within, whole_text, IsWhyRefused};
 
 use crate::CacheString;
 use arraystring_core::ArrayString;
-pub use arraystring_core::integration::NotText;
+pub use arraystring_core::integration::{NotText, ValueError};
 use serde_json::Value;
 use std::alloc::{AllocError, Global};
 
@@ -15,16 +15,27 @@ impl CacheString {
     pub fn to_value(&self, alloc: Global) -> Result<Value, AllocError>
         ensures text { IfOk result (λ value. view value ≡ json_text self.now.0.text) }
         ensures reads_back { IfOk result (λ value. text_within (view value) 63 ≡ Some self.now.0.text) }
+        ensures reads_whole { IfOk result (λ value. whole_text (view value) ≡ Some self.now.0.text) }
     {
         self.0.to_value(alloc)
     }
 
     /// The longest leading run of whole characters of a JSON text that fits. Refused with `NotText`
-    /// where the value is null, a truth value, a number, an array or an object.
+    /// where the value is null, a truth value, a number, an array or an object. A text that does not
+    /// fit is cut with no word of it; `try_from_value` refuses it.
     pub fn from_value(value: &Value) -> Result<Self, NotText>
         ensures { MatchResult result (λ string. text_within (view value.now) 63 ≡ Some string.0.text)
             (λ _. text_within (view value.now) 63 ≡ None) }
     {
         Ok(CacheString(ArrayString::from_value(value)?))
+    }
+
+    /// The whole JSON text. Refused with `NotText` where the value is null, a truth value, a number,
+    /// an array or an object, else with `OutOfBounds` where the text is larger than 63 bytes.
+    pub fn try_from_value(value: &Value) -> Result<Self, ValueError>
+        ensures text { IfOk result (λ string. whole_text (view value.now) ≡ Some string.0.text) }
+        ensures refusal { IfErr result (λ error. IsWhyRefused (whole_text (view value.now)) 63 error) }
+    {
+        Ok(CacheString(ArrayString::try_from_value(value)?))
     }
 }

@@ -5,6 +5,7 @@ pub use arraystring_base::laws::{
     order_of_bytes, order_of_texts, parts, size_is_length, text_reading,
 };
 pub use arraystring_core::laws::{
-    equal_texts, json_reads_back, left_fits, pieces_make_one_text, popped, replaced_back, split_back,
-    text_fits, trimmed, units_read_back, walks, what_comes_past_the_room, white_space,
+    equal_texts, json_reads_back, json_reads_whole, left_fits, pieces_make_one_text, popped,
+    replaced_back, split_back, text_fits, trimmed, units_read_back, walks, what_comes_past_the_room,
+    white_space,
 };

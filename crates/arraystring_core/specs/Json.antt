@@ -1,8 +1,10 @@
 -- Texts as JSON values.
-use Rattle.std.specs.Prelude.{ℕ, List, Option, option_map, chars}
+use Rattle.std.specs.Prelude.{◌≡◌, ℕ, ◌<◌, List, Option, None, IsSomeAnd, option_map, chars, codes}
 use Rattle.serde_json.specs.Data.{Data, string}
 use Rattle.serde_json.specs.Find.{as_str}
-use Rattle.arraystring_base.specs.Text.{bytes, cut}
+use Rattle.arraystring_base.specs.Text.{bytes, cut, size}
+use Rattle.arraystring_core.specs.declared.integration.ValueError.{ValueError}
+use Rattle.arraystring_core.specs.declared.integration.ValueError.TheVariants.{NotText, OutOfBounds}
 
 -- the JSON text with the characters of t
 abbrev pub json_text : List ℕ → Data
@@ -11,3 +13,17 @@ json_text t = string (bytes t)
 -- the characters of a JSON text, cut to n bytes; none where the value is not a text
 abbrev pub text_within : Data → ℕ → Option (List ℕ)
 text_within value n = option_map (λ given. cut (chars given) n) (as_str value)
+
+-- the characters of a JSON text, all of them; none where the value is not a text
+abbrev pub whole_text : Data → Option (List ℕ)
+whole_text value = option_map chars (as_str value)
+
+-- why what a JSON value gives is not taken whole into n bytes: there is no text, or it is larger
+abbrev pub IsWhyRefused : Option (List ℕ) → ℕ → ValueError → Type 0
+IsWhyRefused given n NotText = given ≡ None
+IsWhyRefused given n OutOfBounds = IsSomeAnd given (λ t. n < size t)
+
+-- the names under which the refusals are printed
+abbrev pub value_error_name : ValueError → List ℕ
+value_error_name NotText = codes "NotText"
+value_error_name OutOfBounds = codes "OutOfBounds"

@@ -1,10 +1,12 @@
 //! Strings as JSON values of `serde_json`.
-ghost use Rattle.std.specs.Prelude.{◌≡◌, Some, None, IfOk, MatchResult, codes};
+ghost use Rattle.std.specs.Prelude.{◌≡◌, Some, None, IfOk, IfErr, MatchResult, codes};
 ghost use Rattle.serde_json.specs.View.{view};
 ghost use Rattle.arraystring_base.specs.Text.{cap};
-ghost use Rattle.arraystring_core.specs.Json.{json_text, text_within};
+ghost use Rattle.arraystring_core.specs.Json.{json_text, text_within, whole_text, IsWhyRefused, value_error_name};
+ghost use Rattle.arraystring_core.specs.declared.integration.ValueError.TheVariants as cases;
 
 use crate::ArrayString;
+use arraystring_base::error::OutOfBounds;
 use serde_json::Value;
 use std::alloc::{AllocError, Global};
 use std::error::Error;
@@ -36,23 +38,86 @@ impl fmt::Debug for NotText {
 
 impl Error for NotText {}
 
+/// Why a JSON value is not taken whole.
+#[derive(Clone, Copy, PartialEq, Eq, Debug)]
+pub enum ValueError {
+    /// The value is null, a truth value, a number, an array or an object.
+    NotText,
+    /// The text is larger than the capacity.
+    OutOfBounds,
+}
+
+impl ValueError {
+    /// The name of the case.
+    fn name(&self) -> &'static str
+        ensures { result.now ≡ value_error_name self.now }
+    {
+        match self {
+            ValueError::NotText => "NotText",
+            ValueError::OutOfBounds => "OutOfBounds",
+        }
+    }
+}
+
+/// The name alone, which is not padded to a width that is asked for.
+impl fmt::Display for ValueError {
+    ghost output = { λ error. Some (value_error_name error) };
+
+    ghost styled_output = { λ error _. Some (value_error_name error) };
+
+    fn fmt<W: fmt::Write>(&self, f: &mut fmt::Formatter<W>) -> fmt::Result {
+        f.write_str(self.name())
+    }
+}
+
+impl Error for ValueError {}
+
+/// The case of its name.
+impl From<NotText> for ValueError {
+    ghost from_gives = { λ _ error. error ≡ cases.NotText };
+
+    fn from(_error: NotText) -> Self {
+        ValueError::NotText
+    }
+}
+
+/// The case of its name.
+impl From<OutOfBounds> for ValueError {
+    ghost from_gives = { λ _ error. error ≡ cases.OutOfBounds };
+
+    fn from(_error: OutOfBounds) -> Self {
+        ValueError::OutOfBounds
+    }
+}
+
 impl<const N: usize> ArrayString<N> {
     /// The JSON text with the characters of the string. Read back at the same capacity it is the
     /// string. It takes memory from `alloc`, and is refused with `AllocError` where there is none.
     pub fn to_value(&self, alloc: Global) -> Result<Value, AllocError>
         ensures text { IfOk result (λ value. view value ≡ json_text self.now.text) }
         ensures reads_back { IfOk result (λ value. text_within (view value) (cap N) ≡ Some self.now.text) }
+        ensures reads_whole { IfOk result (λ value. whole_text (view value) ≡ Some self.now.text) }
     {
         Ok(Value::String(String::from_str(alloc, self.as_str())?))
     }
 
     /// The longest leading run of whole characters of a JSON text that fits. Refused with `NotText`
-    /// where the value is null, a truth value, a number, an array or an object.
+    /// where the value is null, a truth value, a number, an array or an object. A text that does not
+    /// fit is cut with no word of it; `try_from_value` refuses it.
     pub fn from_value(value: &Value) -> Result<Self, NotText>
         ensures { MatchResult result (λ string. text_within (view value.now) (cap N) ≡ Some string.text)
             (λ _. text_within (view value.now) (cap N) ≡ None) }
     {
         let text = value.as_str().ok_or(NotText)?;
         Ok(Self::from_str_truncate(text))
+    }
+    /// The whole JSON text. Refused with `NotText` where the value is null, a truth value, a number,
+    /// an array or an object, else with `OutOfBounds` where the text is larger than the capacity.
+    pub fn try_from_value(value: &Value) -> Result<Self, ValueError>
+        ensures text { IfOk result (λ string. whole_text (view value.now) ≡ Some string.text) }
+        ensures refusal { IfErr result (λ error. IsWhyRefused (whole_text (view value.now)) (cap N) error) }
+    {
+        let text = value.as_str().ok_or(NotText)?;
+        Ok(Self::try_from_str(text)?)
     }
 }

@@ -1,9 +1,10 @@
 //! Laws of strings, which callers may rely on. Each does nothing when it is called and carries its
 //! fact in its contract.
-ghost use Rattle.std.specs.Prelude.{◌≡◌, ◌≢◌, ◌+◌, ◌-◌, ◌<◌, ◌≤◌, ◌++◌, ◌∷◌, ◌↔◌, ℕ, Bool, false, List, [], All, IfSome, IsTrue, None, Some, Result, IsOkAnd, length, map, nat_eq, reverse, chars};
+ghost use Rattle.std.specs.Prelude.{◌≡◌, ◌≢◌, ◌+◌, ◌-◌, ◌<◌, ◌≤◌, ◌++◌, ◌∷◌, ◌↔◌, ℕ, Bool, false, List, [], All, IfSome, IsTrue, None, Some, Result, IsOkAnd, length, map, nat_eq, option_map, reverse, chars};
 ghost use Rattle.std.specs.Char.{is_whitespace};
 ghost use Rattle.std.specs.Cmp.Lexicographic.{pointwise};
 ghost use Rattle.std.specs.Hash as fed;
+ghost use Rattle.serde_json.specs.Data.{Data};
 ghost use Rattle.arraystring_base.specs.Text.{IsText, bytes, cap, cut, size};
 ghost use Rattle.arraystring_base.specs.declared.error.Error.{Error};
 ghost use Rattle.arraystring_base.specs.declared.error.Utf16.{Utf16};
@@ -12,7 +13,7 @@ ghost use Rattle.arraystring_base.specs.Utf16.{IsReading, first_stop, lossy_text
 ghost use Rattle.arraystring_core.specs.Drained.{End, walked};
 ghost use Rattle.arraystring_core.specs.Edits.{first_cause, first_of, last_of, part, popping, replacement, split, trimming, is_white_space};
 ghost use Rattle.arraystring_core.specs.FromUtf16.{GivesWhole, GivesRun};
-ghost use Rattle.arraystring_core.specs.Json.{json_text, text_within};
+ghost use Rattle.arraystring_core.specs.Json.{json_text, text_within, whole_text};
 ghost use Rattle.arraystring_core.specs.Stored.{Stored};
 ghost use Rattle.arraystring_core.specs.Taken.{joined};
 
@@ -120,4 +121,12 @@ pub fn equal_texts()
 /// The JSON text of a text of at most `n` bytes, cut to `n` bytes, is the text.
 pub fn json_reads_back()
     ensures { (t : List ℕ) (n : ℕ) → IsText t → size t ≤ n → text_within (json_text t) n ≡ Some t }
+{}
+
+/// The whole JSON text of a text is the text. What a JSON value gives within `n` bytes is its whole
+/// text cut to `n` bytes, so all of it where it fits.
+pub fn json_reads_whole()
+    ensures back { (t : List ℕ) → IsText t → whole_text (json_text t) ≡ Some t }
+    ensures cut { (value : Data) (n : ℕ) → text_within value n ≡ option_map (λ t. cut t n) (whole_text value) }
+    ensures same { (value : Data) (t : List ℕ) (n : ℕ) → whole_text value ≡ Some t → size t ≤ n → text_within value n ≡ Some t }
 {}

@@ -32,6 +32,8 @@ mod insert;
 #[cfg(test)]
 mod json;
 #[cfg(test)]
+mod json_whole;
+#[cfg(test)]
 mod printing;
 #[cfg(test)]
 mod range;

@@ -2,7 +2,7 @@
 use super::table::agree;
 use arraystring::drain::Drain;
 use arraystring::error::{OutOfBounds, Utf8, Utf16};
-use arraystring::integration::NotText;
+use arraystring::integration::{NotText, ValueError};
 use arraystring::utf16::{Unit16, Units};
 use arraystring::{
     ArrayString, CacheString, Error, MaxString, SmallString, drain, error, laws, prelude,
@@ -40,6 +40,7 @@ fn each_type_has_its_traits(rt: HostRuntime) {
     is_plain::<Utf16>();
     is_plain::<OutOfBounds>();
     is_plain::<NotText>();
+    is_plain::<ValueError>();
     is_plain::<Unit16>();
     is_plain::<ArrayString<5>>();
     is_plain::<Drain<5>>();
@@ -57,6 +58,7 @@ fn each_type_has_its_traits(rt: HostRuntime) {
     is_refusal::<Utf16>();
     is_refusal::<OutOfBounds>();
     is_refusal::<NotText>();
+    is_refusal::<ValueError>();
 
     becomes_an_error::<Utf8>();
     becomes_an_error::<Utf16>();
@@ -107,6 +109,7 @@ fn the_laws_are_at_hand(_rt: HostRuntime) {
     laws::cut_of_cut();
     laws::equal_texts();
     laws::json_reads_back();
+    laws::json_reads_whole();
     let mut text = ArrayString::<5>::from("é");
     laws::text_fits(&text);
     if let Ok(drained) = text.drain(..) {

@@ -1,3 +1,5 @@
-pub mod FieldLemmas
-pub mod DecodeLemmas
-pub mod MapLemmas
+mod FieldLemmas
+mod DecodeLemmas
+mod MapLemmas
+mod OwnNameLemmas
+mod WalkLemmas

@@ -1,5 +1,5 @@
 -- A map from strings to users, read by the texts of both.
-use Rattle.std.proofs.Common.{◌≡◌, ◌≢◌, ℕ, List, [], ◌∷◌, map, Bool, true, false, cond, Option, Some, refl, sym, ap, ◌∙◌}
+use Rattle.std.proofs.Common.{◌≡◌, ◌≢◌, ℕ, List, [], ◌∷◌, map, Bool, true, false, cond, Option, Some, None, length, zero, suc, ◌+◌, ◌-◌, ◌<◌, is_some, if◌then◌else◌, arith, true≢false, refl, sym, ap, ◌∙◌}
 use Rattle.std.specs.List.{AllByRecursion, AllPairs}
 use Rattle.std.specs.List.Sorted.{IsStrictlySortedBy}
 use Rattle.std.specs.Option.{option_map}
@@ -8,11 +8,11 @@ use Rattle.std.specs.declared.cmp.Ordering.TheVariants.{Less}
 use Rattle.std.specs.Cmp.{eq_by_cmp_equiv}
 use Rattle.std.specs.Cmp.Lexicographic.{slice_cmp, nat_list_cmp_total}
 use Rattle.std.specs.BTreeMap.{is_at}
-use Rattle.std.specs.Map.{lookup, keys_of}
+use Rattle.std.specs.Map.{lookup, keys_of, values_of}
 use Rattle.std.specs.FinMap as finite
 use Rattle.std.specs.FinMap.{find, put}
 use Rattle.std.proofs.lemmas.Bool.{false_from_ne_true}
-use Rattle.std.proofs.lemmas.List.{nil_from_length}
+use Rattle.std.proofs.lemmas.List.{nil_from_length, length-map}
 use Rattle.std.proofs.lemmas.Map.Keys.{Less-from_sorted}
 use Rattle.std.proofs.lemmas.Map.Lookups.{exact_bytes}
 use Rattle.std.proofs.lemmas.Map.Views.{tells_apart}
@@ -27,7 +27,7 @@ abbrev pub users_of : List (Stored × User) → finite.FinMap (slice_cmp nat_cmp
 users_of es = finite.from_entries (by_text es)
 
 -- whether a key has the text q
-abbrev has_text : List ℕ → Stored → Bool
+abbrev pub has_text : List ℕ → Stored → Bool
 has_text q = is_at (λ (k : Stored). slice_cmp nat_cmp q k.text)
 
 texts-cond : (b : Bool) (x y : Option User) → option_map texts (cond b x y) ≡ cond b (option_map texts x) (option_map texts y)
@@ -55,17 +55,76 @@ insert_users old new k u is =
     ∙ ap (cond (eq_by_cmp (slice_cmp nat_cmp) q k.text) (Some (texts u))) (sym (get_users old q))
     ∙ sym (finite.get-insert nat_list_cmp_total (users_of old) k.text (texts u) q))
 
+inserted : (m : finite.FinMap (slice_cmp nat_cmp) (List ℕ × List ℕ)) (t : List ℕ) (u : List ℕ × List ℕ)
+    → finite.get (finite.insert m t u) t ≡ Some u
+inserted m t u =
+    finite.get-insert nat_list_cmp_total m t u t
+    ∙ ap (λ b. cond b (Some u) (finite.get m t)) ((eq_by_cmp_equiv nat_list_cmp_total).refl t)
+
+-- one user less
+pub remove_users : (old new : List (Stored × User)) (t : List ℕ)
+    → ((q : Stored) → lookup (has_text q.text) new ≡ cond (has_text t q) None (lookup (has_text q.text) old))
+    → users_of new ≡ finite.remove (users_of old) t
+remove_users old new t is =
+    finite.same_map nat_list_cmp_total exact_bytes (users_of new) (finite.remove (users_of old) t)
+    (λ q. get_users new q ∙ ap (option_map texts) (is (record { text = q; spare = [] }))
+    ∙ texts-cond (has_text t (record { text = q; spare = [] })) None (lookup (has_text q) old)
+    ∙ ap (λ b. cond b None (option_map texts (lookup (has_text q) old))) ((eq_by_cmp_equiv nat_list_cmp_total).symm t q)
+    ∙ ap (cond (eq_by_cmp (slice_cmp nat_cmp) q t) None) (sym (get_users old q))
+    ∙ sym (finite.get-remove nat_list_cmp_total (users_of old) t q))
+
+-- only the empty map has no user
+pub no_users : (es : List (Stored × User)) → users_of es ≡ finite.empty → es ≡ []
+no_users [] is = refl
+no_users (e ∷ es) is =
+    absurd (true≢false (ap is_some
+    (sym (inserted (users_of es) e.0.text (texts e.1)) ∙ ap (λ m. finite.get m e.0.text) is ∙ finite.get-empty _ e.0.text)))
+
 -- what stands under a text afterwards
 module _ (m : finite.FinMap (slice_cmp nat_cmp) (List ℕ × List ℕ)) (t : List ℕ) (u : List ℕ × List ℕ) where
   pub get_inserted : finite.get (finite.insert m t u) t ≡ Some u
-  get_inserted =
-      finite.get-insert nat_list_cmp_total m t u t
-      ∙ ap (λ b. cond b (Some u) (finite.get m t)) ((eq_by_cmp_equiv nat_list_cmp_total).refl t)
+  get_inserted = inserted m t u
 
   pub get_others : (q : List ℕ) → q ≢ t → finite.get (finite.insert m t u) q ≡ finite.get m q
   get_others q ne =
       finite.get-insert nat_list_cmp_total m t u q
       ∙ ap (λ b. cond b (Some u) (finite.get m q)) (false_from_ne_true _ (λ is. ne (tells_apart exact_bytes q t is)))
+
+  same-cond : (q : List ℕ) (b : Bool) → (b ≡ true → q ≡ t) → finite.get m t ≡ Some u → cond b (Some u) (finite.get m q) ≡ finite.get m q
+  same-cond q true same is = sym (ap (finite.get m) (same refl) ∙ is)
+  same-cond q false same is = refl
+
+  -- what is there already changes nothing
+  pub insert_same : finite.get m t ≡ Some u → finite.insert m t u ≡ m
+  insert_same is =
+      finite.same_map nat_list_cmp_total exact_bytes (finite.insert m t u) m
+      (λ q. finite.get-insert nat_list_cmp_total m t u q
+      ∙ same-cond q (eq_by_cmp (slice_cmp nat_cmp) q t) (λ e. tells_apart exact_bytes q t e) is)
+
+module _ (m : finite.FinMap (slice_cmp nat_cmp) (List ℕ × List ℕ)) (t : List ℕ) where
+  pub get_removed : finite.get (finite.remove m t) t ≡ None
+  get_removed =
+      finite.get-remove nat_list_cmp_total m t t ∙ ap (λ b. cond b None (finite.get m t)) ((eq_by_cmp_equiv nat_list_cmp_total).refl t)
+
+  pub get_kept : (q : List ℕ) → q ≢ t → finite.get (finite.remove m t) q ≡ finite.get m q
+  get_kept q ne =
+      finite.get-remove nat_list_cmp_total m t q
+      ∙ ap (λ b. cond b None (finite.get m q)) (false_from_ne_true _ (λ is. ne (tells_apart exact_bytes q t is)))
+
+  has_one : (n : ℕ) → finite.len m ≡ n → finite.contains_key m t ≡ true → 0 < n
+  has_one zero none is =
+      absurd (true≢false (sym is ∙ ap (λ d. is_some (finite.get d t)) (finite.empty_of_len m none) ∙ ap is_some (finite.get-empty _ t)))
+  has_one (suc n) some is = omega arith
+
+  one_less : (b : Bool) → finite.contains_key m t ≡ b → finite.len (finite.remove m t) ≡ cond b (finite.len m - 1) (finite.len m)
+      → finite.len (finite.remove m t) + (if b then 1 else 0) ≡ finite.len m
+  one_less true is left = omega (arith, has_one (finite.len m) refl is, left)
+  one_less false is left = omega (arith, left)
+
+  -- a removal takes one where there is one
+  pub len_removed : (o : Option User) → option_map texts o ≡ finite.get m t → finite.len (finite.remove m t) + (if is_some o then 1 else 0) ≡ finite.len m
+  len_removed None is = one_less false (ap is_some (sym is)) (finite.len-remove nat_list_cmp_total m t ∙ ap (λ b. cond b (finite.len m - 1) (finite.len m)) (ap is_some (sym is)))
+  len_removed (Some u) is = one_less true (ap is_some (sym is)) (finite.len-remove nat_list_cmp_total m t ∙ ap (λ b. cond b (finite.len m - 1) (finite.len m)) (ap is_some (sym is)))
 
 -- the texts ascend as the keys do
 abbrev pub key_texts : List Stored → List (List ℕ)
@@ -107,3 +166,20 @@ first-texts (e ∷ es) = ap (λ l. e.0.text ∷ l) (first-texts es)
 pub keys_users : (es : List (Stored × User)) → IsStrictlySortedBy (λ a b. slice_cmp nat_cmp a.text b.text) (keys_of es)
     → finite.keys (users_of es) ≡ key_texts (keys_of es)
 keys_users es is = ap keys_of (entries-users es is) ∙ first-texts es
+
+-- the number of users
+pub len_users : (es : List (Stored × User)) → IsStrictlySortedBy (λ a b. slice_cmp nat_cmp a.text b.text) (keys_of es)
+    → finite.len (users_of es) ≡ length es
+len_users es is = finite.len-entries (users_of es) ∙ ap length (entries-users es is) ∙ length-map es (λ e. (e.0.text, texts e.1))
+
+pub len_keys : (m : finite.FinMap (slice_cmp nat_cmp) (List ℕ × List ℕ)) → length (finite.keys m) ≡ finite.len m
+len_keys m = length-map (finite.entries m) (λ e. e.0) ∙ sym (finite.len-entries m)
+
+-- the users, in the order of their keys
+second-texts : (es : List (Stored × User)) → map (λ e. e.1) (by_text es) ≡ map texts (values_of es)
+second-texts [] = refl
+second-texts (e ∷ es) = ap (λ l. texts e.1 ∷ l) (second-texts es)
+
+pub values_users : (es : List (Stored × User)) → IsStrictlySortedBy (λ a b. slice_cmp nat_cmp a.text b.text) (keys_of es)
+    → finite.values (users_of es) ≡ map texts (values_of es)
+values_users es is = ap (map (λ e. e.1)) (entries-users es is) ∙ second-texts es

@@ -2,9 +2,15 @@
 use Rattle.std.specs.Prelude.{List, ℕ, codes}
 use Rattle.bounded_records.specs.declared.record.RecordFault.{RecordFault}
 use Rattle.bounded_records.specs.declared.record.RecordFault.TheVariants.{Length, Count, Utf8, Padding}
+use Rattle.bounded_records.specs.declared.user.UserFault.{UserFault}
+use Rattle.bounded_records.specs.declared.user.UserFault.TheVariants.{Username, Role}
 
 abbrev pub fault_name : RecordFault → List ℕ
 fault_name Length = codes "Length"
 fault_name Count = codes "Count"
 fault_name Utf8 = codes "Utf8"
 fault_name Padding = codes "Padding"
+
+abbrev pub user_fault_name : UserFault → List ℕ
+user_fault_name Username = codes "Username"
+user_fault_name Role = codes "Role"

@@ -1,21 +1,21 @@
 //! `Directory`: users by their usernames.
-ghost use Rattle.std.specs.Prelude.{◌≡◌, ◌≢◌, ◌<◌, ◌^◌, ℕ, IfOk, OnOk, OnErr, None, Some, List, length};
-ghost use Rattle.std.specs.Iterator.{YieldsFirstBy, item_count};
+ghost use Rattle.std.specs.Prelude.{◌≡◌, ◌≢◌, ◌+◌, ◌<◌, ◌^◌, ◌↔◌, ℕ, IfOk, IfSome, IfNone, OnSome, OnOk, OnErr, IsTrue, None, Some, List, [], All, length, is_some, if◌then◌else◌};
 ghost use Rattle.std.specs.Option.{option_copied, option_map};
 ghost use Rattle.std.specs.List.{AllPairs};
 ghost use Rattle.std.specs.FinMap as map;
 ghost use Rattle.arraystring.specs.Text.{IsBefore};
-ghost use Rattle.bounded_records.specs.Users.{texts};
+ghost use Rattle.bounded_records.specs.Users.{texts, names_of};
+ghost use Rattle.bounded_records.specs.Walks.{GivesInOrder, GivesInReverse, GivesCopiesInOrder, name_text, stored_text, user_texts};
 
 use crate::User;
+use crate::walks::{Names, Users};
 use arraystring::ArrayString;
 use std::alloc::{AllocError, Global};
 use std::collections::BTreeMap;
-use std::collections::btree_map::Keys;
-use std::iter::FusedIterator;
 use std::marker::Model;
+use std::{fmt, mem};
 
-/// Users, each under its username. Strings of one text are one key.
+/// Users, each under its own username. Strings of one text are one key.
 ///
 /// Contracts see a finite map from the text of a username to the texts of the user: its username
 /// and its role.
@@ -30,34 +30,59 @@ impl Model for Directory {
     ghost use Rattle.std.specs.Cmp.Lexicographic.{slice_cmp};
     ghost use Rattle.std.specs.FinMap as map;
     ghost use Rattle.std.specs.Coded.{coded_list, coded_ℕ, coded×};
-    ghost use Rattle.bounded_records.specs.Users.{by_text};
+    ghost use Rattle.bounded_records.specs.Users.{by_text, AreUnderTheirNames};
 
     ghost Value = { map.FinMap (slice_cmp nat_cmp) (List ℕ × List ℕ) };
 
     ghost coded = { map.code (coded_list coded_ℕ) (coded× (coded_list coded_ℕ) (coded_list coded_ℕ)) };
 
     ghost view = { λ d. map.from_entries (by_text d.users.entries) };
+
+    ghost invariant = { λ d. AreUnderTheirNames (map.from_entries (by_text d.users.entries)) };
 }
 
 impl Directory {
     /// The directory of no users. It takes no memory.
     pub fn new(alloc: Global) -> Self
-        ensures { result ≡ map.empty }
+        ensures empty { result ≡ map.empty }
+        ensures none_found { (name : List ℕ) → map.get result name ≡ None }
+        ensures no_names { map.keys result ≡ [] }
+        ensures len { map.len result ≡ 0 }
     {
         Directory {
             users: BTreeMap::new(alloc),
         }
     }
 
+    /// How many users there are.
+    pub fn len(&self) -> usize
+        ensures len { result ≡ map.len self.now }
+        ensures names { result ≡ length (map.keys self.now) }
+        ensures countable { result < 2 ^ 63 }
+    {
+        self.users.len()
+    }
+
+    /// Whether there is no user.
+    pub fn is_empty(&self) -> bool
+        ensures { IsTrue result ↔ (self.now ≡ map.empty) }
+    {
+        self.users.is_empty()
+    }
+
     /// Puts `user` under its username and returns the user that was there; all other users stay.
-    /// Refused only if there is not enough memory, and only where no user was there. The directory
-    /// is then as it was.
+    /// Refused only where no user was there, and only if there is not enough memory or the tree of
+    /// `std::collections::BTreeMap` would get higher than 11, for which it takes some 2^37 users. The
+    /// directory is then as it was.
     #[tactic(auto, using(crate::proofs::MapLemmas::get_users, crate::proofs::MapLemmas::insert_users, crate::proofs::MapLemmas::get_inserted))]
     pub fn insert(&mut self, user: User) -> Result<Option<User>, AllocError>
         ensures old { IfOk result (λ old. option_map texts old ≡ map.get self.old user.username.text) }
+        ensures own { IfOk result (λ old. IfSome old (λ old. old.username.text ≡ user.username.text)) }
         ensures after { OnOk result (self.new ≡ map.insert self.old user.username.text (texts user)) }
         ensures found { OnOk result (map.get self.new user.username.text ≡ Some (texts user)) }
         ensures others { (name : List ℕ) → name ≢ user.username.text → map.get self.new name ≡ map.get self.old name }
+        ensures len { IfOk result (λ old. map.len self.new ≡ map.len self.old + (if is_some old then 0 else 1)) }
+        ensures same { map.get self.old user.username.text ≡ Some (texts user) → self.new ≡ self.old }
         ensures err { OnErr result (self.new ≡ self.old) }
         ensures absent { OnErr result (map.get self.old user.username.text ≡ None) }
     {
@@ -67,9 +92,50 @@ impl Directory {
     /// The user under `username`; `None` where there is none. It takes no memory.
     #[tactic(auto, using(crate::proofs::MapLemmas::get_users))]
     pub fn get(&self, username: &ArrayString<20>) -> Option<&User>
-        ensures { option_map texts (option_copied result) ≡ map.get self.now username.now.text }
+        ensures found { option_map texts (option_copied result) ≡ map.get self.now username.now.text }
+        ensures own { IfSome result (λ user. user.now.username.text ≡ username.now.text) }
     {
         self.users.get(username)
+    }
+
+    /// Whether there is a user under `username`. It takes no memory.
+    #[tactic(auto, using(crate::proofs::MapLemmas::get_users))]
+    pub fn contains(&self, username: &ArrayString<20>) -> bool
+        ensures { result ≡ is_some (map.get self.now username.now.text) }
+    {
+        self.users.contains_key(username)
+    }
+
+    /// Takes out the user under `username` and returns it; `None` where there is none. All other
+    /// users stay. It takes no memory.
+    pub fn remove(&mut self, username: &ArrayString<20>) -> Option<User>
+        ensures removed { option_map texts result ≡ map.get self.old username.now.text }
+        ensures own { IfSome result (λ user. user.username.text ≡ username.now.text) }
+        ensures after { self.new ≡ map.remove self.old username.now.text }
+        ensures gone { map.get self.new username.now.text ≡ None }
+        ensures others { (name : List ℕ) → name ≢ username.now.text → map.get self.new name ≡ map.get self.old name }
+        ensures len { map.len self.new + (if is_some result then 1 else 0) ≡ map.len self.old }
+        ensures unchanged { IfNone result (self.new ≡ self.old) }
+    {
+        self.users.remove(username)
+    }
+
+    /// Gives the user under `username` another role and returns the role that it had; `None` where
+    /// there is no such user. All other users stay. It takes no memory.
+    pub fn set_role(
+        &mut self,
+        username: &ArrayString<20>,
+        role: ArrayString<5>,
+    ) -> Option<ArrayString<5>>
+        ensures old { option_map (λ old. (username.now.text, old.text)) result ≡ map.get self.old username.now.text }
+        ensures after { OnSome result (self.new ≡ map.insert self.old username.now.text (username.now.text, role.text)) }
+        ensures found { OnSome result (map.get self.new username.now.text ≡ Some (username.now.text, role.text)) }
+        ensures others { (name : List ℕ) → name ≢ username.now.text → map.get self.new name ≡ map.get self.old name }
+        ensures names { map.keys self.new ≡ map.keys self.old }
+        ensures unchanged { IfNone result (self.new ≡ self.old) }
+    {
+        let user = self.users.get_mut(username)?;
+        Some(mem::replace(&mut user.role, role))
     }
 
     /// The usernames, each once, in ascending order of their characters, which is that of their
@@ -78,42 +144,38 @@ impl Directory {
     pub fn names(&self) -> Names<'_>
         ensures keys { result ≡ map.keys self.now }
         ensures ascending { AllPairs IsBefore result }
+        ensures found { All (λ name. IsTrue (map.contains_key self.now name)) result }
+        ensures len { length result ≡ map.len self.now }
         ensures countable { length result < 2 ^ 63 }
+        ensures runs { GivesInOrder name_text }
+        ensures runs_back { GivesInReverse name_text }
+        ensures copies { GivesCopiesInOrder stored_text }
     {
         Names {
-            left: self.users.keys(),
+            keys: self.users.keys(),
+        }
+    }
+
+    /// The users, each once, in ascending order of their usernames. It takes no memory.
+    pub fn users(&self) -> Users<'_>
+        ensures users { result ≡ map.values self.now }
+        ensures names { names_of result ≡ map.keys self.now }
+        ensures found { All (λ user. map.get self.now user.0 ≡ Some user) result }
+        ensures len { length result ≡ map.len self.now }
+        ensures countable { length result < 2 ^ 63 }
+        ensures runs { GivesInOrder user_texts }
+        ensures runs_back { GivesInReverse user_texts }
+        ensures copies { GivesCopiesInOrder texts }
+    {
+        Users {
+            values: self.users.values(),
         }
     }
 }
 
-/// The usernames of a directory, in ascending order.
-///
-/// Contracts see the list of the texts of those that are left.
-#[derive(Drop)]
-pub struct Names<'a> {
-    left: Keys<'a, ArrayString<20>, User>,
-}
-
-impl<'a> Model for Names<'a> {
-    ghost use Rattle.std.specs.Prelude.{ℕ, List, map};
-
-    ghost Value = { List (List ℕ) };
-
-    ghost view = { λ n. map (λ name. name.text) n.left };
-}
-
-/// A walk over the usernames that are left.
-impl<'a> Iterator for Names<'a> {
-    type Item = &'a ArrayString<20>;
-
-    ghost next_gives = { YieldsFirstBy (λ name. name.now.text) (λ names. names) };
-
-    ghost remaining = { item_count (λ names. names) };
-
-    /// The first username that is left; `None` where none is, and from then on.
-    fn next(&mut self) -> Option<&'a ArrayString<20>> {
-        self.left.next()
+/// The users as a set, in ascending order of their usernames.
+impl fmt::Debug for Directory {
+    fn fmt<W: fmt::Write>(&self, f: &mut fmt::Formatter<W>) -> fmt::Result {
+        f.debug_set().entries(self.users()).finish()
     }
 }
-
-impl FusedIterator for Names<'_> {}

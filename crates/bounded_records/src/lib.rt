@@ -5,10 +5,12 @@
 mod directory;
 mod record;
 mod user;
+mod walks;
 
-pub use directory::{Directory, Names};
-pub use record::{RecordFault, decode, encode};
-pub use user::User;
+pub use directory::Directory;
+pub use record::{RECORD_SIZE, RecordFault, decode, encode};
+pub use user::{User, UserFault};
+pub use walks::{Names, Users};
 
 #[cfg(test)]
 mod tests;

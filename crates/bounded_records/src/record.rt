@@ -19,9 +19,12 @@ use arraystring::ArrayString;
 use std::error::Error;
 use std::fmt;
 
+/// How many bytes a record has.
+pub const RECORD_SIZE: usize = 27;
+
 /// Why bytes are no record. The cases are in the order of the tests, each of which judges the whole
 /// record.
-#[derive(Clone, Copy, PartialEq, Eq, Debug)]
+#[derive(Clone, Copy, PartialEq, Eq, Hash, Debug)]
 pub enum RecordFault {
     /// The bytes are not 27.
     Length,
@@ -60,11 +63,12 @@ impl fmt::Display for RecordFault {
 
 impl Error for RecordFault {}
 
-/// The record of a user. It takes no memory.
-pub fn encode(user: &User) -> [u8; 27]
-    ensures { IsRecord result user.now.username.text user.now.role.text }
+/// The record of a user, which is that of no other. It takes no memory.
+pub fn encode(user: &User) -> [u8; RECORD_SIZE]
+    ensures record { IsRecord result user.now.username.text user.now.role.text }
+    ensures only { (username role : List ℕ) → IsRecord result username role → texts user.now ≡ (username, role) }
 {
-    let mut record = [0; 27];
+    let mut record = [0; RECORD_SIZE];
     let (username, role) = record.split_at_mut(21);
     put(username, &user.username);
     put(role, &user.role);
@@ -115,7 +119,7 @@ fn put<const N: usize>(field: &mut [u8], text: &ArrayString<N>)
 fn has_length(given: &[u8]) -> bool
     ensures { IsTrue result ↔ HasLength given.now }
 {
-    given.len() == 27
+    given.len() == RECORD_SIZE
 }
 
 /// Whether both fields count no more bytes than they have room for.

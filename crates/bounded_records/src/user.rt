@@ -1,13 +1,70 @@
 //! `User`: a username and a role.
+ghost use Rattle.std.specs.Prelude.{◌≡◌, ◌≤◌, Some, IfOk, IfErr, OnOk, chars};
+ghost use Rattle.arraystring.specs.Text.{size};
+ghost use Rattle.bounded_records.specs.Names.{user_fault_name};
+ghost use Rattle.bounded_records.specs.Users.{texts};
+ghost use Rattle.bounded_records.specs.UserFaults.{IsFirstTooLarge};
+
 use arraystring::ArrayString;
+use std::error::Error;
+use std::fmt;
 
 /// A user: a username of at most 20 bytes of UTF-8 and a role of at most 5.
 ///
-/// Users are equal where both texts are. Contracts name a user by these texts.
-#[derive(Clone, Copy, PartialEq, Eq, Debug)]
+/// Users are equal where both texts are, and are ordered by their usernames and then by their roles.
+/// Contracts name a user by these texts.
+#[derive(Clone, Copy, PartialEq, Eq, PartialOrd, Ord, Hash, Debug)]
 pub struct User {
     /// The text under which a `Directory` keeps the user.
     pub username: ArrayString<20>,
     /// What the user may do, in the caller's words.
     pub role: ArrayString<5>,
 }
+
+impl User {
+    /// The user of these texts. Refused with `Username` where the username is larger than 20 bytes,
+    /// else with `Role` where the role is larger than 5. It takes no memory.
+    pub fn new(username: &str, role: &str) -> Result<Self, UserFault>
+        ensures user { IfOk result (λ user. texts user ≡ (chars username.now, chars role.now)) }
+        ensures fits { OnOk result ((size (chars username.now) ≤ 20) × (size (chars role.now) ≤ 5)) }
+        ensures fault { IfErr result (λ fault. IsFirstTooLarge (chars username.now) (chars role.now) fault) }
+    {
+        let username = ArrayString::try_from_str(username).map_err(|_| UserFault::Username)?;
+        let role = ArrayString::try_from_str(role).map_err(|_| UserFault::Role)?;
+        Ok(User { username, role })
+    }
+}
+
+/// Why texts are no user: the first of them that is too large.
+#[derive(Clone, Copy, PartialEq, Eq, Hash, Debug)]
+pub enum UserFault {
+    /// The username is larger than 20 bytes.
+    Username,
+    /// The role is larger than 5 bytes.
+    Role,
+}
+
+impl UserFault {
+    /// The name of the case.
+    fn name(&self) -> &'static str
+        ensures { result.now ≡ user_fault_name self.now }
+    {
+        match self {
+            UserFault::Username => "Username",
+            UserFault::Role => "Role",
+        }
+    }
+}
+
+/// The name alone, which is not padded to a width that is asked for.
+impl fmt::Display for UserFault {
+    ghost output = { λ fault. Some (user_fault_name fault) };
+
+    ghost styled_output = { λ fault _. Some (user_fault_name fault) };
+
+    fn fmt<W: fmt::Write>(&self, f: &mut fmt::Formatter<W>) -> fmt::Result {
+        f.write_str(self.name())
+    }
+}
+
+impl Error for UserFault {}

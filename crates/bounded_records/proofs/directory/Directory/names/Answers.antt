@@ -1,5 +1,28 @@
-use Rattle.bounded_records.proofs.MapLemmas.{ascending_texts}
+use Rattle.std.proofs.Common.{◌∙◌, ap, sym}
+use Rattle.std.specs.FinMap as finite
+use Rattle.std.proofs.lemmas.List.{length-map}
+use Rattle.bounded_records.specs.Walks.{name_text, stored_text}
+use Rattle.bounded_records.proofs.MapLemmas.{ascending_texts, len_users}
+use Rattle.bounded_records.proofs.OwnNameLemmas.{names-found}
+use Rattle.bounded_records.proofs.WalkLemmas.{in_order, in_reverse, copies_in_order}
 use Rattle.bounded_records.proofs.directory.Directory.names.Goals as goal
 
 pub returns-clause-ascending : goal.returns-clause-ascending
 returns-clause-ascending c = rw c.keys.ensures.rest (ascending_texts _ c.keys.ensures.ordered)
+
+pub returns-clause-found : goal.returns-clause-found
+returns-clause-found c = rw (c.keys.ensures.rest, ← c.self.view_is) (names-found c.self.inside.users c.keys.ensures.ordered)
+
+pub returns-clause-len : goal.returns-clause-len
+returns-clause-len c =
+    length-map c.keys.result (λ name. name.text) ∙ c.keys.ensures.len ∙ sym (len_users c.self.inside.users.entries c.keys.ensures.ordered)
+    ∙ ap finite.len c.self.view_is
+
+pub returns-clause-runs : goal.returns-clause-runs
+returns-clause-runs c = in_order name_text
+
+pub returns-clause-runs_back : goal.returns-clause-runs_back
+returns-clause-runs_back c = in_reverse name_text
+
+pub returns-clause-copies : goal.returns-clause-copies
+returns-clause-copies c = copies_in_order stored_text

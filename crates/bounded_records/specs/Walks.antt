@@ -1,0 +1,33 @@
+-- What a walk over a directory gives: each run of `next` what was left in order, each of `next_back` in reverse.
+use Rattle.std.specs.Prelude.{◌≡◌, ℕ, true, List, map}
+use Rattle.std.specs.Iterator.{YieldsFirstBy, YieldsLastBy}
+use Rattle.std.specs.Iterator.Runs.{EveryRun, ItemsMapTo, ItemsMapToReversed}
+use Rattle.std.proofs.Common.{Bor}
+use Rattle.arraystring.specs.Stored.{Stored}
+use Rattle.bounded_records.specs.declared.user.User.{User}
+use Rattle.bounded_records.specs.Users.{texts}
+
+module _ {A B : Type 0} (view : A → B) where
+  abbrev pub GivesInOrder : Type 0
+  GivesInOrder = EveryRun (YieldsFirstBy view (λ left. left)) (λ run. ItemsMapTo run view run.from)
+
+  abbrev pub GivesInReverse : Type 0
+  GivesInReverse = EveryRun (YieldsLastBy view (λ left. left)) (λ run. ItemsMapToReversed run view run.from)
+
+-- a whole run of `next`, each of whose items is copied out of its reference, gives what was left in order
+module _ {A B : Type 0} (view : A → B) where
+  abbrev pub GivesCopiesInOrder : Type 0
+  GivesCopiesInOrder =
+      EveryRun (YieldsFirstBy (λ (item : Bor A). view item.now) (λ left. left))
+      (λ run. run.whole ≡ true → map view (map (λ item. item.now) run.items) ≡ run.from)
+
+-- the text of a username
+abbrev pub stored_text : Stored → List ℕ
+stored_text name = name.text
+
+-- the texts of a borrowed username, and of a borrowed user
+abbrev pub name_text : Bor Stored → List ℕ
+name_text name = name.now.text
+
+abbrev pub user_texts : Bor User → List ℕ × List ℕ
+user_texts user = texts user.now

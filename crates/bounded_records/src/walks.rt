@@ -1,0 +1,159 @@
+//! Walks over a directory, from both ends.
+ghost use Rattle.std.specs.Prelude.{◌≡◌, ⊤};
+ghost use Rattle.std.specs.Iterator.{YieldsFirstBy, YieldsLastBy, item_count};
+ghost use Rattle.bounded_records.specs.Walks.{name_text, user_texts};
+
+use crate::User;
+use arraystring::ArrayString;
+use std::alloc::AllocError;
+use std::collections::btree_map::{Keys, Values};
+use std::fmt;
+use std::iter::FusedIterator;
+use std::marker::Model;
+
+/// The usernames of a directory, in ascending order.
+///
+/// Contracts see the list of the texts of those that are left.
+#[derive(Drop)]
+pub struct Names<'a> {
+    pub(crate) keys: Keys<'a, ArrayString<20>, User>,
+}
+
+impl<'a> Model for Names<'a> {
+    ghost use Rattle.std.specs.Prelude.{ℕ, List, map};
+
+    ghost Value = { List (List ℕ) };
+
+    ghost view = { λ names. map (λ name. name.text) names.keys };
+}
+
+/// As many of the same are left in the clone. It takes no memory and is never refused.
+impl<'a> Clone for Names<'a> {
+    ghost is_clone = { λ walk clone. clone ≡ walk };
+
+    ghost is_infallible = { λ _. ⊤ };
+
+    fn clone(&self) -> Result<Self, AllocError> {
+        Ok(Names {
+            keys: self.keys.clone()?,
+        })
+    }
+}
+
+/// A walk over the usernames that are left.
+impl<'a> Iterator for Names<'a> {
+    type Item = &'a ArrayString<20>;
+
+    ghost next_gives = { YieldsFirstBy name_text (λ names. names) };
+
+    ghost remaining = { item_count (λ names. names) };
+
+    /// The first username that is left; `None` where none is, and from then on.
+    fn next(&mut self) -> Option<&'a ArrayString<20>> {
+        self.keys.next()
+    }
+
+    /// How many are left, twice.
+    fn size_hint(&self) -> (usize, Option<usize>) {
+        self.keys.size_hint()
+    }
+}
+
+impl<'a> DoubleEndedIterator for Names<'a> {
+    ghost next_back_gives = { YieldsLastBy name_text (λ names. names) };
+
+    /// The last username that is left; `None` where none is, and from then on.
+    fn next_back(&mut self) -> Option<&'a ArrayString<20>> {
+        self.keys.next_back()
+    }
+}
+
+impl ExactSizeIterator for Names<'_> {
+    /// How many are left.
+    fn len(&self) -> usize {
+        self.keys.len()
+    }
+}
+
+impl FusedIterator for Names<'_> {}
+
+/// The list of those that are left.
+impl fmt::Debug for Names<'_> {
+    fn fmt<W: fmt::Write>(&self, f: &mut fmt::Formatter<W>) -> fmt::Result {
+        self.keys.fmt(f)
+    }
+}
+
+/// The users of a directory, in ascending order of their usernames.
+///
+/// Contracts see the list of the texts of those that are left.
+#[derive(Drop)]
+pub struct Users<'a> {
+    pub(crate) values: Values<'a, ArrayString<20>, User>,
+}
+
+impl<'a> Model for Users<'a> {
+    ghost use Rattle.std.specs.Prelude.{ℕ, List, map};
+    ghost use Rattle.bounded_records.specs.Users.{texts};
+
+    ghost Value = { List (List ℕ × List ℕ) };
+
+    ghost view = { λ users. map texts users.values };
+}
+
+/// As many of the same are left in the clone. It takes no memory and is never refused.
+impl<'a> Clone for Users<'a> {
+    ghost is_clone = { λ walk clone. clone ≡ walk };
+
+    ghost is_infallible = { λ _. ⊤ };
+
+    fn clone(&self) -> Result<Self, AllocError> {
+        Ok(Users {
+            values: self.values.clone()?,
+        })
+    }
+}
+
+/// A walk over the users that are left.
+impl<'a> Iterator for Users<'a> {
+    type Item = &'a User;
+
+    ghost next_gives = { YieldsFirstBy user_texts (λ users. users) };
+
+    ghost remaining = { item_count (λ users. users) };
+
+    /// The first user that is left; `None` where none is, and from then on.
+    fn next(&mut self) -> Option<&'a User> {
+        self.values.next()
+    }
+
+    /// How many are left, twice.
+    fn size_hint(&self) -> (usize, Option<usize>) {
+        self.values.size_hint()
+    }
+}
+
+impl<'a> DoubleEndedIterator for Users<'a> {
+    ghost next_back_gives = { YieldsLastBy user_texts (λ users. users) };
+
+    /// The last user that is left; `None` where none is, and from then on.
+    fn next_back(&mut self) -> Option<&'a User> {
+        self.values.next_back()
+    }
+}
+
+impl ExactSizeIterator for Users<'_> {
+    /// How many are left.
+    fn len(&self) -> usize {
+        self.values.len()
+    }
+}
+
+impl FusedIterator for Users<'_> {}
+
+/// The list of those that are left.
+impl fmt::Debug for Users<'_> {
+    fn fmt<W: fmt::Write>(&self, f: &mut fmt::Formatter<W>) -> fmt::Result {
+        self.values.fmt(f)
+    }
+}

@@ -1,0 +1,6 @@
+//! Uses of `bounded_records`, as a caller writes them: each is proved from the contracts alone.
+#![tactic(auto)]
+
+pub mod registry;
+#[cfg(test)]
+mod tests;

@@ -1,0 +1,1 @@
+//! Each use once, on values worked out by hand.
