@@ -2,7 +2,7 @@
 use Rattle.std.specs.Prelude.{◌≡◌, ℕ, true, List, map}
 use Rattle.std.specs.Iterator.{YieldsFirstBy, YieldsLastBy}
 use Rattle.std.specs.Iterator.Runs.{EveryRun, ItemsMapTo, ItemsMapToReversed}
-use Rattle.std.proofs.Common.{Bor}
+use Rattle.std.specs.Borrow.{Bor}
 use Rattle.arraystring.specs.Stored.{Stored}
 use Rattle.bounded_records.specs.declared.user.User.{User}
 use Rattle.bounded_records.specs.Users.{texts}
