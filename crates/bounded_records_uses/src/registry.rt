@@ -1,18 +1,18 @@
 //! A registry of users: entered, listed, renamed and struck off.
-ghost use Rattle.std.specs.Prelude.{◌≡◌, ◌≢◌, ℕ, List, Some, None, IfOk, IfErr, OnOk, OnErr, IsOkAnd, IfSome, IsTrue, map, is_some};
+ghost use Rattle.std.specs.Prelude.{◌≡◌, ◌≢◌, ℕ, List, Some, None, IfOk, OnOk, OnErr, IsSome, map, is_some};
 ghost use Rattle.std.specs.Option.{option_map};
 ghost use Rattle.std.specs.FinMap as finite;
-ghost use Rattle.bounded_records.specs.Records.{IsRecord};
 ghost use Rattle.bounded_records.specs.Users.{texts};
 
 use arraystring::ArrayString;
-use bounded_records::{Directory, RECORD_SIZE, User, encode};
+use bounded_records::{Directory, User};
 use std::alloc::{AllocError, Global};
 
 /// Enters a user, and returns the role that is then found under the username, which is the one that
 /// was entered.
 pub fn enter(users: &mut Directory, user: User) -> Result<Option<ArrayString<5>>, AllocError>
     ensures role { IfOk result (λ role. option_map (λ role. role.text) role ≡ Some user.role.text) }
+    ensures after { OnOk result (users.new ≡ finite.insert users.old user.username.text (texts user)) }
     ensures refused { OnErr result (users.new ≡ users.old) }
 {
     users.insert(user)?;
@@ -37,12 +37,15 @@ pub enum NotRenamed {
     Memory,
 }
 
-/// Gives the user under `from` the name `to`; its role stays.
+/// Gives the user under `from` the name `to`; its role stays, and so do all other users. Refused with
+/// `Missing`, else `Taken`, else `Memory`.
 pub fn rename(
     users: &mut Directory,
     from: &ArrayString<20>,
     to: ArrayString<20>,
 ) -> Result<(), NotRenamed>
+    ensures was { OnOk result (IsSome (finite.get users.old from.now.text)) }
+    ensures free { OnOk result (finite.get users.old to.text ≡ None) }
     ensures after { OnOk result (option_map (λ user. (to.text, user.1)) (finite.get users.old from.now.text) ≡ finite.get users.new to.text) }
     ensures gone { OnOk result (finite.get users.new from.now.text ≡ None) }
     ensures others { (name : List ℕ) → name ≢ from.now.text → name ≢ to.text → finite.get users.new name ≡ finite.get users.old name }

@@ -1,26 +1,37 @@
 //! The paths by which callers reach the crate, and the traits of the types at those paths.
 use super::agree;
-use crate::{Directory, Names, RecordFault, User, decode, encode};
+use crate::{Directory, Names, RECORD_SIZE, RecordFault, User, UserFault, Users, decode, encode};
 use arraystring::ArrayString;
 use std::error::Error;
 use std::fmt::{Debug, Display};
+use std::hash::Hash;
 use std::iter::FusedIterator;
 
-fn is_plain<T: Copy + Clone + PartialEq + Eq + Debug + Drop>() {}
+fn is_plain<T: Copy + Clone + PartialEq + Eq + Hash + Debug + Drop>() {}
+
+fn is_ordered<T: PartialOrd + Ord>() {}
 
 fn is_refusal<T: Display + Error>() {}
 
-fn is_dropped<T: Drop>() {}
+fn is_held<T: Debug + Drop>() {}
 
-fn is_walked<'a, T: Iterator<Item = &'a ArrayString<20>> + FusedIterator + Drop>() {}
+fn is_walked<
+    'a,
+    I: 'a,
+    T: DoubleEndedIterator<Item = &'a I> + ExactSizeIterator + FusedIterator + Clone + Debug + Drop,
+>() {}
 
 #[test]
 fn each_type_has_its_traits(_rt: HostRuntime) {
     is_plain::<User>();
     is_plain::<RecordFault>();
+    is_plain::<UserFault>();
+    is_ordered::<User>();
     is_refusal::<RecordFault>();
-    is_dropped::<Directory>();
-    is_walked::<Names<'static>>();
+    is_refusal::<UserFault>();
+    is_held::<Directory>();
+    is_walked::<ArrayString<20>, Names<'static>>();
+    is_walked::<User, Users<'static>>();
 }
 
 /// The place of a test among the four. There is no other case.
@@ -38,8 +49,11 @@ fn place(fault: RecordFault) -> u8 {
 fn each_path_is_at_hand(rt: HostRuntime) {
     let username: ArrayString<20> = ArrayString::from("ann");
     let role: ArrayString<5> = ArrayString::from("admin");
+    let made: Result<User, UserFault> = User::new("ann", "admin");
     let user = User { username, role };
-    let record: [u8; 27] = encode(&user);
+    agree(&rt, made, Ok(user));
+    let record: [u8; RECORD_SIZE] = encode(&user);
+    agree(&rt, RECORD_SIZE, 27);
     let read: Result<User, RecordFault> = decode(&record);
     agree(&rt, read, Ok(user));
     let fault = decode(&[]).err();
@@ -53,4 +67,15 @@ fn each_path_is_at_hand(rt: HostRuntime) {
     let mut names: Names = users.names();
     let name: Option<&ArrayString<20>> = names.next();
     agree(&rt, name, Some(&username));
+    let mut all: Users = users.users();
+    let first: Option<&User> = all.next();
+    agree(&rt, first, Some(&user));
+    agree(&rt, users.contains(&username), true);
+    let one: usize = users.len();
+    agree(&rt, one, 1);
+    let old: Option<ArrayString<5>> = users.set_role(&username, ArrayString::new());
+    agree(&rt, old, Some(role));
+    let removed: Option<User> = users.remove(&username);
+    agree(&rt, removed.map(|user| user.username), Some(username));
+    agree(&rt, users.is_empty(), true);
 }

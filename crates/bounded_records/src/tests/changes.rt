@@ -1,0 +1,120 @@
+//! Users that are taken out or given another role, without memory, and texts that are no user.
+use super::{agree, finds, hoard, ranked, user};
+use crate::{Directory, User, UserFault};
+use arraystring::ArrayString;
+use std::hash::{DefaultHasher, Hash, Hasher};
+use std::process::Abort;
+use std::test::Fail;
+
+/// How many users are put in, a prime.
+const USERS: u32 = 211;
+
+/// The user of a turn, of an order in which the ranks are mixed.
+fn mixed(turn: u32) -> User {
+    ranked((turn * 90 % USERS) as u16)
+}
+
+/// With no memory at all, each user is given another role and is taken out, once and no second time.
+/// All others stay meanwhile.
+#[test]
+fn changes_take_no_memory(rt: HostRuntime) -> Result<(), Fail> {
+    let mut users = Directory::new(rt.alloc());
+    for turn in 0..USERS {
+        agree(&rt, users.insert(mixed(turn)), Ok(None));
+    }
+    let blocks = hoard(rt.alloc())?;
+    for turn in 0..USERS {
+        let old = mixed(turn);
+        let role = ArrayString::from_str_truncate("new");
+        agree(&rt, users.set_role(&old.username, role), Some(old.role));
+        let changed = User { role, ..old };
+        finds(&rt, &users, &changed);
+        agree(&rt, users.contains(&old.username), true);
+        agree(&rt, users.remove(&old.username), Some(changed));
+        agree(&rt, users.remove(&old.username), None);
+        agree(&rt, users.set_role(&old.username, role), None);
+        agree(&rt, users.contains(&old.username), false);
+        agree(&rt, users.get(&old.username), None);
+        agree(&rt, users.len(), (USERS - 1 - turn) as usize);
+        for later in turn + 1..USERS {
+            finds(&rt, &users, &mixed(later));
+        }
+    }
+    agree(&rt, users.is_empty(), true);
+    agree(&rt, users.users().next(), None);
+    drop(blocks);
+    Ok(())
+}
+
+/// A user that is taken out can be put in again, wherever it stood, in a directory of each size.
+#[test]
+fn each_user_can_be_put_in_again(rt: HostRuntime) {
+    let mut users = Directory::new(rt.alloc());
+    for count in 0..USERS {
+        agree(&rt, users.insert(mixed(count)), Ok(None));
+        for turn in [0, count / 2, count] {
+            let given = mixed(turn);
+            agree(&rt, users.remove(&given.username), Some(given));
+            agree(&rt, users.len(), count as usize);
+            agree(&rt, users.insert(given), Ok(None));
+            finds(&rt, &users, &given);
+        }
+    }
+}
+
+/// Texts of each size up to 30 bytes, of letters and of characters of two bytes.
+#[test]
+fn the_first_text_that_is_too_large_is_told(rt: HostRuntime) -> Result<(), Fail> {
+    let letters = "abcdefghijklmnopqrstuvwxyzabcd";
+    let wide = "éèêëàâîïôûùüçñö";
+    for username in 0..31usize {
+        for role in 0..31usize {
+            for text in [letters, wide] {
+                let (Some(username), Some(role)) = (text.get(..username), text.get(..role)) else {
+                    continue;
+                };
+                let made = User::new(username, role);
+                if username.len() > 20 {
+                    agree(&rt, made, Err(UserFault::Username));
+                } else if role.len() > 5 {
+                    agree(&rt, made, Err(UserFault::Role));
+                } else {
+                    let made = made.expect(&rt, "both fit");
+                    agree(&rt, made.username.as_str(), username);
+                    agree(&rt, made.role.as_str(), role);
+                }
+            }
+        }
+    }
+    Ok(())
+}
+
+/// What a value writes to a hasher.
+fn hash_of<T: Hash>(value: &T) -> u64 {
+    let mut hasher = DefaultHasher::new();
+    value.hash(&mut hasher);
+    hasher.finish()
+}
+
+/// Users are ordered and hashed as their usernames, and then their roles.
+#[test]
+fn users_are_compared_by_both_texts(rt: HostRuntime) {
+    let texts = [
+        ("", "b"),
+        ("a", "a"),
+        ("a", "b"),
+        ("ab", ""),
+        ("b", "a"),
+        ("\u{FFFF}", ""),
+        ("\u{10000}", ""),
+    ];
+    for (place, (username, role)) in texts.iter().enumerate() {
+        let one = user(username, role);
+        agree(&rt, hash_of(&one), hash_of(&(*username, *role)));
+        for (other_place, (username, role)) in texts.iter().enumerate() {
+            let other = user(username, role);
+            agree(&rt, one.cmp(&other), place.cmp(&other_place));
+            agree(&rt, one == other, place == other_place);
+        }
+    }
+}

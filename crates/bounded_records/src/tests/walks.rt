@@ -1,0 +1,103 @@
+//! Walks from both ends over directories of each size up to 60, and what is printed for debugging.
+ghost use Rattle.std.specs.Prelude.{◌≤◌};
+
+use super::{agree, ranked};
+use crate::{Directory, Names, User, Users};
+use std::process::Abort;
+
+/// The users of the ranks below `count`, which ascend.
+fn of_ranks(rt: &(impl Abort + AllocGlobal), count: u16) -> Directory {
+    let mut users = Directory::new(rt.alloc());
+    for rank in 0..count {
+        let old = users.insert(ranked(count - 1 - rank));
+        agree(rt, old, Ok(None));
+    }
+    users
+}
+
+/// Both walks have these ranks left, by their lengths, and by a clone that is walked to its end.
+fn has_left(rt: &impl Abort, names: &Names, users: &Users, front: u16, back: u16) {
+    let left = (back - front) as usize;
+    agree(rt, names.len(), left);
+    agree(rt, names.size_hint(), (left, Some(left)));
+    agree(rt, users.len(), left);
+    agree(rt, users.size_hint(), (left, Some(left)));
+    let mut names = names.clone().expect(rt, "no memory is asked for");
+    let mut users = users.clone().expect(rt, "no memory is asked for");
+    for rank in front..back {
+        let wanted = ranked(rank);
+        agree(rt, names.next(), Some(&wanted.username));
+        agree(rt, users.next(), Some(&wanted));
+    }
+    for _ in 0..2u8 {
+        agree(rt, names.next(), None);
+        agree(rt, names.next_back(), None);
+        agree(rt, users.next(), None);
+        agree(rt, users.next_back(), None);
+    }
+}
+
+/// Walks by the ends that the bits of `ends` tell, over and over.
+fn walk(rt: &impl Abort, directory: &Directory, count: u16, ends: u32)
+    requires { count ≤ 60 }
+{
+    let mut names = directory.names();
+    let mut users = directory.users();
+    let mut front = 0u16;
+    let mut back = count;
+    for step in 0..count as u32 {
+        if back <= front {
+            break;
+        }
+        has_left(rt, &names, &users, front, back);
+        if ends >> (step % 8) & 1 == 0 {
+            let wanted = ranked(front);
+            agree(rt, names.next(), Some(&wanted.username));
+            agree(rt, users.next(), Some(&wanted));
+            front += 1;
+        } else {
+            back -= 1;
+            let wanted = ranked(back);
+            agree(rt, names.next_back(), Some(&wanted.username));
+            agree(rt, users.next_back(), Some(&wanted));
+        }
+    }
+    has_left(rt, &names, &users, front, front);
+}
+
+/// From the front, from the back, and by mixes of both.
+#[test]
+fn each_user_comes_once_from_either_end(rt: HostRuntime) {
+    for count in 0..60u16 {
+        let directory = of_ranks(&rt, count);
+        agree(&rt, directory.len(), count as usize);
+        agree(&rt, directory.is_empty(), count == 0);
+        for ends in [0b0000_0000, 0b1111_1111, 0b0101_0101, 0b0011_0110u32] {
+            walk(&rt, &directory, count, ends);
+        }
+    }
+}
+
+/// A directory is printed as the set of its users, and a walk as the list of those that are left.
+#[test]
+fn each_is_printed_for_debugging(rt: HostRuntime) {
+    let mut users = Directory::new(rt.alloc());
+    let printed = format!(in rt.alloc(); "{users:?}{users:#?}").expect(&rt, "memory");
+    agree(&rt, printed.as_str(), "{}{}");
+    for name in ["b", "a"] {
+        let user = User::new(name, "x").expect(&rt, "it fits");
+        agree(&rt, users.insert(user), Ok(None));
+    }
+    let (names, all) = (users.names(), users.users());
+    let printed = format!(in rt.alloc(); "{users:?}|{names:?}|{all:?}|{names:#?}");
+    let printed = printed.expect(&rt, "memory");
+    let a =
+        "User { username: ArrayString { array: \"a\", size: 1 }, role: ArrayString { array: \"x\", size: 1 } }";
+    let b =
+        "User { username: ArrayString { array: \"b\", size: 1 }, role: ArrayString { array: \"x\", size: 1 } }";
+    let (name_a, name_b) = (&a[17..52], &b[17..52]);
+    let lines =
+        "[\n    ArrayString {\n        array: \"a\",\n        size: 1,\n    },\n    ArrayString {\n        array: \"b\",\n        size: 1,\n    },\n]";
+    let wanted = format!(in rt.alloc(); "{{{a}, {b}}}|[{name_a}, {name_b}]|[{a}, {b}]|{lines}");
+    agree(&rt, printed.as_str(), wanted.expect(&rt, "memory").as_str());
+}
