@@ -9,3 +9,4 @@ pub mod DrainLemmas
 pub mod BackLemmas
 pub mod WalkedLemmas
 pub mod EqualLemmas
+pub mod WellFormedLemmas
