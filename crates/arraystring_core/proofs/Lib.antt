@@ -15,3 +15,4 @@ mod DrainLemmas
 mod BackLemmas
 mod WalkedLemmas
 mod EqualLemmas
+mod WellFormedLemmas

@@ -174,8 +174,19 @@ fn what_is_made_of_bytes_and_of_slices(rt: HostRuntime) {
     // character cut short, and a fault past the first byte, which all bytes are judged by.
     let faults = b"\x00\x9F\x92\x96\
         \x61\x61\xC0\x80\
+        \xC1\xBF\x61\x61\
+        \xE0\x9F\xBF\x61\
+        \xF0\x8F\xBF\xBF\
         \x61\xED\xA0\x80\
+        \xED\xA0\x80\x61\
+        \xED\xBF\xBF\x61\
         \xF4\x90\x80\x80\
+        \xF5\x80\x80\x80\
+        \xDF\x61\x61\x61\
+        \xE2\x82\x61\x61\
+        \xF0\x9F\xA4\x61\
+        \x61\x61\x61\xC3\
+        \x61\x61\xE2\x82\
         \x61\xF0\x9F\xA4\
         \x61\x62\xFF";
     for fault in faults.chunks(4) {
