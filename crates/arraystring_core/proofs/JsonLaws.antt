@@ -3,7 +3,7 @@ use Rattle.std.proofs.Common.{◌≡◌, ℕ, ◌≤◌, List, Option, Some, Non
 use Rattle.std.specs.Prelude.{chars}
 use Rattle.serde_json.specs.Data.{Data}
 use Rattle.serde_json.specs.Find.{as_str}
-use Rattle.arraystring_base.specs.Text.{IsText, size, bytes, cut}
+use Rattle.arraystring_base.specs.Text.{IsText, size, cut}
 use Rattle.arraystring_base.proofs.TextLaws.{bytes-utf8, chars-bytes}
 use Rattle.arraystring_base.proofs.CutLaws.{cut-all}
 use Rattle.arraystring_core.specs.Json.{json_text, text_within, whole_text}

@@ -1,5 +1,5 @@
 -- The proofs that ghost members of `ArrayString` and `Drain` cite: a value that a contract sees gives the fields back.
-use Rattle.std.proofs.Common.{◌≡◌, ℕ, ◌+◌, List, ◌++◌, length, take, drop, ap, ◌∙◌, arith, IsUtf8, length-take-le, length-drop, take-append-drop, take_at}
+use Rattle.std.proofs.Common.{◌≡◌, ℕ, List, ◌++◌, length, take, drop, ap, ◌∙◌, arith, IsUtf8, length-take-le, length-drop, take-append-drop, take_at}
 use Rattle.std.proofs.lemmas.List.{drop_at}
 use Rattle.std.proofs.lemmas.Str.{IsUtf8-had}
 use Rattle.arraystring_base.specs.Text.{size, bytes}

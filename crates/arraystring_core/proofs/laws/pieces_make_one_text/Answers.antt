@@ -1,7 +1,6 @@
 use Rattle.std.proofs.Common.{◌∙◌, sym, ap}
 use Rattle.arraystring_base.specs.Text.{cut}
 use Rattle.arraystring_base.proofs.TextLaws.{chars-bytes}
-use Rattle.arraystring_core.specs.Taken.{joined}
 use Rattle.arraystring_core.proofs.TakenLaws.{bytes-joined}
 use Rattle.arraystring_core.proofs.laws.pieces_make_one_text.Goals as goal
 

@@ -3,7 +3,6 @@ use Rattle.arraystring_base.specs.Text.{size, front, boundary}
 use Rattle.arraystring_base.proofs.TextLaws.{chars-bytes, size-append, width-bounds}
 use Rattle.arraystring_base.proofs.BoundaryLaws.{boundary-is, front-is}
 use Rattle.arraystring_core.specs.Edits.{without_trailing}
-use Rattle.arraystring_core.proofs.StoredLaws.{opened-size}
 use Rattle.arraystring_core.proofs.TrimLemmas.{without_trailing-passes, without_trailing-stops}
 use Rattle.arraystring_core.proofs.array_string.ArrayString.drop_trailing.Goals as goal
 use Rattle.arraystring_core.proofs.array_string.ArrayString.drop_trailing.Goals.{in-Some+then-not-drops, in_default}

@@ -1,7 +1,7 @@
 use Rattle.std.proofs.Common.{◌≡◌, ap, sym, ◌∙◌, Some}
 use Rattle.arraystring_base.specs.Text.{size}
 use Rattle.arraystring_base.proofs.TextLaws.{chars-bytes}
-use Rattle.arraystring_core.specs.Edits.{part, part_in}
+use Rattle.arraystring_core.specs.Edits.{part_in}
 use Rattle.arraystring_core.proofs.PartLaws.{part_in-some}
 use Rattle.std.specs.Range.Bound.{end_index}
 use Rattle.arraystring_core.proofs.array_string.ArrayString.get.Goals as goal
