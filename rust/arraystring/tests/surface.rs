@@ -13,26 +13,26 @@ use arraystring::{ArrayString, CacheString, MaxString, SmallString};
 
 type Text = ArrayString<23>;
 type Made<T, E> = Result<T, E>;
-type Chars<'a> = std::str::Chars<'a>;
+type Chars = std::str::Chars<'static>;
 
 #[test]
 fn the_calls_of_a_string() {
     let _: fn() -> Text = Text::new;
-    let _: fn(&str) -> Made<Text, OutOfBounds> = Text::try_from_str::<&str>;
+    let _: fn(&'static str) -> Made<Text, OutOfBounds> = Text::try_from_str::<&'static str>;
     let _: fn(String) -> Text = Text::from_str_truncate::<String>;
-    let _: unsafe fn(&str) -> Text = Text::from_str_unchecked::<&str>;
+    let _: unsafe fn(&'static str) -> Text = Text::from_str_unchecked::<&'static str>;
     let _: fn(Vec<String>) -> Made<Text, OutOfBounds> = Text::try_from_iterator::<String, Vec<String>>;
     let _: fn(Vec<String>) -> Text = Text::from_iterator::<String, Vec<String>>;
     let _: unsafe fn(Vec<String>) -> Text = Text::from_iterator_unchecked::<String, Vec<String>>;
     let _: fn(Chars) -> Made<Text, OutOfBounds> = Text::try_from_chars::<Chars>;
     let _: fn(Chars) -> Text = Text::from_chars::<Chars>;
     let _: unsafe fn(Chars) -> Text = Text::from_chars_unchecked::<Chars>;
-    let _: fn(&[u8]) -> Made<Text, Error> = Text::try_from_utf8::<&[u8]>;
+    let _: fn(&'static [u8]) -> Made<Text, Error> = Text::try_from_utf8::<&'static [u8]>;
     let _: fn(Vec<u8>) -> Made<Text, Utf8> = Text::from_utf8::<Vec<u8>>;
-    let _: unsafe fn(&[u8]) -> Text = Text::from_utf8_unchecked::<&[u8]>;
-    let _: fn(&[u16]) -> Made<Text, Error> = Text::try_from_utf16::<&[u16]>;
+    let _: unsafe fn(&'static [u8]) -> Text = Text::from_utf8_unchecked::<&'static [u8]>;
+    let _: fn(&'static [u16]) -> Made<Text, Error> = Text::try_from_utf16::<&'static [u16]>;
     let _: fn(Vec<u16>) -> Made<Text, Utf16> = Text::from_utf16::<Vec<u16>>;
-    let _: fn(&[u16]) -> Text = Text::from_utf16_lossy::<&[u16]>;
+    let _: fn(&'static [u16]) -> Text = Text::from_utf16_lossy::<&'static [u16]>;
     let _: fn(&Text) -> &str = Text::as_str;
     let _: fn(&Text) -> &[u8] = Text::as_bytes;
     let _: fn() -> u8 = Text::capacity;
@@ -65,21 +65,21 @@ fn the_calls_of_a_string() {
 #[test]
 fn the_calls_of_a_cache_string() {
     let _: fn() -> CacheString = CacheString::new;
-    let _: fn(&str) -> Made<CacheString, OutOfBounds> = CacheString::try_from_str::<&str>;
+    let _: fn(&'static str) -> Made<CacheString, OutOfBounds> = CacheString::try_from_str::<&'static str>;
     let _: fn(String) -> CacheString = CacheString::from_str_truncate::<String>;
-    let _: unsafe fn(&str) -> CacheString = CacheString::from_str_unchecked::<&str>;
+    let _: unsafe fn(&'static str) -> CacheString = CacheString::from_str_unchecked::<&'static str>;
     let _: fn(Vec<String>) -> Made<CacheString, OutOfBounds> = CacheString::try_from_iterator::<String, Vec<String>>;
     let _: fn(Vec<String>) -> CacheString = CacheString::from_iterator::<String, Vec<String>>;
     let _: unsafe fn(Vec<String>) -> CacheString = CacheString::from_iterator_unchecked::<String, Vec<String>>;
     let _: fn(Chars) -> Made<CacheString, OutOfBounds> = CacheString::try_from_chars::<Chars>;
     let _: fn(Chars) -> CacheString = CacheString::from_chars::<Chars>;
     let _: unsafe fn(Chars) -> CacheString = CacheString::from_chars_unchecked::<Chars>;
-    let _: fn(&[u8]) -> Made<CacheString, Error> = CacheString::try_from_utf8::<&[u8]>;
-    let _: fn(&[u8]) -> Made<CacheString, Utf8> = CacheString::from_utf8::<&[u8]>;
-    let _: unsafe fn(&[u8]) -> CacheString = CacheString::from_utf8_unchecked::<&[u8]>;
-    let _: fn(&[u16]) -> Made<CacheString, Error> = CacheString::try_from_utf16::<&[u16]>;
-    let _: fn(&[u16]) -> Made<CacheString, Utf16> = CacheString::from_utf16::<&[u16]>;
-    let _: fn(&[u16]) -> CacheString = CacheString::from_utf16_lossy::<&[u16]>;
+    let _: fn(&'static [u8]) -> Made<CacheString, Error> = CacheString::try_from_utf8::<&'static [u8]>;
+    let _: fn(&'static [u8]) -> Made<CacheString, Utf8> = CacheString::from_utf8::<&'static [u8]>;
+    let _: unsafe fn(&'static [u8]) -> CacheString = CacheString::from_utf8_unchecked::<&'static [u8]>;
+    let _: fn(&'static [u16]) -> Made<CacheString, Error> = CacheString::try_from_utf16::<&'static [u16]>;
+    let _: fn(&'static [u16]) -> Made<CacheString, Utf16> = CacheString::from_utf16::<&'static [u16]>;
+    let _: fn(&'static [u16]) -> CacheString = CacheString::from_utf16_lossy::<&'static [u16]>;
     let _: fn() -> u8 = CacheString::capacity;
     let _: fn(&mut CacheString, u8) -> Made<CacheString, Error> = CacheString::split_off;
     let _: fn(ArrayString<63>) -> CacheString = CacheString::from;

@@ -2,8 +2,8 @@
 
 use crate::cursor::{Fault, Kind, Token};
 use crate::edits::Edits;
-use crate::erase::{Tally, asked, is_unsafe};
-use crate::rules::CRATES;
+use crate::erase::Tally;
+use crate::rules::{CRATES, asked, is_unsafe};
 
 /// Rewrites a body, which is given by its tokens.
 pub fn rewrite(source: &str, tokens: &[Token], krate: &str, edits: &mut Edits, tally: &mut Tally) -> Result<(), Fault> {
@@ -20,7 +20,6 @@ pub fn rewrite(source: &str, tokens: &[Token], krate: &str, edits: &mut Edits, t
                 // The block round the call is enough.
                 edits.replace(tokens[at].at.start..tokens[at + 2].at.start, "");
                 edits.replace(tokens[end - 1].at.end..tokens[end].at.end, "");
-                continue;
             }
             let call = (at + 2..end).find(|at| body.text(at + 1) == "(").map_or("", |at| body.text(at));
             let words = asked(call).ok_or_else(|| Fault::new(tokens[at].at.start, format!("an `unsafe` block with `{call}`")))?;
@@ -30,10 +29,11 @@ pub fn rewrite(source: &str, tokens: &[Token], krate: &str, edits: &mut Edits, t
             if body.text(start) == "str" {
                 return Err(Fault::new(tokens[at].at.start, "a call of std that is in no `unsafe` block"));
             }
-            let end = body.closing(at + 1)?;
-            inner_until = end;
-            edits.insert(tokens[start].at.start, "unsafe { ");
-            edits.insert(tokens[end].at.end, " }");
+            if at >= inner_until {
+                inner_until = body.closing(at + 1)?;
+                edits.insert(tokens[start].at.start, "unsafe { ");
+                edits.insert(tokens[inner_until].at.end, " }");
+            }
             body.say(start, &format!("the proof of this body shows what `{text}` requires."), edits, tally);
         }
     }

@@ -11,7 +11,9 @@ mod cursor;
 mod edits;
 mod erase;
 mod files;
+mod items;
 mod rules;
+mod sections;
 
 use std::path::PathBuf;
 use std::process::ExitCode;

@@ -107,6 +107,16 @@ pub const BEHIND: &str = "let (start, end) = plain_ends(range, self.len());";
 pub const ASKED: &[(&str, &str)] =
     &[("from_utf8_unchecked", "these bytes are UTF-8"), ("from_u32_unchecked", "this is a scalar value")];
 
+/// The words for what an `unsafe` block of a source asks for.
+pub fn asked(call: &str) -> Option<&'static str> {
+    ASKED.iter().find(|(name, _)| *name == call).map(|(_, words)| *words)
+}
+
+/// Whether a call by this name is `unsafe` in Rust.
+pub fn is_unsafe(name: &str) -> bool {
+    FATES.iter().any(|(call, fate)| matches!(fate, Fate::Unsafe(_)) && call.rsplit("::").next() == Some(name))
+}
+
 /// A call that takes more types here than in its source, as the Rust crate 0.3.0 does.
 pub struct Wider {
     pub call: &'static str,

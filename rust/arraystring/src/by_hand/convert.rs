@@ -2,7 +2,7 @@
 
 use core::borrow::Borrow;
 use core::char::DecodeUtf16Error;
-use core::ops::{Deref, Index, Range, RangeFrom, RangeFull, RangeInclusive, RangeTo, RangeToInclusive};
+use core::ops::{Deref, DerefMut, Index, Range, RangeFrom, RangeFull, RangeInclusive, RangeTo, RangeToInclusive};
 
 use crate::error::{Error, Utf16};
 use crate::{ArrayString, CacheString};
@@ -24,6 +24,14 @@ impl Deref for CacheString {
     #[inline]
     fn deref(&self) -> &ArrayString<63> {
         &self.0
+    }
+}
+
+/// The string inside, which every call of it leaves a text. The text itself is never lent to be written.
+impl DerefMut for CacheString {
+    #[inline]
+    fn deref_mut(&mut self) -> &mut ArrayString<63> {
+        &mut self.0
     }
 }
 

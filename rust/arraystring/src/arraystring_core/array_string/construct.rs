@@ -284,6 +284,7 @@ impl<const N: usize> ArrayString<N> {
     pub unsafe fn from_utf8_unchecked<B: AsRef<[u8]>>(given: B) -> Self {
         let given = given.as_ref();
         // SAFETY: the proof of this body shows what `from_str_unchecked` requires.
+        // SAFETY: the proof of this body shows that these bytes are UTF-8.
         unsafe { Self::from_str_unchecked(str::from_utf8_unchecked(given)) }
     }
 }
