@@ -22,6 +22,7 @@ impl CacheString {
     /// ```text
     /// ensures { result.0.text ≡ [] }
     /// ```
+    #[inline]
     pub const fn new() -> Self {
         CacheString(ArrayString::new())
     }
@@ -33,6 +34,7 @@ impl CacheString {
     /// ```text
     /// ensures { result ≡ 63 }
     /// ```
+    #[inline]
     pub const fn capacity() -> u8 {
         ArrayString::<63>::capacity()
     }
@@ -44,6 +46,7 @@ impl CacheString {
     /// ```text
     /// ensures { IsWholeOrRefused (chars string.now) 63 (from_out_of_bounds (held result)) }
     /// ```
+    #[inline]
     pub fn try_from_str<S: AsRef<str>>(string: S) -> Result<Self, OutOfBounds> {
         let string = string.as_ref();
         Ok(CacheString(ArrayString::try_from_str(string)?))
@@ -56,6 +59,7 @@ impl CacheString {
     /// ```text
     /// ensures { result.0.text ≡ cut (chars string.now) 63 }
     /// ```
+    #[inline]
     pub fn from_str_truncate<S: AsRef<str>>(string: S) -> Self {
         let string = string.as_ref();
         CacheString(ArrayString::from_str_truncate(string))
@@ -73,6 +77,7 @@ impl CacheString {
     /// requires { size (chars string.now) ≤ 63 }
     /// ensures { result.0.text ≡ chars string.now }
     /// ```
+    #[inline]
     pub unsafe fn from_str_unchecked<S: AsRef<str>>(string: S) -> Self {
         let string = string.as_ref();
         // SAFETY: the proof of this body shows what `from_str_unchecked` requires.
@@ -97,6 +102,7 @@ impl CacheString {
     /// ensures whole { (all : List (List ℕ)) → Gives I.into_iter_gives I.IntoIter.next_gives piece_text pieces all
     ///     → IsWholeOrRefused (joined all) 63 (from_out_of_bounds (held result)) }
     /// ```
+    #[inline]
     pub fn try_from_iterator<U: AsRef<str>, I: IntoIterator<Item = U>>(
         pieces: I,
     ) -> Result<Self, OutOfBounds> {
@@ -121,6 +127,7 @@ impl CacheString {
     /// ensures whole { (all : List (List ℕ)) → Gives I.into_iter_gives I.IntoIter.next_gives piece_text pieces all
     ///     → result.0.text ≡ cut (joined all) 63 }
     /// ```
+    #[inline]
     pub fn from_iterator<U: AsRef<str>, I: IntoIterator<Item = U>>(pieces: I) -> Self {
         CacheString(ArrayString::from_iterator(pieces))
     }
@@ -142,6 +149,7 @@ impl CacheString {
     /// ensures whole { (all : List (List ℕ)) → Gives I.into_iter_gives I.IntoIter.next_gives piece_text pieces all
     ///     → result.0.text ≡ joined all }
     /// ```
+    #[inline]
     pub unsafe fn from_iterator_unchecked<U: AsRef<str>, I: IntoIterator<Item = U>>(pieces: I) -> Self {
         // SAFETY: the proof of this body shows what `from_iterator_unchecked` requires.
         CacheString(unsafe { ArrayString::from_iterator_unchecked(pieces) })
@@ -165,6 +173,7 @@ impl CacheString {
     /// ensures whole { (all : List ℕ) → Gives I.into_iter_gives I.IntoIter.next_gives (λ c. c) characters all
     ///     → IsWholeOrRefused all 63 (from_out_of_bounds (held result)) }
     /// ```
+    #[inline]
     pub fn try_from_chars<I: IntoIterator<Item = char>>(
         characters: I,
     ) -> Result<Self, OutOfBounds> {
@@ -189,6 +198,7 @@ impl CacheString {
     /// ensures whole { (all : List ℕ) → Gives I.into_iter_gives I.IntoIter.next_gives (λ c. c) characters all
     ///     → result.0.text ≡ cut all 63 }
     /// ```
+    #[inline]
     pub fn from_chars<I: IntoIterator<Item = char>>(characters: I) -> Self {
         CacheString(ArrayString::from_chars(characters))
     }
@@ -209,6 +219,7 @@ impl CacheString {
     /// ensures whole { (all : List ℕ) → Gives I.into_iter_gives I.IntoIter.next_gives (λ c. c) characters all
     ///     → result.0.text ≡ all }
     /// ```
+    #[inline]
     pub unsafe fn from_chars_unchecked<I: IntoIterator<Item = char>>(characters: I) -> Self {
         // SAFETY: the proof of this body shows what `from_chars_unchecked` requires.
         CacheString(unsafe { ArrayString::from_chars_unchecked(characters) })
@@ -226,6 +237,7 @@ impl CacheString {
     /// ensures bytes { IfOk result (λ made. bytes made.0.text ≡ given.now) }
     /// ensures text { IfOk result (λ made. IsText made.0.text) }
     /// ```
+    #[inline]
     pub fn try_from_utf8<B: AsRef<[u8]>>(given: B) -> Result<Self, Error> {
         let given = given.as_ref();
         Ok(CacheString(ArrayString::try_from_utf8(given)?))
@@ -242,6 +254,7 @@ impl CacheString {
     /// ensures cut { (t : List ℕ) → IsText t → bytes t ≡ given.now → IfOk result (λ made. made.0.text ≡ cut t 63) }
     /// ensures text { IfOk result (λ made. IsText made.0.text) }
     /// ```
+    #[inline]
     pub fn from_utf8<B: AsRef<[u8]>>(given: B) -> Result<Self, Utf8> {
         let given = given.as_ref();
         Ok(CacheString(ArrayString::from_utf8(given)?))
@@ -262,6 +275,7 @@ impl CacheString {
     /// ensures bytes { bytes result.0.text ≡ given.now }
     /// ensures text { IsText result.0.text }
     /// ```
+    #[inline]
     pub unsafe fn from_utf8_unchecked<B: AsRef<[u8]>>(given: B) -> Self {
         let given = given.as_ref();
         // SAFETY: the proof of this body shows what `from_utf8_unchecked` requires.
@@ -276,6 +290,7 @@ impl CacheString {
     /// ```text
     /// ensures { (items : List Unit16) → IsReading units.now items → GivesWhole (first_stop items 63) (held result) }
     /// ```
+    #[inline]
     pub fn try_from_utf16<B: AsRef<[u16]>>(units: B) -> Result<Self, Error> {
         let units = units.as_ref();
         Ok(CacheString(ArrayString::try_from_utf16(units)?))
@@ -290,6 +305,7 @@ impl CacheString {
     /// ```text
     /// ensures { (items : List Unit16) → IsReading units.now items → GivesRun (first_stop items 63) (held result) }
     /// ```
+    #[inline]
     pub fn from_utf16<B: AsRef<[u16]>>(units: B) -> Result<Self, Utf16> {
         let units = units.as_ref();
         Ok(CacheString(ArrayString::from_utf16(units)?))
@@ -303,6 +319,7 @@ impl CacheString {
     /// ```text
     /// ensures { (items : List Unit16) → IsReading units.now items → result.0.text ≡ cut (lossy_text items) 63 }
     /// ```
+    #[inline]
     pub fn from_utf16_lossy<B: AsRef<[u16]>>(units: B) -> Self {
         let units = units.as_ref();
         CacheString(ArrayString::from_utf16_lossy(units))
@@ -317,6 +334,7 @@ impl CacheString {
     /// ```text
     /// ensures { Makes (split self.old.0.text at) self.old.0.text (with_text (held result)) self.new.0.text }
     /// ```
+    #[inline]
     pub fn split_off(&mut self, at: u8) -> Result<Self, Error> {
         Ok(CacheString(self.0.split_off(at)?))
     }
@@ -330,6 +348,7 @@ impl CacheString {
 /// ghost is_default = { λ s. s.0.text ≡ [] };
 /// ```
 impl Default for CacheString {
+    #[inline]
     fn default() -> Self {
         Self::new()
     }
@@ -343,6 +362,7 @@ impl Default for CacheString {
 /// ghost from_gives = { λ string made. made.0.text ≡ string.text };
 /// ```
 impl From<ArrayString<63>> for CacheString {
+    #[inline]
     fn from(string: ArrayString<63>) -> Self {
         CacheString(string)
     }
@@ -358,6 +378,7 @@ impl From<ArrayString<63>> for CacheString {
 impl FromStr for CacheString {
     type Err = OutOfBounds;
 
+    #[inline]
     fn from_str(string: &str) -> Result<Self, OutOfBounds> {
         Self::try_from_str(string)
     }
@@ -372,6 +393,7 @@ impl FromStr for CacheString {
 /// ghost styled_output = { λ s _. Some (bytes s.0.text) };
 /// ```
 impl fmt::Display for CacheString {
+    #[inline]
     fn fmt(&self, f: &mut fmt::Formatter<'_>) -> fmt::Result {
         f.write_str(self.0.as_str())
     }
@@ -387,6 +409,7 @@ impl fmt::Display for CacheString {
 impl<'a> Add<&'a str> for CacheString {
     type Output = Self;
 
+    #[inline]
     fn add(self, given: &'a str) -> Self {
         CacheString(self.0 + given)
     }
@@ -407,6 +430,7 @@ impl fmt::Write for CacheString {
     /// ensures ok { IsOk result → bytes self.new.0.text ≡ bytes self.old.0.text ++ string.now }
     /// ensures made { Makes (addition self.old.0.text (chars string.now) 63) self.old.0.text (from_out_of_bounds result) self.new.0.text }
     /// ```
+    #[inline]
     fn write_str(&mut self, string: &str) -> fmt::Result {
         self.0.write_str(string)
     }

@@ -318,7 +318,8 @@ impl<const N: usize> Pair<N> {
 
     /// Makes a string anew, and goes on with it where it is another one.
     fn made(&mut self, random: &mut Random) {
-        let text = random.text(300);
+        let most = if random.below(8) == 0 { 300 } else { 20 };
+        let text = random.text(most);
         let whole = if text.len() <= self.capacity { Ok(text.clone()) } else { Err(OutOfBounds) };
         let given = cut(&text, self.capacity);
         assert_eq!(ArrayString::<N>::try_from_str(&text).map(|made| made.to_string()), whole);

@@ -26,6 +26,8 @@ struct Lead {
     docs_end: usize,
     has_docs: bool,
     is_test: bool,
+    /// Whether an attribute says where it is inlined.
+    is_inlined: bool,
 }
 
 /// A file while it is read.
@@ -77,7 +79,7 @@ impl<'a, 't> File<'a, 't> {
 
     /// Reads comments and attributes, and the first token after them.
     fn lead(&mut self, cursor: &mut Cursor<'a>) -> Result<(Lead, Option<Token>), Fault> {
-        let mut lead = Lead { start: usize::MAX, docs_end: 0, has_docs: false, is_test: false };
+        let mut lead = Lead { start: usize::MAX, docs_end: 0, has_docs: false, is_test: false, is_inlined: false };
         loop {
             let Some(token) = cursor.next()? else { return Ok((lead, None)) };
             let line = self.line_start(token.at.start);
@@ -98,6 +100,7 @@ impl<'a, 't> File<'a, 't> {
                         lead.docs_end = line;
                     }
                     lead.is_test |= self.attribute(cursor, &token)?;
+                    lead.is_inlined |= ["#[inline", "#[cold"].iter().any(|hint| self.text[token.at.start..].starts_with(hint));
                 }
                 _ => {
                     if lead.docs_end == 0 {
@@ -295,9 +298,6 @@ impl<'a, 't> File<'a, 't> {
         }
         self.head(head.clone());
         self.wider(&call, &head, body)?;
-        if tokens.is_empty() && !self.text[head.clone()].contains("()") {
-            self.edits.insert(lead.docs_end, format!("{}#[allow(unused_variables)]\n", self.indent(word.at.start)));
-        }
         let fate = FATES.iter().find(|(name, _)| *name == call).map(|(_, fate)| fate);
         let has_precondition = clauses.as_ref().is_some_and(|at| self.text[at.clone()].contains("requires "));
         match fate {
@@ -319,7 +319,19 @@ impl<'a, 't> File<'a, 't> {
             self.edits.replace(self.line_start(at.start) - 1..self.line_start(at.start), " ");
             self.edits.replace(self.line_start(body - 1)..body - 1, "");
         }
+        let head = &self.text[head];
+        if tokens.is_empty() && !head.contains("()") {
+            self.attribute_put(lead, word, "#[allow(unused_variables)]");
+        } else if !tokens.is_empty() && !lead.is_inlined {
+            self.attribute_put(lead, word, "#[inline]");
+            self.tally.count("functions that may be inlined");
+        }
         body::rewrite(self.text, &tokens, self.source.krate, &mut self.edits, self.tally)
+    }
+
+    /// Puts an attribute behind the documentation of a function.
+    fn attribute_put(&mut self, lead: &Lead, word: &Token, attribute: &str) {
+        self.edits.insert(lead.docs_end, format!("{}{attribute}\n", self.indent(word.at.start)));
     }
 
     /// Reads the clauses of a function up to its body, whose bracket is taken.

@@ -52,6 +52,7 @@ pub(crate) fn add<I: Into<u8>>(n: I) -> u8 {
     crate::arraystring_base::steps::one(n)
 }
 
+#[inline]
 fn one() -> u8 {
     1
 }
@@ -103,6 +104,7 @@ pub struct Number(u8);
 /// ghost output = { λ s. Some \"}\" };
 /// ```
 impl fmt::Display for Number {
+    #[inline]
     fn fmt(&self, f: &mut fmt::Formatter<'_>) -> fmt::Result {
         f.write_str(\"}\")
     }

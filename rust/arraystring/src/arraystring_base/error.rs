@@ -27,6 +27,7 @@ impl Error {
     /// ```text
     /// ensures { result.now ≡ error_name self.now }
     /// ```
+    #[inline]
     fn name(&self) -> &'static str {
         match self {
             Error::Utf8 => "Utf8",
@@ -45,6 +46,7 @@ impl Error {
 /// ghost respects_eq = { λ x y h. ap fed.str (same_names x y h) };
 /// ```
 impl Hash for Error {
+    #[inline]
     fn hash<H: Hasher>(&self, state: &mut H) {
         self.name().hash(state);
     }
@@ -59,6 +61,7 @@ impl Hash for Error {
 /// ghost styled_output = { λ e _. Some (error_name e) };
 /// ```
 impl fmt::Display for Error {
+    #[inline]
     fn fmt(&self, f: &mut fmt::Formatter<'_>) -> fmt::Result {
         f.write_str(self.name())
     }
@@ -72,6 +75,7 @@ impl fmt::Display for Error {
 /// ghost debug_output = { λ e. Some (codes "Error::" ++ error_name e) };
 /// ```
 impl fmt::Debug for Error {
+    #[inline]
     fn fmt(&self, f: &mut fmt::Formatter<'_>) -> fmt::Result {
         f.write_str("Error::")?;
         f.write_str(self.name())
@@ -94,6 +98,7 @@ pub struct Utf8;
 /// ghost styled_output = { λ _ _. Some (codes "Utf8") };
 /// ```
 impl fmt::Display for Utf8 {
+    #[inline]
     fn fmt(&self, f: &mut fmt::Formatter<'_>) -> fmt::Result {
         f.write_str("Utf8")
     }
@@ -107,6 +112,7 @@ impl fmt::Display for Utf8 {
 /// ghost debug_output = { λ _. Some (codes "Utf8") };
 /// ```
 impl fmt::Debug for Utf8 {
+    #[inline]
     fn fmt(&self, f: &mut fmt::Formatter<'_>) -> fmt::Result {
         f.write_str("Utf8")
     }
@@ -127,6 +133,7 @@ pub struct Utf16;
 /// ghost styled_output = { λ _ _. Some (codes "Utf16") };
 /// ```
 impl fmt::Display for Utf16 {
+    #[inline]
     fn fmt(&self, f: &mut fmt::Formatter<'_>) -> fmt::Result {
         f.write_str("Utf16")
     }
@@ -140,6 +147,7 @@ impl fmt::Display for Utf16 {
 /// ghost debug_output = { λ _. Some (codes "Utf16") };
 /// ```
 impl fmt::Debug for Utf16 {
+    #[inline]
     fn fmt(&self, f: &mut fmt::Formatter<'_>) -> fmt::Result {
         f.write_str("Utf16")
     }
@@ -160,6 +168,7 @@ pub struct OutOfBounds;
 /// ghost styled_output = { λ _ _. Some (codes "OutOfBounds") };
 /// ```
 impl fmt::Display for OutOfBounds {
+    #[inline]
     fn fmt(&self, f: &mut fmt::Formatter<'_>) -> fmt::Result {
         f.write_str("OutOfBounds")
     }
@@ -173,6 +182,7 @@ impl fmt::Display for OutOfBounds {
 /// ghost debug_output = { λ _. Some (codes "OutOfBounds") };
 /// ```
 impl fmt::Debug for OutOfBounds {
+    #[inline]
     fn fmt(&self, f: &mut fmt::Formatter<'_>) -> fmt::Result {
         f.write_str("OutOfBounds")
     }
@@ -182,6 +192,7 @@ impl StdError for OutOfBounds {}
 
 /// Bytes that `std` finds not to be UTF-8 are refused as `Utf8`.
 impl From<Utf8Error> for Utf8 {
+    #[inline]
     fn from(_error: Utf8Error) -> Self {
         Utf8
     }
@@ -195,6 +206,7 @@ impl From<Utf8Error> for Utf8 {
 /// ghost from_gives = { λ _ error. error ≡ cases.Utf8 };
 /// ```
 impl From<Utf8Error> for Error {
+    #[inline]
     fn from(error: Utf8Error) -> Self {
         Error::from(Utf8::from(error))
     }
@@ -208,6 +220,7 @@ impl From<Utf8Error> for Error {
 /// ghost from_gives = { λ _ error. error ≡ cases.Utf8 };
 /// ```
 impl From<Utf8> for Error {
+    #[inline]
     fn from(_error: Utf8) -> Self {
         Error::Utf8
     }
@@ -221,6 +234,7 @@ impl From<Utf8> for Error {
 /// ghost from_gives = { λ _ error. error ≡ cases.Utf16 };
 /// ```
 impl From<Utf16> for Error {
+    #[inline]
     fn from(_error: Utf16) -> Self {
         Error::Utf16
     }
@@ -234,6 +248,7 @@ impl From<Utf16> for Error {
 /// ghost from_gives = { λ _ error. error ≡ cases.OutOfBounds };
 /// ```
 impl From<OutOfBounds> for Error {
+    #[inline]
     fn from(_error: OutOfBounds) -> Self {
         Error::OutOfBounds
     }

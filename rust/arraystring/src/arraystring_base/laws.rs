@@ -64,7 +64,6 @@ pub fn size_is_length() {}
 pub fn one_text() {}
 
 /// Every `&str` is the bytes of its characters, and each of these is a Unicode scalar value.
-#[allow(unused_variables)]
 ///
 /// # Contract
 ///
@@ -72,6 +71,7 @@ pub fn one_text() {}
 /// ensures text { IsText (chars given.now) }
 /// ensures bytes { bytes (chars given.now) ≡ given.now }
 /// ```
+#[allow(unused_variables)]
 pub fn lent_text(given: &str) {}
 
 /// The order of the bytes of two texts is the order of their characters: the bytes are less where
@@ -100,7 +100,6 @@ pub fn order_of_bytes() {}
 pub fn order_of_texts() {}
 
 /// The units have a reading, and any two readings of them are the same.
-#[allow(unused_variables)]
 ///
 /// # Contract
 ///
@@ -108,6 +107,7 @@ pub fn order_of_texts() {}
 /// ensures some { (items : List Unit16) × IsReading units.now items }
 /// ensures only { (a b : List Unit16) → IsReading units.now a → IsReading units.now b → a ≡ b }
 /// ```
+#[allow(unused_variables)]
 pub fn only_reading(units: &[u16]) {}
 
 /// The UTF-16 of a text is read as its characters, and as nothing else.

@@ -25,6 +25,7 @@ impl Steps {
     /// ensures looked { result.looked ≡ 0 }
     /// ensures moved { result.moved ≡ 0 }
     /// ```
+    #[inline]
     pub const fn new() -> Self {
         Steps {
             looked: 0,
@@ -39,6 +40,7 @@ impl Steps {
     /// ```text
     /// ensures { result ≡ self.now.looked }
     /// ```
+    #[inline]
     pub const fn looked(&self) -> u64 {
         self.looked
     }
@@ -50,6 +52,7 @@ impl Steps {
     /// ```text
     /// ensures { result ≡ self.now.moved }
     /// ```
+    #[inline]
     pub const fn moved(&self) -> u64 {
         self.moved
     }
@@ -63,6 +66,7 @@ impl Steps {
     /// ensures moved { self.new.moved ≡ self.old.moved + len }
     /// ensures looked { self.new.looked ≡ self.old.looked }
     /// ```
+    #[inline]
     pub(crate) fn count_moves(&mut self, len: usize) {
         self.moved = self.moved.saturating_add(len as u64);
     }
@@ -84,6 +88,7 @@ impl Steps {
 /// ensures looked { steps.new.looked ≡ steps.old.looked + 1 }
 /// ensures moved { steps.new.moved ≡ steps.old.moved }
 /// ```
+#[inline]
 pub fn look(bytes: &[u8], at: usize, steps: &mut Steps) -> u8 {
     steps.looked = steps.looked.saturating_add(1);
     bytes[at]

@@ -35,6 +35,7 @@ impl<'a> Units<'a> {
     /// ```text
     /// ensures { IsReading units.now result }
     /// ```
+    #[inline]
     pub fn new(units: &'a [u16]) -> Self {
         Units { rest: units }
     }
@@ -50,6 +51,7 @@ impl<'a> Iterator for Units<'a> {
     type Item = Unit16;
 
     /// The next item of the reading; `None` where none is left, and from then on.
+    #[inline]
     fn next(&mut self) -> Option<Unit16> {
         let (first, rest) = self.rest.split_first()?;
         let unit = *first;
@@ -76,6 +78,7 @@ impl<'a> FusedIterator for Units<'a> {}
 /// ensures some { IfSome result (λ p. (low : ℕ) × IsHigh high × IsLow low × (p.0 ≡ pair_character high low) × (rest.now ≡ low ∷ p.1.now)) }
 /// ensures none { IfNone result ((low : ℕ) (more : List ℕ) → rest.now ≡ low ∷ more → IsHigh high → IsLow low → ⊥) }
 /// ```
+#[inline]
 fn pair<'a>(high: u16, rest: &'a [u16]) -> Option<(char, &'a [u16])> {
     if !is_high(high) {
         return None;
@@ -96,6 +99,7 @@ fn pair<'a>(high: u16, rest: &'a [u16]) -> Option<(char, &'a [u16])> {
 /// ```text
 /// ensures { IsTrue result ↔ IsHigh unit }
 /// ```
+#[inline]
 fn is_high(unit: u16) -> bool {
     unit >= 0xD800 && unit < 0xDC00
 }
@@ -107,6 +111,7 @@ fn is_high(unit: u16) -> bool {
 /// ```text
 /// ensures { IsTrue result ↔ IsLow unit }
 /// ```
+#[inline]
 fn is_low(unit: u16) -> bool {
     unit >= 0xDC00 && unit < 0xE000
 }
@@ -118,6 +123,7 @@ fn is_low(unit: u16) -> bool {
 /// ```text
 /// ensures { result ≡ single_item unit }
 /// ```
+#[inline]
 fn single_item(unit: u16) -> Unit16 {
     match char::from_u32(unit as u32) {
         Some(ch) => Unit16::Char(ch),

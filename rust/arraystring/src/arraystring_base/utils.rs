@@ -13,6 +13,7 @@ use core::char;
 /// ```text
 /// ensures { IsOk result ↔ (size ≤ limit) }
 /// ```
+#[inline]
 pub fn is_inside_boundary<S: Into<usize>, L: Into<usize>>(size: S, limit: L) -> Result<(), OutOfBounds> {
     let (size, limit) = (size.into(), limit.into());
     if size > limit {
@@ -29,6 +30,7 @@ pub fn is_inside_boundary<S: Into<usize>, L: Into<usize>>(size: S, limit: L) -> 
 /// ```text
 /// ensures { result ≡ boundary (chars text.now) at }
 /// ```
+#[inline]
 pub fn is_boundary(text: &str, at: usize) -> bool {
     text.is_char_boundary(at)
 }
@@ -41,6 +43,7 @@ pub fn is_boundary(text: &str, at: usize) -> bool {
 /// ```text
 /// ensures { result.now ≡ bytes (cut (chars text.now) size) }
 /// ```
+#[inline]
 pub fn truncate_str(text: &str, size: u8) -> &str {
     truncate_str_counted(text, size, &mut Steps::new())
 }
@@ -62,6 +65,7 @@ pub fn truncate_str(text: &str, size: u8) -> &str {
 /// ensures counted { steps.old.looked ≤ steps.new.looked }
 /// ensures moved { steps.new.moved ≡ steps.old.moved }
 /// ```
+#[inline]
 pub fn truncate_str_counted<'a>(text: &'a str, size: u8, steps: &mut Steps) -> &'a str {
     let limit = size as usize;
     if text.len() <= limit {
@@ -90,6 +94,7 @@ pub fn truncate_str_counted<'a>(text: &'a str, size: u8, steps: &mut Steps) -> &
 /// ensures counted { steps.old.looked ≤ steps.new.looked }
 /// ensures moved { steps.new.moved ≡ steps.old.moved }
 /// ```
+#[inline]
 pub fn last_char(text: &str, steps: &mut Steps) -> Option<(usize, char)> {
     if text.is_empty() {
         return None;
@@ -198,6 +203,7 @@ pub unsafe fn write_over<const N: usize>(array: &mut [u8; N], at: usize, given: 
 /// ```text
 /// ensures { IsTrue result ↔ ((128 ≤ byte) × (byte < 192)) }
 /// ```
+#[inline]
 fn continues(byte: u8) -> bool {
     byte >= 0x80 && byte < 0xC0
 }
@@ -219,6 +225,7 @@ fn continues(byte: u8) -> bool {
 /// ensures counted { steps.old.looked ≤ steps.new.looked }
 /// ensures moved { steps.new.moved ≡ steps.old.moved }
 /// ```
+#[inline]
 fn last_boundary(text: &str, limit: usize, steps: &mut Steps) -> usize {
     let all = text.as_bytes();
     let mut end = limit;
@@ -242,6 +249,7 @@ fn last_boundary(text: &str, limit: usize, steps: &mut Steps) -> usize {
 /// ensures each { steps.new.looked + result.0 ≡ steps.old.looked + length text.now }
 /// ensures moved { steps.new.moved ≡ steps.old.moved }
 /// ```
+#[inline]
 fn char_before_end(text: &str, steps: &mut Steps) -> (usize, char) {
     let all = text.as_bytes();
     let end = all.len();

@@ -215,6 +215,7 @@ impl<const N: usize> ArrayString<N> {
     /// ```text
     /// ensures { Makes (addition_of_cut self.old.text (chars string.now) (cap N)) self.old.text (Ok result) self.new.text }
     /// ```
+    #[inline]
     pub fn push_str<S: AsRef<str>>(&mut self, string: S) {
         let string = string.as_ref();
         let room = Self::capacity() - self.len();
@@ -252,6 +253,7 @@ impl<const N: usize> ArrayString<N> {
     /// ```text
     /// ensures { Makes (popping self.old.text) self.old.text (Ok result) self.new.text }
     /// ```
+    #[inline]
     pub fn pop(&mut self) -> Option<char> {
         self.pop_counted(&mut Steps::new())
     }
@@ -274,6 +276,7 @@ impl<const N: usize> ArrayString<N> {
     /// ensures counted { steps.old.looked ≤ steps.new.looked }
     /// ensures moved { steps.new.moved ≡ steps.old.moved }
     /// ```
+    #[inline]
     pub fn pop_counted(&mut self, steps: &mut Steps) -> Option<char> {
         let (start, ch) = last_char(self.as_str(), steps)?;
         self.keep(start as u8);
@@ -287,6 +290,7 @@ impl<const N: usize> ArrayString<N> {
     /// ```text
     /// ensures { result ≡ boundary self.now.text at }
     /// ```
+    #[inline]
     fn is_boundary(&self, at: usize) -> bool {
         is_boundary(self.as_str(), at)
     }
@@ -491,6 +495,7 @@ impl<const N: usize> ArrayString<N> {
     /// ensures counted { steps.old.moved ≤ steps.new.moved }
     /// ensures looked { steps.new.looked ≡ steps.old.looked }
     /// ```
+    #[inline]
     fn take_out(&mut self, start: usize, end: usize, steps: &mut Steps) {
         if start == 0 {
             return self.drop_front(end);
@@ -510,6 +515,7 @@ impl<const N: usize> ArrayString<N> {
     /// requires { IsTrue (boundary self.old.text end) }
     /// ensures { self.new.text ≡ back self.old.text end }
     /// ```
+    #[inline]
     fn drop_front(&mut self, end: usize) {
         self.start = (self.start as usize + end) as u8;
         self.size = (self.size as usize - end) as u8;
@@ -523,6 +529,7 @@ impl<const N: usize> ArrayString<N> {
     /// requires { IsTrue (boundary self.old.text size) }
     /// ensures { self.new.text ≡ front self.old.text size }
     /// ```
+    #[inline]
     fn keep(&mut self, size: u8) {
         self.size = size;
     }
@@ -536,6 +543,7 @@ impl<const N: usize> ArrayString<N> {
 /// ghost is_default = { λ s. s.text ≡ [] };
 /// ```
 impl<const N: usize> Default for ArrayString<N> {
+    #[inline]
     fn default() -> Self {
         Self::new()
     }
@@ -550,6 +558,7 @@ impl<const N: usize> Default for ArrayString<N> {
 /// ghost laws = { on_per (λ s. s.text) (partial_equiv_from_equiv nat_list_eq_equiv) };
 /// ```
 impl<const N: usize> PartialEq for ArrayString<N> {
+    #[inline]
     fn eq(&self, other: &Self) -> bool {
         equal(self.as_str(), other.as_str())
     }
@@ -565,6 +574,7 @@ impl<const N: usize> Eq for ArrayString<N> {
 
 /// `ArrayString { array: "abc", size: 3 }` for the text `abc`; the size counts bytes of UTF-8.
 impl<const N: usize> fmt::Debug for ArrayString<N> {
+    #[inline]
     fn fmt(&self, f: &mut fmt::Formatter<'_>) -> fmt::Result {
         f.debug_struct("ArrayString")
             .field("array", &self.as_str())

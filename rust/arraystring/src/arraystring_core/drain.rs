@@ -85,6 +85,7 @@ impl<const N: usize> Drain<N> {
 /// ghost is_default = { λ d. d.left ≡ [] };
 /// ```
 impl<const N: usize> Default for Drain<N> {
+    #[inline]
     fn default() -> Self {
         Drain::new([0; N], 0, 0)
     }

@@ -15,7 +15,6 @@ pub fn what_comes_past_the_room() {}
 /// The text whose bytes are those of the pieces, one after the other, is the pieces joined, and so
 /// has the same cuts. So `from_iterator` of pieces is `from_str_truncate` of the text that they
 /// make.
-#[allow(unused_variables)]
 ///
 /// # Contract
 ///
@@ -23,6 +22,7 @@ pub fn what_comes_past_the_room() {}
 /// ensures text { (pieces : List (List ℕ)) → whole.now ≡ joined (map bytes pieces) → chars whole.now ≡ joined pieces }
 /// ensures cut { (pieces : List (List ℕ)) (n : ℕ) → whole.now ≡ joined (map bytes pieces) → cut (joined pieces) n ≡ cut (chars whole.now) n }
 /// ```
+#[allow(unused_variables)]
 pub fn pieces_make_one_text(whole: &str) {}
 
 /// The UTF-16 of a text that fits is read back as that text by `try_from_utf16`, `from_utf16` and

@@ -90,6 +90,7 @@ pub(crate) fn open_gap_at_start<const N: usize>(
 /// ensures text { IsUtf8 (take result (drop place array.new)) }
 /// ensures filtered { IsFiltered F.step f (chars (take size (drop place array.old))) (chars (take result (drop place array.new))) }
 /// ```
+#[inline]
 pub(crate) fn retain_at<const N: usize, F: FnMut(char) -> bool>(
     array: &mut [u8; N],
     place: usize,
@@ -161,6 +162,7 @@ fn shift_long_run<const N: usize>(array: &mut [u8; N], from: usize, to: usize, l
 /// ensures some { 0 < result.1 }
 /// ensures within { start + result.1 ≤ end }
 /// ```
+#[inline]
 fn char_at<const N: usize>(array: &[u8; N], start: usize, end: usize) -> (char, usize) {
     let all = &array[..];
     // SAFETY: the proof of this body shows that these bytes are UTF-8.
@@ -180,6 +182,7 @@ fn char_at<const N: usize>(array: &[u8; N], start: usize, end: usize) -> (char, 
 /// requires { at + length given.now ≤ N }
 /// ensures { array.new ≡ take at array.old ++ (given.now ++ drop (at + length given.now) array.old) }
 /// ```
+#[inline]
 pub(crate) fn copy_in<const N: usize>(array: &mut [u8; N], at: usize, given: &[u8]) {
     let all = &mut array[..];
     all[at..at + given.len()].copy_from_slice(given);

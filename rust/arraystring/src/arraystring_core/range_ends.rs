@@ -10,6 +10,7 @@ use core::ops::{Bound, RangeBounds};
 /// ```text
 /// ensures { OfToldBounds R.has_bounds R.start_bound R.end_bound range (λ start end. (result.0 ≡ lo start) × (result.1 ≡ hi end len)) }
 /// ```
+#[inline]
 pub(crate) fn saturating_ends<R: RangeBounds<u8>>(range: R, len: u8) -> (u8, u8) {
     let start = match range.start_bound() {
         Bound::Included(a) => *a,
@@ -31,6 +32,7 @@ pub(crate) fn saturating_ends<R: RangeBounds<u8>>(range: R, len: u8) -> (u8, u8)
 /// ```text
 /// ensures { OfToldBounds R.has_bounds R.start_bound R.end_bound range (λ start end. (result.0 ≡ start_index start) × (result.1 ≡ end_index end len)) }
 /// ```
+#[inline]
 pub(crate) fn plain_ends<R: RangeBounds<u8>>(range: R, len: u8) -> (usize, usize) {
     let start = match range.start_bound() {
         Bound::Included(a) => *a as usize,

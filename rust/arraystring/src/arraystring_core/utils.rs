@@ -13,6 +13,7 @@ use crate::arraystring_base::utils::is_boundary;
 /// ```text
 /// ensures { IsOk result ↔ IsTrue (boundary s.now.text idx) }
 /// ```
+#[inline]
 pub fn is_char_boundary<const N: usize>(s: &ArrayString<N>, idx: u8) -> Result<(), Utf8> {
     if is_boundary(s.as_str(), idx as usize) {
         Ok(())

@@ -13,6 +13,7 @@ use core::str;
 /// ```text
 /// ensures { MatchResult result (λ string. (string.now ≡ given.now) × IsUtf8 given.now) (λ _. ¬ (IsUtf8 given.now)) }
 /// ```
+#[inline]
 pub(crate) fn read_utf8(given: &[u8]) -> Result<&str, Utf8> {
     if given.len() >= 16 && is_ascii(given) {
         // SAFETY: the proof of this body shows that these bytes are UTF-8.
@@ -32,6 +33,7 @@ pub(crate) fn read_utf8(given: &[u8]) -> Result<&str, Utf8> {
 /// requires { 16 ≤ length given.now }
 /// ensures { IsTrue result → IsAscii given.now }
 /// ```
+#[inline]
 fn is_ascii(given: &[u8]) -> bool {
     if given.len() < 64 {
         is_ascii_by_blocks::<16>(given)

@@ -15,6 +15,7 @@ struct Progress {
 
 impl Progress {
     /// What is so when the answer about `ch` is known and the loop has acted on it.
+    #[inline(always)]
     fn answer(&mut self, ch: char, keeps: bool) {
         if !keeps {
             self.kept += self.read - self.run;
@@ -33,6 +34,7 @@ struct Unfinished<'a, const N: usize> {
 }
 
 impl<const N: usize> Drop for Unfinished<'_, N> {
+    #[inline(always)]
     fn drop(&mut self) {
         let Progress { kept, run, read } = self.progress;
         self.array.copy_within(self.place + run..self.place + read, self.place + kept);
@@ -41,6 +43,7 @@ impl<const N: usize> Drop for Unfinished<'_, N> {
 }
 
 /// The proved `retain_at`, which leaves what was kept where `f` panics, and sets the size before `f` is dropped.
+#[inline]
 pub(crate) fn retain_at<const N: usize, F: FnMut(char) -> bool>(
     array: &mut [u8; N],
     size: &mut u8,

@@ -16,6 +16,7 @@ use core::hash::{Hash, Hasher};
 /// ghost laws = { on_per (λ s. s.0.text) (partial_equiv_from_equiv nat_list_eq_equiv) };
 /// ```
 impl PartialEq for CacheString {
+    #[inline]
     fn eq(&self, other: &Self) -> bool {
         self.0 == other.0
     }
@@ -38,6 +39,7 @@ impl Eq for CacheString {
 /// ghost laws = { on_po (λ s. s.0.text) texts_po };
 /// ```
 impl PartialOrd for CacheString {
+    #[inline]
     fn partial_cmp(&self, other: &Self) -> Option<Ordering> {
         Some(self.cmp(other))
     }
@@ -62,6 +64,7 @@ impl Ord for CacheString {
     /// ensures of_bytes { result ≡ slice_cmp nat_cmp (bytes self.now.0.text) (bytes other.now.0.text) }
     /// ensures says { MatchOrdering result (IsBefore self.now.0.text other.now.0.text) (self.now.0.text ≡ other.now.0.text) (IsBefore other.now.0.text self.now.0.text) }
     /// ```
+    #[inline]
     fn cmp(&self, other: &Self) -> Ordering {
         self.0.cmp(&other.0)
     }
@@ -76,6 +79,7 @@ impl Ord for CacheString {
 /// ghost respects_eq = { (fed.on_Alike (λ s. s.0.text) (fed.same_Alike (λ t. fed.str (bytes t)) bytes_decides)).fed };
 /// ```
 impl Hash for CacheString {
+    #[inline]
     fn hash<H: Hasher>(&self, state: &mut H) {
         self.0.hash(state);
     }

@@ -46,7 +46,7 @@ fn shape(table: &Table) -> Option<&'static str> {
 /// Calls a function at a capacity that is known when it runs.
 macro_rules! at_capacity {
     ($capacity:expr, $function:ident, $argument:expr) => {
-        at_capacity!($capacity, $function, $argument, 0 1 2 3 4 5 6 7 8 9 10 12 16 23 32 63 64 254 255 300)
+        at_capacity!($capacity, $function, $argument, 0 1 2 3 4 5 6 7 8 9 10 23 32 255 300)
     };
     ($capacity:expr, $function:ident, $argument:expr, $($known:literal)*) => {
         match $capacity {

@@ -11,6 +11,7 @@ impl<const N: usize> ArrayString<N> {
     /// ```text
     /// ensures { Makes (uppercase self.old.text) self.old.text (Ok result) self.new.text }
     /// ```
+    #[inline]
     pub fn make_ascii_uppercase(&mut self) {
         self.uppercase_between(0, self.len() as usize);
     }
@@ -22,6 +23,7 @@ impl<const N: usize> ArrayString<N> {
     /// ```text
     /// ensures { Makes (lowercase self.old.text) self.old.text (Ok result) self.new.text }
     /// ```
+    #[inline]
     pub fn make_ascii_lowercase(&mut self) {
         self.lowercase_between(0, self.len() as usize);
     }
@@ -36,6 +38,7 @@ impl<const N: usize> ArrayString<N> {
     /// requires end { IsTrue (boundary self.old.text end) }
     /// ensures { self.new.text ≡ front self.old.text start ++ (map to_ascii_uppercase (part self.old.text start end) ++ back self.old.text end) }
     /// ```
+    #[inline]
     pub(super) fn uppercase_between(&mut self, start: usize, end: usize) {
         let place = self.start as usize;
         uppercase_bytes(&mut self.array, place + start, place + end);
@@ -51,6 +54,7 @@ impl<const N: usize> ArrayString<N> {
     /// requires end { IsTrue (boundary self.old.text end) }
     /// ensures { self.new.text ≡ front self.old.text start ++ (map to_ascii_lowercase (part self.old.text start end) ++ back self.old.text end) }
     /// ```
+    #[inline]
     pub(super) fn lowercase_between(&mut self, start: usize, end: usize) {
         let place = self.start as usize;
         lowercase_bytes(&mut self.array, place + start, place + end);
@@ -66,6 +70,7 @@ impl<const N: usize> ArrayString<N> {
 /// requires within { end ≤ N }
 /// ensures { array.new ≡ take start array.old ++ (map to_ascii_uppercase (take (end - start) (drop start array.old)) ++ drop end array.old) }
 /// ```
+#[inline]
 fn uppercase_bytes<const N: usize>(array: &mut [u8; N], start: usize, end: usize) {
     let all = &mut array[..];
     all[start..end].make_ascii_uppercase();
@@ -80,6 +85,7 @@ fn uppercase_bytes<const N: usize>(array: &mut [u8; N], start: usize, end: usize
 /// requires within { end ≤ N }
 /// ensures { array.new ≡ take start array.old ++ (map to_ascii_lowercase (take (end - start) (drop start array.old)) ++ drop end array.old) }
 /// ```
+#[inline]
 fn lowercase_bytes<const N: usize>(array: &mut [u8; N], start: usize, end: usize) {
     let all = &mut array[..];
     all[start..end].make_ascii_lowercase();

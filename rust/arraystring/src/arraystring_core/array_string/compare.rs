@@ -16,6 +16,7 @@ use core::ops::Add;
 /// ghost laws = { on_po (λ s. s.text) texts_po };
 /// ```
 impl<const N: usize> PartialOrd for ArrayString<N> {
+    #[inline]
     fn partial_cmp(&self, other: &Self) -> Option<Ordering> {
         Some(self.cmp(other))
     }
@@ -40,6 +41,7 @@ impl<const N: usize> Ord for ArrayString<N> {
     /// ensures of_bytes { result ≡ slice_cmp nat_cmp (bytes self.now.text) (bytes other.now.text) }
     /// ensures says { MatchOrdering result (IsBefore self.now.text other.now.text) (self.now.text ≡ other.now.text) (IsBefore other.now.text self.now.text) }
     /// ```
+    #[inline]
     fn cmp(&self, other: &Self) -> Ordering {
         self.as_str().cmp(other.as_str())
     }
@@ -54,6 +56,7 @@ impl<const N: usize> Ord for ArrayString<N> {
 /// ghost respects_eq = { (fed.on_Alike (λ s. s.text) (fed.same_Alike (λ t. fed.str (bytes t)) bytes_decides)).fed };
 /// ```
 impl<const N: usize> Hash for ArrayString<N> {
+    #[inline]
     fn hash<H: Hasher>(&self, state: &mut H) {
         self.as_str().hash(state);
     }
@@ -68,6 +71,7 @@ impl<const N: usize> Hash for ArrayString<N> {
 /// ghost styled_output = { λ s _. Some (bytes s.text) };
 /// ```
 impl<const N: usize> fmt::Display for ArrayString<N> {
+    #[inline]
     fn fmt(&self, f: &mut fmt::Formatter<'_>) -> fmt::Result {
         f.write_str(self.as_str())
     }
@@ -83,6 +87,7 @@ impl<const N: usize> fmt::Display for ArrayString<N> {
 impl<'a, const N: usize> Add<&'a str> for ArrayString<N> {
     type Output = Self;
 
+    #[inline]
     fn add(mut self, given: &'a str) -> Self {
         self.push_str(given);
         self
@@ -104,6 +109,7 @@ impl<const N: usize> fmt::Write for ArrayString<N> {
     /// ensures ok { IsOk result → bytes self.new.text ≡ bytes self.old.text ++ string.now }
     /// ensures made { Makes (addition self.old.text (chars string.now) (cap N)) self.old.text (from_out_of_bounds result) self.new.text }
     /// ```
+    #[inline]
     fn write_str(&mut self, string: &str) -> fmt::Result {
         match self.try_push_str(string) {
             Ok(()) => Ok(()),

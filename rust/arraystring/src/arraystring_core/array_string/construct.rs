@@ -16,6 +16,7 @@ impl<const N: usize> ArrayString<N> {
     /// ```text
     /// ensures { IsWholeOrRefused (chars string.now) (cap N) (from_out_of_bounds result) }
     /// ```
+    #[inline]
     pub fn try_from_str<S: AsRef<str>>(string: S) -> Result<Self, OutOfBounds> {
         let string = string.as_ref();
         // One path for both outcomes, so that the text is copied into the result once.
@@ -41,6 +42,7 @@ impl<const N: usize> ArrayString<N> {
     /// ```text
     /// ensures { result.text ≡ cut (chars string.now) (cap N) }
     /// ```
+    #[inline]
     pub fn from_str_truncate<S: AsRef<str>>(string: S) -> Self {
         let string = string.as_ref();
         // SAFETY: the proof of this body shows what `from_str_unchecked` requires.
@@ -89,6 +91,7 @@ impl<const N: usize> ArrayString<N> {
     /// ensures whole { (all : List (List ℕ)) → Gives I.into_iter_gives I.IntoIter.next_gives piece_text pieces all
     ///     → IsWholeOrRefused (joined all) (cap N) (from_out_of_bounds result) }
     /// ```
+    #[inline]
     pub fn try_from_iterator<U: AsRef<str>, I: IntoIterator<Item = U>>(
         pieces: I,
     ) -> Result<Self, OutOfBounds> {
@@ -115,6 +118,7 @@ impl<const N: usize> ArrayString<N> {
     /// ensures whole { (all : List (List ℕ)) → Gives I.into_iter_gives I.IntoIter.next_gives piece_text pieces all
     ///     → result.text ≡ cut (joined all) (cap N) }
     /// ```
+    #[inline]
     pub fn from_iterator<U: AsRef<str>, I: IntoIterator<Item = U>>(pieces: I) -> Self {
         let mut made = Self::new();
         made.extend_strs(pieces);
@@ -138,6 +142,7 @@ impl<const N: usize> ArrayString<N> {
     /// ensures whole { (all : List (List ℕ)) → Gives I.into_iter_gives I.IntoIter.next_gives piece_text pieces all
     ///     → result.text ≡ joined all }
     /// ```
+    #[inline]
     pub unsafe fn from_iterator_unchecked<U: AsRef<str>, I: IntoIterator<Item = U>>(pieces: I) -> Self {
         let mut made = Self::new();
         for piece in pieces {
@@ -166,6 +171,7 @@ impl<const N: usize> ArrayString<N> {
     /// ensures whole { (all : List ℕ) → Gives I.into_iter_gives I.IntoIter.next_gives (λ c. c) characters all
     ///     → IsWholeOrRefused all (cap N) (from_out_of_bounds result) }
     /// ```
+    #[inline]
     pub fn try_from_chars<I: IntoIterator<Item = char>>(
         characters: I,
     ) -> Result<Self, OutOfBounds> {
@@ -192,6 +198,7 @@ impl<const N: usize> ArrayString<N> {
     /// ensures whole { (all : List ℕ) → Gives I.into_iter_gives I.IntoIter.next_gives (λ c. c) characters all
     ///     → result.text ≡ cut all (cap N) }
     /// ```
+    #[inline]
     pub fn from_chars<I: IntoIterator<Item = char>>(characters: I) -> Self {
         let mut made = Self::new();
         made.extend_chars(characters);
@@ -214,6 +221,7 @@ impl<const N: usize> ArrayString<N> {
     /// ensures whole { (all : List ℕ) → Gives I.into_iter_gives I.IntoIter.next_gives (λ c. c) characters all
     ///     → result.text ≡ all }
     /// ```
+    #[inline]
     pub unsafe fn from_chars_unchecked<I: IntoIterator<Item = char>>(characters: I) -> Self {
         let mut made = Self::new();
         for ch in characters {
@@ -235,6 +243,7 @@ impl<const N: usize> ArrayString<N> {
     /// ensures bytes { IfOk result (λ made. bytes made.text ≡ given.now) }
     /// ensures text { IfOk result (λ made. IsText made.text) }
     /// ```
+    #[inline]
     pub fn try_from_utf8<B: AsRef<[u8]>>(given: B) -> Result<Self, Error> {
         let given = given.as_ref();
         let Ok(text) = read_utf8(given) else {
@@ -258,6 +267,7 @@ impl<const N: usize> ArrayString<N> {
     /// ensures cut { (t : List ℕ) → IsText t → bytes t ≡ given.now → IfOk result (λ made. made.text ≡ cut t (cap N)) }
     /// ensures text { IfOk result (λ made. IsText made.text) }
     /// ```
+    #[inline]
     pub fn from_utf8<B: AsRef<[u8]>>(given: B) -> Result<Self, Utf8> {
         let given = given.as_ref();
         let Ok(string) = read_utf8(given) else {
@@ -281,6 +291,7 @@ impl<const N: usize> ArrayString<N> {
     /// ensures bytes { bytes result.text ≡ given.now }
     /// ensures text { IsText result.text }
     /// ```
+    #[inline]
     pub unsafe fn from_utf8_unchecked<B: AsRef<[u8]>>(given: B) -> Self {
         let given = given.as_ref();
         // SAFETY: the proof of this body shows what `from_str_unchecked` requires.
@@ -297,6 +308,7 @@ impl<const N: usize> ArrayString<N> {
 /// ghost from_gives = { λ string made. made.text ≡ cut (chars string.now) (cap N) };
 /// ```
 impl<'a, const N: usize> From<&'a str> for ArrayString<N> {
+    #[inline]
     fn from(string: &'a str) -> Self {
         Self::from_str_truncate(string)
     }
@@ -312,6 +324,7 @@ impl<'a, const N: usize> From<&'a str> for ArrayString<N> {
 impl<const N: usize> FromStr for ArrayString<N> {
     type Err = OutOfBounds;
 
+    #[inline]
     fn from_str(string: &str) -> Result<Self, OutOfBounds> {
         Self::try_from_str(string)
     }

@@ -23,6 +23,7 @@ impl<const N: usize> ArrayString<N> {
     /// ensures whole { (all : List ℕ) → Gives I.into_iter_gives I.IntoIter.next_gives (λ c. c) characters all
     ///     → Makes (addition_of_cut self.old.text all (cap N)) self.old.text (Ok result) self.new.text }
     /// ```
+    #[inline]
     pub fn extend_chars<I: IntoIterator<Item = char>>(&mut self, characters: I) {
         let _ = self.add_chars(characters);
     }
@@ -45,6 +46,7 @@ impl<const N: usize> ArrayString<N> {
     /// ensures whole { (all : List (List ℕ)) → Gives I.into_iter_gives I.IntoIter.next_gives piece_text pieces all
     ///     → Makes (addition_of_cut self.old.text (joined all) (cap N)) self.old.text (Ok result) self.new.text }
     /// ```
+    #[inline]
     pub fn extend_strs<U: AsRef<str>, I: IntoIterator<Item = U>>(&mut self, pieces: I) {
         let _ = self.add_strs(pieces);
     }
@@ -59,6 +61,7 @@ impl<const N: usize> ArrayString<N> {
     ///     × MatchResult result (λ _. size taken ≤ cap N - size self.old.text) (λ _. cap N - size self.old.text < size taken)
     ///     × (self.new.text ≡ self.old.text ++ cut taken (cap N - size self.old.text)) }
     /// ```
+    #[inline]
     pub(super) fn add_chars<I: IntoIterator<Item = char>>(
         &mut self,
         characters: I,
@@ -84,6 +87,7 @@ impl<const N: usize> ArrayString<N> {
     ///     × MatchResult result (λ _. size (joined_pieces taken) ≤ cap N - size self.old.text) (λ _. cap N - size self.old.text < size (joined_pieces taken))
     ///     × (self.new.text ≡ self.old.text ++ cut (joined_pieces taken) (cap N - size self.old.text)) }
     /// ```
+    #[inline]
     pub(super) fn add_strs<U: AsRef<str>, I: IntoIterator<Item = U>>(
         &mut self,
         pieces: I,

@@ -15,6 +15,7 @@ impl<const N: usize> ArrayString<N> {
     /// ```text
     /// ensures { Makes (insertion self.old.text index (ch ∷ []) (cap N)) self.old.text result self.new.text }
     /// ```
+    #[inline]
     pub fn try_insert(&mut self, index: u8, ch: char) -> Result<(), Error> {
         if index > self.len() {
             return Err(Error::OutOfBounds);
@@ -43,6 +44,7 @@ impl<const N: usize> ArrayString<N> {
     /// requires room { size self.old.text + width ch ≤ cap N }
     /// ensures { self.new.text ≡ front self.old.text index ++ (ch ∷ back self.old.text index) }
     /// ```
+    #[inline]
     pub unsafe fn insert_unchecked(&mut self, index: u8, ch: char) {
         self.put_char(index as usize, ch);
     }
@@ -56,6 +58,7 @@ impl<const N: usize> ArrayString<N> {
     /// ```text
     /// ensures { Makes (insertion self.old.text index (chars string.now) (cap N)) self.old.text result self.new.text }
     /// ```
+    #[inline]
     pub fn try_insert_str<S: AsRef<str>>(&mut self, index: u8, string: S) -> Result<(), Error> {
         let string = string.as_ref();
         self.try_insert_str_counted(index, string, &mut Steps::new())
@@ -81,6 +84,7 @@ impl<const N: usize> ArrayString<N> {
     /// ensures counted { steps.old.moved ≤ steps.new.moved }
     /// ensures looked { steps.new.looked ≡ steps.old.looked }
     /// ```
+    #[inline]
     pub fn try_insert_str_counted(
         &mut self,
         index: u8,
@@ -117,6 +121,7 @@ impl<const N: usize> ArrayString<N> {
     /// ```text
     /// ensures { Makes (insertion_of_cut self.old.text index (chars string.now) (cap N)) self.old.text result self.new.text }
     /// ```
+    #[inline]
     pub fn insert_str<S: AsRef<str>>(&mut self, index: u8, string: S) -> Result<(), Error> {
         let string = string.as_ref();
         if index > self.len() {
@@ -145,6 +150,7 @@ impl<const N: usize> ArrayString<N> {
     /// requires room { size self.old.text + size (chars string.now) ≤ cap N }
     /// ensures { self.new.text ≡ front self.old.text index ++ (chars string.now ++ back self.old.text index) }
     /// ```
+    #[inline]
     pub unsafe fn insert_str_unchecked<S: AsRef<str>>(&mut self, index: u8, string: S) {
         let string = string.as_ref();
         let start = index as usize;

@@ -31,6 +31,7 @@ impl<const N: usize> ArrayString<N> {
     /// ensures { let t = self.now.text in
     ///     result.now ≡ bytes (part t (start_index (R.start_bound range)) (end_index (R.end_bound range) (size t))) }
     /// ```
+    #[inline]
     pub fn slice<R: RangeBounds<u8>>(&self, range: R) -> &str {
         let (start, end) = plain_ends(range, self.len());
         self.between(start, end)
@@ -53,6 +54,7 @@ impl<const N: usize> ArrayString<N> {
     ///     let found = part_in self.now.text (start_index start) (end_index end (size self.now.text)) in
     ///     MatchOption result (found ≡ None) (λ s. found ≡ Some (chars s.now))) }
     /// ```
+    #[inline]
     pub fn get<R: RangeBounds<u8>>(&self, range: R) -> Option<&str> {
         let (start, end) = plain_ends(range, self.len());
         if start > end || !self.is_boundary(start) || !self.is_boundary(end) {
@@ -137,6 +139,7 @@ impl<const N: usize> ArrayString<N> {
     /// ensures { OfToldBounds R.has_bounds R.start_bound R.end_bound range (λ start end. let t = self.old.text in
     ///     Makes (replacement t (lo start) (hi end (size t)) (chars with.now) (cap N)) t result self.new.text) }
     /// ```
+    #[inline]
     pub fn replace_range<S: AsRef<str>, R: RangeBounds<u8>>(
         &mut self,
         range: R,
@@ -171,6 +174,7 @@ impl<const N: usize> ArrayString<N> {
     /// ensures counted { steps.old.moved ≤ steps.new.moved }
     /// ensures looked { steps.new.looked ≡ steps.old.looked }
     /// ```
+    #[inline]
     pub fn replace_range_counted<R: RangeBounds<u8>>(
         &mut self,
         range: R,
@@ -198,6 +202,7 @@ impl<const N: usize> ArrayString<N> {
     /// ensures { let t = self.old.text in let start = start_index (R.start_bound range) in let end = end_index (R.end_bound range) (size t) in
     ///     self.new.text ≡ front t start ++ (map to_ascii_uppercase (part t start end) ++ back t end) }
     /// ```
+    #[inline]
     pub fn make_ascii_uppercase_in<R: RangeBounds<u8>>(&mut self, range: R) {
         let (start, end) = plain_ends(range, self.len());
         let _ = self.between(start, end);
@@ -221,6 +226,7 @@ impl<const N: usize> ArrayString<N> {
     /// ensures { let t = self.old.text in let start = start_index (R.start_bound range) in let end = end_index (R.end_bound range) (size t) in
     ///     self.new.text ≡ front t start ++ (map to_ascii_lowercase (part t start end) ++ back t end) }
     /// ```
+    #[inline]
     pub fn make_ascii_lowercase_in<R: RangeBounds<u8>>(&mut self, range: R) {
         let (start, end) = plain_ends(range, self.len());
         let _ = self.between(start, end);
@@ -237,6 +243,7 @@ impl<const N: usize> ArrayString<N> {
     /// requires end { IsTrue (boundary self.now.text end) }
     /// ensures { result.now ≡ bytes (part self.now.text start end) }
     /// ```
+    #[inline]
     fn between(&self, start: usize, end: usize) -> &str {
         &self.as_str()[start..end]
     }
@@ -289,6 +296,7 @@ impl<const N: usize> ArrayString<N> {
     /// ensures counted { steps.old.moved ≤ steps.new.moved }
     /// ensures looked { steps.new.looked ≡ steps.old.looked }
     /// ```
+    #[inline]
     fn replace_between(
         &mut self,
         start: u8,

@@ -22,6 +22,7 @@ impl<const N: usize> ArrayString<N> {
     /// ```text
     /// ensures { Makes (truncation self.old.text size) self.old.text (from_utf8_error result) self.new.text }
     /// ```
+    #[inline]
     pub fn truncate(&mut self, size: u8) -> Result<(), Utf8> {
         if size >= self.len() {
             return Ok(());
@@ -42,6 +43,7 @@ impl<const N: usize> ArrayString<N> {
     /// ```text
     /// ensures { Makes (removal self.old.text index) self.old.text result self.new.text }
     /// ```
+    #[inline]
     pub fn remove(&mut self, index: u8) -> Result<char, Error> {
         self.remove_counted(index, &mut Steps::new())
     }
@@ -67,6 +69,7 @@ impl<const N: usize> ArrayString<N> {
     /// ensures counted { steps.old.moved ≤ steps.new.moved }
     /// ensures looked { steps.new.looked ≡ steps.old.looked }
     /// ```
+    #[inline]
     pub fn remove_counted(&mut self, index: u8, steps: &mut Steps) -> Result<char, Error> {
         if index >= self.len() {
             return Err(Error::OutOfBounds);
@@ -100,6 +103,7 @@ impl<const N: usize> ArrayString<N> {
     /// requires { MayBeAsked F.pre F.step f self.old.text }
     /// ensures { IsFiltered F.step f self.old.text self.new.text }
     /// ```
+    #[inline]
     pub fn retain<F: FnMut(char) -> bool>(&mut self, f: F) {
         let (place, size) = (self.start as usize, self.size as usize);
         retain_at(&mut self.array, &mut self.size, place, size, f);
@@ -112,6 +116,7 @@ impl<const N: usize> ArrayString<N> {
     /// ```text
     /// ensures { Makes clearing self.old.text (Ok result) self.new.text }
     /// ```
+    #[inline]
     pub fn clear(&mut self) {
         self.keep(0);
     }
@@ -125,6 +130,7 @@ impl<const N: usize> ArrayString<N> {
     /// ```text
     /// ensures { Makes (split self.old.text at) self.old.text (with_text result) self.new.text }
     /// ```
+    #[inline]
     pub fn split_off(&mut self, at: u8) -> Result<Self, Error> {
         if at > self.len() {
             return Err(Error::OutOfBounds);
@@ -150,6 +156,7 @@ impl<const N: usize> ArrayString<N> {
     /// ensures next { IsTrue (boundary self.now.text (at + width result.0)) }
     /// ensures rest { back self.now.text (at + width result.0) ≡ drop 1 (back self.now.text at) }
     /// ```
+    #[inline]
     fn char_at(&self, at: usize) -> (char, usize) {
         let text = &self.as_str()[at..];
         let mut rest = text.chars();

@@ -13,6 +13,7 @@ impl<const N: usize> ArrayString<N> {
     /// ```text
     /// ensures { Makes (trimming is_white_space self.old.text) self.old.text (Ok result) self.new.text }
     /// ```
+    #[inline]
     pub fn trim(&mut self) {
         self.trim_counted(&mut Steps::new());
     }
@@ -36,6 +37,7 @@ impl<const N: usize> ArrayString<N> {
     /// ensures least { steps.old.looked + min (length self.old.text) (length self.old.text - length (without_trailing is_white_space self.old.text) + 1) ≤ steps.new.looked }
     /// ensures counted { steps.old.looked ≤ steps.new.looked }
     /// ```
+    #[inline]
     pub fn trim_counted(&mut self, steps: &mut Steps) {
         self.drop_trailing(is_white_space, steps);
         self.drop_leading(is_white_space);
@@ -48,6 +50,7 @@ impl<const N: usize> ArrayString<N> {
     /// ```text
     /// ensures { Makes (trimming is_space self.old.text) self.old.text (Ok result) self.new.text }
     /// ```
+    #[inline]
     pub fn trim_spaces(&mut self) {
         self.drop_trailing(is_space, &mut Steps::new());
         self.drop_leading(is_space);
@@ -68,6 +71,7 @@ impl<const N: usize> ArrayString<N> {
     /// ensures least { steps.old.looked + min (length self.old.text) (length self.old.text - length self.new.text + 1) ≤ steps.new.looked }
     /// ensures counted { steps.old.looked ≤ steps.new.looked }
     /// ```
+    #[inline]
     fn drop_trailing<F: Fn(char) -> bool>(&mut self, drops: F, steps: &mut Steps) {
         // A look at a field, after which the proof knows that the text fits.
         let _ = &self.array;
@@ -88,6 +92,7 @@ impl<const N: usize> ArrayString<N> {
     /// requires asked { F.IsAlwaysCallable drops }
     /// ensures { (passes : ℕ → Bool) → AnswersAs F.post drops passes → self.new.text ≡ without_leading passes self.old.text }
     /// ```
+    #[inline]
     fn drop_leading<F: Fn(char) -> bool>(&mut self, drops: F) {
         while let Some(ch) = self.as_str().chars().next() {
             if !drops(ch) {
@@ -105,6 +110,7 @@ impl<const N: usize> ArrayString<N> {
 /// ```text
 /// ensures { result ≡ is_white_space ch }
 /// ```
+#[inline]
 fn is_white_space(ch: char) -> bool {
     ch.is_whitespace()
 }
@@ -116,6 +122,7 @@ fn is_white_space(ch: char) -> bool {
 /// ```text
 /// ensures { result ≡ is_space ch }
 /// ```
+#[inline]
 fn is_space(ch: char) -> bool {
     ch == ' '
 }

@@ -16,6 +16,7 @@ impl<const N: usize> ArrayString<N> {
     /// ```text
     /// ensures { (items : List Unit16) → IsReading units.now items → GivesWhole (first_stop items (cap N)) result }
     /// ```
+    #[inline]
     pub fn try_from_utf16<B: AsRef<[u16]>>(units: B) -> Result<Self, Error> {
         let units = units.as_ref();
         let mut run = Self::new();
@@ -41,6 +42,7 @@ impl<const N: usize> ArrayString<N> {
     /// ```text
     /// ensures { (items : List Unit16) → IsReading units.now items → GivesRun (first_stop items (cap N)) result }
     /// ```
+    #[inline]
     pub fn from_utf16<B: AsRef<[u16]>>(units: B) -> Result<Self, Utf16> {
         let units = units.as_ref();
         let mut run = Self::new();
@@ -58,6 +60,7 @@ impl<const N: usize> ArrayString<N> {
     /// ```text
     /// ensures { (items : List Unit16) → IsReading units.now items → result.text ≡ cut (lossy_text items) (cap N) }
     /// ```
+    #[inline]
     pub fn from_utf16_lossy<B: AsRef<[u16]>>(units: B) -> Self {
         let units = units.as_ref();
         only_reading(units);
@@ -81,6 +84,7 @@ impl<const N: usize> ArrayString<N> {
 /// requires { run.old.text ≡ [] }
 /// ensures { (items : List Unit16) → IsReading units.now items → first_stop items (cap N) ≡ stop_at result run.new.text }
 /// ```
+#[inline]
 fn leading_run<const N: usize>(run: &mut ArrayString<N>, units: &[u16]) -> Option<Unit16> {
     only_reading(units);
     for item in Units::new(units) {
@@ -102,6 +106,7 @@ fn leading_run<const N: usize>(run: &mut ArrayString<N>, units: &[u16]) -> Optio
 /// ```text
 /// ensures { result ≡ shown item }
 /// ```
+#[inline]
 fn shown(item: Unit16) -> char {
     match item {
         Unit16::Char(ch) => ch,

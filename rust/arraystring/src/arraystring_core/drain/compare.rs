@@ -15,6 +15,7 @@ use core::hash::{Hash, Hasher};
 /// ghost laws = { on_per (λ s. s.left) (partial_equiv_from_equiv nat_list_eq_equiv) };
 /// ```
 impl<const N: usize> PartialEq for Drain<N> {
+    #[inline]
     fn eq(&self, other: &Self) -> bool {
         self.as_str() == other.as_str()
     }
@@ -37,6 +38,7 @@ impl<const N: usize> Eq for Drain<N> {
 /// ghost laws = { on_po (λ s. s.left) texts_po };
 /// ```
 impl<const N: usize> PartialOrd for Drain<N> {
+    #[inline]
     fn partial_cmp(&self, other: &Self) -> Option<Ordering> {
         Some(self.cmp(other))
     }
@@ -61,6 +63,7 @@ impl<const N: usize> Ord for Drain<N> {
     /// ensures of_bytes { result ≡ slice_cmp nat_cmp (bytes self.now.left) (bytes other.now.left) }
     /// ensures says { MatchOrdering result (IsBefore self.now.left other.now.left) (self.now.left ≡ other.now.left) (IsBefore other.now.left self.now.left) }
     /// ```
+    #[inline]
     fn cmp(&self, other: &Self) -> Ordering {
         self.as_str().cmp(other.as_str())
     }
@@ -75,6 +78,7 @@ impl<const N: usize> Ord for Drain<N> {
 /// ghost respects_eq = { (fed.on_Alike (λ s. s.left) (fed.same_Alike (λ t. fed.str (bytes t)) bytes_decides)).fed };
 /// ```
 impl<const N: usize> Hash for Drain<N> {
+    #[inline]
     fn hash<H: Hasher>(&self, state: &mut H) {
         self.as_str().hash(state);
     }
@@ -82,6 +86,7 @@ impl<const N: usize> Hash for Drain<N> {
 
 /// `Drain("bc")` where `bc` is left.
 impl<const N: usize> fmt::Debug for Drain<N> {
+    #[inline]
     fn fmt(&self, f: &mut fmt::Formatter<'_>) -> fmt::Result {
         f.debug_tuple("Drain").field(&self.as_str()).finish()
     }
