@@ -134,7 +134,8 @@ impl<const N: usize> Peer for ArrayString<N> {
 /// What each side that has the call answers.
 fn answers<const N: usize>(call: u8, case: &Case) -> Vec<u64> {
     #[allow(unused_mut)]
-    let mut answers = vec![peers::answer::<ArrayString<N>>(call, case), peers::answer::<string::Limited<N>>(call, case)];
+    let mut answers =
+        vec![peers::answer::<ArrayString<N>>(call, case), peers::answer::<string::Limited<N>>(call, case)];
     #[cfg(has_arrayvec)]
     if CALLS_OF_ARRAYVEC.contains(&call) {
         answers.push(peers::answer::<::arrayvec::ArrayString<N>>(call, case));

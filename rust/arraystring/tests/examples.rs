@@ -109,7 +109,8 @@ fn each_unsafe_block_has_its_reason() {
             assert!(at > 0 && lines[at - 1].trim().starts_with("// SAFETY: "), "{file}: {line}");
         }
         for (at, line) in lines.iter().enumerate().filter(|(_, line)| line.contains("unsafe fn ")) {
-            let docs = lines[..at].iter().rev().take_while(|line| line.trim().starts_with(['/', '#'])).collect::<Vec<_>>();
+            let docs =
+                lines[..at].iter().rev().take_while(|line| line.trim().starts_with(['/', '#'])).collect::<Vec<_>>();
             assert!(docs.iter().any(|line| line.trim() == "/// # Safety"), "{file}: {line}");
         }
     }

@@ -28,8 +28,25 @@ impl Random {
     /// A character of any width: of each the least and the greatest, white space, letters.
     fn character(&mut self) -> char {
         const SOME: &[char] = &[
-            'a', 'Z', 'm', ' ', '\t', '\u{0}', '\u{7F}', '\u{80}', 'é', '\u{7FF}', '\u{800}', '€', '\u{2003}', '\u{D7FF}',
-            '\u{E000}', '\u{FFFF}', '\u{10000}', '🤔', '\u{10FFFF}',
+            'a',
+            'Z',
+            'm',
+            ' ',
+            '\t',
+            '\u{0}',
+            '\u{7F}',
+            '\u{80}',
+            'é',
+            '\u{7FF}',
+            '\u{800}',
+            '€',
+            '\u{2003}',
+            '\u{D7FF}',
+            '\u{E000}',
+            '\u{FFFF}',
+            '\u{10000}',
+            '🤔',
+            '\u{10FFFF}',
         ];
         SOME[self.below(SOME.len())]
     }
@@ -177,7 +194,11 @@ impl<const N: usize> Pair<N> {
                 assert_eq!(self.string.remove(index), wanted.map(|at| self.model.remove(at)));
             }
             3 => {
-                let wanted = if index as usize >= self.model.len() { Ok(()) } else { self.at(index).map(|_| ()).map_err(|_| Utf8) };
+                let wanted = if index as usize >= self.model.len() {
+                    Ok(())
+                } else {
+                    self.at(index).map(|_| ()).map_err(|_| Utf8)
+                };
                 assert_eq!(self.string.truncate(index), wanted);
                 if wanted.is_ok() {
                     self.model.truncate(index as usize);
@@ -355,7 +376,8 @@ fn play<const N: usize>() {
 #[test]
 fn a_million_calls_beside_a_string() {
     std::thread::scope(|scope| {
-        let plays = [play::<0>, play::<1>, play::<2>, play::<3>, play::<23>, play::<63>, play::<254>, play::<255>, play::<300>];
+        let plays =
+            [play::<0>, play::<1>, play::<2>, play::<3>, play::<23>, play::<63>, play::<254>, play::<255>, play::<300>];
         for play in plays {
             scope.spawn(play);
         }

@@ -41,7 +41,10 @@ fn what_was_a_fault() {
         one.replace_range(range, with).map(|()| one)
     };
     assert_eq!((replaced("a", 0..1, ""), replaced("a", 0..1, "b")), (Ok(One::new()), Ok(One::from("b"))));
-    assert_eq!((replaced("a", 0..0, "b"), replaced("", 0..0, &"x".repeat(256))), (Err(Error::OutOfBounds), Err(Error::OutOfBounds)));
+    assert_eq!(
+        (replaced("a", 0..0, "b"), replaced("", 0..0, &"x".repeat(256))),
+        (Err(Error::OutOfBounds), Err(Error::OutOfBounds))
+    );
     let mut two = ArrayString::<2>::from("a");
     assert_eq!((two.replace_range(0..1, ""), two.len()), (Ok(()), 0));
     let mut drain = ArrayString::<2>::from("a").drain(..).unwrap();

@@ -88,7 +88,17 @@ fn the_calls_of_a_cache_string() {
 /// What a type has to implement to be given here.
 fn is_string<T>()
 where
-    T: Copy + Debug + Display + Default + Eq + Ord + Hash + FromStr<Err = OutOfBounds> + Write + AsRef<str> + AsRef<[u8]>,
+    T: Copy
+        + Debug
+        + Display
+        + Default
+        + Eq
+        + Ord
+        + Hash
+        + FromStr<Err = OutOfBounds>
+        + Write
+        + AsRef<str>
+        + AsRef<[u8]>,
     T: std::borrow::Borrow<str> + PartialEq<str> + Deref + for<'a> Add<&'a str, Output = T> + Send + Sync + Unpin,
 {
 }
@@ -124,7 +134,9 @@ fn the_traits() {
 #[test]
 fn the_aliases() {
     assert_eq!((SmallString::capacity(), MaxString::capacity(), CacheString::capacity()), (23, 255, 63));
-    use arraystring::prelude::{ArrayString as A, CacheString as C, Drain as D, MaxString as M, OutOfBounds, SmallString as S, Utf8, Utf16};
+    use arraystring::prelude::{
+        ArrayString as A, CacheString as C, Drain as D, MaxString as M, OutOfBounds, SmallString as S, Utf8, Utf16,
+    };
     let _: (A<23>, C, D<4>, M, S) = Default::default();
     let _ = (Utf8, Utf16, OutOfBounds);
 }

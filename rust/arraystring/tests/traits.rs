@@ -50,14 +50,18 @@ fn strings_are_collected_and_extended() {
 #[test]
 fn a_part_by_each_kind_of_range() {
     let name = Name::from("aé€b");
-    assert_eq!([&name[1..3], &name[3..], &name[..3], &name[..], &name[1..=2], &name[..=2]], ["é", "€b", "aé", "aé€b", "é", "aé"]);
+    assert_eq!(
+        [&name[1..3], &name[3..], &name[..3], &name[..], &name[1..=2], &name[..=2]],
+        ["é", "€b", "aé", "aé€b", "é", "aé"]
+    );
     let cached = CacheString::from_str_truncate("aé");
     assert_eq!(&cached[1..3], "é");
 }
 
 #[test]
 fn errors_are_errors() {
-    let errors: [Box<dyn StdError>; 4] = [Box::new(Error::Utf8), Box::new(Utf8), Box::new(Utf16), Box::new(OutOfBounds)];
+    let errors: [Box<dyn StdError>; 4] =
+        [Box::new(Error::Utf8), Box::new(Utf8), Box::new(Utf16), Box::new(OutOfBounds)];
     assert_eq!(errors.map(|error| error.to_string()), ["Utf8", "Utf8", "Utf16", "OutOfBounds"]);
     let lone = char::decode_utf16([0xD800]).next().unwrap().unwrap_err();
     assert_eq!((Error::from(lone.clone()), Utf16::from(lone)), (Error::Utf16, Utf16));
@@ -72,15 +76,27 @@ fn errors_are_errors() {
 #[test]
 fn texts_of_other_types_are_taken() {
     let owned = String::from("aé");
-    assert_eq!([Name::try_from_str(&owned), Name::try_from_str(owned.clone()), Name::try_from_str(Name::from("aé"))], [Ok(Name::from("aé")); 3]);
+    assert_eq!(
+        [Name::try_from_str(&owned), Name::try_from_str(owned.clone()), Name::try_from_str(Name::from("aé"))],
+        [Ok(Name::from("aé")); 3]
+    );
     assert_eq!(Name::from_iterator([owned.clone(), owned.clone()]), "aéaé");
     assert_eq!(Name::try_from_iterator(&[owned.as_str(), "b"]), Ok(Name::from("aéb")));
-    assert_eq!((Name::try_from_utf8(owned.clone()), Name::from_utf8(vec![b'a'])), (Ok(Name::from("aé")), Ok(Name::from("a"))));
-    assert_eq!((Name::try_from_utf16([0x61, 0xE9]), Name::from_utf16_lossy(vec![0x61])), (Ok(Name::from("aé")), Name::from("a")));
+    assert_eq!(
+        (Name::try_from_utf8(owned.clone()), Name::from_utf8(vec![b'a'])),
+        (Ok(Name::from("aé")), Ok(Name::from("a")))
+    );
+    assert_eq!(
+        (Name::try_from_utf16([0x61, 0xE9]), Name::from_utf16_lossy(vec![0x61])),
+        (Ok(Name::from("aé")), Name::from("a"))
+    );
     let mut name = Name::new();
     name.push_str(&owned);
     assert_eq!((name.try_push_str(owned.clone()), name.insert_str(0, Name::from("x"))), (Ok(()), Ok(())));
     assert_eq!((name.replace_range(..1, &owned), name.as_str()), (Err(Error::OutOfBounds), "xaéaé"));
     assert!(name.replace_range(..4, owned).is_ok() && name == "aéaé");
-    assert!(arraystring::utils::is_inside_boundary(3u8, 4u16).is_ok() && arraystring::utils::is_inside_boundary(5usize, 4u8).is_err());
+    assert!(
+        arraystring::utils::is_inside_boundary(3u8, 4u16).is_ok()
+            && arraystring::utils::is_inside_boundary(5usize, 4u8).is_err()
+    );
 }

@@ -29,7 +29,13 @@ fn left<const N: usize>(text: &str, call: impl FnOnce(&mut ArrayString<N>)) -> S
     text
 }
 
-const TEXTS: &[&str] = &["a", "aé€🤔b", "🤔🤔🤔🤔", "éaéaéaéaéa", "0123456789abcdefghijklmnopqrstuvwxyz€0123456789abcdefghijklmnopqrstuvwxyz"];
+const TEXTS: &[&str] = &[
+    "a",
+    "aé€🤔b",
+    "🤔🤔🤔🤔",
+    "éaéaéaéaéa",
+    "0123456789abcdefghijklmnopqrstuvwxyz€0123456789abcdefghijklmnopqrstuvwxyz",
+];
 
 /// The panic of these tests, which prints nothing.
 fn panic_now() -> ! {
@@ -177,7 +183,8 @@ impl RangeBounds<u8> for Lies<'_> {
 #[test]
 fn ranges_that_lie_leave_a_text() {
     use Bound::{Excluded, Included, Unbounded};
-    let places = [Unbounded, Included(0), Included(1), Excluded(2), Included(3), Excluded(9), Included(255), Excluded(255)];
+    let places =
+        [Unbounded, Included(0), Included(1), Excluded(2), Included(3), Excluded(9), Included(255), Excluded(255)];
     let all: Vec<_> = places.iter().flat_map(|start| places.iter().map(move |end| (*start, *end))).collect();
     for one in &all {
         for other in &all {

@@ -22,7 +22,8 @@ pub fn rewrite(source: &str, tokens: &[Token], krate: &str, edits: &mut Edits, t
                 edits.replace(tokens[end - 1].at.end..tokens[end].at.end, "");
             }
             let call = (at + 2..end).find(|at| body.text(at + 1) == "(").map_or("", |at| body.text(at));
-            let words = asked(call).ok_or_else(|| Fault::new(tokens[at].at.start, format!("an `unsafe` block with `{call}`")))?;
+            let words = asked(call)
+                .ok_or_else(|| Fault::new(tokens[at].at.start, format!("an `unsafe` block with `{call}`")))?;
             body.say(at, &format!("the proof of this body shows that {words}."), edits, tally);
         } else if at >= safe_until && is_unsafe(text) && body.text(at + 1) == "(" && tokens[at].kind == Kind::Word {
             let start = body.path_start(at)?;

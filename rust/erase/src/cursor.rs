@@ -68,10 +68,13 @@ impl<'a> Cursor<'a> {
             '"' => (Kind::Literal, text_length(rest).ok_or_else(|| Fault::new(start, "a text without its end"))?),
             '\'' => (Kind::Literal, quoted_length(rest)),
             'b' if rest.starts_with("b\"") || rest.starts_with("b'") => {
-                let len = if rest.starts_with("b\"") { text_length(&rest[1..]) } else { Some(quoted_length(&rest[1..])) };
+                let len =
+                    if rest.starts_with("b\"") { text_length(&rest[1..]) } else { Some(quoted_length(&rest[1..])) };
                 (Kind::Literal, 1 + len.ok_or_else(|| Fault::new(start, "a text without its end"))?)
             }
-            'r' if rest.starts_with("r\"") || rest.starts_with("r#") => return Err(Fault::new(start, "a raw text or name")),
+            'r' if rest.starts_with("r\"") || rest.starts_with("r#") => {
+                return Err(Fault::new(start, "a raw text or name"));
+            }
             first if first.is_alphabetic() || first == '_' => (Kind::Word, run_length(rest)),
             first if first.is_ascii_digit() => (Kind::Literal, run_length(rest)),
             first => (Kind::Sign, first.len_utf8()),

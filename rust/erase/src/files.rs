@@ -21,7 +21,8 @@ pub fn made(crates: &Path) -> Result<(Made, Tally), String> {
             let text = read(&crates.join(&path))?;
             left.remove(&format!("{module}.rt"));
             let source = Source { krate, path: &path, text: &text };
-            let erased = erase(&source, &mut tally).map_err(|fault| format!("crates/{path}:{}: {}", line_of(&text, fault.at), fault.why))?;
+            let erased = erase(&source, &mut tally)
+                .map_err(|fault| format!("crates/{path}:{}: {}", line_of(&text, fault.at), fault.why))?;
             let below = |name: &String| if module == "lib" { name.clone() } else { format!("{module}/{name}") };
             waiting.extend(erased.modules.iter().map(below));
             for dropped in erased.dropped.iter().map(below) {

@@ -62,7 +62,11 @@ impl<'a, 't> File<'a, 't> {
         loop {
             let (lead, token) = self.lead(cursor)?;
             let Some(token) = token else {
-                return if inside.is_block { Err(Fault::new(cursor.at, "a block without its end")) } else { Ok(ghosts) };
+                return if inside.is_block {
+                    Err(Fault::new(cursor.at, "a block without its end"))
+                } else {
+                    Ok(ghosts)
+                };
             };
             match cursor.text(&token) {
                 "}" if inside.is_block => return Ok(ghosts),
@@ -100,7 +104,8 @@ impl<'a, 't> File<'a, 't> {
                         lead.docs_end = line;
                     }
                     lead.is_test |= self.attribute(cursor, &token)?;
-                    lead.is_inlined |= ["#[inline", "#[cold"].iter().any(|hint| self.text[token.at.start..].starts_with(hint));
+                    lead.is_inlined |=
+                        ["#[inline", "#[cold"].iter().any(|hint| self.text[token.at.start..].starts_with(hint));
                 }
                 _ => {
                     if lead.docs_end == 0 {
@@ -119,10 +124,14 @@ impl<'a, 't> File<'a, 't> {
             cursor.expect("!")?;
         }
         cursor.expect("[")?;
-        let Some(name) = cursor.next_code()? else { return Err(Fault::new(sign.at.start, "an attribute without its end")) };
+        let Some(name) = cursor.next_code()? else {
+            return Err(Fault::new(sign.at.start, "an attribute without its end"));
+        };
         let mut depth = 1;
         while depth > 0 {
-            let Some(token) = cursor.next_code()? else { return Err(Fault::new(sign.at.start, "an attribute without its end")) };
+            let Some(token) = cursor.next_code()? else {
+                return Err(Fault::new(sign.at.start, "an attribute without its end"));
+            };
             match cursor.text(&token) {
                 "[" => depth += 1,
                 "]" => depth -= 1,
@@ -139,7 +148,9 @@ impl<'a, 't> File<'a, 't> {
                 self.edits.replace(self.lines(sign.at.start..cursor.at), "");
                 self.tally.count("derives of `Drop`");
             }
-            "derive" if whole.contains("Drop") => return Err(Fault::new(sign.at.start, "a derive of `Drop` and others")),
+            "derive" if whole.contains("Drop") => {
+                return Err(Fault::new(sign.at.start, "a derive of `Drop` and others"));
+            }
             "derive" | "inline" | "cold" | "must_use" | "allow" if !inner => {}
             "cfg" if whole == "#[cfg(test)]" => return Ok(true),
             _ => return Err(Fault::new(sign.at.start, format!("the attribute `{whole}`"))),
@@ -151,7 +162,9 @@ impl<'a, 't> File<'a, 't> {
     fn ghost(&mut self, cursor: &mut Cursor<'a>, word: &Token) -> Result<Range<usize>, Fault> {
         let is_use = cursor.peek_code()? == "use";
         loop {
-            let Some(token) = cursor.next_code()? else { return Err(Fault::new(word.at.start, "a ghost part without its end")) };
+            let Some(token) = cursor.next_code()? else {
+                return Err(Fault::new(word.at.start, "a ghost part without its end"));
+            };
             match cursor.text(&token) {
                 "{" | "(" => cursor.pass_clause()?,
                 ";" => break,
@@ -212,7 +225,9 @@ impl<'a, 't> File<'a, 't> {
                 "struct" | "enum" | "type" => return self.declared(cursor, lead, &first),
                 other => return Err(Fault::new(token.at.start, format!("an item with `{other}`"))),
             }
-            let Some(next) = cursor.next_code()? else { return Err(Fault::new(first.at.start, "an item without its end")) };
+            let Some(next) = cursor.next_code()? else {
+                return Err(Fault::new(first.at.start, "an item without its end"));
+            };
             token = next;
         }
     }
@@ -223,7 +238,9 @@ impl<'a, 't> File<'a, 't> {
         self.types.insert(cursor.text(&name).to_string(), (lead.docs_end, lead.has_docs));
         let mut depth = 0;
         loop {
-            let Some(token) = cursor.next_code()? else { return Err(Fault::new(first.at.start, "a type without its end")) };
+            let Some(token) = cursor.next_code()? else {
+                return Err(Fault::new(first.at.start, "a type without its end"));
+            };
             match cursor.text(&token) {
                 "{" => depth += 1,
                 "}" if depth == 1 => break,
@@ -282,8 +299,17 @@ impl<'a, 't> File<'a, 't> {
     }
 
     /// Reads a function: its signature, its clauses and its body.
-    fn function(&mut self, cursor: &mut Cursor<'a>, lead: &Lead, word: &Token, is_public: bool, inside: &Inside) -> Result<(), Fault> {
-        let Some(name) = cursor.next_code()? else { return Err(Fault::new(word.at.start, "a function without its name")) };
+    fn function(
+        &mut self,
+        cursor: &mut Cursor<'a>,
+        lead: &Lead,
+        word: &Token,
+        is_public: bool,
+        inside: &Inside,
+    ) -> Result<(), Fault> {
+        let Some(name) = cursor.next_code()? else {
+            return Err(Fault::new(word.at.start, "a function without its name"));
+        };
         let name = cursor.text(&name);
         let call = format!("{}::{name}", inside.owner);
         let head = self.up_to(cursor, word.at.start, &["{", "requires", "ensures"])?;
@@ -302,9 +328,17 @@ impl<'a, 't> File<'a, 't> {
         let has_precondition = clauses.as_ref().is_some_and(|at| self.text[at.clone()].contains("requires "));
         match fate {
             Some(fate) if is_public && has_precondition => self.fate(&call, fate, lead, word, body, cursor.at)?,
-            Some(_) => return Err(Fault::new(word.at.start, format!("`{call}` is in the list of calls with a precondition, and has none"))),
+            Some(_) => {
+                return Err(Fault::new(
+                    word.at.start,
+                    format!("`{call}` is in the list of calls with a precondition, and has none"),
+                ));
+            }
             None if has_precondition && (is_public || inside.of_trait) => {
-                return Err(Fault::new(word.at.start, format!("`{call}` has a precondition and is in no list of src/rules.rs")));
+                return Err(Fault::new(
+                    word.at.start,
+                    format!("`{call}` has a precondition and is in no list of src/rules.rs"),
+                ));
             }
             None => {}
         }
@@ -312,7 +346,8 @@ impl<'a, 't> File<'a, 't> {
             let text = self.dedented(at.clone());
             self.section(lead.docs_end, "Contract", &text, lead.has_docs || fate.is_some());
             self.edits.replace(self.line_start(at.start)..self.line_start(body - 1), "");
-            if let Some(fault) = self.text[..self.line_start(at.start)].strip_suffix('\n').is_none().then_some(at.start) {
+            if let Some(fault) = self.text[..self.line_start(at.start)].strip_suffix('\n').is_none().then_some(at.start)
+            {
                 return Err(Fault::new(fault, "a clause that is not on a line of its own"));
             }
             // The bracket of the body stands on a line of its own behind clauses, and at the end of the signature in Rust.
@@ -381,7 +416,15 @@ impl<'a, 't> File<'a, 't> {
     }
 
     /// What becomes of a public call with a precondition.
-    fn fate(&mut self, call: &str, fate: &Fate, lead: &Lead, word: &Token, body: usize, end: usize) -> Result<(), Fault> {
+    fn fate(
+        &mut self,
+        call: &str,
+        fate: &Fate,
+        lead: &Lead,
+        word: &Token,
+        body: usize,
+        end: usize,
+    ) -> Result<(), Fault> {
         self.tally.used.insert(call.to_string());
         let (title, words) = match fate {
             Fate::Unsafe(words) => {

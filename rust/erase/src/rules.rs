@@ -46,7 +46,8 @@ pub enum Fate {
 use Fate::{Panics, Safe, Unsafe};
 
 const MUST_FIT: &str = "The text after the call must fit into the capacity.";
-const MUST_BE_A_PLACE: &str = "The index must be a boundary of the text, and the text after the call must fit into the capacity.";
+const MUST_BE_A_PLACE: &str =
+    "The index must be a boundary of the text, and the text after the call must fit into the capacity.";
 const MUST_BE_TEXT: &str = "The bytes must be well-formed UTF-8, and must fit into the capacity.";
 const MUST_LIE_IN_ARRAY: &str = "What is written must lie in the array.";
 const ENDS: &str = "No precondition is left here: an iterator that never ends, or that panics, is allowed. The call stops at the \
@@ -88,7 +89,9 @@ pub const FATES: &[(&str, Fate)] = &[
     ("CacheString::from_chars", Safe(ENDS)),
     (
         "ArrayString::retain",
-        Safe("No precondition is left here: any closure is allowed. Where it panics, the text is what it kept until then."),
+        Safe(
+            "No precondition is left here: any closure is allowed. Where it panics, the text is what it kept until then.",
+        ),
     ),
     ("ArrayString::pop_counted", Safe(COUNTS)),
     ("ArrayString::trim_counted", Safe(COUNTS)),
@@ -130,15 +133,33 @@ pub struct Wider {
 }
 
 const fn text(call: &'static str) -> Wider {
-    Wider { call, generics: "S: AsRef<str>", from: "string: &str", to: "string: S", line: "let string = string.as_ref();" }
+    Wider {
+        call,
+        generics: "S: AsRef<str>",
+        from: "string: &str",
+        to: "string: S",
+        line: "let string = string.as_ref();",
+    }
 }
 
 const fn bytes(call: &'static str) -> Wider {
-    Wider { call, generics: "B: AsRef<[u8]>", from: "given: &[u8]", to: "given: B", line: "let given = given.as_ref();" }
+    Wider {
+        call,
+        generics: "B: AsRef<[u8]>",
+        from: "given: &[u8]",
+        to: "given: B",
+        line: "let given = given.as_ref();",
+    }
 }
 
 const fn units(call: &'static str) -> Wider {
-    Wider { call, generics: "B: AsRef<[u16]>", from: "units: &[u16]", to: "units: B", line: "let units = units.as_ref();" }
+    Wider {
+        call,
+        generics: "B: AsRef<[u16]>",
+        from: "units: &[u16]",
+        to: "units: B",
+        line: "let units = units.as_ref();",
+    }
 }
 
 const fn pieces(call: &'static str) -> Wider {

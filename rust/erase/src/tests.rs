@@ -6,7 +6,9 @@ use super::*;
 fn made(text: &str) -> Result<String, String> {
     let source = Source { krate: "arraystring_base", path: "arraystring_base/src/sample.rt", text };
     let erased = erase(&source, &mut Tally::default());
-    erased.map(|erased| erased.text.split_once('\n').unwrap().1.to_string()).map_err(|fault| format!("{}: {}", line_of(text, fault.at), fault.why))
+    erased
+        .map(|erased| erased.text.split_once('\n').unwrap().1.to_string())
+        .map_err(|fault| format!("{}: {}", line_of(text, fault.at), fault.why))
 }
 
 #[test]
@@ -134,7 +136,10 @@ fn put(&mut self) {
 #[test]
 fn what_is_not_read_stops_at_its_line() {
     let refused = [
-        ("fn f() {}\n\npub fn f(n: u8)\n    requires { n < 3 }\n{}\n", "3: `sample::f` has a precondition and is in no list of src/rules.rs"),
+        (
+            "fn f() {}\n\npub fn f(n: u8)\n    requires { n < 3 }\n{}\n",
+            "3: `sample::f` has a precondition and is in no list of src/rules.rs",
+        ),
         ("\ntrait T {}\n", "2: an item that begins with `trait`"),
         ("fn f() {\n    ghost let x = y;\n}\n", "2: `ghost` in a body"),
         ("struct S {\n    n: u8,\n    ghost small: { n < 3 },\n}\n", "3: a ghost field"),

@@ -18,7 +18,8 @@ use crate::rows::{column, hash_of, parsed, returned, rows};
 
 const QUIET: &str = "push_str extend_chars extend_strs trim trim_spaces clear retain_without make_ascii_uppercase \
                      make_ascii_lowercase add len capacity";
-const AT_THE_END: &str = "try_push try_push_str write_str pop push_unchecked push_str_unchecked clone as_bytes retain_in_turn cmp hash";
+const AT_THE_END: &str =
+    "try_push try_push_str write_str pop push_unchecked push_str_unchecked clone as_bytes retain_in_turn cmp hash";
 const COUNTED: &str = "pop_counted trim_counted remove_counted try_insert_str_counted";
 const AT_INDEX: &str = "try_insert insert_str try_insert_str remove truncate split_off is_char_boundary insert_unchecked \
                         insert_str_unchecked";
@@ -27,7 +28,9 @@ const IN_RANGE: &str = "slice make_ascii_uppercase_in make_ascii_lowercase_in ge
 
 /// Whether this is the name of a call of the tables.
 pub fn is_call(name: &str) -> bool {
-    [QUIET, AT_THE_END, COUNTED, AT_INDEX, IN_RANGE].iter().any(|names| names.split_whitespace().any(|known| known == name))
+    [QUIET, AT_THE_END, COUNTED, AT_INDEX, IN_RANGE]
+        .iter()
+        .any(|names| names.split_whitespace().any(|known| known == name))
 }
 
 /// Makes the calls of blocks. The line over a block is `# 8 | what it shows`, where 8 is the capacity.
@@ -71,7 +74,11 @@ fn hold_from<const N: usize>(table: &str, string: impl Fn(&str) -> ArrayString<N
             text = first;
             make(&mut text, call, row);
             let after = column(row, 5);
-            assert_eq!((text.as_str(), text.as_bytes(), text.len() as usize), (after, after.as_bytes(), after.len()), "{row}");
+            assert_eq!(
+                (text.as_str(), text.as_bytes(), text.len() as usize),
+                (after, after.as_bytes(), after.len()),
+                "{row}"
+            );
             assert_eq!(text.is_empty(), after.is_empty(), "{row}");
         }
     }
@@ -120,9 +127,13 @@ fn at_the_end<const N: usize>(text: &mut ArrayString<N>, call: &str, row: &str) 
         "write_str" => returned(row, text.write_str(given)),
         "pop" => returned(row, text.pop()),
         // SAFETY: it fits.
-        "push_unchecked" => returned(row, where_it_fits(text, None, given, |text| unsafe { text.push_unchecked(parsed(row, 3)) })),
+        "push_unchecked" => {
+            returned(row, where_it_fits(text, None, given, |text| unsafe { text.push_unchecked(parsed(row, 3)) }))
+        }
         // SAFETY: it fits.
-        "push_str_unchecked" => returned(row, where_it_fits(text, None, given, |text| unsafe { text.push_str_unchecked(given) })),
+        "push_str_unchecked" => {
+            returned(row, where_it_fits(text, None, given, |text| unsafe { text.push_str_unchecked(given) }))
+        }
         #[allow(clippy::clone_on_copy)]
         "clone" => returned(row, Some(text.clone())),
         "as_bytes" => returned(row, text.as_bytes()),
@@ -193,7 +204,10 @@ fn at_index<const N: usize>(text: &mut ArrayString<N>, call: &str, row: &str) {
             where_it_fits(text, Some(index), given, |text| unsafe { text.insert_unchecked(index, parsed(row, 3)) }),
         ),
         // SAFETY: it fits, and the index is a boundary.
-        _ => returned(row, where_it_fits(text, Some(index), given, |text| unsafe { text.insert_str_unchecked(index, given) })),
+        _ => returned(
+            row,
+            where_it_fits(text, Some(index), given, |text| unsafe { text.insert_str_unchecked(index, given) }),
+        ),
     }
 }
 

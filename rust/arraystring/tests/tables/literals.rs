@@ -28,7 +28,10 @@ pub fn tables(folder: &Path) -> Vec<Table> {
         }
     }
     files.sort();
-    files.iter().flat_map(|path| of_file(&path.display().to_string(), &fs::read_to_string(path).expect("a text"))).collect()
+    files
+        .iter()
+        .flat_map(|path| of_file(&path.display().to_string(), &fs::read_to_string(path).expect("a text")))
+        .collect()
 }
 
 /// The tables of a file.
@@ -123,7 +126,9 @@ fn caller(before: &str) -> Option<(String, Option<usize>)> {
 #[test]
 fn texts_are_found_with_their_calls() {
     let source = "// \"no | text\"\nhold::<23>(&rt, \"a | \\\"b\\u{e9}\");\nhold_each(\n    rt,\n    \"\\\n        c | d\",\n);\nf(&rt, 'x', \"e | f\"); let t = \"g | h\"; ('\\'', '\"');";
-    let found: Vec<_> = of_file("", source).into_iter().map(|table| (table.player, table.capacity, table.text)).collect();
-    let wanted = [("hold".to_string(), Some(23), "a | \"bé".to_string()), ("hold_each".to_string(), None, "c | d".to_string())];
+    let found: Vec<_> =
+        of_file("", source).into_iter().map(|table| (table.player, table.capacity, table.text)).collect();
+    let wanted =
+        [("hold".to_string(), Some(23), "a | \"bé".to_string()), ("hold_each".to_string(), None, "c | d".to_string())];
     assert_eq!(found, wanted);
 }

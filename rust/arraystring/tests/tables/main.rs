@@ -1,7 +1,7 @@
 //! The tables of the proved crate's tests, read from its files and played on the Rust crate: one table tests both builds.
 //!
-//! A table is a text that a call of a test is given alone, as in `hold::<23>(&rt, "..")`. What it says is told by its shape:
-//! blocks under lines such as `# 8 | ..`, steps over a drain, units in hexadecimal, constructors, or calls.
+//! A table is a text with `|` in it that a call of a test is given alone, perhaps at a capacity (`::<23>`). What it says is
+//! told by its shape: blocks under lines such as `# 8 | ..`, steps over a drain, units in hexadecimal, constructors, or calls.
 
 mod calls;
 mod constructors;
@@ -18,11 +18,9 @@ use rows::{column, rows};
 /// Where the tables are: the first of these folders that is there.
 const FOLDERS: &[&str] = &["../../crates/arraystring_tests/src", "../../crates/arraystring/src/tests"];
 
-/// The function whose rows say what iterators add; other rows of six columns say what constructors make.
-const EXTENDS: &str = "extend";
-
 /// How many rows of each shape there are at least.
-const LEAST: &[(&str, usize)] = &[("blocks", 400), ("calls", 100), ("anywhere", 100), ("drains", 10), ("units", 20), ("made", 20), ("extended", 5)];
+const LEAST: &[(&str, usize)] =
+    &[("blocks", 400), ("calls", 100), ("anywhere", 100), ("drains", 10), ("units", 20), ("made", 20), ("extended", 5)];
 
 /// What the rows of a table are.
 fn shape(table: &Table) -> Option<&'static str> {
@@ -31,14 +29,18 @@ fn shape(table: &Table) -> Option<&'static str> {
         return Some("blocks");
     }
     let columns = first.split('|').count();
-    let is_hex = column(first, 0).split(' ').all(|digits| digits.len() <= 4 && digits.chars().all(|ch| ch.is_ascii_hexdigit()));
+    let is_hex =
+        column(first, 0).split(' ').all(|digits| digits.len() <= 4 && digits.chars().all(|ch| ch.is_ascii_hexdigit()));
     let second = if columns > 1 { column(first, 1) } else { "" };
     match (table.capacity, columns) {
         (Some(_), 4) if second == "next" || second == "next_back" => Some("drains"),
         (Some(_), 4) if is_hex => Some("units"),
-        (Some(_), 6) if table.player == EXTENDS => Some("extended"),
-        _ if second.split(' ').all(calls::is_call) && columns >= 5 => Some(if table.capacity.is_some() { "calls" } else { "anywhere" }),
-        (Some(_), 6) => Some("made"),
+        _ if second.split(' ').all(calls::is_call) && columns >= 5 => {
+            Some(if table.capacity.is_some() { "calls" } else { "anywhere" })
+        }
+        // A text and its pieces, or a text before and what is added to it.
+        (Some(_), 6) if column(first, 1).replace(',', "") == column(first, 0) => Some("made"),
+        (Some(_), 6) => Some("extended"),
         _ => None,
     }
 }
@@ -62,7 +64,8 @@ fn each_table_holds_here_too() {
     let folder = FOLDERS.iter().map(std::path::Path::new).find(|folder| folder.exists()).expect("a folder of tables");
     let mut played: BTreeMap<&str, usize> = BTreeMap::new();
     for table in tables(folder) {
-        let shape = shape(&table).unwrap_or_else(|| panic!("{}: `{}` is given a table of no known shape", table.file, table.player));
+        let shape = shape(&table)
+            .unwrap_or_else(|| panic!("{}: `{}` is given a table of no known shape", table.file, table.player));
         println!("{}: `{}`: {shape}", table.file, table.player);
         let capacity = table.capacity.unwrap_or(8);
         let text = table.text.as_str();

@@ -17,7 +17,8 @@ fn hold<const N: usize>(table: &str) {
     for row in rows(table) {
         let units: Vec<u16> =
             column(row, 0).split_whitespace().map(|digits| u16::from_str_radix(digits, 16).expect("a unit")).collect();
-        let told = |made: Result<ArrayString<N>, Error>| made.map_or_else(|error| error.to_string(), |made| made.to_string());
+        let told =
+            |made: Result<ArrayString<N>, Error>| made.map_or_else(|error| error.to_string(), |made| made.to_string());
         let made = [
             told(ArrayString::try_from_utf16(&units)),
             told(ArrayString::from_utf16(&units).map_err(Error::from)),
