@@ -7,27 +7,27 @@ use crate::body;
 use crate::cursor::{Cursor, Fault, Kind, Token};
 use crate::edits::Edits;
 use crate::erase::{Source, Tally};
-use crate::rules::{BEHIND, FATES, Fate, LEFT_OUT, WALK, WIDER};
+use crate::rules::LEFT_OUT;
 
 /// Where items are read.
-struct Inside<'a> {
+pub struct Inside<'a> {
     /// The type of an impl, else the name of the file or module.
-    owner: &'a str,
-    of_trait: bool,
+    pub owner: &'a str,
+    pub of_trait: bool,
     /// Whether a bracket ends them.
     is_block: bool,
 }
 
 /// What comes before an item.
-struct Lead {
+pub struct Lead {
     /// Where its first line begins.
-    start: usize,
+    pub start: usize,
     /// Where a section of its documentation goes.
-    docs_end: usize,
-    has_docs: bool,
+    pub docs_end: usize,
+    pub has_docs: bool,
     is_test: bool,
     /// Whether an attribute says where it is inlined.
-    is_inlined: bool,
+    pub is_inlined: bool,
 }
 
 /// A file while it is read.
@@ -118,7 +118,7 @@ impl<'a, 't> File<'a, 't> {
     }
 
     /// Reads an attribute, and takes it out where Rust has none of its name. Returns whether the item is for tests alone.
-    fn attribute(&mut self, cursor: &mut Cursor<'a>, sign: &Token) -> Result<bool, Fault> {
+    pub fn attribute(&mut self, cursor: &mut Cursor<'a>, sign: &Token) -> Result<bool, Fault> {
         let inner = cursor.peek_code()? == "!";
         if inner {
             cursor.expect("!")?;
@@ -160,7 +160,14 @@ impl<'a, 't> File<'a, 't> {
 
     /// Takes a ghost part out, and returns where it is.
     fn ghost(&mut self, cursor: &mut Cursor<'a>, word: &Token) -> Result<Range<usize>, Fault> {
-        let is_use = cursor.peek_code()? == "use";
+        let name = cursor.peek_code()?;
+        if name.starts_with("can_") {
+            return Err(Fault::new(
+                word.at.start,
+                format!("`{name}`: a precondition of a trait's call, which Rust can't ask"),
+            ));
+        }
+        let is_use = name == "use";
         loop {
             let Some(token) = cursor.next_code()? else {
                 return Err(Fault::new(word.at.start, "a ghost part without its end"));
@@ -298,197 +305,8 @@ impl<'a, 't> File<'a, 't> {
         Ok(())
     }
 
-    /// Reads a function: its signature, its clauses and its body.
-    fn function(
-        &mut self,
-        cursor: &mut Cursor<'a>,
-        lead: &Lead,
-        word: &Token,
-        is_public: bool,
-        inside: &Inside,
-    ) -> Result<(), Fault> {
-        let Some(name) = cursor.next_code()? else {
-            return Err(Fault::new(word.at.start, "a function without its name"));
-        };
-        let name = cursor.text(&name);
-        let call = format!("{}::{name}", inside.owner);
-        let head = self.up_to(cursor, word.at.start, &["{", "requires", "ensures"])?;
-        let clauses = self.clauses(cursor, head.end)?;
-        let body = cursor.at;
-        let tokens = self.block(cursor, body)?;
-        if LEFT_OUT.iter().any(|rule| rule.name == name) {
-            self.edits.replace(self.lines(lead.start..cursor.at), "");
-            self.tally.count("laws left out");
-            self.tally.used.insert(name.to_string());
-            return Ok(());
-        }
-        self.head(head.clone());
-        self.wider(&call, &head, body)?;
-        let fate = FATES.iter().find(|(name, _)| *name == call).map(|(_, fate)| fate);
-        let has_precondition = clauses.as_ref().is_some_and(|at| self.text[at.clone()].contains("requires "));
-        match fate {
-            Some(fate) if is_public && has_precondition => self.fate(&call, fate, lead, word, body, cursor.at)?,
-            Some(_) => {
-                return Err(Fault::new(
-                    word.at.start,
-                    format!("`{call}` is in the list of calls with a precondition, and has none"),
-                ));
-            }
-            None if has_precondition && (is_public || inside.of_trait) => {
-                return Err(Fault::new(
-                    word.at.start,
-                    format!("`{call}` has a precondition and is in no list of src/rules.rs"),
-                ));
-            }
-            None => {}
-        }
-        if let Some(at) = clauses {
-            let text = self.dedented(at.clone());
-            self.section(lead.docs_end, "Contract", &text, lead.has_docs || fate.is_some());
-            self.edits.replace(self.line_start(at.start)..self.line_start(body - 1), "");
-            if let Some(fault) = self.text[..self.line_start(at.start)].strip_suffix('\n').is_none().then_some(at.start)
-            {
-                return Err(Fault::new(fault, "a clause that is not on a line of its own"));
-            }
-            // The bracket of the body stands on a line of its own behind clauses, and at the end of the signature in Rust.
-            self.edits.replace(self.line_start(at.start) - 1..self.line_start(at.start), " ");
-            self.edits.replace(self.line_start(body - 1)..body - 1, "");
-        }
-        let head = &self.text[head];
-        if tokens.is_empty() && !head.contains("()") {
-            self.attribute_put(lead, word, "#[allow(unused_variables)]");
-        } else if !tokens.is_empty() && !lead.is_inlined {
-            self.attribute_put(lead, word, "#[inline]");
-            self.tally.count("functions that may be inlined");
-        }
-        body::rewrite(self.text, &tokens, self.source.krate, &mut self.edits, self.tally)
-    }
-
-    /// Puts an attribute behind the documentation of a function.
-    fn attribute_put(&mut self, lead: &Lead, word: &Token, attribute: &str) {
-        self.edits.insert(lead.docs_end, format!("{}{attribute}\n", self.indent(word.at.start)));
-    }
-
-    /// Reads the clauses of a function up to its body, whose bracket is taken.
-    fn clauses(&mut self, cursor: &mut Cursor<'a>, start: usize) -> Result<Option<Range<usize>>, Fault> {
-        cursor.at = start;
-        let mut found: Option<Range<usize>> = None;
-        loop {
-            let Some(token) = cursor.next_code()? else { return Err(Fault::new(start, "a function without its body")) };
-            match cursor.text(&token) {
-                "requires" | "ensures" => {
-                    self.tally.count("clauses");
-                    if cursor.peek_code()? != "{" {
-                        cursor.next_code()?;
-                    }
-                    cursor.expect("{")?;
-                    cursor.pass_clause()?;
-                    found = Some(found.map_or(token.at.start, |at| at.start)..cursor.at);
-                }
-                "{" => return Ok(found),
-                other => return Err(Fault::new(token.at.start, format!("`{other}` among the clauses of a function"))),
-            }
-        }
-    }
-
-    /// The tokens of the block whose bracket was taken, without its brackets.
-    fn block(&mut self, cursor: &mut Cursor<'a>, start: usize) -> Result<Vec<Token>, Fault> {
-        let (mut depth, mut tokens) = (1, Vec::new());
-        loop {
-            let Some(token) = cursor.next_code()? else { return Err(Fault::new(start, "a block without its end")) };
-            match cursor.text(&token) {
-                "{" => depth += 1,
-                "}" => depth -= 1,
-                "ghost" | "requires" | "ensures" => {
-                    return Err(Fault::new(token.at.start, format!("`{}` in a body", cursor.text(&token))));
-                }
-                "#" => {
-                    self.attribute(cursor, &token)?;
-                    continue;
-                }
-                _ => {}
-            }
-            if depth == 0 {
-                return Ok(tokens);
-            }
-            tokens.push(token);
-        }
-    }
-
-    /// What becomes of a public call with a precondition.
-    fn fate(
-        &mut self,
-        call: &str,
-        fate: &Fate,
-        lead: &Lead,
-        word: &Token,
-        body: usize,
-        end: usize,
-    ) -> Result<(), Fault> {
-        self.tally.used.insert(call.to_string());
-        let (title, words) = match fate {
-            Fate::Unsafe(words) => {
-                self.edits.insert(word.at.start, "unsafe ");
-                self.tally.count("calls that are `unsafe` in Rust");
-                ("Safety", *words)
-            }
-            Fate::Panics(words, line) => {
-                if let Some(line) = line {
-                    self.put_behind(BEHIND, line, body..end)?;
-                }
-                self.tally.count("calls that panic in Rust");
-                ("Panics", *words)
-            }
-            Fate::Safe(words) => {
-                self.tally.count("calls whose precondition Rust does not need");
-                ("In Rust", *words)
-            }
-        };
-        self.words(lead.docs_end, title, words, lead.has_docs);
-        Ok(())
-    }
-
-    /// Makes a call take more types.
-    fn wider(&mut self, call: &str, head: &Range<usize>, body: usize) -> Result<(), Fault> {
-        let Some(rule) = WIDER.iter().find(|rule| rule.call == call) else { return Ok(()) };
-        let signature = &self.text[head.clone()];
-        let [found] = signature.match_indices(rule.from).map(|(at, _)| at).collect::<Vec<_>>()[..] else {
-            return Err(Fault::new(head.start, format!("`{call}` does not have `{}` once", rule.from)));
-        };
-        self.edits.replace(head.start + found..head.start + found + rule.from.len(), rule.to);
-        if !rule.generics.is_empty() {
-            let name_end = signature.find(['(', '<']).unwrap_or_default();
-            match signature[name_end..].starts_with('<') {
-                true => self.edits.insert(head.start + name_end + 1, format!("{}, ", rule.generics)),
-                false => self.edits.insert(head.start + name_end, format!("<{}>", rule.generics)),
-            }
-            let line = self.text[body..].split('\n').nth(1).unwrap_or_default();
-            let indent = &line[..line.len() - line.trim_start().len()];
-            self.edits.insert(body, format!("\n{indent}{}", rule.line));
-        } else if self.text[body..].split("\n    }\n").next().unwrap_or_default().contains(WALK) {
-            let end = body + self.text[body..].find("\n    }\n").unwrap_or_default();
-            self.put_behind(WALK, rule.line, body..end)?;
-        }
-        self.tally.count("calls that take more types in Rust");
-        self.tally.used.insert(format!("wider {call}"));
-        Ok(())
-    }
-
-    /// Puts a line behind another one of a body, in which that is there once.
-    fn put_behind(&mut self, after: &str, line: &str, within: Range<usize>) -> Result<(), Fault> {
-        let [found] = self.text[within.clone()].match_indices(after).map(|(at, _)| at).collect::<Vec<_>>()[..] else {
-            return Err(Fault::new(within.start, format!("the line `{after}` is not there once")));
-        };
-        let end = within.start + found + after.len();
-        let deeper = if after.ends_with('{') { "    " } else { "" };
-        let indent = self.indent(within.start + found);
-        self.edits.insert(end, format!("\n{indent}{deeper}{line}"));
-        self.tally.count("lines put into bodies");
-        Ok(())
-    }
-
     /// What Rust has in place of the bounds, paths and formatters of a head.
-    fn head(&mut self, at: Range<usize>) {
+    pub fn head(&mut self, at: Range<usize>) {
         let text = &self.text[at.clone()];
         for (found, bound) in text.match_indices(" + Drop") {
             self.edits.replace(at.start + found..at.start + found + bound.len(), "");
@@ -512,7 +330,7 @@ impl<'a, 't> File<'a, 't> {
     }
 
     /// Passes over a head up to one of these words, which is taken, and returns where the head is.
-    fn up_to(&mut self, cursor: &mut Cursor<'a>, start: usize, ends: &[&str]) -> Result<Range<usize>, Fault> {
+    pub fn up_to(&mut self, cursor: &mut Cursor<'a>, start: usize, ends: &[&str]) -> Result<Range<usize>, Fault> {
         let mut end = cursor.at;
         loop {
             let Some(token) = cursor.next_code()? else { return Err(Fault::new(start, "an item without its end")) };
@@ -532,7 +350,7 @@ impl<'a, 't> File<'a, 't> {
     }
 
     /// The whole lines of a part.
-    fn lines(&self, at: Range<usize>) -> Range<usize> {
+    pub fn lines(&self, at: Range<usize>) -> Range<usize> {
         let end = self.text[at.end..].find('\n').map_or(self.text.len(), |end| at.end + end + 1);
         self.line_start(at.start)..end
     }
@@ -544,7 +362,7 @@ impl<'a, 't> File<'a, 't> {
     }
 
     /// The lines of a part, without the spaces that its first line has before it.
-    fn dedented(&self, at: Range<usize>) -> String {
+    pub fn dedented(&self, at: Range<usize>) -> String {
         let indent = self.indent(at.start);
         let lines = self.text[at].lines().map(|line| line.strip_prefix(&indent).unwrap_or(line));
         lines.collect::<Vec<_>>().join("\n")

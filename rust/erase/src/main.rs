@@ -11,6 +11,7 @@ mod cursor;
 mod edits;
 mod erase;
 mod files;
+mod functions;
 mod items;
 mod rules;
 mod sections;

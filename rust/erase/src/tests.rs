@@ -140,6 +140,10 @@ fn what_is_not_read_stops_at_its_line() {
             "fn f() {}\n\npub fn f(n: u8)\n    requires { n < 3 }\n{}\n",
             "3: `sample::f` has a precondition and is in no list of src/rules.rs",
         ),
+        (
+            "impl Add for S {\n    ghost can_add = { λ s t. ⊥ };\n}\n",
+            "2: `can_add`: a precondition of a trait's call, which Rust can't ask",
+        ),
         ("\ntrait T {}\n", "2: an item that begins with `trait`"),
         ("fn f() {\n    ghost let x = y;\n}\n", "2: `ghost` in a body"),
         ("struct S {\n    n: u8,\n    ghost small: { n < 3 },\n}\n", "3: a ghost field"),
