@@ -1,0 +1,10 @@
+// Made from crates/arraystring_base/src/lib.rt by rust/erase. A change goes there.
+//! The lowest crate of the bounded string: its errors, the UTF-8 of characters, where a text may be
+//! cut, and how UTF-16 is read. It uses `std` alone and takes no memory.
+
+pub mod error;
+pub mod laws;
+mod moves;
+mod steps;
+pub mod utf16;
+pub mod utils;

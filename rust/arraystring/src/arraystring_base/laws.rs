@@ -1,0 +1,130 @@
+// Made from crates/arraystring_base/src/laws.rt by rust/erase. A change goes there.
+//! Laws of texts, which callers may rely on. Each does nothing when it is called and carries its
+//! fact in its contract.
+
+/// The cut of a text to `n` bytes is a leading part of it that fits, and no leading part that fits
+/// is longer; no other text is so. The cut of a text that fits is the text.
+///
+/// # Contract
+///
+/// ```text
+/// ensures longest { (t p : List ℕ) (n : ℕ) → (p ≡ cut t n) ↔ IsLongestFitting p t n }
+/// ensures whole { (t : List ℕ) (n : ℕ) → size t ≤ n → cut t n ≡ t }
+/// ```
+pub fn longest_cut() {}
+
+/// The cut of a longer cut is the cut.
+///
+/// # Contract
+///
+/// ```text
+/// ensures { (t : List ℕ) (m n : ℕ) → n ≤ m → cut (cut t m) n ≡ cut t n }
+/// ```
+pub fn cut_of_cut() {}
+
+/// `i` is a boundary of a text exactly where one of its leading parts has size `i`.
+///
+/// # Contract
+///
+/// ```text
+/// ensures { (t : List ℕ) (i : ℕ) → IsTrue (boundary t i) ↔ ((p : List ℕ) × IsLeadingPart p t × (size p ≡ i)) }
+/// ```
+pub fn boundaries() {}
+
+/// The parts before and from an index, joined, are the text. The part before a boundary has as many
+/// bytes as the boundary says. At the index where two texts are joined, the parts are those two.
+///
+/// # Contract
+///
+/// ```text
+/// ensures joined { (t : List ℕ) (i : ℕ) → front t i ++ back t i ≡ t }
+/// ensures size { (t : List ℕ) (i : ℕ) → IsTrue (boundary t i) → size (front t i) ≡ i }
+/// ensures before { (p q : List ℕ) → front (p ++ q) (size p) ≡ p }
+/// ensures behind { (p q : List ℕ) → back (p ++ q) (size p) ≡ q }
+/// ```
+pub fn parts() {}
+
+/// A text takes as many bytes as its UTF-8 has. So `len` of a string is how many bytes its
+/// `as_bytes` and its `as_str` return.
+///
+/// # Contract
+///
+/// ```text
+/// ensures { (t : List ℕ) → size t ≡ length (bytes t) }
+/// ```
+pub fn size_is_length() {}
+
+/// Bytes spell one text.
+///
+/// # Contract
+///
+/// ```text
+/// ensures { (a b : List ℕ) → bytes a ≡ bytes b → a ≡ b }
+/// ```
+pub fn one_text() {}
+
+/// Every `&str` is the bytes of its characters, and each of these is a Unicode scalar value.
+///
+/// # Contract
+///
+/// ```text
+/// ensures text { IsText (chars given.now) }
+/// ensures bytes { bytes (chars given.now) ≡ given.now }
+/// ```
+#[allow(unused_variables)]
+pub fn lent_text(given: &str) {}
+
+/// The order of the bytes of two texts is the order of their characters: the bytes are less where
+/// the one text comes before the other, and equal where the texts are the same.
+///
+/// # Contract
+///
+/// ```text
+/// ensures same { (a b : List ℕ) → slice_cmp nat_cmp (bytes a) (bytes b) ≡ slice_cmp nat_cmp a b }
+/// ensures less { (a b : List ℕ) → (slice_cmp nat_cmp (bytes a) (bytes b) ≡ Less) ↔ IsBefore a b }
+/// ensures equal { (a b : List ℕ) → (slice_cmp nat_cmp (bytes a) (bytes b) ≡ Equal) ↔ (a ≡ b) }
+/// ensures greater { (a b : List ℕ) → (slice_cmp nat_cmp (bytes a) (bytes b) ≡ Greater) ↔ IsBefore b a }
+/// ```
+pub fn order_of_bytes() {}
+
+/// Of two texts that are not the same, one comes before the other. What comes before a text comes
+/// before all texts that follow it. No text comes before itself.
+///
+/// # Contract
+///
+/// ```text
+/// ensures total { (a b : List ℕ) → IsBefore a b ⊎ (a ≡ b) ⊎ IsBefore b a }
+/// ensures transitive { (a b c : List ℕ) → IsBefore a b → IsBefore b c → IsBefore a c }
+/// ensures itself { (a : List ℕ) → ¬ (IsBefore a a) }
+/// ```
+pub fn order_of_texts() {}
+
+/// The units have a reading, and any two readings of them are the same.
+///
+/// # Contract
+///
+/// ```text
+/// ensures some { (items : List Unit16) × IsReading units.now items }
+/// ensures only { (a b : List Unit16) → IsReading units.now a → IsReading units.now b → a ≡ b }
+/// ```
+#[allow(unused_variables)]
+pub fn only_reading(units: &[u16]) {}
+
+/// The UTF-16 of a text is read as its characters, and as nothing else.
+///
+/// # Contract
+///
+/// ```text
+/// ensures { (t : List ℕ) (items : List Unit16) → IsText t → (IsReading (text_units t) items) ↔ (items ≡ map Char t) }
+/// ```
+pub fn text_reading() {}
+
+/// The first stop of items at `n` bytes is where the longest leading run of characters that fits
+/// ends, with what comes after it; no other stop is so.
+///
+/// # Contract
+///
+/// ```text
+/// ensures { (items : List Unit16) (n : ℕ) (stop : Stop) → (StopsAt items n stop) ↔ (first_stop items n ≡ stop) }
+/// ```
+pub fn one_stop() {}

@@ -1,0 +1,265 @@
+// Made from crates/arraystring_base/src/moves.rt by rust/erase. A change goes there.
+//! How a run of bytes is moved inside an array: as its first `K` and its last `K` bytes, which may
+//! overlap, and both are read before the first is written. So does `memmove` with a short run. A
+//! byte that both hold is written twice, to one offset: it moves once. They are read as vectors,
+//! since those stay in registers; arrays of bytes would be put on the stack.
+
+use crate::by_hand::simd::Simd;
+
+/// Takes the `len` bytes from `from` on to `to`, overlapping or not. It makes no call, so a function
+/// that makes no other has no register to save.
+///
+/// # Contract
+///
+/// ```text
+/// requires source { from + len ≤ N }
+/// requires target { to + len ≤ N }
+/// ensures { array.new ≡ take to array.old ++ (take len (drop from array.old) ++ drop (to + len) array.old) }
+/// ```
+#[inline(always)]
+pub(crate) fn move_run<const N: usize>(array: &mut [u8; N], from: usize, to: usize, len: usize) {
+    if len > 4 {
+        move_long_run(array, from, to, len);
+    } else {
+        move_short_run(array, from, to, len);
+    }
+}
+
+/// The same for at most four bytes.
+///
+/// # Contract
+///
+/// ```text
+/// requires source { from + len ≤ N }
+/// requires target { to + len ≤ N }
+/// requires short { len ≤ 4 }
+/// ensures { array.new ≡ take to array.old ++ (take len (drop from array.old) ++ drop (to + len) array.old) }
+/// ```
+#[inline(always)]
+fn move_short_run<const N: usize>(array: &mut [u8; N], from: usize, to: usize, len: usize) {
+    if len >= 2 {
+        move_ends::<N, 2>(array, from, to, len);
+    } else if len == 1 {
+        move_ends::<N, 1>(array, from, to, len);
+    }
+}
+
+/// The same for more than four bytes. What an array of `N` bytes can't have is not asked.
+///
+/// # Contract
+///
+/// ```text
+/// requires source { from + len ≤ N }
+/// requires target { to + len ≤ N }
+/// requires long { 4 < len }
+/// ensures { array.new ≡ take to array.old ++ (take len (drop from array.old) ++ drop (to + len) array.old) }
+/// ```
+#[inline(always)]
+fn move_long_run<const N: usize>(array: &mut [u8; N], from: usize, to: usize, len: usize) {
+    if len > 16 {
+        if N > 64 && len > 64 {
+            move_much(array, from, to, len);
+        } else if N > 32 && len > 32 {
+            move_ends::<N, 32>(array, from, to, len);
+        } else {
+            move_ends::<N, 16>(array, from, to, len);
+        }
+    } else if len > 8 {
+        move_ends::<N, 8>(array, from, to, len);
+    } else {
+        move_ends::<N, 4>(array, from, to, len);
+    }
+}
+
+/// The same for more than 64 bytes.
+///
+/// # Contract
+///
+/// ```text
+/// requires source { from + len ≤ N }
+/// requires target { to + len ≤ N }
+/// requires long { 64 < len }
+/// ensures { array.new ≡ take to array.old ++ (take len (drop from array.old) ++ drop (to + len) array.old) }
+/// ```
+#[inline(always)]
+fn move_much<const N: usize>(array: &mut [u8; N], from: usize, to: usize, len: usize) {
+    if len <= 128 {
+        move_ends::<N, 64>(array, from, to, len);
+    } else if N <= 256 {
+        move_pairs::<N, 64>(array, from, to, len);
+    } else {
+        move_any_run(array, from, to, len);
+    }
+}
+
+/// The same for more bytes than a string has.
+///
+/// # Contract
+///
+/// ```text
+/// requires source { from + len ≤ N }
+/// requires target { to + len ≤ N }
+/// ensures { array.new ≡ take to array.old ++ (take len (drop from array.old) ++ drop (to + len) array.old) }
+/// ```
+#[cold]
+#[inline(never)]
+fn move_any_run<const N: usize>(array: &mut [u8; N], from: usize, to: usize, len: usize) {
+    let all = &mut array[..];
+    all.copy_within(from..from + len, to);
+}
+
+/// The same for `K` to `2 * K` bytes.
+///
+/// # Contract
+///
+/// ```text
+/// requires source { from + len ≤ N }
+/// requires target { to + len ≤ N }
+/// requires least { K ≤ len }
+/// requires most { len - K ≤ K }
+/// ensures { array.new ≡ take to array.old ++ (take len (drop from array.old) ++ drop (to + len) array.old) }
+/// ```
+#[inline(always)]
+fn move_ends<const N: usize, const K: usize>(
+    array: &mut [u8; N],
+    from: usize,
+    to: usize,
+    len: usize,
+) {
+    let rest = len - K;
+    let first = bytes_at::<N, K>(array, from);
+    let last = bytes_at::<N, K>(array, from + rest);
+    put_bytes(array, to, first);
+    put_bytes(array, to + rest, last);
+}
+
+/// The same for `2 * K` to `4 * K` bytes.
+///
+/// # Contract
+///
+/// ```text
+/// requires source { from + len ≤ N }
+/// requires target { to + len ≤ N }
+/// requires least { K + K ≤ len }
+/// requires most { len - (K + K) ≤ K + K }
+/// ensures { array.new ≡ take to array.old ++ (take len (drop from array.old) ++ drop (to + len) array.old) }
+/// ```
+#[inline(always)]
+fn move_pairs<const N: usize, const K: usize>(
+    array: &mut [u8; N],
+    from: usize,
+    to: usize,
+    len: usize,
+) {
+    let rest = len - (K + K);
+    let front = bytes_at::<N, K>(array, from);
+    let after_front = bytes_at::<N, K>(array, from + K);
+    let before_end = bytes_at::<N, K>(array, from + rest);
+    let end = bytes_at::<N, K>(array, from + rest + K);
+    put_pair(array, to, front, after_front);
+    put_pair(array, to + rest, before_end, end);
+}
+
+/// Writes `given` over the bytes from `at` on. Up to 16 bytes cost no call.
+///
+/// # Contract
+///
+/// ```text
+/// requires { at + length given.now ≤ N }
+/// ensures { array.new ≡ take at array.old ++ (given.now ++ drop (at + length given.now) array.old) }
+/// ```
+#[inline(always)]
+pub(crate) fn copy_run<const N: usize>(array: &mut [u8; N], at: usize, given: &[u8]) {
+    let len = given.len();
+    if len > 16 {
+        let all = &mut array[..];
+        all[at..at + len].copy_from_slice(given);
+    } else if len >= 8 {
+        copy_ends::<N, 8>(array, at, given);
+    } else if len >= 4 {
+        copy_ends::<N, 4>(array, at, given);
+    } else if len >= 2 {
+        copy_ends::<N, 2>(array, at, given);
+    } else if len == 1 {
+        copy_ends::<N, 1>(array, at, given);
+    }
+}
+
+/// The same for `K` to `2 * K` bytes.
+///
+/// # Contract
+///
+/// ```text
+/// requires room { at + length given.now ≤ N }
+/// requires least { K ≤ length given.now }
+/// requires most { length given.now - K ≤ K }
+/// ensures { array.new ≡ take at array.old ++ (given.now ++ drop (at + length given.now) array.old) }
+/// ```
+#[inline(always)]
+fn copy_ends<const N: usize, const K: usize>(array: &mut [u8; N], at: usize, given: &[u8]) {
+    let rest = given.len() - K;
+    let first = bytes_of::<K>(given, 0);
+    let last = bytes_of::<K>(given, rest);
+    put_bytes(array, at, first);
+    put_bytes(array, at + rest, last);
+}
+
+/// The `K` bytes from `at` on.
+///
+/// # Contract
+///
+/// ```text
+/// requires { at + K ≤ N }
+/// ensures { result ≡ take K (drop at array.now) }
+/// ```
+#[inline(always)]
+fn bytes_at<const N: usize, const K: usize>(array: &[u8; N], at: usize) -> Simd<u8, K> {
+    let all = &array[..];
+    bytes_of(all, at)
+}
+
+/// The `K` bytes of `given` from `at` on.
+///
+/// # Contract
+///
+/// ```text
+/// requires { at + K ≤ length given.now }
+/// ensures { result ≡ take K (drop at given.now) }
+/// ```
+#[inline(always)]
+fn bytes_of<const K: usize>(given: &[u8], at: usize) -> Simd<u8, K> {
+    Simd::<u8, K>::from_slice(&given[at..at + K])
+}
+
+/// Writes `K` bytes from `at` on.
+///
+/// # Contract
+///
+/// ```text
+/// requires { at + K ≤ N }
+/// ensures { array.new ≡ take at array.old ++ (bytes.entry ++ drop (at + K) array.old) }
+/// ```
+#[inline(always)]
+fn put_bytes<const N: usize, const K: usize>(array: &mut [u8; N], at: usize, bytes: Simd<u8, K>) {
+    let all = &mut array[..];
+    bytes.copy_to_slice(&mut all[at..at + K]);
+}
+
+/// Writes `2 * K` bytes from `at` on.
+///
+/// # Contract
+///
+/// ```text
+/// requires { at + (K + K) ≤ N }
+/// ensures { array.new ≡ take at array.old ++ ((first.entry ++ second.entry) ++ drop (at + (K + K)) array.old) }
+/// ```
+#[inline(always)]
+fn put_pair<const N: usize, const K: usize>(
+    array: &mut [u8; N],
+    at: usize,
+    first: Simd<u8, K>,
+    second: Simd<u8, K>,
+) {
+    put_bytes(array, at, first);
+    put_bytes(array, at + K, second);
+}

@@ -1,0 +1,95 @@
+// Made from crates/arraystring_base/src/steps.rt by rust/erase. A change goes there.
+//! Counting what a call does to bytes.
+
+/// How many bytes were looked at, and how many were moved.
+///
+/// # Model
+///
+/// ```text
+/// ghost Value = { Counts };
+/// ghost view = { λ s. record { looked = s.looked; moved = s.moved } };
+/// ghost inverse = { λ s. record { looked = s.looked; moved = s.moved } };
+/// ```
+#[derive(Clone, Copy)]
+pub struct Steps {
+    looked: u64,
+    moved: u64,
+}
+
+impl Steps {
+    /// A fresh counter: no byte was looked at, and none was moved.
+    ///
+    /// # Contract
+    ///
+    /// ```text
+    /// ensures looked { result.looked ≡ 0 }
+    /// ensures moved { result.moved ≡ 0 }
+    /// ```
+    #[inline]
+    pub const fn new() -> Self {
+        Steps {
+            looked: 0,
+            moved: 0,
+        }
+    }
+
+    /// How many bytes were looked at.
+    ///
+    /// # Contract
+    ///
+    /// ```text
+    /// ensures { result ≡ self.now.looked }
+    /// ```
+    #[inline]
+    pub const fn looked(&self) -> u64 {
+        self.looked
+    }
+
+    /// How many bytes were moved.
+    ///
+    /// # Contract
+    ///
+    /// ```text
+    /// ensures { result ≡ self.now.moved }
+    /// ```
+    #[inline]
+    pub const fn moved(&self) -> u64 {
+        self.moved
+    }
+
+    /// Counts `len` moves.
+    ///
+    /// # Contract
+    ///
+    /// ```text
+    /// requires { self.old.moved + len < 2 ^ 64 }
+    /// ensures moved { self.new.moved ≡ self.old.moved + len }
+    /// ensures looked { self.new.looked ≡ self.old.looked }
+    /// ```
+    #[inline]
+    pub(crate) fn count_moves(&mut self, len: usize) {
+        self.moved = self.moved.saturating_add(len as u64);
+    }
+}
+
+/// The byte at the index `at`, counted as one look. The index must be below the length, and the
+/// count of looks must be below 2^64 - 1.
+///
+/// # Panics
+///
+/// Where the index is not below the length.
+///
+/// # Contract
+///
+/// ```text
+/// requires in_bounds { at < length bytes.now }
+/// requires countable { steps.old.looked < 2 ^ 64 - 1 }
+/// ensures value { result ≡ slice_index bytes.now at }
+/// ensures looked { steps.new.looked ≡ steps.old.looked + 1 }
+/// ensures moved { steps.new.moved ≡ steps.old.moved }
+/// ```
+#[inline]
+pub fn look(bytes: &[u8], at: usize, steps: &mut Steps) -> u8 {
+    steps.looked = steps.looked.saturating_add(1);
+    bytes[at]
+}

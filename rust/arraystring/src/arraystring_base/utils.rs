@@ -1,0 +1,278 @@
+// Made from crates/arraystring_base/src/utils.rt by rust/erase. A change goes there.
+//! Boundaries, cuts and moves of bytes. Sizes and indices count bytes of UTF-8.
+
+use crate::arraystring_base::error::OutOfBounds;
+use crate::arraystring_base::moves::{copy_run, move_run};
+pub use crate::arraystring_base::steps::{Steps, look};
+use core::char;
+
+/// Whether `size` is at most `limit`; refused with `OutOfBounds` where it is greater.
+///
+/// # Contract
+///
+/// ```text
+/// ensures { IsOk result ↔ (size ≤ limit) }
+/// ```
+#[inline]
+pub fn is_inside_boundary<S: Into<usize>, L: Into<usize>>(size: S, limit: L) -> Result<(), OutOfBounds> {
+    let (size, limit) = (size.into(), limit.into());
+    if size > limit {
+        return Err(OutOfBounds);
+    }
+    Ok(())
+}
+
+/// Whether `at` is a boundary of `text`, the size of one of its leading parts of whole characters.
+/// It is false past the length of the text.
+///
+/// # Contract
+///
+/// ```text
+/// ensures { result ≡ boundary (chars text.now) at }
+/// ```
+#[inline]
+pub fn is_boundary(text: &str, at: usize) -> bool {
+    text.is_char_boundary(at)
+}
+
+/// The longest leading run of whole characters of `text` that takes at most `size` bytes, borrowed
+/// from the text.
+///
+/// # Contract
+///
+/// ```text
+/// ensures { result.now ≡ bytes (cut (chars text.now) size) }
+/// ```
+#[inline]
+pub fn truncate_str(text: &str, size: u8) -> &str {
+    truncate_str_counted(text, size, &mut Steps::new())
+}
+
+/// The same as `truncate_str`. It looks at no more than four bytes, and at one at least where
+/// `size` is not 0 and is below the length. It moves none. The count of looks must be at most 2^63.
+///
+/// # In Rust
+///
+/// No precondition is left here: a count that would pass 2^64 - 1 stays there.
+///
+/// # Contract
+///
+/// ```text
+/// requires { steps.old.looked ≤ 2 ^ 63 }
+/// ensures value { result.now ≡ bytes (cut (chars text.now) size) }
+/// ensures looked { steps.new.looked ≤ steps.old.looked + 4 }
+/// ensures least { 0 < size → size < length text.now → steps.old.looked < steps.new.looked }
+/// ensures counted { steps.old.looked ≤ steps.new.looked }
+/// ensures moved { steps.new.moved ≡ steps.old.moved }
+/// ```
+#[inline]
+pub fn truncate_str_counted<'a>(text: &'a str, size: u8, steps: &mut Steps) -> &'a str {
+    let limit = size as usize;
+    if text.len() <= limit {
+        return text;
+    }
+    let end = last_boundary(text, limit, steps);
+    &text[..end]
+}
+
+/// The index at which the last character of `text` begins, and that character; `None` where the
+/// text is empty. It looks at no more than four bytes, and at one at least where there is a
+/// character. It moves none. The count of looks plus four must be below 2^64.
+///
+/// # In Rust
+///
+/// No precondition is left here: a count that would pass 2^64 - 1 stays there.
+///
+/// # Contract
+///
+/// ```text
+/// requires { steps.old.looked + 4 < 2 ^ 64 }
+/// ensures some { IfSome result (λ last. (front : List ℕ) × (chars text.now ≡ front ++ last.1 ∷ []) × (size front ≡ last.0)) }
+/// ensures none { IfNone result (chars text.now ≡ []) }
+/// ensures looked { steps.new.looked ≤ steps.old.looked + 4 }
+/// ensures least { IfSome result (λ _. steps.old.looked < steps.new.looked) }
+/// ensures counted { steps.old.looked ≤ steps.new.looked }
+/// ensures moved { steps.new.moved ≡ steps.old.moved }
+/// ```
+#[inline]
+pub fn last_char(text: &str, steps: &mut Steps) -> Option<(usize, char)> {
+    if text.is_empty() {
+        return None;
+    }
+    let (start, ch) = char_before_end(text, steps);
+    Some((start, ch))
+}
+
+/// Writes the UTF-8 of `ch` into the array, from the offset `at` on, and returns how many bytes it
+/// takes. It must fit into the array from there. No other byte changes.
+///
+/// # Safety
+///
+/// What is written must lie in the array.
+///
+/// # Contract
+///
+/// ```text
+/// requires { at + width ch ≤ N }
+/// ensures width { result ≡ width ch }
+/// ensures bytes { array.new ≡ take at array.old ++ (utf8 ch ++ drop (at + width ch) array.old) }
+/// ```
+#[inline(always)]
+pub unsafe fn encode<const N: usize>(ch: char, array: &mut [u8; N], at: usize) -> usize {
+    let code = ch as u32;
+    let all = &mut array[..];
+    if code < 0x80 {
+        all[at] = code as u8;
+        1
+    } else if code < 0x800 {
+        let first = (0xC0 + code / 64) as u8;
+        let second = (0x80 + code % 64) as u8;
+        all[at..at + 2].copy_from_slice(&[first, second]);
+        2
+    } else if code < 0x1_0000 {
+        let first = (0xE0 + code / 4096) as u8;
+        let second = (0x80 + code / 64 % 64) as u8;
+        let third = (0x80 + code % 64) as u8;
+        all[at..at + 3].copy_from_slice(&[first, second, third]);
+        3
+    } else {
+        let first = (0xF0 + code / 262_144) as u8;
+        let second = (0x80 + code / 4096 % 64) as u8;
+        let third = (0x80 + code / 64 % 64) as u8;
+        let fourth = (0x80 + code % 64) as u8;
+        all[at..at + 4].copy_from_slice(&[first, second, third, fourth]);
+        4
+    }
+}
+
+/// Moves `len` bytes of the array from the offset `from` to the offset `to`; the two runs may
+/// overlap. Each byte counts as one move, also where it is written twice on the way (see `moves`),
+/// and none counts where `from` is `to`. Both runs must lie in the array, and the count of moves
+/// plus `len` must be below 2^64. No byte outside the target changes.
+///
+/// # Safety
+///
+/// Both runs must lie in the array.
+///
+/// # Contract
+///
+/// ```text
+/// requires source { from + len ≤ N }
+/// requires target { to + len ≤ N }
+/// requires countable { steps.old.moved + len < 2 ^ 64 }
+/// ensures bytes { array.new ≡ take to array.old ++ (take len (drop from array.old) ++ drop (to + len) array.old) }
+/// ensures moved { steps.new.moved ≡ steps.old.moved + (if from == to then 0 else len) }
+/// ensures looked { steps.new.looked ≡ steps.old.looked }
+/// ```
+#[inline(always)]
+pub unsafe fn shift<const N: usize>(
+    array: &mut [u8; N],
+    from: usize,
+    to: usize,
+    len: usize,
+    steps: &mut Steps,
+) {
+    if from != to {
+        move_run(array, from, to, len);
+        steps.count_moves(len);
+    }
+}
+
+/// Writes `given` over the bytes of the array from the offset `at` on. Up to 16 bytes cost no call. It
+/// must fit into the array from there. No other byte changes.
+///
+/// # Safety
+///
+/// What is written must lie in the array.
+///
+/// # Contract
+///
+/// ```text
+/// requires { at + length given.now ≤ N }
+/// ensures { array.new ≡ take at array.old ++ (given.now ++ drop (at + length given.now) array.old) }
+/// ```
+#[inline(always)]
+pub unsafe fn write_over<const N: usize>(array: &mut [u8; N], at: usize, given: &[u8]) {
+    copy_run(array, at, given);
+}
+
+/// Whether a byte continues a character that began before it.
+///
+/// # Contract
+///
+/// ```text
+/// ensures { IsTrue result ↔ ((128 ≤ byte) × (byte < 192)) }
+/// ```
+#[inline]
+fn continues(byte: u8) -> bool {
+    byte >= 0x80 && byte < 0xC0
+}
+
+/// The last boundary that is not past `limit`. It looks once at each byte from `limit` back to it,
+/// but for the first byte of the text.
+///
+/// # Contract
+///
+/// ```text
+/// requires within { limit < length text.now }
+/// requires countable { steps.old.looked ≤ 2 ^ 63 }
+/// ensures at_most { result ≤ limit }
+/// ensures boundary { IsCharBoundary text.now result }
+/// ensures nearest { (i : ℕ) → result < i → i ≤ limit → ¬ (IsCharBoundary text.now i) }
+/// ensures looked { steps.new.looked ≤ steps.old.looked + 4 }
+/// ensures least { 0 < limit → steps.old.looked < steps.new.looked }
+/// ensures each { 0 < result → steps.new.looked + result ≡ steps.old.looked + limit + 1 }
+/// ensures counted { steps.old.looked ≤ steps.new.looked }
+/// ensures moved { steps.new.moved ≡ steps.old.moved }
+/// ```
+#[inline]
+fn last_boundary(text: &str, limit: usize, steps: &mut Steps) -> usize {
+    let all = text.as_bytes();
+    let mut end = limit;
+    while end > 0 && continues(look(all, end, steps)) {
+        end -= 1;
+    }
+    end
+}
+
+/// The last character of a text that has one, and where it begins. The bytes are read from the end
+/// back to the one that does not continue a character.
+///
+/// # Contract
+///
+/// ```text
+/// requires some { 0 < length text.now }
+/// requires countable { steps.old.looked + 4 < 2 ^ 64 }
+/// ensures last { (front : List ℕ) × (chars text.now ≡ front ++ result.1 ∷ []) × (size front ≡ result.0) }
+/// ensures looked { steps.new.looked ≤ steps.old.looked + 4 }
+/// ensures least { steps.old.looked < steps.new.looked }
+/// ensures each { steps.new.looked + result.0 ≡ steps.old.looked + length text.now }
+/// ensures moved { steps.new.moved ≡ steps.old.moved }
+/// ```
+#[inline]
+fn char_before_end(text: &str, steps: &mut Steps) -> (usize, char) {
+    let all = text.as_bytes();
+    let end = all.len();
+    let last = look(all, end - 1, steps) as u32;
+    if last < 0x80 {
+        // SAFETY: the proof of this body shows that this is a scalar value.
+        return (end - 1, unsafe { char::from_u32_unchecked(last) });
+    }
+    let second = look(all, end - 2, steps) as u32;
+    if second >= 0xC0 {
+        let code = (second - 0xC0) * 64 + (last - 0x80);
+        // SAFETY: the proof of this body shows that this is a scalar value.
+        return (end - 2, unsafe { char::from_u32_unchecked(code) });
+    }
+    let third = look(all, end - 3, steps) as u32;
+    if third >= 0xC0 {
+        let code = (third - 0xE0) * 4096 + (second - 0x80) * 64 + (last - 0x80);
+        // SAFETY: the proof of this body shows that this is a scalar value.
+        return (end - 3, unsafe { char::from_u32_unchecked(code) });
+    }
+    let fourth = look(all, end - 4, steps) as u32;
+    let front = (fourth - 0xF0) * 262_144 + (third - 0x80) * 4096;
+    let code = front + (second - 0x80) * 64 + (last - 0x80);
+    // SAFETY: the proof of this body shows that this is a scalar value.
+    (end - 4, unsafe { char::from_u32_unchecked(code) })
+}

@@ -1,0 +1,584 @@
+// Made from crates/arraystring_core/src/array_string.rt by rust/erase. A change goes there.
+//! `ArrayString`: the type, what it shows, and what is added and taken at its end. The modules
+//! below hold its other calls.
+
+use crate::arraystring_core::equal::equal;
+use crate::arraystring_core::place::{copy_in, open_gap, open_gap_at_start};
+use crate::arraystring_base::error::OutOfBounds;
+use crate::arraystring_base::utils::{
+    Steps, encode, is_boundary, last_char, shift, truncate_str, write_over,
+};
+use core::{fmt, str};
+
+mod ascii;
+mod compare;
+mod construct;
+mod extend;
+mod insert;
+mod range;
+mod remove;
+mod trim;
+mod utf16;
+
+/// A string of at most `N` bytes of UTF-8, and at most 255, that lies in the value itself. In all
+/// its calls sizes, indices and capacity count bytes of UTF-8.
+///
+/// Contracts name its text, the list of its characters, and no byte of the array.
+///
+/// # Model
+///
+/// ```text
+/// ghost Value = { Stored };
+/// ghost view = { λ s. stored s.array s.start s.size };
+/// ghost invariant = { λ s. IsStored N s.array s.start s.size };
+/// ghost inverse = { λ v. record { array = array_of v; start = start_of v; size = text_size v.text } };
+/// ghost inverse_ok = { λ s h i. record {
+///   array = stored-all N s.array s.start s.size h i;
+///   start = s.start;
+///   size = stored-size N s.array s.start s.size h i;
+/// } };
+/// ```
+#[derive(Clone, Copy)]
+pub struct ArrayString<const N: usize> {
+    array: [u8; N],
+    start: u8,
+    size: u8,
+}
+
+impl<const N: usize> ArrayString<N> {
+    /// The empty string.
+    ///
+    /// # Contract
+    ///
+    /// ```text
+    /// ensures { result.text ≡ [] }
+    /// ```
+    #[inline(always)]
+    pub const fn new() -> Self {
+        ArrayString {
+            array: [0; N],
+            start: 0,
+            size: 0,
+        }
+    }
+
+    /// How many bytes fit: the lesser of `N` and 255.
+    ///
+    /// # Contract
+    ///
+    /// ```text
+    /// ensures { result ≡ cap N }
+    /// ```
+    #[inline]
+    pub const fn capacity() -> u8 {
+        if N < 255 { N as u8 } else { 255 }
+    }
+
+    /// How many bytes the text takes, which is never more than the capacity.
+    ///
+    /// # Contract
+    ///
+    /// ```text
+    /// ensures value { result ≡ size self.now.text }
+    /// ensures fits { result ≤ cap N }
+    /// ```
+    #[inline]
+    pub const fn len(&self) -> u8 {
+        self.size
+    }
+
+    /// Whether the text has no character.
+    ///
+    /// # Contract
+    ///
+    /// ```text
+    /// ensures { IsTrue result ↔ (self.now.text ≡ []) }
+    /// ```
+    #[inline]
+    pub const fn is_empty(&self) -> bool {
+        self.size == 0
+    }
+
+    /// The text, borrowed without a copy. Each of its characters is a Unicode scalar value.
+    ///
+    /// # Contract
+    ///
+    /// ```text
+    /// ensures bytes { result.now ≡ bytes self.now.text }
+    /// ensures text { IsText self.now.text }
+    /// ensures fits { size self.now.text ≤ cap N }
+    /// ```
+    #[inline]
+    pub fn as_str(&self) -> &str {
+        let start = self.start as usize;
+        let all = &self.array[..];
+        // SAFETY: the proof of this body shows that these bytes are UTF-8.
+        unsafe { str::from_utf8_unchecked(&all[start..start + self.size as usize]) }
+    }
+
+    /// The UTF-8 of the text, borrowed without a copy: as many bytes as `len` says. Each character
+    /// of the text is a Unicode scalar value.
+    ///
+    /// # Contract
+    ///
+    /// ```text
+    /// ensures bytes { result.now ≡ bytes self.now.text }
+    /// ensures len { length result.now ≡ size self.now.text }
+    /// ensures text { IsText self.now.text }
+    /// ensures fits { size self.now.text ≤ cap N }
+    /// ```
+    #[inline]
+    pub fn as_bytes(&self) -> &[u8] {
+        let start = self.start as usize;
+        let all = &self.array[..];
+        &all[start..start + self.size as usize]
+    }
+
+    /// Adds `ch` at the end. Refused with `OutOfBounds` where it does not fit. The text is then as
+    /// it was.
+    ///
+    /// # Contract
+    ///
+    /// ```text
+    /// ensures { Makes (addition self.old.text (ch ∷ []) (cap N)) self.old.text (from_out_of_bounds result) self.new.text }
+    /// ```
+    #[inline(always)]
+    pub fn try_push(&mut self, ch: char) -> Result<(), OutOfBounds> {
+        let end = self.start as usize + self.size as usize;
+        if end + 4 > Self::capacity() as usize {
+            return self.try_push_near_end(ch);
+        }
+        // SAFETY: the proof of this body shows what `push_unchecked` requires.
+        unsafe { self.push_unchecked(ch) };
+        Ok(())
+    }
+
+    /// Adds `ch` at the end. It must fit.
+    ///
+    /// # Safety
+    ///
+    /// The text after the call must fit into the capacity.
+    ///
+    /// # Contract
+    ///
+    /// ```text
+    /// requires { size self.old.text + width ch ≤ cap N }
+    /// ensures { self.new.text ≡ self.old.text ++ ch ∷ [] }
+    /// ```
+    #[inline(always)]
+    pub unsafe fn push_unchecked(&mut self, ch: char) {
+        let end = self.start as usize + self.size as usize;
+        if !Self::has_room(end, ch) {
+            return self.push_at_start(ch);
+        }
+        // SAFETY: the proof of this body shows what `encode` requires.
+        let len = unsafe { encode(ch, &mut self.array, end) };
+        self.size = (self.size as usize + len) as u8;
+    }
+
+    /// Adds `string` at the end. Refused with `OutOfBounds` where not all of it fits. The text is
+    /// then as it was.
+    ///
+    /// # Contract
+    ///
+    /// ```text
+    /// ensures { Makes (addition self.old.text (chars string.now) (cap N)) self.old.text (from_out_of_bounds result) self.new.text }
+    /// ```
+    #[inline]
+    pub fn try_push_str<S: AsRef<str>>(&mut self, string: S) -> Result<(), OutOfBounds> {
+        let string = string.as_ref();
+        // Room after the text is asked first: where there is some, it is the only test.
+        let size = self.len() as usize;
+        let capacity = Self::capacity() as usize;
+        if self.start as usize + size + string.len() > capacity {
+            if size + string.len() > capacity {
+                return Err(OutOfBounds);
+            }
+            self.push_str_at_start(string);
+        } else {
+            // SAFETY: the proof of this body shows what `push_str_unchecked` requires.
+            unsafe { self.push_str_unchecked(string) };
+        }
+        Ok(())
+    }
+
+    /// Adds the longest leading run of whole characters of `string` that fits at the end.
+    ///
+    /// ```
+    /// # use arraystring::ArrayString;
+    /// let mut line = ArrayString::<4>::from_str_truncate("abc");
+    /// line.push_str("dé"); // "abcd", since `é` takes two bytes
+    /// ```
+    ///
+    /// # Contract
+    ///
+    /// ```text
+    /// ensures { Makes (addition_of_cut self.old.text (chars string.now) (cap N)) self.old.text (Ok result) self.new.text }
+    /// ```
+    #[inline]
+    pub fn push_str<S: AsRef<str>>(&mut self, string: S) {
+        let string = string.as_ref();
+        let room = Self::capacity() - self.len();
+        // SAFETY: the proof of this body shows what `push_str_unchecked` requires.
+        unsafe { self.push_str_unchecked(truncate_str(string, room)) };
+    }
+
+    /// Adds `string` at the end. All of it must fit.
+    ///
+    /// # Safety
+    ///
+    /// The text after the call must fit into the capacity.
+    ///
+    /// # Contract
+    ///
+    /// ```text
+    /// requires { size self.old.text + size (chars string.now) ≤ cap N }
+    /// ensures { self.new.text ≡ self.old.text ++ chars string.now }
+    /// ```
+    #[inline]
+    pub unsafe fn push_str_unchecked<S: AsRef<str>>(&mut self, string: S) {
+        let string = string.as_ref();
+        let end = self.start as usize + self.size as usize;
+        if end + string.len() > Self::capacity() as usize {
+            return self.push_str_at_start(string);
+        }
+        self.size = (self.size as usize + string.len()) as u8;
+        copy_in(&mut self.array, end, string.as_bytes());
+    }
+
+    /// Takes the last character; `None` where the text is empty.
+    ///
+    /// # Contract
+    ///
+    /// ```text
+    /// ensures { Makes (popping self.old.text) self.old.text (Ok result) self.new.text }
+    /// ```
+    #[inline]
+    pub fn pop(&mut self) -> Option<char> {
+        self.pop_counted(&mut Steps::new())
+    }
+
+    /// The same as `pop`. It looks at no more than four bytes, and at one at least where there is a
+    /// character. It moves none. Both counts must be at most 2^63.
+    ///
+    /// # In Rust
+    ///
+    /// No precondition is left here: a count that would pass 2^64 - 1 stays there.
+    ///
+    /// # Contract
+    ///
+    /// ```text
+    /// requires looks { steps.old.looked ≤ 2 ^ 63 }
+    /// requires moves { steps.old.moved ≤ 2 ^ 63 }
+    /// ensures edit { Makes (popping self.old.text) self.old.text (Ok result) self.new.text }
+    /// ensures looked { steps.new.looked ≤ steps.old.looked + 4 }
+    /// ensures least { IfSome result (λ _. steps.old.looked < steps.new.looked) }
+    /// ensures counted { steps.old.looked ≤ steps.new.looked }
+    /// ensures moved { steps.new.moved ≡ steps.old.moved }
+    /// ```
+    #[inline]
+    pub fn pop_counted(&mut self, steps: &mut Steps) -> Option<char> {
+        let (start, ch) = last_char(self.as_str(), steps)?;
+        self.keep(start as u8);
+        Some(ch)
+    }
+
+    /// Whether a character begins at `at`, or the text ends there.
+    ///
+    /// # Contract
+    ///
+    /// ```text
+    /// ensures { result ≡ boundary self.now.text at }
+    /// ```
+    #[inline]
+    fn is_boundary(&self, at: usize) -> bool {
+        is_boundary(self.as_str(), at)
+    }
+
+    /// Whether there is room for `ch` after `len` bytes. Where there is room for four more, its
+    /// width is not asked.
+    ///
+    /// # Contract
+    ///
+    /// ```text
+    /// requires { len ≤ 255 }
+    /// ensures { IsTrue result ↔ (len + width ch ≤ cap N) }
+    /// ```
+    #[inline(always)]
+    fn has_room(len: usize, ch: char) -> bool {
+        let capacity = Self::capacity() as usize;
+        len + 4 <= capacity || len + ch.len_utf8() <= capacity
+    }
+
+    /// `try_push` where there may be less room than for four bytes after the text.
+    ///
+    /// # Contract
+    ///
+    /// ```text
+    /// ensures { Makes (addition self.old.text (ch ∷ []) (cap N)) self.old.text (from_out_of_bounds result) self.new.text }
+    /// ```
+    #[cold]
+    #[inline(never)]
+    fn try_push_near_end(&mut self, ch: char) -> Result<(), OutOfBounds> {
+        let len = ch.len_utf8();
+        let size = self.len() as usize;
+        if size + len > Self::capacity() as usize {
+            return Err(OutOfBounds);
+        }
+        if self.start as usize + size + len > Self::capacity() as usize {
+            self.put_char_at_start(size, ch);
+        } else {
+            // SAFETY: the proof of this body shows what `push_unchecked` requires.
+            unsafe { self.push_unchecked(ch) };
+        }
+        Ok(())
+    }
+
+    /// Adds `ch` at the end of a text that has to move to the start of the array for it.
+    ///
+    /// # Contract
+    ///
+    /// ```text
+    /// requires { size self.old.text + width ch ≤ cap N }
+    /// ensures { self.new.text ≡ self.old.text ++ ch ∷ [] }
+    /// ```
+    #[cold]
+    #[inline(never)]
+    fn push_at_start(&mut self, ch: char) {
+        let len = self.len() as usize;
+        self.put_char_at_start(len, ch);
+    }
+
+    /// Adds `string` at the end of a text that has to move to the start of the array for it.
+    ///
+    /// # Contract
+    ///
+    /// ```text
+    /// requires { size self.old.text + size (chars string.now) ≤ cap N }
+    /// ensures { self.new.text ≡ self.old.text ++ chars string.now }
+    /// ```
+    #[cold]
+    #[inline(never)]
+    fn push_str_at_start(&mut self, string: &str) {
+        let len = self.len() as usize;
+        self.splice_at_start(len, len, string, &mut Steps::new());
+    }
+
+    /// Puts `given` in place of the text between two boundaries. There must be room for it.
+    ///
+    /// # Contract
+    ///
+    /// ```text
+    /// requires order { start ≤ end }
+    /// requires start { IsTrue (boundary self.old.text start) }
+    /// requires end { IsTrue (boundary self.old.text end) }
+    /// requires room { size self.old.text - (end - start) + size (chars given.now) ≤ cap N }
+    /// requires countable { steps.old.moved ≤ 2 ^ 63 }
+    /// ensures text { self.new.text ≡ front self.old.text start ++ (chars given.now ++ back self.old.text end) }
+    /// ensures tail_alone { size (chars given.now) ≤ end - start → steps.new.moved ≤ steps.old.moved + (size self.old.text - end) }
+    /// ensures most { steps.new.moved ≤ steps.old.moved + (start + (size self.old.text - end)) }
+    /// ensures least { end ≢ start + size (chars given.now) → steps.old.moved + min start (size self.old.text - end) ≤ steps.new.moved }
+    /// ensures counted { steps.old.moved ≤ steps.new.moved }
+    /// ensures looked { steps.new.looked ≡ steps.old.looked }
+    /// ```
+    #[inline(always)]
+    fn splice(&mut self, start: usize, end: usize, given: &str, steps: &mut Steps) {
+        let (place, size) = (self.start as usize, self.size as usize);
+        let len = given.len();
+        let tail = size - end;
+        if place + (start + (len + tail)) > Self::capacity() as usize {
+            return self.splice_at_start(start, end, given, steps);
+        }
+        self.size = (start + (len + tail)) as u8;
+        open_gap(&mut self.array, place, size, start, end, len, steps);
+        // SAFETY: the proof of this body shows what `write_over` requires.
+        unsafe { write_over(&mut self.array, place + start, given.as_bytes()) };
+    }
+
+    /// The same where the text moves to the start of the array for it.
+    ///
+    /// # Contract
+    ///
+    /// ```text
+    /// requires order { start ≤ end }
+    /// requires start { IsTrue (boundary self.old.text start) }
+    /// requires end { IsTrue (boundary self.old.text end) }
+    /// requires room { size self.old.text - (end - start) + size (chars given.now) ≤ cap N }
+    /// requires countable { steps.old.moved ≤ 2 ^ 63 }
+    /// ensures text { self.new.text ≡ front self.old.text start ++ (chars given.now ++ back self.old.text end) }
+    /// ensures most { steps.new.moved ≤ steps.old.moved + (start + (size self.old.text - end)) }
+    /// ensures least { end ≢ start + size (chars given.now) → steps.old.moved + min start (size self.old.text - end) ≤ steps.new.moved }
+    /// ensures counted { steps.old.moved ≤ steps.new.moved }
+    /// ensures looked { steps.new.looked ≡ steps.old.looked }
+    /// ```
+    #[cold]
+    #[inline(never)]
+    fn splice_at_start(&mut self, start: usize, end: usize, given: &str, steps: &mut Steps) {
+        let (place, size) = (self.start as usize, self.size as usize);
+        let len = given.len();
+        self.start = 0;
+        self.size = (start + (len + (size - end))) as u8;
+        open_gap_at_start(&mut self.array, place, size, start, end, len, steps);
+        copy_in(&mut self.array, start, given.as_bytes());
+    }
+
+    /// Puts `ch` at a boundary. There must be room for it.
+    ///
+    /// # Contract
+    ///
+    /// ```text
+    /// requires boundary { IsTrue (boundary self.old.text at) }
+    /// requires room { size self.old.text + width ch ≤ cap N }
+    /// ensures { self.new.text ≡ front self.old.text at ++ (ch ∷ back self.old.text at) }
+    /// ```
+    #[inline(always)]
+    fn put_char(&mut self, at: usize, ch: char) {
+        let (place, size) = (self.start as usize, self.size as usize);
+        let len = ch.len_utf8();
+        if place + size + len > Self::capacity() as usize {
+            return self.insert_at_start(at, ch);
+        }
+        self.size = (at + (len + (size - at))) as u8;
+        open_gap(&mut self.array, place, size, at, at, len, &mut Steps::new());
+        // SAFETY: the proof of this body shows what `encode` requires.
+        unsafe { encode(ch, &mut self.array, place + at) };
+    }
+
+    /// The same where the text moves to the start of the array for it, as a call.
+    ///
+    /// # Contract
+    ///
+    /// ```text
+    /// requires boundary { IsTrue (boundary self.old.text at) }
+    /// requires room { size self.old.text + width ch ≤ cap N }
+    /// ensures { self.new.text ≡ front self.old.text at ++ (ch ∷ back self.old.text at) }
+    /// ```
+    #[cold]
+    #[inline(never)]
+    fn insert_at_start(&mut self, at: usize, ch: char) {
+        self.put_char_at_start(at, ch);
+    }
+
+    /// The same without a call.
+    ///
+    /// # Contract
+    ///
+    /// ```text
+    /// requires boundary { IsTrue (boundary self.old.text at) }
+    /// requires room { size self.old.text + width ch ≤ cap N }
+    /// ensures { self.new.text ≡ front self.old.text at ++ (ch ∷ back self.old.text at) }
+    /// ```
+    #[inline(always)]
+    fn put_char_at_start(&mut self, at: usize, ch: char) {
+        let (place, size) = (self.start as usize, self.size as usize);
+        let len = ch.len_utf8();
+        self.start = 0;
+        self.size = (at + (len + (size - at))) as u8;
+        open_gap_at_start(&mut self.array, place, size, at, at, len, &mut Steps::new());
+        // SAFETY: the proof of this body shows what `encode` requires.
+        unsafe { encode(ch, &mut self.array, at) };
+    }
+
+    /// Takes out the text between two boundaries, without a move where it begins at index 0.
+    ///
+    /// # Contract
+    ///
+    /// ```text
+    /// requires order { start ≤ end }
+    /// requires start { IsTrue (boundary self.old.text start) }
+    /// requires end { IsTrue (boundary self.old.text end) }
+    /// requires countable { steps.old.moved ≤ 2 ^ 63 }
+    /// ensures text { self.new.text ≡ front self.old.text start ++ back self.old.text end }
+    /// ensures free { start ≡ 0 → steps.new.moved ≡ steps.old.moved }
+    /// ensures tail_alone { steps.new.moved ≤ steps.old.moved + (size self.old.text - end) }
+    /// ensures least { start ≢ end → steps.old.moved + min start (size self.old.text - end) ≤ steps.new.moved }
+    /// ensures counted { steps.old.moved ≤ steps.new.moved }
+    /// ensures looked { steps.new.looked ≡ steps.old.looked }
+    /// ```
+    #[inline]
+    fn take_out(&mut self, start: usize, end: usize, steps: &mut Steps) {
+        if start == 0 {
+            return self.drop_front(end);
+        }
+        let (place, size) = (self.start as usize, self.size as usize);
+        let tail = size - end;
+        self.size = (start + tail) as u8;
+        // SAFETY: the proof of this body shows what `shift` requires.
+        unsafe { shift(&mut self.array, place + end, place + start, tail, steps) };
+    }
+
+    /// Drops the part before a boundary, without a move.
+    ///
+    /// # Contract
+    ///
+    /// ```text
+    /// requires { IsTrue (boundary self.old.text end) }
+    /// ensures { self.new.text ≡ back self.old.text end }
+    /// ```
+    #[inline]
+    fn drop_front(&mut self, end: usize) {
+        self.start = (self.start as usize + end) as u8;
+        self.size = (self.size as usize - end) as u8;
+    }
+
+    /// Keeps the part before a boundary.
+    ///
+    /// # Contract
+    ///
+    /// ```text
+    /// requires { IsTrue (boundary self.old.text size) }
+    /// ensures { self.new.text ≡ front self.old.text size }
+    /// ```
+    #[inline]
+    fn keep(&mut self, size: u8) {
+        self.size = size;
+    }
+}
+
+/// The empty string.
+///
+/// # Contract
+///
+/// ```text
+/// ghost is_default = { λ s. s.text ≡ [] };
+/// ```
+impl<const N: usize> Default for ArrayString<N> {
+    #[inline]
+    fn default() -> Self {
+        Self::new()
+    }
+}
+
+/// Strings are equal where their texts are.
+///
+/// # Contract
+///
+/// ```text
+/// ghost eq = { λ s t. pointwise nat_eq s.text t.text };
+/// ghost laws = { on_per (λ s. s.text) (partial_equiv_from_equiv nat_list_eq_equiv) };
+/// ```
+impl<const N: usize> PartialEq for ArrayString<N> {
+    #[inline]
+    fn eq(&self, other: &Self) -> bool {
+        equal(self.as_str(), other.as_str())
+    }
+}
+
+/// # Contract
+///
+/// ```text
+/// ghost laws = { on_equiv (λ s. s.text) nat_list_eq_equiv };
+/// ```
+impl<const N: usize> Eq for ArrayString<N> {
+}
+
+/// `ArrayString { array: "abc", size: 3 }` for the text `abc`; the size counts bytes of UTF-8.
+impl<const N: usize> fmt::Debug for ArrayString<N> {
+    #[inline]
+    fn fmt(&self, f: &mut fmt::Formatter<'_>) -> fmt::Result {
+        f.debug_struct("ArrayString")
+            .field("array", &self.as_str())
+            .field("size", &self.size)
+            .finish()
+    }
+}

@@ -1,0 +1,92 @@
+// Made from crates/arraystring_core/src/array_string/ascii.rt by rust/erase. A change goes there.
+//! The ASCII letters of a string in the other case.
+
+use crate::arraystring_core::ArrayString;
+
+impl<const N: usize> ArrayString<N> {
+    /// Changes a..z to A..Z. All other characters stay.
+    ///
+    /// # Contract
+    ///
+    /// ```text
+    /// ensures { Makes (uppercase self.old.text) self.old.text (Ok result) self.new.text }
+    /// ```
+    #[inline]
+    pub fn make_ascii_uppercase(&mut self) {
+        self.uppercase_between(0, self.len() as usize);
+    }
+
+    /// Changes A..Z to a..z. All other characters stay.
+    ///
+    /// # Contract
+    ///
+    /// ```text
+    /// ensures { Makes (lowercase self.old.text) self.old.text (Ok result) self.new.text }
+    /// ```
+    #[inline]
+    pub fn make_ascii_lowercase(&mut self) {
+        self.lowercase_between(0, self.len() as usize);
+    }
+
+    /// Changes a..z to A..Z between two boundaries.
+    ///
+    /// # Contract
+    ///
+    /// ```text
+    /// requires order { start ≤ end }
+    /// requires start { IsTrue (boundary self.old.text start) }
+    /// requires end { IsTrue (boundary self.old.text end) }
+    /// ensures { self.new.text ≡ front self.old.text start ++ (map to_ascii_uppercase (part self.old.text start end) ++ back self.old.text end) }
+    /// ```
+    #[inline]
+    pub(super) fn uppercase_between(&mut self, start: usize, end: usize) {
+        let place = self.start as usize;
+        uppercase_bytes(&mut self.array, place + start, place + end);
+    }
+
+    /// Changes A..Z to a..z between two boundaries.
+    ///
+    /// # Contract
+    ///
+    /// ```text
+    /// requires order { start ≤ end }
+    /// requires start { IsTrue (boundary self.old.text start) }
+    /// requires end { IsTrue (boundary self.old.text end) }
+    /// ensures { self.new.text ≡ front self.old.text start ++ (map to_ascii_lowercase (part self.old.text start end) ++ back self.old.text end) }
+    /// ```
+    #[inline]
+    pub(super) fn lowercase_between(&mut self, start: usize, end: usize) {
+        let place = self.start as usize;
+        lowercase_bytes(&mut self.array, place + start, place + end);
+    }
+}
+
+/// Changes the letters a..z among the bytes from `start` to `end`.
+///
+/// # Contract
+///
+/// ```text
+/// requires order { start ≤ end }
+/// requires within { end ≤ N }
+/// ensures { array.new ≡ take start array.old ++ (map to_ascii_uppercase (take (end - start) (drop start array.old)) ++ drop end array.old) }
+/// ```
+#[inline]
+fn uppercase_bytes<const N: usize>(array: &mut [u8; N], start: usize, end: usize) {
+    let all = &mut array[..];
+    all[start..end].make_ascii_uppercase();
+}
+
+/// Changes the letters A..Z among the bytes from `start` to `end`.
+///
+/// # Contract
+///
+/// ```text
+/// requires order { start ≤ end }
+/// requires within { end ≤ N }
+/// ensures { array.new ≡ take start array.old ++ (map to_ascii_lowercase (take (end - start) (drop start array.old)) ++ drop end array.old) }
+/// ```
+#[inline]
+fn lowercase_bytes<const N: usize>(array: &mut [u8; N], start: usize, end: usize) {
+    let all = &mut array[..];
+    all[start..end].make_ascii_lowercase();
+}

@@ -1,0 +1,119 @@
+// Made from crates/arraystring_core/src/array_string/compare.rt by rust/erase. A change goes there.
+//! How strings are ordered, hashed and printed, and how texts are added by `+` and `write!`.
+
+use crate::arraystring_core::ArrayString;
+use core::cmp::Ordering;
+use core::fmt;
+use core::hash::{Hash, Hasher};
+use core::ops::Add;
+
+/// Always `Some` of what `cmp` returns.
+///
+/// # Contract
+///
+/// ```text
+/// ghost partial_cmp = { λ s t. Some (slice_cmp nat_cmp s.text t.text) };
+/// ghost laws = { on_po (λ s. s.text) texts_po };
+/// ```
+impl<const N: usize> PartialOrd for ArrayString<N> {
+    #[inline]
+    fn partial_cmp(&self, other: &Self) -> Option<Ordering> {
+        Some(self.cmp(other))
+    }
+}
+
+/// # Contract
+///
+/// ```text
+/// ghost cmp = { λ s t. slice_cmp nat_cmp s.text t.text };
+/// ghost total = { on_total (λ s. s.text) nat_list_cmp_total };
+/// ghost matches_partial_cmp = { λ s t. refl };
+/// ghost matches_eq = { λ s t. texts_ties s.text t.text };
+/// ```
+impl<const N: usize> Ord for ArrayString<N> {
+    /// The order of the texts, by the numbers of their characters; a text that begins another is
+    /// less than it. It is the order of the bytes of UTF-8 too.
+    ///
+    /// # Contract
+    ///
+    /// ```text
+    /// ensures order { result ≡ slice_cmp nat_cmp self.now.text other.now.text }
+    /// ensures of_bytes { result ≡ slice_cmp nat_cmp (bytes self.now.text) (bytes other.now.text) }
+    /// ensures says { MatchOrdering result (IsBefore self.now.text other.now.text) (self.now.text ≡ other.now.text) (IsBefore other.now.text self.now.text) }
+    /// ```
+    #[inline]
+    fn cmp(&self, other: &Self) -> Ordering {
+        self.as_str().cmp(other.as_str())
+    }
+}
+
+/// Writes to the hasher what the text writes.
+///
+/// # Contract
+///
+/// ```text
+/// ghost hash_input = { λ s. fed.str (bytes s.text) };
+/// ghost respects_eq = { (fed.on_Alike (λ s. s.text) (fed.same_Alike (λ t. fed.str (bytes t)) bytes_decides)).fed };
+/// ```
+impl<const N: usize> Hash for ArrayString<N> {
+    #[inline]
+    fn hash<H: Hasher>(&self, state: &mut H) {
+        self.as_str().hash(state);
+    }
+}
+
+/// The text. A width that is asked for is ignored: nothing is padded.
+///
+/// # Contract
+///
+/// ```text
+/// ghost output = { λ s. Some (bytes s.text) };
+/// ghost styled_output = { λ s _. Some (bytes s.text) };
+/// ```
+impl<const N: usize> fmt::Display for ArrayString<N> {
+    #[inline]
+    fn fmt(&self, f: &mut fmt::Formatter<'_>) -> fmt::Result {
+        f.write_str(self.as_str())
+    }
+}
+
+/// The string with the given text added at its end: as many of its leading whole characters as fit.
+///
+/// # Contract
+///
+/// ```text
+/// ghost add_gives = { λ s given sum. Makes (addition_of_cut s.text (chars given.now) (cap N)) s.text (Ok tt) sum.text };
+/// ```
+impl<'a, const N: usize> Add<&'a str> for ArrayString<N> {
+    type Output = Self;
+
+    #[inline]
+    fn add(mut self, given: &'a str) -> Self {
+        self.push_str(given);
+        self
+    }
+}
+
+/// # Contract
+///
+/// ```text
+/// ghost write_str_gives = { λ s given t. bytes t.text ≡ bytes s.text ++ given };
+/// ```
+impl<const N: usize> fmt::Write for ArrayString<N> {
+    /// Adds `string` at the end. Refused where not all of it fits. The text is then as it was. A
+    /// `write!` of several pieces leaves those before the one that is refused.
+    ///
+    /// # Contract
+    ///
+    /// ```text
+    /// ensures ok { IsOk result → bytes self.new.text ≡ bytes self.old.text ++ string.now }
+    /// ensures made { Makes (addition self.old.text (chars string.now) (cap N)) self.old.text (from_out_of_bounds result) self.new.text }
+    /// ```
+    #[inline]
+    fn write_str(&mut self, string: &str) -> fmt::Result {
+        match self.try_push_str(string) {
+            Ok(()) => Ok(()),
+            Err(_) => Err(fmt::Error),
+        }
+    }
+}

@@ -1,0 +1,331 @@
+// Made from crates/arraystring_core/src/array_string/construct.rt by rust/erase. A change goes there.
+//! The constructors: from a text, from pieces, from characters and from bytes of UTF-8.
+
+use super::ArrayString;
+use crate::arraystring_core::place::copy_in;
+use crate::arraystring_core::well_formed::read_utf8;
+use crate::arraystring_base::error::{Error, OutOfBounds, Utf8};
+use crate::arraystring_base::utils::truncate_str;
+use core::str::{self, FromStr};
+
+impl<const N: usize> ArrayString<N> {
+    /// The text `string`. Refused with `OutOfBounds` where it is larger than the capacity.
+    ///
+    /// # Contract
+    ///
+    /// ```text
+    /// ensures { IsWholeOrRefused (chars string.now) (cap N) (from_out_of_bounds result) }
+    /// ```
+    #[inline]
+    pub fn try_from_str<S: AsRef<str>>(string: S) -> Result<Self, OutOfBounds> {
+        let string = string.as_ref();
+        // One path for both outcomes, so that the text is copied into the result once.
+        let fits = string.len() <= Self::capacity() as usize;
+        let size = if fits { string.len() } else { 0 };
+        let mut made = ArrayString {
+            array: [0; N],
+            start: 0,
+            size: size as u8,
+        };
+        copy_in(&mut made.array, 0, &string.as_bytes()[..size]);
+        let mut result = Ok(made);
+        if !fits {
+            result = Err(OutOfBounds);
+        }
+        result
+    }
+
+    /// The longest leading run of whole characters of `string` that fits.
+    ///
+    /// # Contract
+    ///
+    /// ```text
+    /// ensures { result.text ≡ cut (chars string.now) (cap N) }
+    /// ```
+    #[inline]
+    pub fn from_str_truncate<S: AsRef<str>>(string: S) -> Self {
+        let string = string.as_ref();
+        // SAFETY: the proof of this body shows what `from_str_unchecked` requires.
+        unsafe { Self::from_str_unchecked(truncate_str(string, Self::capacity())) }
+    }
+
+    /// The text `string`. All of it must fit.
+    ///
+    /// # Safety
+    ///
+    /// The text after the call must fit into the capacity.
+    ///
+    /// # Contract
+    ///
+    /// ```text
+    /// requires { size (chars string.now) ≤ cap N }
+    /// ensures { result.text ≡ chars string.now }
+    /// ```
+    #[inline]
+    pub unsafe fn from_str_unchecked<S: AsRef<str>>(string: S) -> Self {
+        let string = string.as_ref();
+        let mut array = [0; N];
+        copy_in(&mut array, 0, string.as_bytes());
+        ArrayString {
+            array,
+            start: 0,
+            size: string.len() as u8,
+        }
+    }
+
+    /// The pieces joined. Refused with `OutOfBounds` where they are larger than the capacity. It
+    /// needs no piece after the first that does not fit, and a test shows that it takes none. The
+    /// iterator must end, and allow `next` until it does.
+    ///
+    /// # In Rust
+    ///
+    /// No precondition is left here: an iterator that never ends, or that panics, is allowed. The call stops at the
+    /// first item that does not fit. What was taken before a panic is a text.
+    ///
+    /// # Contract
+    ///
+    /// ```text
+    /// requires { IsFiniteIterable I.into_iter_gives I.IntoIter.can_next I.IntoIter.remaining pieces }
+    /// ensures taken { (taken : List (Bor (List ℕ))) × Takes I.into_iter_gives I.IntoIter.next_gives joined_pieces pieces (cap N) taken
+    ///     × IsWholeOrRefused (joined_pieces taken) (cap N) (from_out_of_bounds result) }
+    /// ensures whole { (all : List (List ℕ)) → Gives I.into_iter_gives I.IntoIter.next_gives piece_text pieces all
+    ///     → IsWholeOrRefused (joined all) (cap N) (from_out_of_bounds result) }
+    /// ```
+    #[inline]
+    pub fn try_from_iterator<U: AsRef<str>, I: IntoIterator<Item = U>>(
+        pieces: I,
+    ) -> Result<Self, OutOfBounds> {
+        let mut made = Self::new();
+        made.add_strs(pieces)?;
+        Ok(made)
+    }
+
+    /// The longest leading run of whole characters of the joined pieces that fits. It needs no
+    /// piece after the first that does not fit, and a test shows that it takes none. The iterator
+    /// must end, and allow `next` until it does.
+    ///
+    /// # In Rust
+    ///
+    /// No precondition is left here: an iterator that never ends, or that panics, is allowed. The call stops at the
+    /// first item that does not fit. What was taken before a panic is a text.
+    ///
+    /// # Contract
+    ///
+    /// ```text
+    /// requires { IsFiniteIterable I.into_iter_gives I.IntoIter.can_next I.IntoIter.remaining pieces }
+    /// ensures taken { (taken : List (Bor (List ℕ))) × Takes I.into_iter_gives I.IntoIter.next_gives joined_pieces pieces (cap N) taken
+    ///     × (result.text ≡ cut (joined_pieces taken) (cap N)) }
+    /// ensures whole { (all : List (List ℕ)) → Gives I.into_iter_gives I.IntoIter.next_gives piece_text pieces all
+    ///     → result.text ≡ cut (joined all) (cap N) }
+    /// ```
+    #[inline]
+    pub fn from_iterator<U: AsRef<str>, I: IntoIterator<Item = U>>(pieces: I) -> Self {
+        let mut made = Self::new();
+        made.extend_strs(pieces);
+        made
+    }
+
+    /// The pieces joined. All of them must fit. The iterator must end, and allow `next` until it
+    /// does.
+    ///
+    /// # Safety
+    ///
+    /// The text after the call must fit into the capacity.
+    ///
+    /// # Contract
+    ///
+    /// ```text
+    /// requires ends { IsFiniteIterable I.into_iter_gives I.IntoIter.can_next I.IntoIter.remaining pieces }
+    /// requires fits { Fits I.into_iter_gives I.IntoIter.next_gives joined_pieces pieces (cap N) }
+    /// ensures taken { (taken : List (Bor (List ℕ))) × TakesAll I.into_iter_gives I.IntoIter.next_gives pieces taken
+    ///     × (result.text ≡ joined_pieces taken) }
+    /// ensures whole { (all : List (List ℕ)) → Gives I.into_iter_gives I.IntoIter.next_gives piece_text pieces all
+    ///     → result.text ≡ joined all }
+    /// ```
+    #[inline]
+    pub unsafe fn from_iterator_unchecked<U: AsRef<str>, I: IntoIterator<Item = U>>(pieces: I) -> Self {
+        let mut made = Self::new();
+        for piece in pieces {
+            let piece = piece.as_ref();
+            // SAFETY: the proof of this body shows what `push_str_unchecked` requires.
+            unsafe { made.push_str_unchecked(piece) };
+        }
+        made
+    }
+
+    /// The characters. Refused with `OutOfBounds` where they are larger than the capacity. It needs
+    /// no character after the first that does not fit, and a test shows that it takes none. The
+    /// iterator must end, and allow `next` until it does.
+    ///
+    /// # In Rust
+    ///
+    /// No precondition is left here: an iterator that never ends, or that panics, is allowed. The call stops at the
+    /// first item that does not fit. What was taken before a panic is a text.
+    ///
+    /// # Contract
+    ///
+    /// ```text
+    /// requires { IsFiniteIterable I.into_iter_gives I.IntoIter.can_next I.IntoIter.remaining characters }
+    /// ensures taken { (taken : List ℕ) × Takes I.into_iter_gives I.IntoIter.next_gives (λ cs. cs) characters (cap N) taken
+    ///     × IsWholeOrRefused taken (cap N) (from_out_of_bounds result) }
+    /// ensures whole { (all : List ℕ) → Gives I.into_iter_gives I.IntoIter.next_gives (λ c. c) characters all
+    ///     → IsWholeOrRefused all (cap N) (from_out_of_bounds result) }
+    /// ```
+    #[inline]
+    pub fn try_from_chars<I: IntoIterator<Item = char>>(
+        characters: I,
+    ) -> Result<Self, OutOfBounds> {
+        let mut made = Self::new();
+        made.add_chars(characters)?;
+        Ok(made)
+    }
+
+    /// The characters up to the first that does not fit, also where a later shorter one would. It
+    /// needs no character after that one, and a test shows that it takes none. The iterator must
+    /// end, and allow `next` until it does.
+    ///
+    /// # In Rust
+    ///
+    /// No precondition is left here: an iterator that never ends, or that panics, is allowed. The call stops at the
+    /// first item that does not fit. What was taken before a panic is a text.
+    ///
+    /// # Contract
+    ///
+    /// ```text
+    /// requires { IsFiniteIterable I.into_iter_gives I.IntoIter.can_next I.IntoIter.remaining characters }
+    /// ensures taken { (taken : List ℕ) × Takes I.into_iter_gives I.IntoIter.next_gives (λ cs. cs) characters (cap N) taken
+    ///     × (result.text ≡ cut taken (cap N)) }
+    /// ensures whole { (all : List ℕ) → Gives I.into_iter_gives I.IntoIter.next_gives (λ c. c) characters all
+    ///     → result.text ≡ cut all (cap N) }
+    /// ```
+    #[inline]
+    pub fn from_chars<I: IntoIterator<Item = char>>(characters: I) -> Self {
+        let mut made = Self::new();
+        made.extend_chars(characters);
+        made
+    }
+
+    /// The characters. All of them must fit. The iterator must end, and allow `next` until it does.
+    ///
+    /// # Safety
+    ///
+    /// The text after the call must fit into the capacity.
+    ///
+    /// # Contract
+    ///
+    /// ```text
+    /// requires ends { IsFiniteIterable I.into_iter_gives I.IntoIter.can_next I.IntoIter.remaining characters }
+    /// requires fits { Fits I.into_iter_gives I.IntoIter.next_gives (λ cs. cs) characters (cap N) }
+    /// ensures taken { (taken : List ℕ) × TakesAll I.into_iter_gives I.IntoIter.next_gives characters taken
+    ///     × (result.text ≡ taken) }
+    /// ensures whole { (all : List ℕ) → Gives I.into_iter_gives I.IntoIter.next_gives (λ c. c) characters all
+    ///     → result.text ≡ all }
+    /// ```
+    #[inline]
+    pub unsafe fn from_chars_unchecked<I: IntoIterator<Item = char>>(characters: I) -> Self {
+        let mut made = Self::new();
+        for ch in characters {
+            // SAFETY: the proof of this body shows what `push_unchecked` requires.
+            unsafe { made.push_unchecked(ch) };
+        }
+        made
+    }
+
+    /// The text whose UTF-8 is `given`. Refused with `Error::Utf8` where the whole slice is not
+    /// well-formed UTF-8 (the Unicode Standard, section 3.9), and else with `Error::OutOfBounds`
+    /// where it is larger than the capacity.
+    ///
+    /// # Contract
+    ///
+    /// ```text
+    /// ensures malformed { ¬ (IsWellFormed given.now) → result ≡ Err Error.Utf8 }
+    /// ensures whole { (t : List ℕ) → IsText t → bytes t ≡ given.now → IsWholeOrRefused t (cap N) result }
+    /// ensures bytes { IfOk result (λ made. bytes made.text ≡ given.now) }
+    /// ensures text { IfOk result (λ made. IsText made.text) }
+    /// ```
+    #[inline]
+    pub fn try_from_utf8<B: AsRef<[u8]>>(given: B) -> Result<Self, Error> {
+        let given = given.as_ref();
+        let Ok(text) = read_utf8(given) else {
+            return Err(Error::Utf8);
+        };
+        if text.len() > Self::capacity() as usize {
+            return Err(Error::OutOfBounds);
+        }
+        // SAFETY: the proof of this body shows what `from_str_unchecked` requires.
+        Ok(unsafe { Self::from_str_unchecked(text) })
+    }
+
+    /// The longest leading run of whole characters that fits of the text whose UTF-8 is `given`.
+    /// Refused with `Utf8` where the whole slice is not well-formed UTF-8 (the Unicode Standard,
+    /// section 3.9), also by bytes past the capacity.
+    ///
+    /// # Contract
+    ///
+    /// ```text
+    /// ensures well_formed { IsOk result ↔ IsWellFormed given.now }
+    /// ensures cut { (t : List ℕ) → IsText t → bytes t ≡ given.now → IfOk result (λ made. made.text ≡ cut t (cap N)) }
+    /// ensures text { IfOk result (λ made. IsText made.text) }
+    /// ```
+    #[inline]
+    pub fn from_utf8<B: AsRef<[u8]>>(given: B) -> Result<Self, Utf8> {
+        let given = given.as_ref();
+        let Ok(string) = read_utf8(given) else {
+            return Err(Utf8);
+        };
+        Ok(Self::from_str_truncate(string))
+    }
+
+    /// The text whose UTF-8 is `given`. It must be well-formed UTF-8 (the Unicode Standard,
+    /// section 3.9), and all of it must fit.
+    ///
+    /// # Safety
+    ///
+    /// The bytes must be well-formed UTF-8, and must fit into the capacity.
+    ///
+    /// # Contract
+    ///
+    /// ```text
+    /// requires well_formed { IsWellFormed given.now }
+    /// requires fits { length given.now ≤ cap N }
+    /// ensures bytes { bytes result.text ≡ given.now }
+    /// ensures text { IsText result.text }
+    /// ```
+    #[inline]
+    pub unsafe fn from_utf8_unchecked<B: AsRef<[u8]>>(given: B) -> Self {
+        let given = given.as_ref();
+        // SAFETY: the proof of this body shows what `from_str_unchecked` requires.
+        // SAFETY: the proof of this body shows that these bytes are UTF-8.
+        unsafe { Self::from_str_unchecked(str::from_utf8_unchecked(given)) }
+    }
+}
+
+/// As `from_str_truncate`.
+///
+/// # Contract
+///
+/// ```text
+/// ghost from_gives = { λ string made. made.text ≡ cut (chars string.now) (cap N) };
+/// ```
+impl<'a, const N: usize> From<&'a str> for ArrayString<N> {
+    #[inline]
+    fn from(string: &'a str) -> Self {
+        Self::from_str_truncate(string)
+    }
+}
+
+/// As `try_from_str`.
+///
+/// # Contract
+///
+/// ```text
+/// ghost from_str_gives = { λ string result. IsWholeOrRefused (chars string) (cap N) (from_out_of_bounds result) };
+/// ```
+impl<const N: usize> FromStr for ArrayString<N> {
+    type Err = OutOfBounds;
+
+    #[inline]
+    fn from_str(string: &str) -> Result<Self, OutOfBounds> {
+        Self::try_from_str(string)
+    }
+}

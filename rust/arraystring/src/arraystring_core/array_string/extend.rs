@@ -1,0 +1,106 @@
+// Made from crates/arraystring_core/src/array_string/extend.rt by rust/erase. A change goes there.
+//! What is added from an iterator that is handed in.
+
+use super::ArrayString;
+use crate::arraystring_base::error::OutOfBounds;
+
+impl<const N: usize> ArrayString<N> {
+    /// Adds the longest leading run of the characters that fits at the end. It needs no character
+    /// after the first that does not fit, and a test shows that it takes none. The iterator must
+    /// end, and allow `next` until it does.
+    ///
+    /// # In Rust
+    ///
+    /// No precondition is left here: an iterator that never ends, or that panics, is allowed. The call stops at the
+    /// first item that does not fit. What was taken before a panic is a text.
+    ///
+    /// # Contract
+    ///
+    /// ```text
+    /// requires { IsFiniteIterable I.into_iter_gives I.IntoIter.can_next I.IntoIter.remaining characters }
+    /// ensures taken { (taken : List ℕ) × Takes I.into_iter_gives I.IntoIter.next_gives (λ cs. cs) characters (cap N - size self.old.text) taken
+    ///     × Makes (addition_of_cut self.old.text taken (cap N)) self.old.text (Ok result) self.new.text }
+    /// ensures whole { (all : List ℕ) → Gives I.into_iter_gives I.IntoIter.next_gives (λ c. c) characters all
+    ///     → Makes (addition_of_cut self.old.text all (cap N)) self.old.text (Ok result) self.new.text }
+    /// ```
+    #[inline]
+    pub fn extend_chars<I: IntoIterator<Item = char>>(&mut self, characters: I) {
+        let _ = self.add_chars(characters);
+    }
+
+    /// Adds the longest leading run of whole characters of the joined pieces that fits at the end.
+    /// It needs no piece after the first that does not fit, and a test shows that it takes none.
+    /// The iterator must end, and allow `next` until it does.
+    ///
+    /// # In Rust
+    ///
+    /// No precondition is left here: an iterator that never ends, or that panics, is allowed. The call stops at the
+    /// first item that does not fit. What was taken before a panic is a text.
+    ///
+    /// # Contract
+    ///
+    /// ```text
+    /// requires { IsFiniteIterable I.into_iter_gives I.IntoIter.can_next I.IntoIter.remaining pieces }
+    /// ensures taken { (taken : List (Bor (List ℕ))) × Takes I.into_iter_gives I.IntoIter.next_gives joined_pieces pieces (cap N - size self.old.text) taken
+    ///     × Makes (addition_of_cut self.old.text (joined_pieces taken) (cap N)) self.old.text (Ok result) self.new.text }
+    /// ensures whole { (all : List (List ℕ)) → Gives I.into_iter_gives I.IntoIter.next_gives piece_text pieces all
+    ///     → Makes (addition_of_cut self.old.text (joined all) (cap N)) self.old.text (Ok result) self.new.text }
+    /// ```
+    #[inline]
+    pub fn extend_strs<U: AsRef<str>, I: IntoIterator<Item = U>>(&mut self, pieces: I) {
+        let _ = self.add_strs(pieces);
+    }
+
+    /// Adds the characters up to the first that does not fit, and says whether one did not.
+    ///
+    /// # Contract
+    ///
+    /// ```text
+    /// requires { IsFiniteIterable I.into_iter_gives I.IntoIter.can_next I.IntoIter.remaining characters }
+    /// ensures { (taken : List ℕ) × Takes I.into_iter_gives I.IntoIter.next_gives (λ cs. cs) characters (cap N - size self.old.text) taken
+    ///     × MatchResult result (λ _. size taken ≤ cap N - size self.old.text) (λ _. cap N - size self.old.text < size taken)
+    ///     × (self.new.text ≡ self.old.text ++ cut taken (cap N - size self.old.text)) }
+    /// ```
+    #[inline]
+    pub(super) fn add_chars<I: IntoIterator<Item = char>>(
+        &mut self,
+        characters: I,
+    ) -> Result<(), OutOfBounds> {
+        // From here on it is known that the text fits.
+        let _ = self.len();
+        for ch in characters {
+            if let Err(refusal) = self.try_push(ch) {
+                return Err(refusal);
+            }
+        }
+        Ok(())
+    }
+
+    /// Adds the pieces up to the first that does not fit, of that what fits, and says whether one
+    /// did not.
+    ///
+    /// # Contract
+    ///
+    /// ```text
+    /// requires { IsFiniteIterable I.into_iter_gives I.IntoIter.can_next I.IntoIter.remaining pieces }
+    /// ensures { (taken : List (Bor (List ℕ))) × Takes I.into_iter_gives I.IntoIter.next_gives joined_pieces pieces (cap N - size self.old.text) taken
+    ///     × MatchResult result (λ _. size (joined_pieces taken) ≤ cap N - size self.old.text) (λ _. cap N - size self.old.text < size (joined_pieces taken))
+    ///     × (self.new.text ≡ self.old.text ++ cut (joined_pieces taken) (cap N - size self.old.text)) }
+    /// ```
+    #[inline]
+    pub(super) fn add_strs<U: AsRef<str>, I: IntoIterator<Item = U>>(
+        &mut self,
+        pieces: I,
+    ) -> Result<(), OutOfBounds> {
+        // From here on it is known that the text fits.
+        let _ = self.len();
+        for piece in pieces {
+            let piece = piece.as_ref();
+            if let Err(refusal) = self.try_push_str(piece) {
+                self.push_str(piece);
+                return Err(refusal);
+            }
+        }
+        Ok(())
+    }
+}

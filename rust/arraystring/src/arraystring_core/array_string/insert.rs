@@ -1,0 +1,159 @@
+// Made from crates/arraystring_core/src/array_string/insert.rt by rust/erase. A change goes there.
+//! Texts and characters that are inserted at an index.
+
+use crate::arraystring_core::ArrayString;
+use crate::arraystring_base::error::Error;
+use crate::arraystring_base::utils::{Steps, truncate_str};
+
+impl<const N: usize> ArrayString<N> {
+    /// Inserts `ch` at the byte index `index`. Refused with `OutOfBounds` where the index is past
+    /// the text, then with `OutOfBounds` where `ch` does not fit, then with `Utf8` where the index
+    /// is inside a character. The text is then as it was.
+    ///
+    /// # Contract
+    ///
+    /// ```text
+    /// ensures { Makes (insertion self.old.text index (ch ∷ []) (cap N)) self.old.text result self.new.text }
+    /// ```
+    #[inline]
+    pub fn try_insert(&mut self, index: u8, ch: char) -> Result<(), Error> {
+        if index > self.len() {
+            return Err(Error::OutOfBounds);
+        }
+        if self.len() as usize + ch.len_utf8() > Self::capacity() as usize {
+            return Err(Error::OutOfBounds);
+        }
+        if !self.is_boundary(index as usize) {
+            return Err(Error::Utf8);
+        }
+        // SAFETY: the proof of this body shows what `insert_unchecked` requires.
+        unsafe { self.insert_unchecked(index, ch) };
+        Ok(())
+    }
+
+    /// Inserts `ch` at the byte index `index`. The index must be a boundary, and `ch` must fit.
+    ///
+    /// # Safety
+    ///
+    /// The index must be a boundary of the text, and the text after the call must fit into the capacity.
+    ///
+    /// # Contract
+    ///
+    /// ```text
+    /// requires boundary { IsTrue (boundary self.old.text index) }
+    /// requires room { size self.old.text + width ch ≤ cap N }
+    /// ensures { self.new.text ≡ front self.old.text index ++ (ch ∷ back self.old.text index) }
+    /// ```
+    #[inline]
+    pub unsafe fn insert_unchecked(&mut self, index: u8, ch: char) {
+        self.put_char(index as usize, ch);
+    }
+
+    /// Inserts `string` at the byte index `index`. Refused with `OutOfBounds` where the index is
+    /// past the text, then with `OutOfBounds` where not all of `string` fits, then with `Utf8`
+    /// where the index is inside a character. The text is then as it was.
+    ///
+    /// # Contract
+    ///
+    /// ```text
+    /// ensures { Makes (insertion self.old.text index (chars string.now) (cap N)) self.old.text result self.new.text }
+    /// ```
+    #[inline]
+    pub fn try_insert_str<S: AsRef<str>>(&mut self, index: u8, string: S) -> Result<(), Error> {
+        let string = string.as_ref();
+        self.try_insert_str_counted(index, string, &mut Steps::new())
+    }
+
+    /// The same as `try_insert_str`. It moves no more bytes than the text had. An insertion of at
+    /// least one character moves at least as many bytes as the shorter of the parts before and
+    /// after the index has. A refused one moves none. Both counts must be at most 2^63.
+    ///
+    /// # In Rust
+    ///
+    /// No precondition is left here: a count that would pass 2^64 - 1 stays there.
+    ///
+    /// # Contract
+    ///
+    /// ```text
+    /// requires looks { steps.old.looked ≤ 2 ^ 63 }
+    /// requires moves { steps.old.moved ≤ 2 ^ 63 }
+    /// ensures edit { Makes (insertion self.old.text index (chars string.now) (cap N)) self.old.text result self.new.text }
+    /// ensures refused { OnErr result (steps.new.moved ≡ steps.old.moved) }
+    /// ensures most { steps.new.moved ≤ steps.old.moved + size self.old.text }
+    /// ensures least { OnOk result (chars string.now ≢ [] → steps.old.moved + min index (size self.old.text - index) ≤ steps.new.moved) }
+    /// ensures counted { steps.old.moved ≤ steps.new.moved }
+    /// ensures looked { steps.new.looked ≡ steps.old.looked }
+    /// ```
+    #[inline]
+    pub fn try_insert_str_counted(
+        &mut self,
+        index: u8,
+        string: &str,
+        steps: &mut Steps,
+    ) -> Result<(), Error> {
+        if index > self.len() {
+            return Err(Error::OutOfBounds);
+        }
+        if self.len() as usize + string.len() > Self::capacity() as usize {
+            return Err(Error::OutOfBounds);
+        }
+        let start = index as usize;
+        if !self.is_boundary(start) {
+            return Err(Error::Utf8);
+        }
+        self.splice(start, start, string, steps);
+        Ok(())
+    }
+
+    /// Inserts the longest leading run of whole characters of `string` that fits, at the byte index
+    /// `index`. Refused with `OutOfBounds` where the index is past the text, then with `Utf8` where
+    /// it is inside a character. The text is then as it was.
+    ///
+    /// ```
+    /// # use arraystring::ArrayString;
+    /// let mut line = ArrayString::<4>::from_str_truncate("abc");
+    /// let cut = line.insert_str(1, "xyz"); // Ok(()), and the text is "axbc"
+    /// let past = line.insert_str(9, "z"); // Err(OutOfBounds)
+    /// ```
+    ///
+    /// # Contract
+    ///
+    /// ```text
+    /// ensures { Makes (insertion_of_cut self.old.text index (chars string.now) (cap N)) self.old.text result self.new.text }
+    /// ```
+    #[inline]
+    pub fn insert_str<S: AsRef<str>>(&mut self, index: u8, string: S) -> Result<(), Error> {
+        let string = string.as_ref();
+        if index > self.len() {
+            return Err(Error::OutOfBounds);
+        }
+        if !self.is_boundary(index as usize) {
+            return Err(Error::Utf8);
+        }
+        let room = Self::capacity() - self.len();
+        // SAFETY: the proof of this body shows what `insert_str_unchecked` requires.
+        unsafe { self.insert_str_unchecked(index, truncate_str(string, room)) };
+        Ok(())
+    }
+
+    /// Inserts `string` at the byte index `index`. The index must be a boundary, and all of
+    /// `string` must fit.
+    ///
+    /// # Safety
+    ///
+    /// The index must be a boundary of the text, and the text after the call must fit into the capacity.
+    ///
+    /// # Contract
+    ///
+    /// ```text
+    /// requires boundary { IsTrue (boundary self.old.text index) }
+    /// requires room { size self.old.text + size (chars string.now) ≤ cap N }
+    /// ensures { self.new.text ≡ front self.old.text index ++ (chars string.now ++ back self.old.text index) }
+    /// ```
+    #[inline]
+    pub unsafe fn insert_str_unchecked<S: AsRef<str>>(&mut self, index: u8, string: S) {
+        let string = string.as_ref();
+        let start = index as usize;
+        self.splice(start, start, string, &mut Steps::new());
+    }
+}

@@ -1,0 +1,327 @@
+// Made from crates/arraystring_core/src/array_string/range.rt by rust/erase. A change goes there.
+//! Parts of a string by a range of bytes. Any `RangeBounds<u8>` is accepted. The contracts speak of
+//! the bounds that the range's methods return. Where the range has bounds (`has_bounds`), they are
+//! its own. Each range of Rust has them, except an inclusive one that was iterated to its end. For
+//! other ranges no contract says which bounds they are.
+
+use crate::arraystring_core::range_ends::{plain_ends, saturating_ends};
+use crate::arraystring_core::{ArrayString, Drain};
+use crate::arraystring_base::error::Error;
+use crate::arraystring_base::utils::Steps;
+use core::ops::RangeBounds;
+
+impl<const N: usize> ArrayString<N> {
+    /// The part in the range, borrowed without a copy. The range must have its bounds
+    /// (`has_bounds`), it must not end before it starts, and both ends must be boundaries. The ends
+    /// are plain numbers, so `..=255` ends at 256. For a range that has its bounds, a `get` that
+    /// was `Some` proves the rest.
+    ///
+    /// # Panics
+    ///
+    /// Where the range ends before it starts, ends past the text, or has an end inside a character, as the index of
+    /// `str` does.
+    ///
+    /// # Contract
+    ///
+    /// ```text
+    /// requires known { R.has_bounds range }
+    /// requires order { start_index (R.start_bound range) ≤ end_index (R.end_bound range) (size self.now.text) }
+    /// requires start { IsTrue (boundary self.now.text (start_index (R.start_bound range))) }
+    /// requires end { IsTrue (boundary self.now.text (end_index (R.end_bound range) (size self.now.text))) }
+    /// ensures { let t = self.now.text in
+    ///     result.now ≡ bytes (part t (start_index (R.start_bound range)) (end_index (R.end_bound range) (size t))) }
+    /// ```
+    #[inline]
+    pub fn slice<R: RangeBounds<u8>>(&self, range: R) -> &str {
+        let (start, end) = plain_ends(range, self.len());
+        self.between(start, end)
+    }
+
+    /// The part in the range, borrowed without a copy. It is `None` where the range ends before it
+    /// starts, or an end is not a boundary. The ends are plain numbers, so `..=255` ends at 256.
+    ///
+    /// ```
+    /// # use arraystring::ArrayString;
+    /// let line = ArrayString::<4>::from_str_truncate("aéb");
+    /// let part = line.get(1..3); // Some("é")
+    /// let inside = line.get(..2); // None
+    /// ```
+    ///
+    /// # Contract
+    ///
+    /// ```text
+    /// ensures { OfToldBounds R.has_bounds R.start_bound R.end_bound range (λ start end.
+    ///     let found = part_in self.now.text (start_index start) (end_index end (size self.now.text)) in
+    ///     MatchOption result (found ≡ None) (λ s. found ≡ Some (chars s.now))) }
+    /// ```
+    #[inline]
+    pub fn get<R: RangeBounds<u8>>(&self, range: R) -> Option<&str> {
+        let (start, end) = plain_ends(range, self.len());
+        if start > end || !self.is_boundary(start) || !self.is_boundary(end) {
+            return None;
+        }
+        Some(self.between(start, end))
+    }
+
+    /// Takes the part in the range out of the string, at once, and gives its characters. An
+    /// excluded start and an included end add 1, and stop at 255. Refused with `OutOfBounds` where
+    /// the range ends before it starts, then where it ends past the text, then with `Utf8` where
+    /// its start is inside a character, then where its end is. The text is then as it was.
+    ///
+    /// ```
+    /// # use arraystring::ArrayString;
+    /// let mut line = ArrayString::<5>::from_str_truncate("abcde");
+    /// let drained = line.drain(1..=2); // Ok of 'b' and 'c', and the text is "ade"
+    /// let past = line.drain(2..9); // Err(OutOfBounds)
+    /// ```
+    ///
+    /// # Contract
+    ///
+    /// ```text
+    /// ensures { OfToldBounds R.has_bounds R.start_bound R.end_bound range (λ start end. let t = self.old.text in
+    ///     Makes (draining t (lo start) (hi end (size t))) t (with_left result) self.new.text) }
+    /// ```
+    #[inline(always)]
+    pub fn drain<R: RangeBounds<u8>>(&mut self, range: R) -> Result<Drain<N>, Error> {
+        self.drain_counted(range, &mut Steps::new())
+    }
+
+    /// The same as `drain`. It moves no more bytes than the part after the range has. Where the
+    /// range is not empty, it moves at least as many as the shorter of the parts before and after
+    /// it has. It moves none where the range begins at index 0, and none where it is refused. Both
+    /// counts must be at most 2^63.
+    ///
+    /// # In Rust
+    ///
+    /// No precondition is left here: a count that would pass 2^64 - 1 stays there.
+    ///
+    /// # Contract
+    ///
+    /// ```text
+    /// requires looks { steps.old.looked ≤ 2 ^ 63 }
+    /// requires moves { steps.old.moved ≤ 2 ^ 63 }
+    /// // The edit, and then the moves: none at the start, none before the range, and the lesser side at least.
+    /// ensures edit { OfToldBounds R.has_bounds R.start_bound R.end_bound range (λ start end.
+    ///     let t = self.old.text in let from = lo start in let to = hi end (size t) in
+    ///     Makes (draining t from to) t (with_left result) self.new.text
+    ///     × (from ≡ 0 → steps.new.moved ≡ steps.old.moved)
+    ///     × (steps.new.moved ≤ steps.old.moved + (size t - to))
+    ///     × OnOk result (from ≢ to → steps.old.moved + min from (size t - to) ≤ steps.new.moved)) }
+    /// ensures refused { OnErr result (steps.new.moved ≡ steps.old.moved) }
+    /// ensures counted { steps.old.moved ≤ steps.new.moved }
+    /// ensures looked { steps.new.looked ≡ steps.old.looked }
+    /// ```
+    #[inline(always)]
+    pub fn drain_counted<R: RangeBounds<u8>>(
+        &mut self,
+        range: R,
+        steps: &mut Steps,
+    ) -> Result<Drain<N>, Error> {
+        let (start, end) = saturating_ends(range, self.len());
+        self.take_between(start, end, steps)
+    }
+
+    /// Puts `with` in place of the part in the range. An excluded start and an included end add 1,
+    /// and stop at 255. Refused with `OutOfBounds` where the range ends before it starts, then
+    /// where it ends past the text, then where the result does not fit, then with `Utf8` where its
+    /// start is inside a character, then where its end is. The text is then as it was.
+    ///
+    /// ```
+    /// # use arraystring::ArrayString;
+    /// let mut line = ArrayString::<4>::from_str_truncate("abcd");
+    /// let replaced = line.replace_range(1..3, "é"); // Ok(()), and the text is "aéd"
+    /// let large = line.replace_range(.., "abcde"); // Err(OutOfBounds)
+    /// ```
+    ///
+    /// # Contract
+    ///
+    /// ```text
+    /// ensures { OfToldBounds R.has_bounds R.start_bound R.end_bound range (λ start end. let t = self.old.text in
+    ///     Makes (replacement t (lo start) (hi end (size t)) (chars with.now) (cap N)) t result self.new.text) }
+    /// ```
+    #[inline]
+    pub fn replace_range<S: AsRef<str>, R: RangeBounds<u8>>(
+        &mut self,
+        range: R,
+        with: S,
+    ) -> Result<(), Error> {
+        let with = with.as_ref();
+        self.replace_range_counted(range, with, &mut Steps::new())
+    }
+
+    /// The same as `replace_range`. It moves no more bytes than the text had. Where `with` is no
+    /// larger than the range, it moves no more than the part after the range has. A replacement
+    /// that changes the length moves at least as many bytes as the shorter of the parts before and
+    /// after the range has. A refused one moves none. Both counts must be at most 2^63.
+    ///
+    /// # In Rust
+    ///
+    /// No precondition is left here: a count that would pass 2^64 - 1 stays there.
+    ///
+    /// # Contract
+    ///
+    /// ```text
+    /// requires looks { steps.old.looked ≤ 2 ^ 63 }
+    /// requires moves { steps.old.moved ≤ 2 ^ 63 }
+    /// // The edit, and then the moves: none before the range where it does not grow, and the lesser side at least.
+    /// ensures edit { OfToldBounds R.has_bounds R.start_bound R.end_bound range (λ start end.
+    ///     let t = self.old.text in let from = lo start in let to = hi end (size t) in let given = chars with.now in
+    ///     Makes (replacement t from to given (cap N)) t result self.new.text
+    ///     × (size given ≤ to - from → steps.new.moved ≤ steps.old.moved + (size t - to))
+    ///     × OnOk result (to ≢ from + size given → steps.old.moved + min from (size t - to) ≤ steps.new.moved)) }
+    /// ensures refused { OnErr result (steps.new.moved ≡ steps.old.moved) }
+    /// ensures most { steps.new.moved ≤ steps.old.moved + size self.old.text }
+    /// ensures counted { steps.old.moved ≤ steps.new.moved }
+    /// ensures looked { steps.new.looked ≡ steps.old.looked }
+    /// ```
+    #[inline]
+    pub fn replace_range_counted<R: RangeBounds<u8>>(
+        &mut self,
+        range: R,
+        with: &str,
+        steps: &mut Steps,
+    ) -> Result<(), Error> {
+        let (start, end) = saturating_ends(range, self.len());
+        self.replace_between(start, end, with, steps)
+    }
+
+    /// Changes a..z to A..Z in the range. All other characters stay. The range is as for `slice`.
+    ///
+    /// # Panics
+    ///
+    /// Where the range ends before it starts, ends past the text, or has an end inside a character, as the index of
+    /// `str` does.
+    ///
+    /// # Contract
+    ///
+    /// ```text
+    /// requires known { R.has_bounds range }
+    /// requires order { start_index (R.start_bound range) ≤ end_index (R.end_bound range) (size self.old.text) }
+    /// requires start { IsTrue (boundary self.old.text (start_index (R.start_bound range))) }
+    /// requires end { IsTrue (boundary self.old.text (end_index (R.end_bound range) (size self.old.text))) }
+    /// ensures { let t = self.old.text in let start = start_index (R.start_bound range) in let end = end_index (R.end_bound range) (size t) in
+    ///     self.new.text ≡ front t start ++ (map to_ascii_uppercase (part t start end) ++ back t end) }
+    /// ```
+    #[inline]
+    pub fn make_ascii_uppercase_in<R: RangeBounds<u8>>(&mut self, range: R) {
+        let (start, end) = plain_ends(range, self.len());
+        let _ = self.between(start, end);
+        self.uppercase_between(start, end);
+    }
+
+    /// Changes A..Z to a..z in the range. All other characters stay. The range is as for `slice`.
+    ///
+    /// # Panics
+    ///
+    /// Where the range ends before it starts, ends past the text, or has an end inside a character, as the index of
+    /// `str` does.
+    ///
+    /// # Contract
+    ///
+    /// ```text
+    /// requires known { R.has_bounds range }
+    /// requires order { start_index (R.start_bound range) ≤ end_index (R.end_bound range) (size self.old.text) }
+    /// requires start { IsTrue (boundary self.old.text (start_index (R.start_bound range))) }
+    /// requires end { IsTrue (boundary self.old.text (end_index (R.end_bound range) (size self.old.text))) }
+    /// ensures { let t = self.old.text in let start = start_index (R.start_bound range) in let end = end_index (R.end_bound range) (size t) in
+    ///     self.new.text ≡ front t start ++ (map to_ascii_lowercase (part t start end) ++ back t end) }
+    /// ```
+    #[inline]
+    pub fn make_ascii_lowercase_in<R: RangeBounds<u8>>(&mut self, range: R) {
+        let (start, end) = plain_ends(range, self.len());
+        let _ = self.between(start, end);
+        self.lowercase_between(start, end);
+    }
+
+    /// The part between two boundaries.
+    ///
+    /// # Contract
+    ///
+    /// ```text
+    /// requires order { start ≤ end }
+    /// requires start { IsTrue (boundary self.now.text start) }
+    /// requires end { IsTrue (boundary self.now.text end) }
+    /// ensures { result.now ≡ bytes (part self.now.text start end) }
+    /// ```
+    #[inline]
+    fn between(&self, start: usize, end: usize) -> &str {
+        &self.as_str()[start..end]
+    }
+
+    /// Takes the bytes from `start` to `end` out of the string and returns them.
+    ///
+    /// # Contract
+    ///
+    /// ```text
+    /// requires { steps.old.moved ≤ 2 ^ 63 }
+    /// ensures edit { Makes (draining self.old.text start end) self.old.text (with_left result) self.new.text }
+    /// ensures refused { OnErr result (steps.new.moved ≡ steps.old.moved) }
+    /// ensures free { start ≡ 0 → steps.new.moved ≡ steps.old.moved }
+    /// ensures tail_alone { steps.new.moved ≤ steps.old.moved + (size self.old.text - end) }
+    /// ensures least { OnOk result (start ≢ end → steps.old.moved + min start (size self.old.text - end) ≤ steps.new.moved) }
+    /// ensures counted { steps.old.moved ≤ steps.new.moved }
+    /// ensures looked { steps.new.looked ≡ steps.old.looked }
+    /// ```
+    #[inline(always)]
+    fn take_between(&mut self, start: u8, end: u8, steps: &mut Steps) -> Result<Drain<N>, Error> {
+        if start > end {
+            return Err(Error::OutOfBounds);
+        }
+        if end > self.len() {
+            return Err(Error::OutOfBounds);
+        }
+        let (from, to) = (start as usize, end as usize);
+        if !self.is_boundary(from) {
+            return Err(Error::Utf8);
+        }
+        if !self.is_boundary(to) {
+            return Err(Error::Utf8);
+        }
+        let removed = Drain::new(self.array, self.start + start, end - start);
+        self.take_out(from, to, steps);
+        Ok(removed)
+    }
+
+    /// Puts `with` in place of the bytes from `start` to `end`.
+    ///
+    /// # Contract
+    ///
+    /// ```text
+    /// requires { steps.old.moved ≤ 2 ^ 63 }
+    /// ensures edit { Makes (replacement self.old.text start end (chars with.now) (cap N)) self.old.text result self.new.text }
+    /// ensures refused { OnErr result (steps.new.moved ≡ steps.old.moved) }
+    /// ensures tail_alone { size (chars with.now) ≤ end - start → steps.new.moved ≤ steps.old.moved + (size self.old.text - end) }
+    /// ensures most { steps.new.moved ≤ steps.old.moved + size self.old.text }
+    /// ensures least { OnOk result (end ≢ start + size (chars with.now) → steps.old.moved + min start (size self.old.text - end) ≤ steps.new.moved) }
+    /// ensures counted { steps.old.moved ≤ steps.new.moved }
+    /// ensures looked { steps.new.looked ≡ steps.old.looked }
+    /// ```
+    #[inline]
+    fn replace_between(
+        &mut self,
+        start: u8,
+        end: u8,
+        with: &str,
+        steps: &mut Steps,
+    ) -> Result<(), Error> {
+        if start > end {
+            return Err(Error::OutOfBounds);
+        }
+        if end > self.len() {
+            return Err(Error::OutOfBounds);
+        }
+        let kept = (self.len() - (end - start)) as usize;
+        if kept + with.len() > Self::capacity() as usize {
+            return Err(Error::OutOfBounds);
+        }
+        let (from, to) = (start as usize, end as usize);
+        if !self.is_boundary(from) {
+            return Err(Error::Utf8);
+        }
+        if !self.is_boundary(to) {
+            return Err(Error::Utf8);
+        }
+        self.splice(from, to, with, steps);
+        Ok(())
+    }
+}

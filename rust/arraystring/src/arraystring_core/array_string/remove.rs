@@ -1,0 +1,168 @@
+// Made from crates/arraystring_core/src/array_string/remove.rt by rust/erase. A change goes there.
+//! What is taken out of a string.
+
+use crate::arraystring_core::ArrayString;
+use crate::by_hand::retain_at;
+use crate::arraystring_base::error::{Error, Utf8};
+use crate::arraystring_base::utils::Steps;
+
+impl<const N: usize> ArrayString<N> {
+    /// Keeps the part before the byte index `size`; one past the text changes nothing. Refused with
+    /// `Utf8` where `size` is inside a character. The text is then as it was.
+    ///
+    /// ```
+    /// # use arraystring::ArrayString;
+    /// let mut line = ArrayString::<4>::from_str_truncate("aé");
+    /// let inside = line.truncate(2); // Err(Utf8)
+    /// let past = line.truncate(9); // Ok(()), and the text is still "aé"
+    /// ```
+    ///
+    /// # Contract
+    ///
+    /// ```text
+    /// ensures { Makes (truncation self.old.text size) self.old.text (from_utf8_error result) self.new.text }
+    /// ```
+    #[inline]
+    pub fn truncate(&mut self, size: u8) -> Result<(), Utf8> {
+        if size >= self.len() {
+            return Ok(());
+        }
+        if !self.is_boundary(size as usize) {
+            return Err(Utf8);
+        }
+        self.keep(size);
+        Ok(())
+    }
+
+    /// Takes the character that begins at the byte index `index`. Refused with `OutOfBounds` where
+    /// the index is not below the length, then with `Utf8` where it is inside a character. The text
+    /// is then as it was.
+    ///
+    /// # Contract
+    ///
+    /// ```text
+    /// ensures { Makes (removal self.old.text index) self.old.text result self.new.text }
+    /// ```
+    #[inline]
+    pub fn remove(&mut self, index: u8) -> Result<char, Error> {
+        self.remove_counted(index, &mut Steps::new())
+    }
+
+    /// The same as `remove`. It moves no more bytes than the part after the character has, and at
+    /// least as many as the shorter of the parts before and after it has. It moves none at index 0,
+    /// and none where it is refused. Both counts must be at most 2^63.
+    ///
+    /// # In Rust
+    ///
+    /// No precondition is left here: a count that would pass 2^64 - 1 stays there.
+    ///
+    /// # Contract
+    ///
+    /// ```text
+    /// requires looks { steps.old.looked ≤ 2 ^ 63 }
+    /// requires moves { steps.old.moved ≤ 2 ^ 63 }
+    /// ensures edit { Makes (removal self.old.text index) self.old.text result self.new.text }
+    /// ensures refused { OnErr result (steps.new.moved ≡ steps.old.moved) }
+    /// ensures free { index ≡ 0 → steps.new.moved ≡ steps.old.moved }
+    /// ensures tail_alone { IfOk result (λ ch. steps.new.moved ≤ steps.old.moved + (size self.old.text - (index + width ch))) }
+    /// ensures least { IfOk result (λ ch. steps.old.moved + min index (size self.old.text - (index + width ch)) ≤ steps.new.moved) }
+    /// ensures counted { steps.old.moved ≤ steps.new.moved }
+    /// ensures looked { steps.new.looked ≡ steps.old.looked }
+    /// ```
+    #[inline]
+    pub fn remove_counted(&mut self, index: u8, steps: &mut Steps) -> Result<char, Error> {
+        if index >= self.len() {
+            return Err(Error::OutOfBounds);
+        }
+        let start = index as usize;
+        if !self.is_boundary(start) {
+            return Err(Error::Utf8);
+        }
+        let (ch, width) = self.char_at(start);
+        self.take_out(start, start + width, steps);
+        Ok(ch)
+    }
+
+    /// Calls `f` once with each character, in order, and keeps those for which it returns true. The
+    /// precondition is that `f` may be called with each of them, in each state that its earlier
+    /// calls leave.
+    ///
+    /// ```
+    /// # use arraystring::ArrayString;
+    /// let mut line = ArrayString::<5>::from_str_truncate("a-b-c");
+    /// line.retain(|ch| ch != '-'); // "abc"
+    /// ```
+    ///
+    /// # In Rust
+    ///
+    /// No precondition is left here: any closure is allowed. Where it panics, the text is what it kept until then.
+    ///
+    /// # Contract
+    ///
+    /// ```text
+    /// requires { MayBeAsked F.pre F.step f self.old.text }
+    /// ensures { IsFiltered F.step f self.old.text self.new.text }
+    /// ```
+    #[inline]
+    pub fn retain<F: FnMut(char) -> bool>(&mut self, f: F) {
+        let (place, size) = (self.start as usize, self.size as usize);
+        retain_at(&mut self.array, &mut self.size, place, size, f);
+    }
+
+    /// Empties the string.
+    ///
+    /// # Contract
+    ///
+    /// ```text
+    /// ensures { Makes clearing self.old.text (Ok result) self.new.text }
+    /// ```
+    #[inline]
+    pub fn clear(&mut self) {
+        self.keep(0);
+    }
+
+    /// Returns the part from the byte index `at` on and keeps the part before it. `at` may be the
+    /// length. Refused with `OutOfBounds` where `at` is past the text, then with `Utf8` where it is
+    /// inside a character. The text is then as it was.
+    ///
+    /// # Contract
+    ///
+    /// ```text
+    /// ensures { Makes (split self.old.text at) self.old.text (with_text result) self.new.text }
+    /// ```
+    #[inline]
+    pub fn split_off(&mut self, at: u8) -> Result<Self, Error> {
+        if at > self.len() {
+            return Err(Error::OutOfBounds);
+        }
+        if !self.is_boundary(at as usize) {
+            return Err(Error::Utf8);
+        }
+        // SAFETY: the proof of this body shows what `from_str_unchecked` requires.
+        let rest = unsafe { Self::from_str_unchecked(&self.as_str()[at as usize..]) };
+        self.keep(at);
+        Ok(rest)
+    }
+
+    /// The character that begins at a boundary before the end, and how many bytes it takes.
+    ///
+    /// # Contract
+    ///
+    /// ```text
+    /// requires boundary { IsTrue (boundary self.now.text at) }
+    /// requires before_end { at < size self.now.text }
+    /// ensures first { result.0 ≡ slice_index (back self.now.text at) 0 }
+    /// ensures width { result.1 ≡ width result.0 }
+    /// ensures next { IsTrue (boundary self.now.text (at + width result.0)) }
+    /// ensures rest { back self.now.text (at + width result.0) ≡ drop 1 (back self.now.text at) }
+    /// ```
+    #[inline]
+    fn char_at(&self, at: usize) -> (char, usize) {
+        let text = &self.as_str()[at..];
+        let mut rest = text.chars();
+        let Some(ch) = rest.next() else {
+            unreachable!();
+        };
+        (ch, text.len() - rest.as_str().len())
+    }
+}

@@ -1,0 +1,128 @@
+// Made from crates/arraystring_core/src/array_string/trim.rt by rust/erase. A change goes there.
+//! The ends of a string are trimmed.
+
+use crate::arraystring_core::ArrayString;
+use crate::arraystring_base::utils::{Steps, last_char};
+
+impl<const N: usize> ArrayString<N> {
+    /// Drops all white space at both ends, and nothing else: the characters for which
+    /// `char::is_whitespace` is true, which is the property White_Space of the Unicode Standard.
+    ///
+    /// # Contract
+    ///
+    /// ```text
+    /// ensures { Makes (trimming is_white_space self.old.text) self.old.text (Ok result) self.new.text }
+    /// ```
+    #[inline]
+    pub fn trim(&mut self) {
+        self.trim_counted(&mut Steps::new());
+    }
+
+    /// The same as `trim`. It moves no byte. It looks at each character that it drops at the end and
+    /// at the character before them: at each at least once, and at most four times. Both counts must
+    /// be at most 2^63.
+    ///
+    /// # In Rust
+    ///
+    /// No precondition is left here: a count that would pass 2^64 - 1 stays there.
+    ///
+    /// # Contract
+    ///
+    /// ```text
+    /// requires looks { steps.old.looked ≤ 2 ^ 63 }
+    /// requires moves { steps.old.moved ≤ 2 ^ 63 }
+    /// ensures edit { Makes (trimming is_white_space self.old.text) self.old.text (Ok result) self.new.text }
+    /// ensures moved { steps.new.moved ≡ steps.old.moved }
+    /// ensures looked { steps.new.looked ≤ steps.old.looked + 4 * (length self.old.text - length (without_trailing is_white_space self.old.text) + 1) }
+    /// ensures least { steps.old.looked + min (length self.old.text) (length self.old.text - length (without_trailing is_white_space self.old.text) + 1) ≤ steps.new.looked }
+    /// ensures counted { steps.old.looked ≤ steps.new.looked }
+    /// ```
+    #[inline]
+    pub fn trim_counted(&mut self, steps: &mut Steps) {
+        self.drop_trailing(is_white_space, steps);
+        self.drop_leading(is_white_space);
+    }
+
+    /// Drops all spaces (U+0020) at both ends, and nothing else.
+    ///
+    /// # Contract
+    ///
+    /// ```text
+    /// ensures { Makes (trimming is_space self.old.text) self.old.text (Ok result) self.new.text }
+    /// ```
+    #[inline]
+    pub fn trim_spaces(&mut self) {
+        self.drop_trailing(is_space, &mut Steps::new());
+        self.drop_leading(is_space);
+    }
+
+    /// Drops the characters at the end for which `drops` returns true, back to the last for which
+    /// it does not. It moves no byte. It looks at each character that it drops and at the one before
+    /// them: at each at least once, and at most four times.
+    ///
+    /// # Contract
+    ///
+    /// ```text
+    /// requires asked { F.IsAlwaysCallable drops }
+    /// requires looks { steps.old.looked ≤ 2 ^ 63 }
+    /// ensures text { (passes : ℕ → Bool) → AnswersAs F.post drops passes → self.new.text ≡ without_trailing passes self.old.text }
+    /// ensures moved { steps.new.moved ≡ steps.old.moved }
+    /// ensures looked { steps.new.looked ≤ steps.old.looked + 4 * (length self.old.text - length self.new.text + 1) }
+    /// ensures least { steps.old.looked + min (length self.old.text) (length self.old.text - length self.new.text + 1) ≤ steps.new.looked }
+    /// ensures counted { steps.old.looked ≤ steps.new.looked }
+    /// ```
+    #[inline]
+    fn drop_trailing<F: Fn(char) -> bool>(&mut self, drops: F, steps: &mut Steps) {
+        // A look at a field, after which the proof knows that the text fits.
+        let _ = &self.array;
+        while let Some((start, ch)) = last_char(self.as_str(), steps) {
+            if !drops(ch) {
+                break;
+            }
+            self.keep(start as u8);
+        }
+    }
+
+    /// Drops the characters at the start for which `drops` returns true, up to the first for which
+    /// it does not.
+    ///
+    /// # Contract
+    ///
+    /// ```text
+    /// requires asked { F.IsAlwaysCallable drops }
+    /// ensures { (passes : ℕ → Bool) → AnswersAs F.post drops passes → self.new.text ≡ without_leading passes self.old.text }
+    /// ```
+    #[inline]
+    fn drop_leading<F: Fn(char) -> bool>(&mut self, drops: F) {
+        while let Some(ch) = self.as_str().chars().next() {
+            if !drops(ch) {
+                break;
+            }
+            self.drop_front(ch.len_utf8());
+        }
+    }
+}
+
+/// Whether `ch` has the property White_Space.
+///
+/// # Contract
+///
+/// ```text
+/// ensures { result ≡ is_white_space ch }
+/// ```
+#[inline]
+fn is_white_space(ch: char) -> bool {
+    ch.is_whitespace()
+}
+
+/// Whether `ch` is the space, U+0020.
+///
+/// # Contract
+///
+/// ```text
+/// ensures { result ≡ is_space ch }
+/// ```
+#[inline]
+fn is_space(ch: char) -> bool {
+    ch == ' '
+}

@@ -1,0 +1,115 @@
+// Made from crates/arraystring_core/src/array_string/utf16.rt by rust/erase. A change goes there.
+//! Strings from UTF-16.
+
+use super::ArrayString;
+use crate::arraystring_base::error::{Error, Utf16};
+use crate::arraystring_base::laws::only_reading;
+use crate::arraystring_base::utf16::{Unit16, Units};
+use core::char;
+
+impl<const N: usize> ArrayString<N> {
+    /// The text whose UTF-16 `units` is. It is read item by item up to the first that ends it: a
+    /// lone surrogate is refused with `Utf16`, a character that does not fit with `OutOfBounds`.
+    ///
+    /// # Contract
+    ///
+    /// ```text
+    /// ensures { (items : List Unit16) → IsReading units.now items → GivesWhole (first_stop items (cap N)) result }
+    /// ```
+    #[inline]
+    pub fn try_from_utf16<B: AsRef<[u16]>>(units: B) -> Result<Self, Error> {
+        let units = units.as_ref();
+        let mut run = Self::new();
+        match leading_run(&mut run, units) {
+            None => Ok(run),
+            Some(Unit16::Lone(_)) => Err(Error::Utf16),
+            Some(Unit16::Char(_)) => Err(Error::OutOfBounds),
+        }
+    }
+
+    /// The longest leading run of characters of `units` that fits. Refused with `Utf16` where a
+    /// lone surrogate comes right after that run, also if the string is full. What comes after a
+    /// character that does not fit is not looked at.
+    ///
+    /// ```
+    /// # use arraystring::ArrayString;
+    /// let cut = ArrayString::<4>::from_utf16(&[0x61, 0xD83E, 0xDD14]); // Ok of "a"
+    /// let lone = ArrayString::<4>::from_utf16(&[0x61, 0xD83E]); // Err(Utf16)
+    /// ```
+    ///
+    /// # Contract
+    ///
+    /// ```text
+    /// ensures { (items : List Unit16) → IsReading units.now items → GivesRun (first_stop items (cap N)) result }
+    /// ```
+    #[inline]
+    pub fn from_utf16<B: AsRef<[u16]>>(units: B) -> Result<Self, Utf16> {
+        let units = units.as_ref();
+        let mut run = Self::new();
+        match leading_run(&mut run, units) {
+            Some(Unit16::Lone(_)) => Err(Utf16),
+            _ => Ok(run),
+        }
+    }
+
+    /// The text of `units`, where each lone surrogate is read as U+FFFD, which takes three bytes.
+    /// The first character that does not fit ends it.
+    ///
+    /// # Contract
+    ///
+    /// ```text
+    /// ensures { (items : List Unit16) → IsReading units.now items → result.text ≡ cut (lossy_text items) (cap N) }
+    /// ```
+    #[inline]
+    pub fn from_utf16_lossy<B: AsRef<[u16]>>(units: B) -> Self {
+        let units = units.as_ref();
+        only_reading(units);
+        let mut text = Self::new();
+        for item in Units::new(units) {
+            match text.try_push(shown(item)) {
+                Ok(()) => {}
+                Err(_) => return text,
+            }
+        }
+        text
+    }
+}
+
+/// Adds to an empty string the longest leading run of characters of `units` that fits, and returns
+/// the item right after it.
+///
+/// # Contract
+///
+/// ```text
+/// requires { run.old.text ≡ [] }
+/// ensures { (items : List Unit16) → IsReading units.now items → first_stop items (cap N) ≡ stop_at result run.new.text }
+/// ```
+#[inline]
+fn leading_run<const N: usize>(run: &mut ArrayString<N>, units: &[u16]) -> Option<Unit16> {
+    only_reading(units);
+    for item in Units::new(units) {
+        match item {
+            Unit16::Char(ch) => match run.try_push(ch) {
+                Ok(()) => {}
+                Err(_) => return Some(item),
+            },
+            Unit16::Lone(_) => return Some(item),
+        }
+    }
+    None
+}
+
+/// An item as a character, where a lone surrogate is U+FFFD.
+///
+/// # Contract
+///
+/// ```text
+/// ensures { result ≡ shown item }
+/// ```
+#[inline]
+fn shown(item: Unit16) -> char {
+    match item {
+        Unit16::Char(ch) => ch,
+        Unit16::Lone(_) => char::REPLACEMENT_CHARACTER,
+    }
+}

@@ -1,0 +1,149 @@
+// Made from crates/arraystring_core/src/drain.rt by rust/erase. A change goes there.
+//! `Drain`: what was taken out of a string, given from both ends.
+
+use crate::arraystring_base::utils::{Steps, last_char};
+use core::iter::FusedIterator;
+use core::str;
+
+mod compare;
+
+/// The characters that `drain` took out of a string. They are given from the front and from the
+/// back, each once; what is not given stays in its order.
+///
+/// Contracts name the list of the characters that are left. It keeps a copy of the string's array,
+/// where in it the removed text is, without what was given from the back, and an index into that
+/// text. It takes no memory.
+///
+/// # Model
+///
+/// ```text
+/// ghost Value = { Drained };
+/// ghost view = { λ d. drained (stored d.array d.start d.size) d.front };
+/// ghost invariant = { λ d. IsStored N d.array d.start d.size × IsDrained N (stored d.array d.start d.size) d.front };
+/// ghost inverse = { λ v. let removed : Stored = record { text = v.yielded ++ v.left; spare = v.spare } in
+///     record { front = text_size v.yielded; start = start_of removed; size = text_size removed.text; array = array_of removed } };
+/// ghost inverse_ok = { λ d h i. record {
+///   front = drained-front N (stored d.array d.start d.size) d.front h.1 i;
+///   start = d.start;
+///   size = drained-size N d.array d.start d.size d.front h.0 h.1 i;
+///   array = drained-array N d.array d.start d.size d.front h.0 h.1 i;
+/// } };
+/// ```
+#[derive(Clone, Copy)]
+pub struct Drain<const N: usize> {
+    // The index at which what is left begins, and the offset and the size of the removed text. They
+    // lie before the array, so that a read of it is known to be no read of them.
+    front: u8,
+    start: u8,
+    size: u8,
+    array: [u8; N],
+}
+
+impl<const N: usize> Drain<N> {
+    /// The `size` bytes from `start` on are left.
+    ///
+    /// # Contract
+    ///
+    /// ```text
+    /// requires { IsStored N array start size }
+    /// ensures { result.left ≡ (stored array.entry start size).text }
+    /// ```
+    #[inline(always)]
+    pub(crate) fn new(array: [u8; N], start: u8, size: u8) -> Self {
+        Drain {
+            front: 0,
+            start,
+            size,
+            array,
+        }
+    }
+
+    /// What is left, borrowed without a copy.
+    ///
+    /// # Contract
+    ///
+    /// ```text
+    /// ensures bytes { result.now ≡ bytes self.now.left }
+    /// ensures text { IsText self.now.left }
+    /// ensures fits { size self.now.left ≤ cap N }
+    /// ```
+    #[inline]
+    pub fn as_str(&self) -> &str {
+        let all = &self.array[..];
+        let start = self.start as usize;
+        let (front, end) = (start + self.front as usize, start + self.size as usize);
+        // SAFETY: the proof of this body shows that these bytes are UTF-8.
+        unsafe { str::from_utf8_unchecked(&all[front..end]) }
+    }
+}
+
+/// Nothing is left.
+///
+/// # Contract
+///
+/// ```text
+/// ghost is_default = { λ d. d.left ≡ [] };
+/// ```
+impl<const N: usize> Default for Drain<N> {
+    #[inline]
+    fn default() -> Self {
+        Drain::new([0; N], 0, 0)
+    }
+}
+
+/// A walk from the front.
+///
+/// # Contract
+///
+/// ```text
+/// ghost next_gives = { YieldsFirst (λ d. d.left) };
+/// ghost remaining = { item_count (λ d. d.left) };
+/// ```
+impl<const N: usize> Iterator for Drain<N> {
+    type Item = char;
+
+    /// The first character that is left; `None` where none is, and from then on.
+    #[inline(always)]
+    fn next(&mut self) -> Option<char> {
+        if self.front == self.size {
+            return None;
+        }
+        // A byte of ASCII is its character; others take the decoder.
+        let first = self.array[self.start as usize + self.front as usize];
+        if first < 0x80 {
+            self.front += 1;
+            return Some(first as char);
+        }
+        let mut left = self.as_str().chars();
+        let ch = left.next()?;
+        self.front = self.size - left.as_str().len() as u8;
+        Some(ch)
+    }
+}
+
+/// A walk from the back, over the same characters.
+///
+/// # Contract
+///
+/// ```text
+/// ghost next_back_gives = { YieldsLast (λ d. d.left) };
+/// ```
+impl<const N: usize> DoubleEndedIterator for Drain<N> {
+    /// The last character that is left; `None` where none is, and from then on.
+    #[inline(always)]
+    fn next_back(&mut self) -> Option<char> {
+        if self.size == self.front {
+            return None;
+        }
+        let last = self.array[self.start as usize + self.size as usize - 1];
+        if last < 0x80 {
+            self.size -= 1;
+            return Some(last as char);
+        }
+        let (kept, ch) = last_char(self.as_str(), &mut Steps::new())?;
+        self.size = self.front + kept as u8;
+        Some(ch)
+    }
+}
+
+impl<const N: usize> FusedIterator for Drain<N> {}

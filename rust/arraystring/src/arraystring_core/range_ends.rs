@@ -1,0 +1,48 @@
+// Made from crates/arraystring_core/src/range_ends.rt by rust/erase. A change goes there.
+//! The ends of ranges over `u8`.
+
+use core::ops::{Bound, RangeBounds};
+
+/// The ends in a text of `len` bytes. An excluded start and an included end add 1, and stop at 255.
+///
+/// # Contract
+///
+/// ```text
+/// ensures { OfToldBounds R.has_bounds R.start_bound R.end_bound range (λ start end. (result.0 ≡ lo start) × (result.1 ≡ hi end len)) }
+/// ```
+#[inline]
+pub(crate) fn saturating_ends<R: RangeBounds<u8>>(range: R, len: u8) -> (u8, u8) {
+    let start = match range.start_bound() {
+        Bound::Included(a) => *a,
+        Bound::Excluded(a) => a.saturating_add(1),
+        Bound::Unbounded => 0,
+    };
+    let end = match range.end_bound() {
+        Bound::Included(b) => b.saturating_add(1),
+        Bound::Excluded(b) => *b,
+        Bound::Unbounded => len,
+    };
+    (start, end)
+}
+
+/// The ends in a text of `len` bytes, as plain numbers.
+///
+/// # Contract
+///
+/// ```text
+/// ensures { OfToldBounds R.has_bounds R.start_bound R.end_bound range (λ start end. (result.0 ≡ start_index start) × (result.1 ≡ end_index end len)) }
+/// ```
+#[inline]
+pub(crate) fn plain_ends<R: RangeBounds<u8>>(range: R, len: u8) -> (usize, usize) {
+    let start = match range.start_bound() {
+        Bound::Included(a) => *a as usize,
+        Bound::Excluded(a) => *a as usize + 1,
+        Bound::Unbounded => 0,
+    };
+    let end = match range.end_bound() {
+        Bound::Included(b) => *b as usize + 1,
+        Bound::Excluded(b) => *b as usize,
+        Bound::Unbounded => len as usize,
+    };
+    (start, end)
+}

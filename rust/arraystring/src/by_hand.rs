@@ -1,0 +1,12 @@
+//! What Rust asks beyond erasure: nothing here is proved. It has no `unsafe`.
+//!
+//! - `convert`: the traits of the Rust crate that the language of the sources can't have.
+//! - `retain`: what is left where a closure panics, since the language of the sources does not unwind.
+//! - `simd`: the vectors of the sources, as arrays.
+#![forbid(unsafe_code)]
+
+mod convert;
+mod retain;
+pub(crate) mod simd;
+
+pub(crate) use retain::retain_at;

@@ -1,0 +1,63 @@
+//! `retain_at` where a closure may panic.
+//!
+//! The proved loop has the array in a state between two texts while it calls the closure: what is kept lies in two runs.
+//! That is no fault there, since nothing unwinds. Here the two runs are put together before the caller sees the string.
+
+use crate::arraystring_core::place;
+
+/// What the proved loop has done when it calls the closure: the first `kept` bytes of the text stay, and so do those from
+/// `run` to `read`, which were not moved yet.
+struct Progress {
+    kept: usize,
+    run: usize,
+    read: usize,
+}
+
+impl Progress {
+    /// What is so when the answer about `ch` is known and the loop has acted on it.
+    #[inline(always)]
+    fn answer(&mut self, ch: char, keeps: bool) {
+        if !keeps {
+            self.kept += self.read - self.run;
+            self.run = self.read + ch.len_utf8();
+        }
+        self.read += ch.len_utf8();
+    }
+}
+
+/// A text of which not all characters were asked about. Where it is dropped, the text is what was kept.
+struct Unfinished<'a, const N: usize> {
+    array: &'a mut [u8; N],
+    size: &'a mut u8,
+    place: usize,
+    progress: Progress,
+}
+
+impl<const N: usize> Drop for Unfinished<'_, N> {
+    #[inline(always)]
+    fn drop(&mut self) {
+        let Progress { kept, run, read } = self.progress;
+        self.array.copy_within(self.place + run..self.place + read, self.place + kept);
+        *self.size = (kept + (read - run)) as u8;
+    }
+}
+
+/// The proved `retain_at`, which leaves what was kept where `f` panics, and sets the size before `f` is dropped.
+#[inline]
+pub(crate) fn retain_at<const N: usize, F: FnMut(char) -> bool>(
+    array: &mut [u8; N],
+    size: &mut u8,
+    place: usize,
+    len: usize,
+    mut f: F,
+) {
+    let progress = Progress { kept: 0, run: 0, read: 0 };
+    let mut text = Unfinished { array, size, place, progress };
+    let left = place::retain_at(text.array, place, len, |ch| {
+        let keeps = f(ch);
+        text.progress.answer(ch, keeps);
+        keeps
+    });
+    // All of it was asked about, and lies at the place.
+    text.progress = Progress { kept: left, run: left, read: left };
+}

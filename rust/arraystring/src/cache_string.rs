@@ -1,0 +1,437 @@
+// Made from crates/arraystring/src/cache_string.rt by rust/erase. A change goes there.
+//! `CacheString`: a string of 63 bytes under a name of its own. Each call is that of the string
+//! inside.
+
+use crate::error::{Error, OutOfBounds, Utf8, Utf16};
+use crate::arraystring_core::ArrayString;
+use core::fmt;
+use core::ops::Add;
+use core::str::FromStr;
+
+mod compare;
+
+/// A string of at most 63 bytes of UTF-8. What it has no call for is called on the string inside.
+#[derive(Clone, Copy, Debug)]
+pub struct CacheString(pub ArrayString<63>);
+
+impl CacheString {
+    /// The empty string.
+    ///
+    /// # Contract
+    ///
+    /// ```text
+    /// ensures { result.0.text ≡ [] }
+    /// ```
+    #[inline]
+    pub const fn new() -> Self {
+        CacheString(ArrayString::new())
+    }
+
+    /// How many bytes fit: 63.
+    ///
+    /// # Contract
+    ///
+    /// ```text
+    /// ensures { result ≡ 63 }
+    /// ```
+    #[inline]
+    pub const fn capacity() -> u8 {
+        ArrayString::<63>::capacity()
+    }
+
+    /// The text `string`. Refused with `OutOfBounds` where it is larger than the capacity.
+    ///
+    /// # Contract
+    ///
+    /// ```text
+    /// ensures { IsWholeOrRefused (chars string.now) 63 (from_out_of_bounds (held result)) }
+    /// ```
+    #[inline]
+    pub fn try_from_str<S: AsRef<str>>(string: S) -> Result<Self, OutOfBounds> {
+        let string = string.as_ref();
+        Ok(CacheString(ArrayString::try_from_str(string)?))
+    }
+
+    /// The longest leading run of whole characters of `string` that fits.
+    ///
+    /// # Contract
+    ///
+    /// ```text
+    /// ensures { result.0.text ≡ cut (chars string.now) 63 }
+    /// ```
+    #[inline]
+    pub fn from_str_truncate<S: AsRef<str>>(string: S) -> Self {
+        let string = string.as_ref();
+        CacheString(ArrayString::from_str_truncate(string))
+    }
+
+    /// The text `string`. All of it must fit.
+    ///
+    /// # Safety
+    ///
+    /// The text after the call must fit into the capacity.
+    ///
+    /// # Contract
+    ///
+    /// ```text
+    /// requires { size (chars string.now) ≤ 63 }
+    /// ensures { result.0.text ≡ chars string.now }
+    /// ```
+    #[inline]
+    pub unsafe fn from_str_unchecked<S: AsRef<str>>(string: S) -> Self {
+        let string = string.as_ref();
+        // SAFETY: the proof of this body shows what `from_str_unchecked` requires.
+        CacheString(unsafe { ArrayString::from_str_unchecked(string) })
+    }
+
+    /// The pieces joined. Refused with `OutOfBounds` where they are larger than the capacity. It
+    /// needs no piece after the first that does not fit, and a test shows that it takes none. The
+    /// iterator must end, and allow `next` until it does.
+    ///
+    /// # In Rust
+    ///
+    /// No precondition is left here: an iterator that never ends, or that panics, is allowed. The call stops at the
+    /// first item that does not fit. What was taken before a panic is a text.
+    ///
+    /// # Contract
+    ///
+    /// ```text
+    /// requires { IsFiniteIterable I.into_iter_gives I.IntoIter.can_next I.IntoIter.remaining pieces }
+    /// ensures taken { (taken : List (Bor (List ℕ))) × Takes I.into_iter_gives I.IntoIter.next_gives joined_pieces pieces 63 taken
+    ///     × IsWholeOrRefused (joined_pieces taken) 63 (from_out_of_bounds (held result)) }
+    /// ensures whole { (all : List (List ℕ)) → Gives I.into_iter_gives I.IntoIter.next_gives piece_text pieces all
+    ///     → IsWholeOrRefused (joined all) 63 (from_out_of_bounds (held result)) }
+    /// ```
+    #[inline]
+    pub fn try_from_iterator<U: AsRef<str>, I: IntoIterator<Item = U>>(
+        pieces: I,
+    ) -> Result<Self, OutOfBounds> {
+        Ok(CacheString(ArrayString::try_from_iterator(pieces)?))
+    }
+
+    /// The longest leading run of whole characters of the joined pieces that fits. It needs no
+    /// piece after the first that does not fit, and a test shows that it takes none. The iterator
+    /// must end, and allow `next` until it does.
+    ///
+    /// # In Rust
+    ///
+    /// No precondition is left here: an iterator that never ends, or that panics, is allowed. The call stops at the
+    /// first item that does not fit. What was taken before a panic is a text.
+    ///
+    /// # Contract
+    ///
+    /// ```text
+    /// requires { IsFiniteIterable I.into_iter_gives I.IntoIter.can_next I.IntoIter.remaining pieces }
+    /// ensures taken { (taken : List (Bor (List ℕ))) × Takes I.into_iter_gives I.IntoIter.next_gives joined_pieces pieces 63 taken
+    ///     × (result.0.text ≡ cut (joined_pieces taken) 63) }
+    /// ensures whole { (all : List (List ℕ)) → Gives I.into_iter_gives I.IntoIter.next_gives piece_text pieces all
+    ///     → result.0.text ≡ cut (joined all) 63 }
+    /// ```
+    #[inline]
+    pub fn from_iterator<U: AsRef<str>, I: IntoIterator<Item = U>>(pieces: I) -> Self {
+        CacheString(ArrayString::from_iterator(pieces))
+    }
+
+    /// The pieces joined. All of them must fit. The iterator must end, and allow `next` until it
+    /// does.
+    ///
+    /// # Safety
+    ///
+    /// The text after the call must fit into the capacity.
+    ///
+    /// # Contract
+    ///
+    /// ```text
+    /// requires ends { IsFiniteIterable I.into_iter_gives I.IntoIter.can_next I.IntoIter.remaining pieces }
+    /// requires fits { Fits I.into_iter_gives I.IntoIter.next_gives joined_pieces pieces 63 }
+    /// ensures taken { (taken : List (Bor (List ℕ))) × TakesAll I.into_iter_gives I.IntoIter.next_gives pieces taken
+    ///     × (result.0.text ≡ joined_pieces taken) }
+    /// ensures whole { (all : List (List ℕ)) → Gives I.into_iter_gives I.IntoIter.next_gives piece_text pieces all
+    ///     → result.0.text ≡ joined all }
+    /// ```
+    #[inline]
+    pub unsafe fn from_iterator_unchecked<U: AsRef<str>, I: IntoIterator<Item = U>>(pieces: I) -> Self {
+        // SAFETY: the proof of this body shows what `from_iterator_unchecked` requires.
+        CacheString(unsafe { ArrayString::from_iterator_unchecked(pieces) })
+    }
+
+    /// The characters. Refused with `OutOfBounds` where they are larger than the capacity. It needs
+    /// no character after the first that does not fit, and a test shows that it takes none. The
+    /// iterator must end, and allow `next` until it does.
+    ///
+    /// # In Rust
+    ///
+    /// No precondition is left here: an iterator that never ends, or that panics, is allowed. The call stops at the
+    /// first item that does not fit. What was taken before a panic is a text.
+    ///
+    /// # Contract
+    ///
+    /// ```text
+    /// requires { IsFiniteIterable I.into_iter_gives I.IntoIter.can_next I.IntoIter.remaining characters }
+    /// ensures taken { (taken : List ℕ) × Takes I.into_iter_gives I.IntoIter.next_gives (λ cs. cs) characters 63 taken
+    ///     × IsWholeOrRefused taken 63 (from_out_of_bounds (held result)) }
+    /// ensures whole { (all : List ℕ) → Gives I.into_iter_gives I.IntoIter.next_gives (λ c. c) characters all
+    ///     → IsWholeOrRefused all 63 (from_out_of_bounds (held result)) }
+    /// ```
+    #[inline]
+    pub fn try_from_chars<I: IntoIterator<Item = char>>(
+        characters: I,
+    ) -> Result<Self, OutOfBounds> {
+        Ok(CacheString(ArrayString::try_from_chars(characters)?))
+    }
+
+    /// The characters up to the first that does not fit, also where a later shorter one would. It
+    /// needs no character after that one, and a test shows that it takes none. The iterator must
+    /// end, and allow `next` until it does.
+    ///
+    /// # In Rust
+    ///
+    /// No precondition is left here: an iterator that never ends, or that panics, is allowed. The call stops at the
+    /// first item that does not fit. What was taken before a panic is a text.
+    ///
+    /// # Contract
+    ///
+    /// ```text
+    /// requires { IsFiniteIterable I.into_iter_gives I.IntoIter.can_next I.IntoIter.remaining characters }
+    /// ensures taken { (taken : List ℕ) × Takes I.into_iter_gives I.IntoIter.next_gives (λ cs. cs) characters 63 taken
+    ///     × (result.0.text ≡ cut taken 63) }
+    /// ensures whole { (all : List ℕ) → Gives I.into_iter_gives I.IntoIter.next_gives (λ c. c) characters all
+    ///     → result.0.text ≡ cut all 63 }
+    /// ```
+    #[inline]
+    pub fn from_chars<I: IntoIterator<Item = char>>(characters: I) -> Self {
+        CacheString(ArrayString::from_chars(characters))
+    }
+
+    /// The characters. All of them must fit. The iterator must end, and allow `next` until it does.
+    ///
+    /// # Safety
+    ///
+    /// The text after the call must fit into the capacity.
+    ///
+    /// # Contract
+    ///
+    /// ```text
+    /// requires ends { IsFiniteIterable I.into_iter_gives I.IntoIter.can_next I.IntoIter.remaining characters }
+    /// requires fits { Fits I.into_iter_gives I.IntoIter.next_gives (λ cs. cs) characters 63 }
+    /// ensures taken { (taken : List ℕ) × TakesAll I.into_iter_gives I.IntoIter.next_gives characters taken
+    ///     × (result.0.text ≡ taken) }
+    /// ensures whole { (all : List ℕ) → Gives I.into_iter_gives I.IntoIter.next_gives (λ c. c) characters all
+    ///     → result.0.text ≡ all }
+    /// ```
+    #[inline]
+    pub unsafe fn from_chars_unchecked<I: IntoIterator<Item = char>>(characters: I) -> Self {
+        // SAFETY: the proof of this body shows what `from_chars_unchecked` requires.
+        CacheString(unsafe { ArrayString::from_chars_unchecked(characters) })
+    }
+
+    /// The text whose UTF-8 is `given`. Refused with `Error::Utf8` where the whole slice is not
+    /// well-formed UTF-8 (the Unicode Standard, section 3.9), and else with `Error::OutOfBounds`
+    /// where it is larger than the capacity.
+    ///
+    /// # Contract
+    ///
+    /// ```text
+    /// ensures malformed { ¬ (IsWellFormed given.now) → held result ≡ Err error.Utf8 }
+    /// ensures whole { (t : List ℕ) → IsText t → bytes t ≡ given.now → IsWholeOrRefused t 63 (held result) }
+    /// ensures bytes { IfOk result (λ made. bytes made.0.text ≡ given.now) }
+    /// ensures text { IfOk result (λ made. IsText made.0.text) }
+    /// ```
+    #[inline]
+    pub fn try_from_utf8<B: AsRef<[u8]>>(given: B) -> Result<Self, Error> {
+        let given = given.as_ref();
+        Ok(CacheString(ArrayString::try_from_utf8(given)?))
+    }
+
+    /// The longest leading run of whole characters that fits of the text whose UTF-8 is `given`.
+    /// Refused with `Utf8` where the whole slice is not well-formed UTF-8 (the Unicode Standard,
+    /// section 3.9), also by bytes past the capacity.
+    ///
+    /// # Contract
+    ///
+    /// ```text
+    /// ensures well_formed { IsOk result ↔ IsWellFormed given.now }
+    /// ensures cut { (t : List ℕ) → IsText t → bytes t ≡ given.now → IfOk result (λ made. made.0.text ≡ cut t 63) }
+    /// ensures text { IfOk result (λ made. IsText made.0.text) }
+    /// ```
+    #[inline]
+    pub fn from_utf8<B: AsRef<[u8]>>(given: B) -> Result<Self, Utf8> {
+        let given = given.as_ref();
+        Ok(CacheString(ArrayString::from_utf8(given)?))
+    }
+
+    /// The text whose UTF-8 is `given`. It must be well-formed UTF-8 (the Unicode Standard,
+    /// section 3.9), and all of it must fit.
+    ///
+    /// # Safety
+    ///
+    /// The bytes must be well-formed UTF-8, and must fit into the capacity.
+    ///
+    /// # Contract
+    ///
+    /// ```text
+    /// requires well_formed { IsWellFormed given.now }
+    /// requires fits { length given.now ≤ 63 }
+    /// ensures bytes { bytes result.0.text ≡ given.now }
+    /// ensures text { IsText result.0.text }
+    /// ```
+    #[inline]
+    pub unsafe fn from_utf8_unchecked<B: AsRef<[u8]>>(given: B) -> Self {
+        let given = given.as_ref();
+        // SAFETY: the proof of this body shows what `from_utf8_unchecked` requires.
+        CacheString(unsafe { ArrayString::from_utf8_unchecked(given) })
+    }
+
+    /// The text whose UTF-16 `units` is. It is read item by item up to the first that ends it: a
+    /// lone surrogate is refused with `Utf16`, a character that does not fit with `OutOfBounds`.
+    ///
+    /// # Contract
+    ///
+    /// ```text
+    /// ensures { (items : List Unit16) → IsReading units.now items → GivesWhole (first_stop items 63) (held result) }
+    /// ```
+    #[inline]
+    pub fn try_from_utf16<B: AsRef<[u16]>>(units: B) -> Result<Self, Error> {
+        let units = units.as_ref();
+        Ok(CacheString(ArrayString::try_from_utf16(units)?))
+    }
+
+    /// The longest leading run of characters of `units` that fits. Refused with `Utf16` where a
+    /// lone surrogate comes right after that run, also if the string is full. What comes after a
+    /// character that does not fit is not looked at.
+    ///
+    /// # Contract
+    ///
+    /// ```text
+    /// ensures { (items : List Unit16) → IsReading units.now items → GivesRun (first_stop items 63) (held result) }
+    /// ```
+    #[inline]
+    pub fn from_utf16<B: AsRef<[u16]>>(units: B) -> Result<Self, Utf16> {
+        let units = units.as_ref();
+        Ok(CacheString(ArrayString::from_utf16(units)?))
+    }
+
+    /// The text of `units`, where each lone surrogate is read as U+FFFD, which takes three bytes.
+    /// The first character that does not fit ends it.
+    ///
+    /// # Contract
+    ///
+    /// ```text
+    /// ensures { (items : List Unit16) → IsReading units.now items → result.0.text ≡ cut (lossy_text items) 63 }
+    /// ```
+    #[inline]
+    pub fn from_utf16_lossy<B: AsRef<[u16]>>(units: B) -> Self {
+        let units = units.as_ref();
+        CacheString(ArrayString::from_utf16_lossy(units))
+    }
+
+    /// Returns the part from the byte index `at` on and keeps the part before it. `at` may be the
+    /// length. Refused with `OutOfBounds` where `at` is past the text, then with `Utf8` where it is
+    /// inside a character. The text is then as it was.
+    ///
+    /// # Contract
+    ///
+    /// ```text
+    /// ensures { Makes (split self.old.0.text at) self.old.0.text (with_text (held result)) self.new.0.text }
+    /// ```
+    #[inline]
+    pub fn split_off(&mut self, at: u8) -> Result<Self, Error> {
+        Ok(CacheString(self.0.split_off(at)?))
+    }
+}
+
+/// The empty string.
+///
+/// # Contract
+///
+/// ```text
+/// ghost is_default = { λ s. s.0.text ≡ [] };
+/// ```
+impl Default for CacheString {
+    #[inline]
+    fn default() -> Self {
+        Self::new()
+    }
+}
+
+/// The same text.
+///
+/// # Contract
+///
+/// ```text
+/// ghost from_gives = { λ string made. made.0.text ≡ string.text };
+/// ```
+impl From<ArrayString<63>> for CacheString {
+    #[inline]
+    fn from(string: ArrayString<63>) -> Self {
+        CacheString(string)
+    }
+}
+
+/// As `try_from_str`.
+///
+/// # Contract
+///
+/// ```text
+/// ghost from_str_gives = { λ string result. IsWholeOrRefused (chars string) 63 (from_out_of_bounds (held result)) };
+/// ```
+impl FromStr for CacheString {
+    type Err = OutOfBounds;
+
+    #[inline]
+    fn from_str(string: &str) -> Result<Self, OutOfBounds> {
+        Self::try_from_str(string)
+    }
+}
+
+/// The text. A width that is asked for is ignored: nothing is padded.
+///
+/// # Contract
+///
+/// ```text
+/// ghost output = { λ s. Some (bytes s.0.text) };
+/// ghost styled_output = { λ s _. Some (bytes s.0.text) };
+/// ```
+impl fmt::Display for CacheString {
+    #[inline]
+    fn fmt(&self, f: &mut fmt::Formatter<'_>) -> fmt::Result {
+        f.write_str(self.0.as_str())
+    }
+}
+
+/// The string with the given text added at its end: as many of its leading whole characters as fit.
+///
+/// # Contract
+///
+/// ```text
+/// ghost add_gives = { λ s given sum. Makes (addition_of_cut s.0.text (chars given.now) 63) s.0.text (Ok tt) sum.0.text };
+/// ```
+impl<'a> Add<&'a str> for CacheString {
+    type Output = Self;
+
+    #[inline]
+    fn add(self, given: &'a str) -> Self {
+        CacheString(self.0 + given)
+    }
+}
+
+/// # Contract
+///
+/// ```text
+/// ghost write_str_gives = { λ s given t. bytes t.0.text ≡ bytes s.0.text ++ given };
+/// ```
+impl fmt::Write for CacheString {
+    /// Adds `string` at the end. Refused where not all of it fits. The text is then as it was. A
+    /// `write!` of several pieces leaves those before the one that is refused.
+    ///
+    /// # Contract
+    ///
+    /// ```text
+    /// ensures ok { IsOk result → bytes self.new.0.text ≡ bytes self.old.0.text ++ string.now }
+    /// ensures made { Makes (addition self.old.0.text (chars string.now) 63) self.old.0.text (from_out_of_bounds result) self.new.0.text }
+    /// ```
+    #[inline]
+    fn write_str(&mut self, string: &str) -> fmt::Result {
+        self.0.write_str(string)
+    }
+}

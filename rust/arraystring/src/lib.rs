@@ -1,0 +1,40 @@
+// Made from crates/arraystring/src/lib.rt by rust/erase. A change goes there.
+//! `ArrayString`, a string of bounded size in an array inside the value, under all its paths.
+//!
+#![doc = include_str!("../README.md")]
+#![no_std]
+#![deny(unsafe_op_in_unsafe_fn, missing_docs)]
+
+mod arraystring_base;
+mod arraystring_core;
+mod by_hand;
+
+mod cache_string;
+pub mod laws;
+
+pub use crate::arraystring_base::error::Error;
+pub use crate::arraystring_base::{error, utf16};
+pub use crate::arraystring_core::{ArrayString, Drain, drain};
+pub use cache_string::CacheString;
+
+/// A string of at most 23 bytes of UTF-8.
+pub type SmallString = ArrayString<23>;
+
+/// A string of at most 255 bytes of UTF-8, the greatest capacity that there is.
+pub type MaxString = ArrayString<255>;
+
+/// Boundaries, cuts and moves of bytes. Sizes and indices count bytes of UTF-8.
+pub mod utils {
+    pub use crate::arraystring_base::utils::{
+        Steps, encode, is_boundary, is_inside_boundary, look, shift, truncate_str,
+        truncate_str_counted,
+    };
+    pub use crate::arraystring_core::utils::is_char_boundary;
+}
+
+/// What most callers take.
+pub mod prelude {
+    pub use crate::drain::Drain;
+    pub use crate::error::{OutOfBounds, Utf8, Utf16};
+    pub use crate::{ArrayString, CacheString, MaxString, SmallString};
+}

@@ -1,0 +1,385 @@
+//! A million random calls, each beside a `String` that is cut and refused by the rules of the documentation.
+
+use std::collections::hash_map::DefaultHasher;
+use std::fmt::Write;
+use std::hash::{Hash, Hasher};
+use std::ops::Bound;
+
+use arraystring::error::{OutOfBounds, Utf8};
+use arraystring::utils::is_char_boundary;
+use arraystring::{ArrayString, Error};
+
+/// How many calls are made at each capacity: a million and more at all nine.
+const CALLS: usize = 112_000;
+
+/// Numbers that look random and are the same in each run.
+struct Random(u64);
+
+impl Random {
+    /// The next number below `limit`. (`splitmix64` of Steele, Lea and Flood.)
+    fn below(&mut self, limit: usize) -> usize {
+        self.0 = self.0.wrapping_add(0x9E37_79B9_7F4A_7C15);
+        let mut mixed = self.0;
+        mixed = (mixed ^ (mixed >> 30)).wrapping_mul(0xBF58_476D_1CE4_E5B9);
+        mixed = (mixed ^ (mixed >> 27)).wrapping_mul(0x94D0_49BB_1331_11EB);
+        ((mixed ^ (mixed >> 31)) % limit as u64) as usize
+    }
+
+    /// A character of any width: of each the least and the greatest, white space, letters.
+    fn character(&mut self) -> char {
+        const SOME: &[char] = &[
+            'a',
+            'Z',
+            'm',
+            ' ',
+            '\t',
+            '\u{0}',
+            '\u{7F}',
+            '\u{80}',
+            'é',
+            '\u{7FF}',
+            '\u{800}',
+            '€',
+            '\u{2003}',
+            '\u{D7FF}',
+            '\u{E000}',
+            '\u{FFFF}',
+            '\u{10000}',
+            '🤔',
+            '\u{10FFFF}',
+        ];
+        SOME[self.below(SOME.len())]
+    }
+
+    /// A text of at most so many characters.
+    fn text(&mut self, most: usize) -> String {
+        (0..self.below(most + 1)).map(|_| self.character()).collect()
+    }
+
+    /// An index that is in a text or past it, mostly in it.
+    fn index(&mut self, text: &str) -> u8 {
+        let limit = if self.below(8) == 0 { 256 } else { text.len() + 1 };
+        self.below(limit.min(256)) as u8
+    }
+}
+
+/// The longest leading run of whole characters that fits.
+fn cut(text: &str, room: usize) -> &str {
+    &text[..text.floor_char_boundary(room)]
+}
+
+/// A string and what its text has to be.
+struct Pair<const N: usize> {
+    string: ArrayString<N>,
+    model: String,
+    capacity: usize,
+}
+
+impl<const N: usize> Pair<N> {
+    fn new() -> Self {
+        Pair { string: ArrayString::new(), model: String::new(), capacity: N.min(255) }
+    }
+
+    fn room(&self) -> usize {
+        self.capacity - self.model.len()
+    }
+
+    /// The refusal of an index, if it has one.
+    fn at(&self, index: u8) -> Result<usize, Error> {
+        let index = index as usize;
+        if index > self.model.len() {
+            return Err(Error::OutOfBounds);
+        }
+        if self.model.is_char_boundary(index) { Ok(index) } else { Err(Error::Utf8) }
+    }
+
+    /// Asserts that all that a string shows is as the model.
+    fn agrees(&self, call: usize) {
+        let (string, model) = (&self.string, &self.model);
+        assert_eq!(string.as_bytes(), model.as_bytes(), "after call {call} at {N}");
+        assert!(str::from_utf8(string.as_bytes()).is_ok());
+        assert_eq!((string.len() as usize, string.is_empty()), (model.len(), model.is_empty()));
+        assert_eq!(ArrayString::<N>::capacity() as usize, self.capacity);
+    }
+
+    /// Makes one call of each kind in turn.
+    fn call(&mut self, random: &mut Random, call: usize) {
+        match call % 8 {
+            0 => self.added(random),
+            1 => self.inserted(random),
+            2 => self.taken_out(random),
+            3 => self.replaced(random),
+            4 => self.drained(random),
+            5 => self.shown(random),
+            6 => self.changed(random),
+            _ => self.made(random),
+        }
+        self.agrees(call);
+    }
+
+    fn added(&mut self, random: &mut Random) {
+        let (text, ch) = (random.text(6), random.character());
+        match random.below(7) {
+            0 => {
+                let fits = self.room() >= ch.len_utf8();
+                assert_eq!(self.string.try_push(ch), if fits { Ok(()) } else { Err(OutOfBounds) });
+                self.model.extend(fits.then_some(ch));
+            }
+            1 => {
+                let fits = self.room() >= text.len();
+                assert_eq!(self.string.try_push_str(&text), if fits { Ok(()) } else { Err(OutOfBounds) });
+                self.model.extend(fits.then_some(text));
+            }
+            2 => {
+                self.string.push_str(&text);
+                self.model += cut(&text, self.room());
+            }
+            3 => {
+                self.string.extend(text.chars());
+                self.model += cut(&text, self.room());
+            }
+            4 => {
+                self.string.extend_strs([&text, "", &text]);
+                let both = text.repeat(2);
+                self.model += cut(&both, self.room());
+            }
+            5 => {
+                self.string = self.string + &text;
+                self.model += cut(&text, self.room());
+            }
+            _ => {
+                let fits = self.room() >= text.len();
+                assert_eq!(write!(self.string, "{text}").is_ok(), fits);
+                self.model.extend(fits.then_some(text));
+            }
+        }
+    }
+
+    fn inserted(&mut self, random: &mut Random) {
+        let (index, text, ch) = (random.index(&self.model), random.text(5), random.character());
+        let (at, is_past) = (self.at(index), index as usize > self.model.len());
+        let (given, cuts) = match random.below(3) {
+            0 => (ch.to_string(), false),
+            1 => (text.clone(), false),
+            _ => (text.clone(), true),
+        };
+        let wanted = match at {
+            _ if is_past => Err(Error::OutOfBounds),
+            _ if !cuts && given.len() > self.room() => Err(Error::OutOfBounds),
+            at => at.map(|_| ()),
+        };
+        let returned = match (cuts, given == text) {
+            (true, _) => self.string.insert_str(index, &given),
+            (false, true) => self.string.try_insert_str(index, &given),
+            (false, false) => self.string.try_insert(index, ch),
+        };
+        assert_eq!(returned, wanted);
+        if wanted.is_ok() {
+            let room = self.room();
+            self.model.insert_str(index as usize, cut(&given, room));
+        }
+    }
+
+    fn taken_out(&mut self, random: &mut Random) {
+        let index = random.index(&self.model);
+        match random.below(6) {
+            0 => assert_eq!(self.string.pop(), self.model.pop()),
+            1 | 2 => {
+                // Also index 0, which raises the offset at which the text begins.
+                let index = if random.below(2) == 0 { 0 } else { index };
+                let wanted = match self.at(index) {
+                    Ok(at) if at == self.model.len() => Err(Error::OutOfBounds),
+                    at => at,
+                };
+                assert_eq!(self.string.remove(index), wanted.map(|at| self.model.remove(at)));
+            }
+            3 => {
+                let wanted = if index as usize >= self.model.len() {
+                    Ok(())
+                } else {
+                    self.at(index).map(|_| ()).map_err(|_| Utf8)
+                };
+                assert_eq!(self.string.truncate(index), wanted);
+                if wanted.is_ok() {
+                    self.model.truncate(index as usize);
+                }
+            }
+            4 => {
+                let wanted = self.at(index).map(|at| self.model.split_off(at));
+                assert_eq!(self.string.split_off(index).map(|rest| rest.to_string()), wanted);
+            }
+            _ => {
+                let mut bits = random.below(1 << 30);
+                let mut keeps = |_| {
+                    bits = bits.rotate_left(1) ^ 5;
+                    bits & 3 != 0
+                };
+                let answers: Vec<bool> = self.model.chars().map(&mut keeps).collect();
+                let (mut first, mut second) = (answers.iter(), answers.iter());
+                self.string.retain(|_| *first.next().expect("one answer for each"));
+                self.model.retain(|_| *second.next().expect("one answer for each"));
+                assert_eq!(first.len(), 0);
+            }
+        }
+    }
+
+    /// A range with its ends, as the calls that refuse by `OutOfBounds` read them.
+    fn range(&self, random: &mut Random) -> ((Bound<u8>, Bound<u8>), usize, usize) {
+        let (start, end) = (random.index(&self.model), random.index(&self.model));
+        let (start, end) = if random.below(8) == 0 { (start, end) } else { (start.min(end), start.max(end)) };
+        let (first, from) = match random.below(6) {
+            0 => (Bound::Unbounded, 0),
+            1 => (Bound::Excluded(start), start.saturating_add(1)),
+            _ => (Bound::Included(start), start),
+        };
+        let (last, to) = match random.below(4) {
+            0 => (Bound::Unbounded, self.model.len() as u8),
+            1 => (Bound::Included(end), end.saturating_add(1)),
+            _ => (Bound::Excluded(end), end),
+        };
+        ((first, last), from as usize, to as usize)
+    }
+
+    /// The refusal of a range whose result takes so many bytes, if it has one.
+    fn refusal(&self, from: usize, to: usize, size: impl FnOnce() -> usize) -> Option<Error> {
+        if from > to || to > self.model.len() || size() > self.capacity {
+            return Some(Error::OutOfBounds);
+        }
+        (!self.model.is_char_boundary(from) || !self.model.is_char_boundary(to)).then_some(Error::Utf8)
+    }
+
+    fn replaced(&mut self, random: &mut Random) {
+        let (range, from, to) = self.range(random);
+        let text = random.text(8);
+        let wanted = match self.refusal(from, to, || self.model.len() - (to - from) + text.len()) {
+            Some(refusal) => Err(refusal),
+            None => Ok(self.model.replace_range(from..to, &text)),
+        };
+        assert_eq!(self.string.replace_range(range, &text), wanted);
+    }
+
+    fn drained(&mut self, random: &mut Random) {
+        let (range, from, to) = self.range(random);
+        match (self.refusal(from, to, || 0), self.string.drain(range)) {
+            (Some(refusal), answer) => assert_eq!(answer, Err(refusal)),
+            (None, answer) => {
+                let part: String = self.model.drain(from..to).collect();
+                let (mut drain, mut left) = (answer.expect("a part"), part.chars());
+                for _ in 0..=left.as_str().len() {
+                    assert_eq!(drain.as_str(), left.as_str());
+                    match random.below(2) {
+                        0 => assert_eq!(drain.next(), left.next()),
+                        _ => assert_eq!(drain.next_back(), left.next_back()),
+                    }
+                }
+                assert_eq!((drain.next(), drain.next_back()), (None, None));
+            }
+        }
+    }
+
+    fn shown(&mut self, random: &mut Random) {
+        let (start, end) = (random.index(&self.model), random.index(&self.model));
+        let part = self.model.get(start as usize..end as usize);
+        assert_eq!(self.string.get(start..end), part);
+        assert_eq!(self.string.get(start..=end), self.model.get(start as usize..end as usize + 1));
+        if let Some(part) = part {
+            assert_eq!((self.string.slice(start..end), &self.string[start..end]), (part, part));
+        }
+        assert_eq!(is_char_boundary(&self.string, start).is_ok(), self.model.is_char_boundary(start as usize));
+        let other = random.text(4);
+        let given = cut(&other, self.capacity);
+        let string = ArrayString::<N>::from(given);
+        assert_eq!(self.string.cmp(&string), self.model.as_str().cmp(given));
+        assert_eq!(self.string == string, self.model == given);
+        assert_eq!(self.string, self.model.as_str());
+        let copy = ArrayString::<N>::from(self.model.as_str());
+        assert_eq!(self.string, copy);
+        let [mut one, mut two] = [DefaultHasher::new(), DefaultHasher::new()];
+        self.string.hash(&mut one);
+        self.model.hash(&mut two);
+        assert_eq!(one.finish(), two.finish());
+    }
+
+    fn changed(&mut self, random: &mut Random) {
+        match random.below(8) {
+            0 => {
+                self.string.trim();
+                self.model = self.model.trim().to_string();
+            }
+            1 => {
+                self.string.trim_spaces();
+                self.model = self.model.trim_matches(' ').to_string();
+            }
+            2 => {
+                self.string.make_ascii_uppercase();
+                self.model.make_ascii_uppercase();
+            }
+            3 => {
+                self.string.make_ascii_lowercase();
+                self.model.make_ascii_lowercase();
+            }
+            4 => {
+                let (start, end) = (random.index(&self.model), random.index(&self.model));
+                if let Some(part) = self.model.get_mut(start as usize..end as usize) {
+                    self.string.make_ascii_uppercase_in(start..end);
+                    part.make_ascii_uppercase();
+                }
+            }
+            5 if random.below(20) == 0 => {
+                self.string.clear();
+                self.model.clear();
+            }
+            _ => {
+                let text = random.text(40);
+                self.string.push_str(&text);
+                self.model += cut(&text, self.room());
+            }
+        }
+    }
+
+    /// Makes a string anew, and goes on with it where it is another one.
+    fn made(&mut self, random: &mut Random) {
+        let most = if random.below(8) == 0 { 300 } else { 20 };
+        let text = random.text(most);
+        let whole = if text.len() <= self.capacity { Ok(text.clone()) } else { Err(OutOfBounds) };
+        let given = cut(&text, self.capacity);
+        assert_eq!(ArrayString::<N>::try_from_str(&text).map(|made| made.to_string()), whole);
+        let mut bytes = text.clone().into_bytes();
+        assert_eq!(ArrayString::<N>::from_utf8(&bytes).map(|made| made.to_string()), Ok(given.to_string()));
+        let mut units: Vec<u16> = text.encode_utf16().collect();
+        assert_eq!(ArrayString::<N>::from_utf16(&units).map(|made| made.to_string()), Ok(given.to_string()));
+        // One fault somewhere.
+        let at = random.below(bytes.len() + 1);
+        bytes.insert(at, [0x80, 0xC0, 0xED, 0xF5, 0xFF][random.below(5)]);
+        let is_text = str::from_utf8(&bytes).is_ok();
+        assert_eq!(ArrayString::<N>::try_from_utf8(&bytes) == Err(Error::Utf8), !is_text);
+        let at = random.below(units.len() + 1);
+        units.insert(at, 0xD800 + random.below(0x800) as u16);
+        let lossy = String::from_utf16_lossy(&units);
+        assert_eq!(ArrayString::<N>::from_utf16_lossy(&units), cut(&lossy, self.capacity));
+        if random.below(4) == 0 {
+            self.string = text.chars().collect();
+            self.model = given.to_string();
+        }
+    }
+}
+
+/// Makes random calls at one capacity.
+fn play<const N: usize>() {
+    let mut random = Random(N as u64);
+    let mut pair = Pair::<N>::new();
+    for call in 0..CALLS {
+        pair.call(&mut random, call);
+    }
+}
+
+#[test]
+fn a_million_calls_beside_a_string() {
+    std::thread::scope(|scope| {
+        let plays =
+            [play::<0>, play::<1>, play::<2>, play::<3>, play::<23>, play::<63>, play::<254>, play::<255>, play::<300>];
+        for play in plays {
+            scope.spawn(play);
+        }
+    });
+}

@@ -1,0 +1,113 @@
+//! The files of the sources, and those of the Rust crate.
+
+use std::collections::{BTreeMap, BTreeSet};
+use std::fs;
+use std::path::{Path, PathBuf};
+
+use crate::erase::{Source, Tally, erase, line_of};
+use crate::rules::{BY_HAND, CRATES, FATES, LEFT_OUT, REPLACED, WIDER};
+
+/// Each file of the Rust crate that is made, by its path in `src`.
+pub type Made = BTreeMap<String, String>;
+
+/// Makes all files out of the sources in a folder of crates.
+pub fn made(crates: &Path) -> Result<(Made, Tally), String> {
+    let (mut made, mut tally) = (Made::new(), Tally::default());
+    for krate in CRATES {
+        let mut left = sources(&crates.join(krate).join("src"))?;
+        let mut waiting = vec!["lib".to_string()];
+        while let Some(module) = waiting.pop() {
+            let path = format!("{krate}/src/{module}.rt");
+            let text = read(&crates.join(&path))?;
+            left.remove(&format!("{module}.rt"));
+            let source = Source { krate, path: &path, text: &text };
+            let erased = erase(&source, &mut tally)
+                .map_err(|fault| format!("crates/{path}:{}: {}", line_of(&text, fault.at), fault.why))?;
+            let below = |name: &String| if module == "lib" { name.clone() } else { format!("{module}/{name}") };
+            waiting.extend(erased.modules.iter().map(below));
+            for dropped in erased.dropped.iter().map(below) {
+                left.retain(|path| *path != format!("{dropped}.rt") && !path.starts_with(&format!("{dropped}/")));
+            }
+            made.insert(target(krate, &module), erased.text);
+        }
+        if let Some(path) = left.first() {
+            return Err(format!("crates/{krate}/src/{path}: no module names this file"));
+        }
+    }
+    all_used(&tally)?;
+    Ok((made, tally))
+}
+
+/// The path of a module in the Rust crate.
+fn target(krate: &str, module: &str) -> String {
+    match (CRATES.last() == Some(&krate), module) {
+        (true, module) => format!("{module}.rs"),
+        (false, "lib") => format!("{krate}.rs"),
+        (false, module) => format!("{krate}/{module}.rs"),
+    }
+}
+
+/// Each rule has matched.
+fn all_used(tally: &Tally) -> Result<(), String> {
+    let names = FATES.iter().map(|(name, _)| name.to_string());
+    let names = names.chain(WIDER.iter().map(|rule| format!("wider {}", rule.call)));
+    let names = names.chain(REPLACED.iter().map(|rule| format!("line {}", rule.from)));
+    let mut names = names.chain(LEFT_OUT.iter().map(|rule| rule.name.to_string()));
+    match names.find(|name| !tally.used.contains(name)) {
+        Some(name) => Err(format!("rust/erase/src/rules.rs: nothing in the sources matches the entry `{name}`")),
+        None => Ok(()),
+    }
+}
+
+/// The paths of the files below a folder.
+fn sources(folder: &Path) -> Result<BTreeSet<String>, String> {
+    let (mut found, mut waiting) = (BTreeSet::new(), vec![PathBuf::new()]);
+    while let Some(below) = waiting.pop() {
+        let path = folder.join(&below);
+        for entry in fs::read_dir(&path).map_err(|error| format!("{}: {error}", path.display()))? {
+            let entry = entry.map_err(|error| format!("{}: {error}", path.display()))?;
+            let name = below.join(entry.file_name());
+            if entry.path().is_dir() {
+                waiting.push(name);
+            } else {
+                found.insert(name.to_string_lossy().into_owned());
+            }
+        }
+    }
+    Ok(found)
+}
+
+fn read(path: &Path) -> Result<String, String> {
+    fs::read_to_string(path).map_err(|error| format!("{}: {error}", path.display()))
+}
+
+fn is_by_hand(path: &str) -> bool {
+    BY_HAND.iter().any(|by_hand| path == *by_hand || (by_hand.ends_with('/') && path.starts_with(by_hand)))
+}
+
+/// Writes the files, and takes out those that are no longer made.
+pub fn write(made: &Made, target: &Path) -> Result<(), String> {
+    for path in sources(target)?.iter().filter(|path| !is_by_hand(path) && !made.contains_key(*path)) {
+        fs::remove_file(target.join(path)).map_err(|error| format!("{path}: {error}"))?;
+    }
+    for (path, text) in made {
+        let path = target.join(path);
+        let folder = path.parent().unwrap_or(target);
+        fs::create_dir_all(folder).map_err(|error| format!("{}: {error}", folder.display()))?;
+        fs::write(&path, text).map_err(|error| format!("{}: {error}", path.display()))?;
+    }
+    Ok(())
+}
+
+/// Whether the files are there, each as it is made, and no others but those by hand.
+pub fn compare(made: &Made, target: &Path) -> Result<(), String> {
+    for (path, text) in made {
+        if read(&target.join(path))? != *text {
+            return Err(format!("rust/arraystring/src/{path} is not as its source says: run rust/erase/run"));
+        }
+    }
+    match sources(target)?.iter().find(|path| !is_by_hand(path) && !made.contains_key(*path)) {
+        Some(path) => Err(format!("rust/arraystring/src/{path} has no source and is not written by hand")),
+        None => Ok(()),
+    }
+}

@@ -1,0 +1,370 @@
+//! The walk over the items of a file.
+
+use std::collections::BTreeMap;
+use std::ops::Range;
+
+use crate::body;
+use crate::cursor::{Cursor, Fault, Kind, Token};
+use crate::edits::Edits;
+use crate::erase::{Source, Tally};
+use crate::rules::LEFT_OUT;
+
+/// Where items are read.
+pub struct Inside<'a> {
+    /// The type of an impl, else the name of the file or module.
+    pub owner: &'a str,
+    pub of_trait: bool,
+    /// Whether a bracket ends them.
+    is_block: bool,
+}
+
+/// What comes before an item.
+pub struct Lead {
+    /// Where its first line begins.
+    pub start: usize,
+    /// Where a section of its documentation goes.
+    pub docs_end: usize,
+    pub has_docs: bool,
+    is_test: bool,
+    /// Whether an attribute says where it is inlined.
+    pub is_inlined: bool,
+}
+
+/// A file while it is read.
+pub struct File<'a, 't> {
+    pub source: &'a Source<'a>,
+    pub text: &'a str,
+    pub edits: Edits,
+    pub tally: &'t mut Tally,
+    /// Where the documentation of each type ends, and whether there is one.
+    types: BTreeMap<String, (usize, bool)>,
+    /// The modules that have a file of their own.
+    pub modules: Vec<String>,
+    /// Those that were dropped.
+    pub dropped: Vec<String>,
+}
+
+impl<'a, 't> File<'a, 't> {
+    /// Reads a whole file.
+    pub fn read(source: &'a Source<'a>, text: &'a str, tally: &'t mut Tally) -> Result<Self, Fault> {
+        let (edits, types, modules, dropped) = Default::default();
+        let mut file = File { source, text, edits, tally, types, modules, dropped };
+        let name = source.path.rsplit('/').next().unwrap_or(source.path);
+        let owner = name.strip_suffix(".rt").unwrap_or(name);
+        file.items(&mut Cursor::new(text), &Inside { owner, of_trait: false, is_block: false })?;
+        file.root()?;
+        Ok(file)
+    }
+
+    /// Reads the items up to the end of the file or of the block.
+    fn items(&mut self, cursor: &mut Cursor<'a>, inside: &Inside) -> Result<Vec<Range<usize>>, Fault> {
+        let mut ghosts = Vec::new();
+        loop {
+            let (lead, token) = self.lead(cursor)?;
+            let Some(token) = token else {
+                return if inside.is_block {
+                    Err(Fault::new(cursor.at, "a block without its end"))
+                } else {
+                    Ok(ghosts)
+                };
+            };
+            match cursor.text(&token) {
+                "}" if inside.is_block => return Ok(ghosts),
+                "ghost" => ghosts.push(self.ghost(cursor, &token)?),
+                "impl" => self.implementation(cursor, &lead, &token)?,
+                "use" => self.item_to_its_end(cursor, &token)?,
+                "pub" | "fn" | "const" | "struct" | "enum" | "type" | "mod" => {
+                    self.item(cursor, &lead, token, inside)?;
+                }
+                other => return Err(Fault::new(token.at.start, format!("an item that begins with `{other}`"))),
+            }
+        }
+    }
+
+    /// Reads comments and attributes, and the first token after them.
+    fn lead(&mut self, cursor: &mut Cursor<'a>) -> Result<(Lead, Option<Token>), Fault> {
+        let mut lead = Lead { start: usize::MAX, docs_end: 0, has_docs: false, is_test: false, is_inlined: false };
+        loop {
+            let Some(token) = cursor.next()? else { return Ok((lead, None)) };
+            let line = self.line_start(token.at.start);
+            if token.kind == Kind::Doc && cursor.text(&token).starts_with("//!") {
+                lead.start = usize::MAX;
+                continue;
+            }
+            lead.start = lead.start.min(line);
+            match (token.kind, cursor.text(&token)) {
+                (Kind::Doc, doc) => {
+                    lead.has_docs = true;
+                    lead.docs_end = token.at.end + 1;
+                    self.example(doc, &token);
+                }
+                (Kind::Comment, _) => {}
+                (_, "#") => {
+                    if !lead.has_docs && lead.docs_end == 0 {
+                        lead.docs_end = line;
+                    }
+                    lead.is_test |= self.attribute(cursor, &token)?;
+                    lead.is_inlined |=
+                        ["#[inline", "#[cold"].iter().any(|hint| self.text[token.at.start..].starts_with(hint));
+                }
+                _ => {
+                    if lead.docs_end == 0 {
+                        lead.docs_end = line;
+                    }
+                    return Ok((lead, Some(token)));
+                }
+            }
+        }
+    }
+
+    /// Reads an attribute, and takes it out where Rust has none of its name. Returns whether the item is for tests alone.
+    pub fn attribute(&mut self, cursor: &mut Cursor<'a>, sign: &Token) -> Result<bool, Fault> {
+        let inner = cursor.peek_code()? == "!";
+        if inner {
+            cursor.expect("!")?;
+        }
+        cursor.expect("[")?;
+        let Some(name) = cursor.next_code()? else {
+            return Err(Fault::new(sign.at.start, "an attribute without its end"));
+        };
+        let mut depth = 1;
+        while depth > 0 {
+            let Some(token) = cursor.next_code()? else {
+                return Err(Fault::new(sign.at.start, "an attribute without its end"));
+            };
+            match cursor.text(&token) {
+                "[" => depth += 1,
+                "]" => depth -= 1,
+                _ => {}
+            }
+        }
+        let whole = &self.text[sign.at.start..cursor.at];
+        match cursor.text(&name) {
+            "tactic" => {
+                self.edits.replace(self.lines(sign.at.start..cursor.at), "");
+                self.tally.count("tactics");
+            }
+            "derive" if whole == "#[derive(Drop)]" => {
+                self.edits.replace(self.lines(sign.at.start..cursor.at), "");
+                self.tally.count("derives of `Drop`");
+            }
+            "derive" if whole.contains("Drop") => {
+                return Err(Fault::new(sign.at.start, "a derive of `Drop` and others"));
+            }
+            "derive" | "inline" | "cold" | "must_use" | "allow" if !inner => {}
+            "cfg" if whole == "#[cfg(test)]" => return Ok(true),
+            _ => return Err(Fault::new(sign.at.start, format!("the attribute `{whole}`"))),
+        }
+        Ok(false)
+    }
+
+    /// Takes a ghost part out, and returns where it is.
+    fn ghost(&mut self, cursor: &mut Cursor<'a>, word: &Token) -> Result<Range<usize>, Fault> {
+        let name = cursor.peek_code()?;
+        if name.starts_with("can_") {
+            return Err(Fault::new(
+                word.at.start,
+                format!("`{name}`: a precondition of a trait's call, which Rust can't ask"),
+            ));
+        }
+        let is_use = name == "use";
+        loop {
+            let Some(token) = cursor.next_code()? else {
+                return Err(Fault::new(word.at.start, "a ghost part without its end"));
+            };
+            match cursor.text(&token) {
+                "{" | "(" => cursor.pass_clause()?,
+                ";" => break,
+                _ => {}
+            }
+        }
+        self.edits.replace(self.lines(word.at.start..cursor.at), "");
+        self.tally.count(if is_use { "ghost imports" } else { "ghost members" });
+        Ok(if is_use { cursor.at..cursor.at } else { word.at.start..cursor.at })
+    }
+
+    /// Reads an impl. That of `Model` goes, and its members are told in the documentation of its type.
+    fn implementation(&mut self, cursor: &mut Cursor<'a>, lead: &Lead, word: &Token) -> Result<(), Fault> {
+        let head = self.up_to(cursor, word.at.start, &["{"])?;
+        let header = &self.text[head.clone()];
+        let (of, name) = header.split_once(" for ").unwrap_or(("", header));
+        let name = name.trim_start_matches("impl").trim();
+        let name = if name.starts_with('<') { name.split_once("> ").map_or(name, |(_, rest)| rest) } else { name };
+        let end = name.find(|ch: char| !ch.is_alphanumeric()).unwrap_or(name.len());
+        let owner = name[..end].to_string();
+        let is_model = of.ends_with("Model");
+        if !is_model {
+            self.head(head.clone());
+        }
+        let inside = Inside { owner: &owner, of_trait: !of.is_empty(), is_block: true };
+        let start = cursor.at;
+        let ghosts = self.items(cursor, &inside)?;
+        let members: Vec<_> = ghosts.iter().filter(|at| !at.is_empty()).map(|at| self.dedented(at.clone())).collect();
+        if is_model {
+            let Some(&(docs_end, true)) = self.types.get(&owner) else {
+                return Err(Fault::new(start, format!("a model of `{owner}`, which is not documented above it")));
+            };
+            self.edits.replace(self.lines(lead.start..cursor.at), "");
+            self.section(docs_end, "Model", &members.join("\n"), true);
+            self.tally.count("models");
+        } else if !members.is_empty() {
+            self.section(lead.docs_end, "Contract", &members.join("\n"), lead.has_docs);
+        }
+        Ok(())
+    }
+
+    /// Reads an item that is no impl and no import.
+    fn item(&mut self, cursor: &mut Cursor<'a>, lead: &Lead, first: Token, inside: &Inside) -> Result<(), Fault> {
+        let mut is_public = false;
+        let mut token = first.clone();
+        loop {
+            match cursor.text(&token) {
+                "pub" => {
+                    is_public = cursor.peek_code()? != "(";
+                    if !is_public {
+                        self.up_to(cursor, token.at.start, &[")"])?;
+                    }
+                }
+                "const" => {}
+                "use" => return self.item_to_its_end(cursor, &first),
+                "fn" => return self.function(cursor, lead, &token, is_public, inside),
+                "mod" => return self.module(cursor, lead),
+                "struct" | "enum" | "type" => return self.declared(cursor, lead, &first),
+                other => return Err(Fault::new(token.at.start, format!("an item with `{other}`"))),
+            }
+            let Some(next) = cursor.next_code()? else {
+                return Err(Fault::new(first.at.start, "an item without its end"));
+            };
+            token = next;
+        }
+    }
+
+    /// Reads a type.
+    fn declared(&mut self, cursor: &mut Cursor<'a>, lead: &Lead, first: &Token) -> Result<(), Fault> {
+        let Some(name) = cursor.next_code()? else { return Err(Fault::new(first.at.start, "a type without its name")) };
+        self.types.insert(cursor.text(&name).to_string(), (lead.docs_end, lead.has_docs));
+        let mut depth = 0;
+        loop {
+            let Some(token) = cursor.next_code()? else {
+                return Err(Fault::new(first.at.start, "a type without its end"));
+            };
+            match cursor.text(&token) {
+                "{" => depth += 1,
+                "}" if depth == 1 => break,
+                "}" => depth -= 1,
+                ";" if depth == 0 => break,
+                "ghost" => return Err(Fault::new(token.at.start, "a ghost field")),
+                _ => {}
+            }
+        }
+        self.head(first.at.start..cursor.at);
+        Ok(())
+    }
+
+    /// Reads an import, or another item that ends with `;`.
+    fn item_to_its_end(&mut self, cursor: &mut Cursor<'a>, first: &Token) -> Result<(), Fault> {
+        let at = self.up_to(cursor, first.at.start, &[";"])?;
+        if &self.text[at.clone()] == "use std::marker::Model" {
+            self.edits.replace(self.lines(at.start..cursor.at), "");
+            self.tally.count("imports of `Model`");
+            return Ok(());
+        }
+        for rule in LEFT_OUT {
+            let name = format!("{},", rule.name);
+            if let Some(found) = self.text[at.clone()].find(&name) {
+                let start = at.start + found;
+                let end = start + name.len();
+                self.edits.replace(start..end + usize::from(self.text[end..].starts_with(' ')), "");
+            }
+        }
+        self.head(at);
+        Ok(())
+    }
+
+    /// Reads a module.
+    fn module(&mut self, cursor: &mut Cursor<'a>, lead: &Lead) -> Result<(), Fault> {
+        let Some(name) = cursor.next_code()? else { return Err(Fault::new(lead.start, "a module without its name")) };
+        let text = cursor.text(&name);
+        if cursor.peek_code()? == "{" {
+            cursor.expect("{")?;
+            self.items(cursor, &Inside { owner: text, of_trait: false, is_block: true })?;
+            return Ok(());
+        }
+        cursor.expect(";")?;
+        let is_left_out = LEFT_OUT.iter().any(|rule| rule.name == text);
+        if lead.is_test || is_left_out {
+            self.edits.replace(self.lines(lead.start..cursor.at), "");
+            self.tally.count(if is_left_out { "modules left out" } else { "modules of tests" });
+            self.dropped.push(text.to_string());
+        } else {
+            self.modules.push(text.to_string());
+        }
+        if is_left_out {
+            self.tally.used.insert(text.to_string());
+        }
+        Ok(())
+    }
+
+    /// What Rust has in place of the bounds, paths and formatters of a head.
+    pub fn head(&mut self, at: Range<usize>) {
+        let text = &self.text[at.clone()];
+        for (found, bound) in text.match_indices(" + Drop") {
+            self.edits.replace(at.start + found..at.start + found + bound.len(), "");
+            self.tally.count("bounds `Drop`");
+        }
+        for (from, to) in [("fmt<W: fmt::Write>(", "fmt("), ("fmt::Formatter<W>", "fmt::Formatter<'_>")] {
+            if text.contains("fmt<W: fmt::Write>(") {
+                let found = at.start + text.find(from).unwrap_or_default();
+                self.edits.replace(found..found + from.len(), to);
+            }
+        }
+        if text.contains("fmt<W: fmt::Write>(") {
+            self.tally.count("formatters without a type parameter");
+        }
+        let mut cursor = Cursor { source: &self.text[..at.end], at: at.start };
+        let mut tokens = Vec::new();
+        while let Ok(Some(token)) = cursor.next_code() {
+            tokens.push(token);
+        }
+        body::paths(self.text, &tokens, self.source.krate, &mut self.edits, self.tally);
+    }
+
+    /// Passes over a head up to one of these words, which is taken, and returns where the head is.
+    pub fn up_to(&mut self, cursor: &mut Cursor<'a>, start: usize, ends: &[&str]) -> Result<Range<usize>, Fault> {
+        let mut end = cursor.at;
+        loop {
+            let Some(token) = cursor.next_code()? else { return Err(Fault::new(start, "an item without its end")) };
+            let text = cursor.text(&token);
+            if ends.contains(&text) {
+                return Ok(start..end);
+            }
+            if text == "ghost" || text == "where" {
+                return Err(Fault::new(token.at.start, format!("`{text}` in the head of an item")));
+            }
+            end = token.at.end;
+        }
+    }
+
+    pub fn line_start(&self, at: usize) -> usize {
+        self.text[..at].rfind('\n').map_or(0, |end| end + 1)
+    }
+
+    /// The whole lines of a part.
+    pub fn lines(&self, at: Range<usize>) -> Range<usize> {
+        let end = self.text[at.end..].find('\n').map_or(self.text.len(), |end| at.end + end + 1);
+        self.line_start(at.start)..end
+    }
+
+    /// The spaces before what stands on the line of `at`.
+    pub fn indent(&self, at: usize) -> String {
+        let line = &self.text[self.line_start(at)..];
+        line[..line.len() - line.trim_start_matches(' ').len()].to_string()
+    }
+
+    /// The lines of a part, without the spaces that its first line has before it.
+    pub fn dedented(&self, at: Range<usize>) -> String {
+        let indent = self.indent(at.start);
+        let lines = self.text[at].lines().map(|line| line.strip_prefix(&indent).unwrap_or(line));
+        lines.collect::<Vec<_>>().join("\n")
+    }
+}

@@ -1,0 +1,64 @@
+//! Makes the Rust crate `arraystring` out of the proved sources: contracts become documentation, proofs go, and the bodies
+//! stay line for line.
+//!
+//!     cargo run --release --offline --manifest-path rust/erase/Cargo.toml -- [--check] [--root FOLDER]
+//!
+//! Without `--check` it writes `rust/arraystring/src`; with it, it says whether that is as the sources say. The folder is
+//! the repository, by default the one that the eraser was built in. What it can't read stops it.
+
+mod body;
+mod cursor;
+mod edits;
+mod erase;
+mod files;
+mod functions;
+mod items;
+mod rules;
+mod sections;
+
+use std::path::PathBuf;
+use std::process::ExitCode;
+
+fn main() -> ExitCode {
+    let mut words = std::env::args().skip(1);
+    let (mut is_check, mut root) = (false, PathBuf::from(concat!(env!("CARGO_MANIFEST_DIR"), "/../..")));
+    while let Some(word) = words.next() {
+        match word.as_str() {
+            "--check" => is_check = true,
+            "--root" => root = words.next().map(PathBuf::from).unwrap_or(root),
+            _ => {
+                eprintln!("erase: the arguments are [--check] [--root FOLDER]");
+                return ExitCode::from(2);
+            }
+        }
+    }
+    match run(&root, is_check) {
+        Ok(()) => ExitCode::SUCCESS,
+        Err(why) => {
+            eprintln!("erase: {why}");
+            ExitCode::FAILURE
+        }
+    }
+}
+
+/// Makes or compares the files of the crate, and tells what was erased.
+fn run(root: &std::path::Path, is_check: bool) -> Result<(), String> {
+    let (made, tally) = files::made(&root.join("crates"))?;
+    let target = root.join("rust/arraystring/src");
+    if is_check {
+        files::compare(&made, &target)?;
+    } else {
+        files::write(&made, &target)?;
+    }
+    for (what, count) in &tally.counts {
+        println!("{count:5} {what}");
+    }
+    for rule in rules::LEFT_OUT {
+        println!("left out: `{}`: {}", rule.name, rule.why);
+    }
+    for rule in rules::REPLACED {
+        println!("another line: {}: `{}` is `{}`: {}", rule.file, rule.from, rule.to, rule.why);
+    }
+    println!("{} files {} rust/arraystring/src", made.len(), if is_check { "are as in" } else { "written to" });
+    Ok(())
+}

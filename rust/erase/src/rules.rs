@@ -1,0 +1,266 @@
+//! What is decided by name: which files are read, which calls are `unsafe` in Rust and why the others are not, and the few
+//! places where the Rust crate has another line than its source.
+//!
+//! Each entry has to match. An entry that matches nothing stops the eraser, and so does a public call with a precondition
+//! that has no entry: no call becomes safe because nobody looked at it.
+
+/// The crates that are read, from the lowest. The last is the root of the Rust crate; each of the others is a module.
+pub const CRATES: &[&str] = &["arraystring_base", "arraystring_core", "arraystring"];
+
+/// Files of the Rust crate's `src` that are written by hand. Nothing else may lie beside what is made.
+pub const BY_HAND: &[&str] = &["by_hand.rs", "by_hand/"];
+
+/// What the Rust crate begins with, behind the documentation of its root.
+pub const ROOT: &str = "\
+//!
+#![doc = include_str!(\"../README.md\")]
+#![no_std]
+#![deny(unsafe_op_in_unsafe_fn, missing_docs)]
+
+mod arraystring_base;
+mod arraystring_core;
+mod by_hand;
+";
+
+/// What is left out of the Rust crate: modules, and laws about them.
+pub const LEFT_OUT: &[LeftOut] = &[
+    LeftOut { name: "integration", why: "it stands on `serde_json`, and the Rust crate has no dependency" },
+    LeftOut { name: "json_reads_back", why: "a law about JSON texts" },
+];
+
+pub struct LeftOut {
+    pub name: &'static str,
+    pub why: &'static str,
+}
+
+/// What becomes of a public call that has a precondition.
+pub enum Fate {
+    /// It is an `unsafe fn`, with these words under `# Safety`.
+    Unsafe(&'static str),
+    /// It panics, with these words under `# Panics`; the second is a line that is put behind `plain_ends` to do so.
+    Panics(&'static str, Option<&'static str>),
+    /// It is safe and defined without the precondition, as these words under `# In Rust` say.
+    Safe(&'static str),
+}
+
+use Fate::{Panics, Safe, Unsafe};
+
+const MUST_FIT: &str = "The text after the call must fit into the capacity.";
+const MUST_BE_A_PLACE: &str =
+    "The index must be a boundary of the text, and the text after the call must fit into the capacity.";
+const MUST_BE_TEXT: &str = "The bytes must be well-formed UTF-8, and must fit into the capacity.";
+const MUST_LIE_IN_ARRAY: &str = "What is written must lie in the array.";
+const ENDS: &str = "No precondition is left here: an iterator that never ends, or that panics, is allowed. The call stops at the \
+                    first item that does not fit. What was taken before a panic is a text.";
+const COUNTS: &str = "No precondition is left here: a count that would pass 2^64 - 1 stays there.";
+const LIKE_STR: &str = "Where the range ends before it starts, ends past the text, or has an end inside a character, as the index of \
+                        `str` does.";
+
+/// The calls with a precondition, by the name of their type, or of their file, and their own.
+pub const FATES: &[(&str, Fate)] = &[
+    ("ArrayString::push_unchecked", Unsafe(MUST_FIT)),
+    ("ArrayString::push_str_unchecked", Unsafe(MUST_FIT)),
+    ("ArrayString::insert_unchecked", Unsafe(MUST_BE_A_PLACE)),
+    ("ArrayString::insert_str_unchecked", Unsafe(MUST_BE_A_PLACE)),
+    ("ArrayString::from_str_unchecked", Unsafe(MUST_FIT)),
+    ("ArrayString::from_iterator_unchecked", Unsafe(MUST_FIT)),
+    ("ArrayString::from_chars_unchecked", Unsafe(MUST_FIT)),
+    ("ArrayString::from_utf8_unchecked", Unsafe(MUST_BE_TEXT)),
+    ("CacheString::from_str_unchecked", Unsafe(MUST_FIT)),
+    ("CacheString::from_iterator_unchecked", Unsafe(MUST_FIT)),
+    ("CacheString::from_chars_unchecked", Unsafe(MUST_FIT)),
+    ("CacheString::from_utf8_unchecked", Unsafe(MUST_BE_TEXT)),
+    ("utils::encode", Unsafe(MUST_LIE_IN_ARRAY)),
+    ("utils::write_over", Unsafe(MUST_LIE_IN_ARRAY)),
+    ("utils::shift", Unsafe("Both runs must lie in the array.")),
+    ("steps::look", Panics("Where the index is not below the length.", None)),
+    ("ArrayString::slice", Panics(LIKE_STR, None)),
+    ("ArrayString::make_ascii_uppercase_in", Panics(LIKE_STR, Some("let _ = self.between(start, end);"))),
+    ("ArrayString::make_ascii_lowercase_in", Panics(LIKE_STR, Some("let _ = self.between(start, end);"))),
+    ("ArrayString::try_from_iterator", Safe(ENDS)),
+    ("ArrayString::from_iterator", Safe(ENDS)),
+    ("ArrayString::try_from_chars", Safe(ENDS)),
+    ("ArrayString::from_chars", Safe(ENDS)),
+    ("ArrayString::extend_chars", Safe(ENDS)),
+    ("ArrayString::extend_strs", Safe(ENDS)),
+    ("CacheString::try_from_iterator", Safe(ENDS)),
+    ("CacheString::from_iterator", Safe(ENDS)),
+    ("CacheString::try_from_chars", Safe(ENDS)),
+    ("CacheString::from_chars", Safe(ENDS)),
+    (
+        "ArrayString::retain",
+        Safe(
+            "No precondition is left here: any closure is allowed. Where it panics, the text is what it kept until then.",
+        ),
+    ),
+    ("ArrayString::pop_counted", Safe(COUNTS)),
+    ("ArrayString::trim_counted", Safe(COUNTS)),
+    ("ArrayString::try_insert_str_counted", Safe(COUNTS)),
+    ("ArrayString::remove_counted", Safe(COUNTS)),
+    ("ArrayString::drain_counted", Safe(COUNTS)),
+    ("ArrayString::replace_range_counted", Safe(COUNTS)),
+    ("utils::truncate_str_counted", Safe(COUNTS)),
+    ("utils::last_char", Safe(COUNTS)),
+];
+
+/// The line in a body behind which the line of `Panics` is put.
+pub const BEHIND: &str = "let (start, end) = plain_ends(range, self.len());";
+
+/// What an `unsafe` block of a source asks for, by the call in it.
+pub const ASKED: &[(&str, &str)] =
+    &[("from_utf8_unchecked", "these bytes are UTF-8"), ("from_u32_unchecked", "this is a scalar value")];
+
+/// The words for what an `unsafe` block of a source asks for.
+pub fn asked(call: &str) -> Option<&'static str> {
+    ASKED.iter().find(|(name, _)| *name == call).map(|(_, words)| *words)
+}
+
+/// Whether a call by this name is `unsafe` in Rust.
+pub fn is_unsafe(name: &str) -> bool {
+    FATES.iter().any(|(call, fate)| matches!(fate, Fate::Unsafe(_)) && call.rsplit("::").next() == Some(name))
+}
+
+/// A call that takes more types here than in its source, as the Rust crate 0.3.0 does.
+pub struct Wider {
+    pub call: &'static str,
+    /// Type parameters that come first.
+    pub generics: &'static str,
+    /// What is in the signature, and what takes its place.
+    pub from: &'static str,
+    pub to: &'static str,
+    /// The line that the body, or each walk over pieces in it, begins with.
+    pub line: &'static str,
+}
+
+const fn text(call: &'static str) -> Wider {
+    Wider {
+        call,
+        generics: "S: AsRef<str>",
+        from: "string: &str",
+        to: "string: S",
+        line: "let string = string.as_ref();",
+    }
+}
+
+const fn bytes(call: &'static str) -> Wider {
+    Wider {
+        call,
+        generics: "B: AsRef<[u8]>",
+        from: "given: &[u8]",
+        to: "given: B",
+        line: "let given = given.as_ref();",
+    }
+}
+
+const fn units(call: &'static str) -> Wider {
+    Wider {
+        call,
+        generics: "B: AsRef<[u16]>",
+        from: "units: &[u16]",
+        to: "units: B",
+        line: "let units = units.as_ref();",
+    }
+}
+
+const fn pieces(call: &'static str) -> Wider {
+    Wider {
+        call,
+        generics: "",
+        from: "'a, I: IntoIterator<Item = &'a str>",
+        to: "U: AsRef<str>, I: IntoIterator<Item = U>",
+        line: "let piece = piece.as_ref();",
+    }
+}
+
+/// The head of a walk over pieces.
+pub const WALK: &str = "for piece in pieces {";
+
+pub const WIDER: &[Wider] = &[
+    text("ArrayString::try_from_str"),
+    text("ArrayString::from_str_truncate"),
+    text("ArrayString::from_str_unchecked"),
+    text("ArrayString::try_push_str"),
+    text("ArrayString::push_str"),
+    text("ArrayString::push_str_unchecked"),
+    text("ArrayString::try_insert_str"),
+    text("ArrayString::insert_str"),
+    text("ArrayString::insert_str_unchecked"),
+    Wider {
+        call: "ArrayString::replace_range",
+        generics: "S: AsRef<str>",
+        from: "with: &str",
+        to: "with: S",
+        line: "let with = with.as_ref();",
+    },
+    bytes("ArrayString::try_from_utf8"),
+    bytes("ArrayString::from_utf8"),
+    bytes("ArrayString::from_utf8_unchecked"),
+    units("ArrayString::try_from_utf16"),
+    units("ArrayString::from_utf16"),
+    units("ArrayString::from_utf16_lossy"),
+    pieces("ArrayString::try_from_iterator"),
+    pieces("ArrayString::from_iterator"),
+    pieces("ArrayString::from_iterator_unchecked"),
+    pieces("ArrayString::extend_strs"),
+    pieces("ArrayString::add_strs"),
+    text("CacheString::try_from_str"),
+    text("CacheString::from_str_truncate"),
+    text("CacheString::from_str_unchecked"),
+    bytes("CacheString::try_from_utf8"),
+    bytes("CacheString::from_utf8"),
+    bytes("CacheString::from_utf8_unchecked"),
+    units("CacheString::try_from_utf16"),
+    units("CacheString::from_utf16"),
+    units("CacheString::from_utf16_lossy"),
+    pieces("CacheString::try_from_iterator"),
+    pieces("CacheString::from_iterator"),
+    pieces("CacheString::from_iterator_unchecked"),
+    Wider {
+        call: "utils::is_inside_boundary",
+        generics: "S: Into<usize>, L: Into<usize>",
+        from: "size: usize, limit: usize",
+        to: "size: S, limit: L",
+        line: "let (size, limit) = (size.into(), limit.into());",
+    },
+];
+
+/// A line that is another one in the Rust crate.
+pub struct Replaced {
+    pub file: &'static str,
+    pub from: &'static str,
+    pub to: &'static str,
+    pub why: &'static str,
+}
+
+pub const REPLACED: &[Replaced] = &[
+    Replaced {
+        file: "arraystring_base/src/steps.rt",
+        from: "self.moved += len as u64;",
+        to: "self.moved = self.moved.saturating_add(len as u64);",
+        why: "no precondition bounds the count",
+    },
+    Replaced {
+        file: "arraystring_base/src/steps.rt",
+        from: "steps.looked += 1;",
+        to: "steps.looked = steps.looked.saturating_add(1);",
+        why: "no precondition bounds the count",
+    },
+    Replaced {
+        file: "arraystring_core/src/lib.rt",
+        from: "mod place;",
+        to: "pub(crate) mod place;",
+        why: "`by_hand` calls `retain_at`",
+    },
+    Replaced {
+        file: "arraystring_core/src/array_string/remove.rt",
+        from: "use crate::place::retain_at;",
+        to: "use crate::by_hand::retain_at;",
+        why: "a closure may panic",
+    },
+    Replaced {
+        file: "arraystring_core/src/array_string/remove.rt",
+        from: "self.size = retain_at(&mut self.array, place, size, f) as u8;",
+        to: "retain_at(&mut self.array, &mut self.size, place, size, f);",
+        why: "a closure may panic",
+    },
+];
