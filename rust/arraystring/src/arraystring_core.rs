@@ -1,13 +1,15 @@
 // Made from crates/arraystring_core/src/lib.rt by rust/erase. A change goes there.
 //! `ArrayString`, a string of bounded size in an array inside the value, and its laws. It takes no
-//! memory, but where a JSON value is made.
+//! memory, but where a JSON value is made. Its tests are in `crates/arraystring_tests`.
 
 pub mod array_string;
+mod decode;
 pub mod drain;
 mod equal;
+mod gap;
 pub mod laws;
-pub(crate) mod place;
 mod range_ends;
+pub(crate) mod retain;
 pub mod utils;
 mod well_formed;
 

@@ -3,7 +3,7 @@
 use crate::cursor::{Fault, Kind, Token};
 use crate::edits::Edits;
 use crate::erase::Tally;
-use crate::rules::{CRATES, asked, is_unsafe};
+use crate::rules::{CRATES, is_unsafe};
 
 /// Rewrites a body, which is given by its tokens.
 pub fn rewrite(source: &str, tokens: &[Token], krate: &str, edits: &mut Edits, tally: &mut Tally) -> Result<(), Fault> {
@@ -21,10 +21,9 @@ pub fn rewrite(source: &str, tokens: &[Token], krate: &str, edits: &mut Edits, t
                 edits.replace(tokens[at].at.start..tokens[at + 2].at.start, "");
                 edits.replace(tokens[end - 1].at.end..tokens[end].at.end, "");
             }
-            let call = (at + 2..end).find(|at| body.text(at + 1) == "(").map_or("", |at| body.text(at));
-            let words = asked(call)
-                .ok_or_else(|| Fault::new(tokens[at].at.start, format!("an `unsafe` block with `{call}`")))?;
-            body.say(at, &format!("the proof of this body shows that {words}."), edits, tally);
+            if !body.has_reason(at) {
+                return Err(Fault::new(tokens[at].at.start, "an `unsafe` block without its line `// SAFETY: ..`"));
+            }
         } else if at >= safe_until && is_unsafe(text) && body.text(at + 1) == "(" && tokens[at].kind == Kind::Word {
             let start = body.path_start(at)?;
             if body.text(start) == "str" {
@@ -104,6 +103,12 @@ impl<'a> Body<'a> {
             }
             start -= step;
         }
+    }
+
+    /// Whether the line before that of a token says why it is right.
+    fn has_reason(&self, at: usize) -> bool {
+        let mut before = self.source[..self.tokens[at].at.start].rsplit('\n').skip(1);
+        before.next().is_some_and(|line| line.trim_start().starts_with("// SAFETY: "))
     }
 
     /// Puts a line with a reason before the line of a token.

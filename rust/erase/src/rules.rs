@@ -26,6 +26,7 @@ mod by_hand;
 pub const LEFT_OUT: &[LeftOut] = &[
     LeftOut { name: "integration", why: "it stands on `serde_json`, and the Rust crate has no dependency" },
     LeftOut { name: "json_reads_back", why: "a law about JSON texts" },
+    LeftOut { name: "json_reads_whole", why: "a law about JSON texts" },
 ];
 
 pub struct LeftOut {
@@ -71,7 +72,7 @@ pub const FATES: &[(&str, Fate)] = &[
     ("CacheString::from_chars_unchecked", Unsafe(MUST_FIT)),
     ("CacheString::from_utf8_unchecked", Unsafe(MUST_BE_TEXT)),
     ("utils::encode", Unsafe(MUST_LIE_IN_ARRAY)),
-    ("utils::write_over", Unsafe(MUST_LIE_IN_ARRAY)),
+    ("moves::write_over", Unsafe(MUST_LIE_IN_ARRAY)),
     ("utils::shift", Unsafe("Both runs must lie in the array.")),
     ("steps::look", Panics("Where the index is not below the length.", None)),
     ("ArrayString::slice", Panics(LIKE_STR, None)),
@@ -105,15 +106,6 @@ pub const FATES: &[(&str, Fate)] = &[
 
 /// The line in a body behind which the line of `Panics` is put.
 pub const BEHIND: &str = "let (start, end) = plain_ends(range, self.len());";
-
-/// What an `unsafe` block of a source asks for, by the call in it.
-pub const ASKED: &[(&str, &str)] =
-    &[("from_utf8_unchecked", "these bytes are UTF-8"), ("from_u32_unchecked", "this is a scalar value")];
-
-/// The words for what an `unsafe` block of a source asks for.
-pub fn asked(call: &str) -> Option<&'static str> {
-    ASKED.iter().find(|(name, _)| *name == call).map(|(_, words)| *words)
-}
 
 /// Whether a call by this name is `unsafe` in Rust.
 pub fn is_unsafe(name: &str) -> bool {
@@ -247,13 +239,13 @@ pub const REPLACED: &[Replaced] = &[
     },
     Replaced {
         file: "arraystring_core/src/lib.rt",
-        from: "mod place;",
-        to: "pub(crate) mod place;",
+        from: "mod retain;",
+        to: "pub(crate) mod retain;",
         why: "`by_hand` calls `retain_at`",
     },
     Replaced {
         file: "arraystring_core/src/array_string/remove.rt",
-        from: "use crate::place::retain_at;",
+        from: "use crate::retain::retain_at;",
         to: "use crate::by_hand::retain_at;",
         why: "a closure may panic",
     },

@@ -120,15 +120,16 @@ fn calls_that_are_unsafe_get_a_block_and_a_reason() {
     let source = "\
 fn put(&mut self) {
     if shift(&mut self.array, (1, 2), 3) {
+        // SAFETY: it is UTF-8.
         self.push_unchecked(Self::from_utf8_unchecked(unsafe { str::from_utf8_unchecked(s) }));
     }
 }
 ";
     let text = made(source).unwrap();
     assert!(text.contains("    // SAFETY: the proof of this body shows what `shift` requires.\n    if unsafe { shift(&mut self.array, (1, 2), 3) } {\n"), "{text}");
-    let nested = "`push_unchecked` requires.
+    let nested = "        // SAFETY: it is UTF-8.
+        // SAFETY: the proof of this body shows what `push_unchecked` requires.
         // SAFETY: the proof of this body shows what `from_utf8_unchecked` requires.
-        // SAFETY: the proof of this body shows that these bytes are UTF-8.
         unsafe { self.push_unchecked(Self::from_utf8_unchecked(str::from_utf8_unchecked(s))) };\n";
     assert!(text.contains(nested), "{text}");
 }
@@ -150,7 +151,7 @@ fn what_is_not_read_stops_at_its_line() {
         ("\n\n#[cfg(unix)]\nfn f() {}\n", "3: the attribute `#[cfg(unix)]`"),
         ("fn f()\n    decreases { n }\n{}\n", "3: an item that begins with `{`"),
         ("fn f()\n    ensures { n\n", "2: a bracket that is not closed"),
-        ("fn f() { unsafe { g() } }\n", "1: an `unsafe` block with `g`"),
+        ("fn f() { unsafe { g() } }\n", "1: an `unsafe` block without its line `// SAFETY: ..`"),
         ("impl Model for S {}\n", "1: a model of `S`, which is not documented above it"),
     ];
     for (source, why) in refused {

@@ -160,7 +160,13 @@ fn move_pairs<const N: usize, const K: usize>(
     put_pair(array, to + rest, before_end, end);
 }
 
-/// Writes `given` over the bytes from `at` on. Up to 16 bytes cost no call.
+/// Writes `given` over the bytes of the array from the offset `at` on. It must fit into the array from
+/// there. No other byte changes. Up to 16 bytes cost no call, so that a function that makes no other
+/// has no register to save.
+///
+/// # Safety
+///
+/// What is written must lie in the array.
 ///
 /// # Contract
 ///
@@ -169,7 +175,7 @@ fn move_pairs<const N: usize, const K: usize>(
 /// ensures { array.new ≡ take at array.old ++ (given.now ++ drop (at + length given.now) array.old) }
 /// ```
 #[inline(always)]
-pub(crate) fn copy_run<const N: usize>(array: &mut [u8; N], at: usize, given: &[u8]) {
+pub unsafe fn write_over<const N: usize>(array: &mut [u8; N], at: usize, given: &[u8]) {
     let len = given.len();
     if len > 16 {
         let all = &mut array[..];

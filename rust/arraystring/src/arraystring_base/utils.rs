@@ -2,7 +2,8 @@
 //! Boundaries, cuts and moves of bytes. Sizes and indices count bytes of UTF-8.
 
 use crate::arraystring_base::error::OutOfBounds;
-use crate::arraystring_base::moves::{copy_run, move_run};
+use crate::arraystring_base::moves::move_run;
+pub use crate::arraystring_base::moves::write_over;
 pub use crate::arraystring_base::steps::{Steps, look};
 use core::char;
 
@@ -178,24 +179,6 @@ pub unsafe fn shift<const N: usize>(
     }
 }
 
-/// Writes `given` over the bytes of the array from the offset `at` on. Up to 16 bytes cost no call. It
-/// must fit into the array from there. No other byte changes.
-///
-/// # Safety
-///
-/// What is written must lie in the array.
-///
-/// # Contract
-///
-/// ```text
-/// requires { at + length given.now ≤ N }
-/// ensures { array.new ≡ take at array.old ++ (given.now ++ drop (at + length given.now) array.old) }
-/// ```
-#[inline(always)]
-pub unsafe fn write_over<const N: usize>(array: &mut [u8; N], at: usize, given: &[u8]) {
-    copy_run(array, at, given);
-}
-
 /// Whether a byte continues a character that began before it.
 ///
 /// # Contract
@@ -255,24 +238,24 @@ fn char_before_end(text: &str, steps: &mut Steps) -> (usize, char) {
     let end = all.len();
     let last = look(all, end - 1, steps) as u32;
     if last < 0x80 {
-        // SAFETY: the proof of this body shows that this is a scalar value.
+        // SAFETY: a number below 0x80 is a scalar value.
         return (end - 1, unsafe { char::from_u32_unchecked(last) });
     }
     let second = look(all, end - 2, steps) as u32;
     if second >= 0xC0 {
         let code = (second - 0xC0) * 64 + (last - 0x80);
-        // SAFETY: the proof of this body shows that this is a scalar value.
+        // SAFETY: a `&str` is UTF-8, so two bytes of it that begin so spell a scalar value.
         return (end - 2, unsafe { char::from_u32_unchecked(code) });
     }
     let third = look(all, end - 3, steps) as u32;
     if third >= 0xC0 {
         let code = (third - 0xE0) * 4096 + (second - 0x80) * 64 + (last - 0x80);
-        // SAFETY: the proof of this body shows that this is a scalar value.
+        // SAFETY: as of two bytes.
         return (end - 3, unsafe { char::from_u32_unchecked(code) });
     }
     let fourth = look(all, end - 4, steps) as u32;
     let front = (fourth - 0xF0) * 262_144 + (third - 0x80) * 4096;
     let code = front + (second - 0x80) * 64 + (last - 0x80);
-    // SAFETY: the proof of this body shows that this is a scalar value.
+    // SAFETY: as of two bytes.
     (end - 4, unsafe { char::from_u32_unchecked(code) })
 }

@@ -1,18 +1,17 @@
 // Made from crates/arraystring_core/src/array_string.rt by rust/erase. A change goes there.
-//! `ArrayString`: the type, what it shows, and what is added and taken at its end. The modules
-//! below hold its other calls.
+//! `ArrayString`: the type, what it shows, and what is added and taken at its end. The modules below
+//! hold its other calls, and `edit` the private ones that reach its array.
 
 use crate::arraystring_core::equal::equal;
-use crate::arraystring_core::place::{copy_in, open_gap, open_gap_at_start};
+use crate::arraystring_core::gap::write_by_call;
 use crate::arraystring_base::error::OutOfBounds;
-use crate::arraystring_base::utils::{
-    Steps, encode, is_boundary, last_char, shift, truncate_str, write_over,
-};
+use crate::arraystring_base::utils::{Steps, encode, last_char, truncate_str};
 use core::{fmt, str};
 
 mod ascii;
 mod compare;
 mod construct;
+mod edit;
 mod extend;
 mod insert;
 mod range;
@@ -112,7 +111,7 @@ impl<const N: usize> ArrayString<N> {
     pub fn as_str(&self) -> &str {
         let start = self.start as usize;
         let all = &self.array[..];
-        // SAFETY: the proof of this body shows that these bytes are UTF-8.
+        // SAFETY: the type's `invariant`: the `size` bytes from `start` on are UTF-8.
         unsafe { str::from_utf8_unchecked(&all[start..start + self.size as usize]) }
     }
 
@@ -243,7 +242,7 @@ impl<const N: usize> ArrayString<N> {
             return self.push_str_at_start(string);
         }
         self.size = (self.size as usize + string.len()) as u8;
-        copy_in(&mut self.array, end, string.as_bytes());
+        write_by_call(&mut self.array, end, string.as_bytes());
     }
 
     /// Takes the last character; `None` where the text is empty.
@@ -281,257 +280,6 @@ impl<const N: usize> ArrayString<N> {
         let (start, ch) = last_char(self.as_str(), steps)?;
         self.keep(start as u8);
         Some(ch)
-    }
-
-    /// Whether a character begins at `at`, or the text ends there.
-    ///
-    /// # Contract
-    ///
-    /// ```text
-    /// ensures { result ≡ boundary self.now.text at }
-    /// ```
-    #[inline]
-    fn is_boundary(&self, at: usize) -> bool {
-        is_boundary(self.as_str(), at)
-    }
-
-    /// Whether there is room for `ch` after `len` bytes. Where there is room for four more, its
-    /// width is not asked.
-    ///
-    /// # Contract
-    ///
-    /// ```text
-    /// requires { len ≤ 255 }
-    /// ensures { IsTrue result ↔ (len + width ch ≤ cap N) }
-    /// ```
-    #[inline(always)]
-    fn has_room(len: usize, ch: char) -> bool {
-        let capacity = Self::capacity() as usize;
-        len + 4 <= capacity || len + ch.len_utf8() <= capacity
-    }
-
-    /// `try_push` where there may be less room than for four bytes after the text.
-    ///
-    /// # Contract
-    ///
-    /// ```text
-    /// ensures { Makes (addition self.old.text (ch ∷ []) (cap N)) self.old.text (from_out_of_bounds result) self.new.text }
-    /// ```
-    #[cold]
-    #[inline(never)]
-    fn try_push_near_end(&mut self, ch: char) -> Result<(), OutOfBounds> {
-        let len = ch.len_utf8();
-        let size = self.len() as usize;
-        if size + len > Self::capacity() as usize {
-            return Err(OutOfBounds);
-        }
-        if self.start as usize + size + len > Self::capacity() as usize {
-            self.put_char_at_start(size, ch);
-        } else {
-            // SAFETY: the proof of this body shows what `push_unchecked` requires.
-            unsafe { self.push_unchecked(ch) };
-        }
-        Ok(())
-    }
-
-    /// Adds `ch` at the end of a text that has to move to the start of the array for it.
-    ///
-    /// # Contract
-    ///
-    /// ```text
-    /// requires { size self.old.text + width ch ≤ cap N }
-    /// ensures { self.new.text ≡ self.old.text ++ ch ∷ [] }
-    /// ```
-    #[cold]
-    #[inline(never)]
-    fn push_at_start(&mut self, ch: char) {
-        let len = self.len() as usize;
-        self.put_char_at_start(len, ch);
-    }
-
-    /// Adds `string` at the end of a text that has to move to the start of the array for it.
-    ///
-    /// # Contract
-    ///
-    /// ```text
-    /// requires { size self.old.text + size (chars string.now) ≤ cap N }
-    /// ensures { self.new.text ≡ self.old.text ++ chars string.now }
-    /// ```
-    #[cold]
-    #[inline(never)]
-    fn push_str_at_start(&mut self, string: &str) {
-        let len = self.len() as usize;
-        self.splice_at_start(len, len, string, &mut Steps::new());
-    }
-
-    /// Puts `given` in place of the text between two boundaries. There must be room for it.
-    ///
-    /// # Contract
-    ///
-    /// ```text
-    /// requires order { start ≤ end }
-    /// requires start { IsTrue (boundary self.old.text start) }
-    /// requires end { IsTrue (boundary self.old.text end) }
-    /// requires room { size self.old.text - (end - start) + size (chars given.now) ≤ cap N }
-    /// requires countable { steps.old.moved ≤ 2 ^ 63 }
-    /// ensures text { self.new.text ≡ front self.old.text start ++ (chars given.now ++ back self.old.text end) }
-    /// ensures tail_alone { size (chars given.now) ≤ end - start → steps.new.moved ≤ steps.old.moved + (size self.old.text - end) }
-    /// ensures most { steps.new.moved ≤ steps.old.moved + (start + (size self.old.text - end)) }
-    /// ensures least { end ≢ start + size (chars given.now) → steps.old.moved + min start (size self.old.text - end) ≤ steps.new.moved }
-    /// ensures counted { steps.old.moved ≤ steps.new.moved }
-    /// ensures looked { steps.new.looked ≡ steps.old.looked }
-    /// ```
-    #[inline(always)]
-    fn splice(&mut self, start: usize, end: usize, given: &str, steps: &mut Steps) {
-        let (place, size) = (self.start as usize, self.size as usize);
-        let len = given.len();
-        let tail = size - end;
-        if place + (start + (len + tail)) > Self::capacity() as usize {
-            return self.splice_at_start(start, end, given, steps);
-        }
-        self.size = (start + (len + tail)) as u8;
-        open_gap(&mut self.array, place, size, start, end, len, steps);
-        // SAFETY: the proof of this body shows what `write_over` requires.
-        unsafe { write_over(&mut self.array, place + start, given.as_bytes()) };
-    }
-
-    /// The same where the text moves to the start of the array for it.
-    ///
-    /// # Contract
-    ///
-    /// ```text
-    /// requires order { start ≤ end }
-    /// requires start { IsTrue (boundary self.old.text start) }
-    /// requires end { IsTrue (boundary self.old.text end) }
-    /// requires room { size self.old.text - (end - start) + size (chars given.now) ≤ cap N }
-    /// requires countable { steps.old.moved ≤ 2 ^ 63 }
-    /// ensures text { self.new.text ≡ front self.old.text start ++ (chars given.now ++ back self.old.text end) }
-    /// ensures most { steps.new.moved ≤ steps.old.moved + (start + (size self.old.text - end)) }
-    /// ensures least { end ≢ start + size (chars given.now) → steps.old.moved + min start (size self.old.text - end) ≤ steps.new.moved }
-    /// ensures counted { steps.old.moved ≤ steps.new.moved }
-    /// ensures looked { steps.new.looked ≡ steps.old.looked }
-    /// ```
-    #[cold]
-    #[inline(never)]
-    fn splice_at_start(&mut self, start: usize, end: usize, given: &str, steps: &mut Steps) {
-        let (place, size) = (self.start as usize, self.size as usize);
-        let len = given.len();
-        self.start = 0;
-        self.size = (start + (len + (size - end))) as u8;
-        open_gap_at_start(&mut self.array, place, size, start, end, len, steps);
-        copy_in(&mut self.array, start, given.as_bytes());
-    }
-
-    /// Puts `ch` at a boundary. There must be room for it.
-    ///
-    /// # Contract
-    ///
-    /// ```text
-    /// requires boundary { IsTrue (boundary self.old.text at) }
-    /// requires room { size self.old.text + width ch ≤ cap N }
-    /// ensures { self.new.text ≡ front self.old.text at ++ (ch ∷ back self.old.text at) }
-    /// ```
-    #[inline(always)]
-    fn put_char(&mut self, at: usize, ch: char) {
-        let (place, size) = (self.start as usize, self.size as usize);
-        let len = ch.len_utf8();
-        if place + size + len > Self::capacity() as usize {
-            return self.insert_at_start(at, ch);
-        }
-        self.size = (at + (len + (size - at))) as u8;
-        open_gap(&mut self.array, place, size, at, at, len, &mut Steps::new());
-        // SAFETY: the proof of this body shows what `encode` requires.
-        unsafe { encode(ch, &mut self.array, place + at) };
-    }
-
-    /// The same where the text moves to the start of the array for it, as a call.
-    ///
-    /// # Contract
-    ///
-    /// ```text
-    /// requires boundary { IsTrue (boundary self.old.text at) }
-    /// requires room { size self.old.text + width ch ≤ cap N }
-    /// ensures { self.new.text ≡ front self.old.text at ++ (ch ∷ back self.old.text at) }
-    /// ```
-    #[cold]
-    #[inline(never)]
-    fn insert_at_start(&mut self, at: usize, ch: char) {
-        self.put_char_at_start(at, ch);
-    }
-
-    /// The same without a call.
-    ///
-    /// # Contract
-    ///
-    /// ```text
-    /// requires boundary { IsTrue (boundary self.old.text at) }
-    /// requires room { size self.old.text + width ch ≤ cap N }
-    /// ensures { self.new.text ≡ front self.old.text at ++ (ch ∷ back self.old.text at) }
-    /// ```
-    #[inline(always)]
-    fn put_char_at_start(&mut self, at: usize, ch: char) {
-        let (place, size) = (self.start as usize, self.size as usize);
-        let len = ch.len_utf8();
-        self.start = 0;
-        self.size = (at + (len + (size - at))) as u8;
-        open_gap_at_start(&mut self.array, place, size, at, at, len, &mut Steps::new());
-        // SAFETY: the proof of this body shows what `encode` requires.
-        unsafe { encode(ch, &mut self.array, at) };
-    }
-
-    /// Takes out the text between two boundaries, without a move where it begins at index 0.
-    ///
-    /// # Contract
-    ///
-    /// ```text
-    /// requires order { start ≤ end }
-    /// requires start { IsTrue (boundary self.old.text start) }
-    /// requires end { IsTrue (boundary self.old.text end) }
-    /// requires countable { steps.old.moved ≤ 2 ^ 63 }
-    /// ensures text { self.new.text ≡ front self.old.text start ++ back self.old.text end }
-    /// ensures free { start ≡ 0 → steps.new.moved ≡ steps.old.moved }
-    /// ensures tail_alone { steps.new.moved ≤ steps.old.moved + (size self.old.text - end) }
-    /// ensures least { start ≢ end → steps.old.moved + min start (size self.old.text - end) ≤ steps.new.moved }
-    /// ensures counted { steps.old.moved ≤ steps.new.moved }
-    /// ensures looked { steps.new.looked ≡ steps.old.looked }
-    /// ```
-    #[inline]
-    fn take_out(&mut self, start: usize, end: usize, steps: &mut Steps) {
-        if start == 0 {
-            return self.drop_front(end);
-        }
-        let (place, size) = (self.start as usize, self.size as usize);
-        let tail = size - end;
-        self.size = (start + tail) as u8;
-        // SAFETY: the proof of this body shows what `shift` requires.
-        unsafe { shift(&mut self.array, place + end, place + start, tail, steps) };
-    }
-
-    /// Drops the part before a boundary, without a move.
-    ///
-    /// # Contract
-    ///
-    /// ```text
-    /// requires { IsTrue (boundary self.old.text end) }
-    /// ensures { self.new.text ≡ back self.old.text end }
-    /// ```
-    #[inline]
-    fn drop_front(&mut self, end: usize) {
-        self.start = (self.start as usize + end) as u8;
-        self.size = (self.size as usize - end) as u8;
-    }
-
-    /// Keeps the part before a boundary.
-    ///
-    /// # Contract
-    ///
-    /// ```text
-    /// requires { IsTrue (boundary self.old.text size) }
-    /// ensures { self.new.text ≡ front self.old.text size }
-    /// ```
-    #[inline]
-    fn keep(&mut self, size: u8) {
-        self.size = size;
     }
 }
 

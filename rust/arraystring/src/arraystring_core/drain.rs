@@ -20,7 +20,7 @@ mod compare;
 /// ghost Value = { Drained };
 /// ghost view = { λ d. drained (stored d.array d.start d.size) d.front };
 /// ghost invariant = { λ d. IsStored N d.array d.start d.size × IsDrained N (stored d.array d.start d.size) d.front };
-/// ghost inverse = { λ v. let removed : Stored = record { text = v.yielded ++ v.left; spare = v.spare } in
+/// ghost inverse = { λ v. let removed = removed_of v in
 ///     record { front = text_size v.yielded; start = start_of removed; size = text_size removed.text; array = array_of removed } };
 /// ghost inverse_ok = { λ d h i. record {
 ///   front = drained-front N (stored d.array d.start d.size) d.front h.1 i;
@@ -72,7 +72,7 @@ impl<const N: usize> Drain<N> {
         let all = &self.array[..];
         let start = self.start as usize;
         let (front, end) = (start + self.front as usize, start + self.size as usize);
-        // SAFETY: the proof of this body shows that these bytes are UTF-8.
+        // SAFETY: the type's `invariant`: the removed text is UTF-8, and `front` is a boundary of it.
         unsafe { str::from_utf8_unchecked(&all[front..end]) }
     }
 }

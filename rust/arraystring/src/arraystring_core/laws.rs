@@ -2,6 +2,34 @@
 //! Laws of strings, which callers may rely on. Each does nothing when it is called and carries its
 //! fact in its contract.
 
+use crate::arraystring_core::{ArrayString, Drain};
+
+/// The text of a string fits its capacity.
+///
+/// # Contract
+///
+/// ```text
+/// ensures { size string.now.text ≤ cap N }
+/// ```
+#[inline]
+pub fn text_fits<const N: usize>(string: &ArrayString<N>) {
+    // The invariant of a type is known of a value only where something is asked of it.
+    let _ = string.len();
+}
+
+/// What is left of a drain fits the capacity of the string from which it was taken.
+///
+/// # Contract
+///
+/// ```text
+/// ensures { size drained.now.left ≤ cap N }
+/// ```
+#[inline]
+pub fn left_fits<const N: usize>(drained: &Drain<N>) {
+    // As in `text_fits`.
+    let _ = drained.as_str();
+}
+
 /// What comes after characters or pieces that no longer fit changes no cut.
 ///
 /// # Contract

@@ -1,12 +1,12 @@
 // Made from crates/arraystring_core/src/well_formed.rt by rust/erase. A change goes there.
-//! The test of UTF-8: of ASCII many bytes at a time, else by std.
+//! The test of UTF-8: of ASCII many bytes at a time, of other characters one at a time, and by std of what is then left.
 
 use crate::arraystring_base::error::Utf8;
 use crate::by_hand::simd::Simd;
 use core::str;
 
 /// The text whose UTF-8 is `given`. Refused where `given` is not well-formed. Most texts are ASCII,
-/// for which a test by blocks is enough; std tests the others, and those of fewer than 16 bytes.
+/// for which a test by blocks is enough.
 ///
 /// # Contract
 ///
@@ -16,13 +16,99 @@ use core::str;
 #[inline]
 pub(crate) fn read_utf8(given: &[u8]) -> Result<&str, Utf8> {
     if given.len() >= 16 && is_ascii(given) {
-        // SAFETY: the proof of this body shows that these bytes are UTF-8.
+        // SAFETY: ASCII is UTF-8 (the clause of `is_ascii`).
         return Ok(unsafe { str::from_utf8_unchecked(given) });
     }
-    match str::from_utf8(given) {
-        Ok(string) => Ok(string),
+    read_characters(given)
+}
+
+/// The same of any text. std tests what is left behind the characters that a quick test takes, so std
+/// alone refuses.
+///
+/// # Contract
+///
+/// ```text
+/// ensures { MatchResult result (λ string. (string.now ≡ given.now) × IsUtf8 given.now) (λ _. ¬ (IsUtf8 given.now)) }
+/// ```
+#[inline(never)]
+fn read_characters(given: &[u8]) -> Result<&str, Utf8> {
+    match str::from_utf8(behind_characters(given)) {
+        // SAFETY: what is left is UTF-8 by std, so all is (the clause of `behind_characters`).
+        Ok(_) => Ok(unsafe { str::from_utf8_unchecked(given) }),
         Err(_) => Err(Utf8),
     }
+}
+
+/// What is left behind the characters that a quick test takes: fewer than four bytes, or bytes that begin
+/// with no character.
+///
+/// # Contract
+///
+/// ```text
+/// ensures { IsUtf8 given.now ↔ IsUtf8 result.now }
+/// ```
+#[inline]
+fn behind_characters(given: &[u8]) -> &[u8] {
+    let mut rest = given;
+    while rest.len() >= 4 {
+        let taken = characters_at_front(rest);
+        if taken == 0 {
+            break;
+        }
+        rest = &rest[taken..];
+    }
+    rest
+}
+
+/// How many bytes the first character takes, by the Unicode Standard's table of well-formed UTF-8 byte
+/// sequences (section 3.9, table 3-7), of which each row is an arm. Four characters of ASCII are taken
+/// together with those that follow. 0 where no character is at the front.
+///
+/// # Contract
+///
+/// ```text
+/// requires four { 4 ≤ length bytes.now }
+/// ensures within { result ≤ length bytes.now }
+/// ensures characters { IsUtf8 (take result bytes.now) }
+/// ```
+#[inline(always)]
+fn characters_at_front(bytes: &[u8]) -> usize {
+    match bytes {
+        [
+            0x00..=0x7F,
+            0x00..=0x7F,
+            0x00..=0x7F,
+            0x00..=0x7F,
+            rest @ ..,
+        ] => 4 + ascii_at_front(rest),
+        [0x00..=0x7F, ..] => 1,
+        [0xC2..=0xDF, 0x80..=0xBF, ..] => 2,
+        [0xE0, 0xA0..=0xBF, 0x80..=0xBF, ..] => 3,
+        [0xE1..=0xEC, 0x80..=0xBF, 0x80..=0xBF, ..] => 3,
+        [0xED, 0x80..=0x9F, 0x80..=0xBF, ..] => 3,
+        [0xEE..=0xEF, 0x80..=0xBF, 0x80..=0xBF, ..] => 3,
+        [0xF0, 0x90..=0xBF, 0x80..=0xBF, 0x80..=0xBF, ..] => 4,
+        [0xF1..=0xF3, 0x80..=0xBF, 0x80..=0xBF, 0x80..=0xBF, ..] => 4,
+        [0xF4, 0x80..=0x8F, 0x80..=0xBF, 0x80..=0xBF, ..] => 4,
+        _ => 0,
+    }
+}
+
+/// How many bytes at the front are ASCII, in whole blocks of 16.
+///
+/// # Contract
+///
+/// ```text
+/// ensures within { result ≤ length bytes.now }
+/// ensures ascii { (k : ℕ) → k < result → slice_index bytes.now k < 128 }
+/// ```
+#[inline(always)]
+fn ascii_at_front(bytes: &[u8]) -> usize {
+    let mut at = 0;
+    while bytes.len() - at >= 16 && is_ascii_block::<16>(bytes, at) {
+        at += 16;
+    }
+    at
 }
 
 /// Whether all bytes are ASCII.

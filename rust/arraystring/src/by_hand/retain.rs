@@ -3,7 +3,7 @@
 //! The proved loop has the array in a state between two texts while it calls the closure: what is kept lies in two runs.
 //! That is no fault there, since nothing unwinds. Here the two runs are put together before the caller sees the string.
 
-use crate::arraystring_core::place;
+use crate::arraystring_core::retain;
 
 /// What the proved loop has done when it calls the closure: the first `kept` bytes of the text stay, and so do those from
 /// `run` to `read`, which were not moved yet.
@@ -53,7 +53,7 @@ pub(crate) fn retain_at<const N: usize, F: FnMut(char) -> bool>(
 ) {
     let progress = Progress { kept: 0, run: 0, read: 0 };
     let mut text = Unfinished { array, size, place, progress };
-    let left = place::retain_at(text.array, place, len, |ch| {
+    let left = retain::retain_at(text.array, place, len, |ch| {
         let keeps = f(ch);
         text.progress.answer(ch, keeps);
         keeps

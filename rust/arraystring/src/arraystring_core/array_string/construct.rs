@@ -2,7 +2,7 @@
 //! The constructors: from a text, from pieces, from characters and from bytes of UTF-8.
 
 use super::ArrayString;
-use crate::arraystring_core::place::copy_in;
+use crate::arraystring_core::gap::write_by_call;
 use crate::arraystring_core::well_formed::read_utf8;
 use crate::arraystring_base::error::{Error, OutOfBounds, Utf8};
 use crate::arraystring_base::utils::truncate_str;
@@ -27,7 +27,7 @@ impl<const N: usize> ArrayString<N> {
             start: 0,
             size: size as u8,
         };
-        copy_in(&mut made.array, 0, &string.as_bytes()[..size]);
+        write_by_call(&mut made.array, 0, &string.as_bytes()[..size]);
         let mut result = Ok(made);
         if !fits {
             result = Err(OutOfBounds);
@@ -65,7 +65,7 @@ impl<const N: usize> ArrayString<N> {
     pub unsafe fn from_str_unchecked<S: AsRef<str>>(string: S) -> Self {
         let string = string.as_ref();
         let mut array = [0; N];
-        copy_in(&mut array, 0, string.as_bytes());
+        write_by_call(&mut array, 0, string.as_bytes());
         ArrayString {
             array,
             start: 0,
@@ -294,8 +294,8 @@ impl<const N: usize> ArrayString<N> {
     #[inline]
     pub unsafe fn from_utf8_unchecked<B: AsRef<[u8]>>(given: B) -> Self {
         let given = given.as_ref();
+        // SAFETY: the precondition `well_formed`.
         // SAFETY: the proof of this body shows what `from_str_unchecked` requires.
-        // SAFETY: the proof of this body shows that these bytes are UTF-8.
         unsafe { Self::from_str_unchecked(str::from_utf8_unchecked(given)) }
     }
 }

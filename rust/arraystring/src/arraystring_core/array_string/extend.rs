@@ -2,6 +2,7 @@
 //! What is added from an iterator that is handed in.
 
 use super::ArrayString;
+use crate::arraystring_core::laws::text_fits;
 use crate::arraystring_base::error::OutOfBounds;
 
 impl<const N: usize> ArrayString<N> {
@@ -66,8 +67,7 @@ impl<const N: usize> ArrayString<N> {
         &mut self,
         characters: I,
     ) -> Result<(), OutOfBounds> {
-        // From here on it is known that the text fits.
-        let _ = self.len();
+        text_fits(self);
         for ch in characters {
             if let Err(refusal) = self.try_push(ch) {
                 return Err(refusal);
@@ -92,8 +92,7 @@ impl<const N: usize> ArrayString<N> {
         &mut self,
         pieces: I,
     ) -> Result<(), OutOfBounds> {
-        // From here on it is known that the text fits.
-        let _ = self.len();
+        text_fits(self);
         for piece in pieces {
             let piece = piece.as_ref();
             if let Err(refusal) = self.try_push_str(piece) {

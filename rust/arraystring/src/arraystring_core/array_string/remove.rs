@@ -2,6 +2,7 @@
 //! What is taken out of a string.
 
 use crate::arraystring_core::ArrayString;
+use crate::arraystring_core::decode::first_char;
 use crate::by_hand::retain_at;
 use crate::arraystring_base::error::{Error, Utf8};
 use crate::arraystring_base::utils::Steps;
@@ -158,11 +159,6 @@ impl<const N: usize> ArrayString<N> {
     /// ```
     #[inline]
     fn char_at(&self, at: usize) -> (char, usize) {
-        let text = &self.as_str()[at..];
-        let mut rest = text.chars();
-        let Some(ch) = rest.next() else {
-            unreachable!();
-        };
-        (ch, text.len() - rest.as_str().len())
+        first_char(&self.as_str()[at..])
     }
 }

@@ -2,6 +2,7 @@
 //! The ends of a string are trimmed.
 
 use crate::arraystring_core::ArrayString;
+use crate::arraystring_core::laws::text_fits;
 use crate::arraystring_base::utils::{Steps, last_char};
 
 impl<const N: usize> ArrayString<N> {
@@ -73,8 +74,7 @@ impl<const N: usize> ArrayString<N> {
     /// ```
     #[inline]
     fn drop_trailing<F: Fn(char) -> bool>(&mut self, drops: F, steps: &mut Steps) {
-        // A look at a field, after which the proof knows that the text fits.
-        let _ = &self.array;
+        text_fits(self);
         while let Some((start, ch)) = last_char(self.as_str(), steps) {
             if !drops(ch) {
                 break;

@@ -1,0 +1,22 @@
+// Made from crates/arraystring_core/src/decode.rt by rust/erase. A change goes there.
+//! The character at the start of a text.
+
+/// The first character of a text that has one, and how many bytes it takes.
+///
+/// # Contract
+///
+/// ```text
+/// requires { 0 < length text.now }
+/// ensures first { (rest : List ℕ) × (text.now ≡ utf8 result.0 ++ rest) }
+/// ensures width { result.1 ≡ width result.0 }
+/// ensures some { 0 < result.1 }
+/// ensures within { result.1 ≤ length text.now }
+/// ```
+#[inline]
+pub(crate) fn first_char(text: &str) -> (char, usize) {
+    let mut rest = text.chars();
+    let Some(ch) = rest.next() else {
+        unreachable!();
+    };
+    (ch, text.len() - rest.as_str().len())
+}

@@ -1,0 +1,100 @@
+// Made from crates/arraystring_core/src/gap.rt by rust/erase. A change goes there.
+//! Gaps in an array, into which a text is put, and what is written into them.
+
+use crate::arraystring_base::utils::{Steps, shift};
+
+/// Where a text lies in its array: the `size` bytes from the offset `offset` on.
+#[derive(Clone, Copy)]
+pub(crate) struct Span {
+    pub(crate) offset: usize,
+    pub(crate) size: usize,
+}
+
+/// Opens a gap of `len` bytes in place of the bytes from `start` to `end` of a text. There must be
+/// room after the text: it keeps its offset, and only the bytes after the gap move.
+///
+/// # Contract
+///
+/// ```text
+/// requires order { start ≤ end }
+/// requires within { end ≤ text.size }
+/// requires held { text.offset + text.size ≤ cap N }
+/// requires room { text.offset + (start + (len + (text.size - end))) ≤ cap N }
+/// requires countable { steps.old.moved ≤ 2 ^ 63 }
+/// ensures len { length array.new ≡ N }
+/// ensures front { take start (drop text.offset array.new) ≡ take start (drop text.offset array.old) }
+/// ensures tail { take (text.size - end) (drop (text.offset + (start + len)) array.new) ≡ take (text.size - end) (drop (text.offset + end) array.old) }
+/// ensures most { steps.new.moved ≤ steps.old.moved + (text.size - end) }
+/// ensures least { end ≢ start + len → steps.old.moved + (text.size - end) ≤ steps.new.moved }
+/// ensures counted { steps.old.moved ≤ steps.new.moved }
+/// ensures looked { steps.new.looked ≡ steps.old.looked }
+/// ```
+#[inline(always)]
+pub(crate) fn open_gap<const N: usize>(
+    array: &mut [u8; N],
+    text: Span,
+    start: usize,
+    end: usize,
+    len: usize,
+    steps: &mut Steps,
+) {
+    let tail = text.size - end;
+    // SAFETY: the proof of this body shows what `shift` requires.
+    unsafe { shift(
+        array,
+        text.offset + end,
+        text.offset + (start + len),
+        tail,
+        steps,
+    ) };
+}
+
+/// The same for a text that moves to the start of the array. Each byte moves at most once.
+///
+/// # Contract
+///
+/// ```text
+/// requires order { start ≤ end }
+/// requires within { end ≤ text.size }
+/// requires held { text.offset + text.size ≤ cap N }
+/// requires room { start + (len + (text.size - end)) ≤ cap N }
+/// requires countable { steps.old.moved ≤ 2 ^ 63 }
+/// ensures len { length array.new ≡ N }
+/// ensures front { take start array.new ≡ take start (drop text.offset array.old) }
+/// ensures tail { take (text.size - end) (drop (start + len) array.new) ≡ take (text.size - end) (drop (text.offset + end) array.old) }
+/// ensures most { steps.new.moved ≤ steps.old.moved + (start + (text.size - end)) }
+/// ensures least { end ≢ start + len → steps.old.moved + min start (text.size - end) ≤ steps.new.moved }
+/// ensures counted { steps.old.moved ≤ steps.new.moved }
+/// ensures looked { steps.new.looked ≡ steps.old.looked }
+/// ```
+#[inline(always)]
+pub(crate) fn open_gap_at_start<const N: usize>(
+    array: &mut [u8; N],
+    text: Span,
+    start: usize,
+    end: usize,
+    len: usize,
+    steps: &mut Steps,
+) {
+    let tail = text.size - end;
+    // SAFETY: the proof of this body shows what `shift` requires.
+    unsafe { shift(array, text.offset, 0, start, steps) };
+    // SAFETY: the proof of this body shows what `shift` requires.
+    unsafe { shift(array, text.offset + end, start + len, tail, steps) };
+}
+
+/// Writes `given` over the bytes from `at` on, by one call whatever its length. It is for texts that may
+/// be long and for functions that make a call anyway; `write_over` is for those that make no other, and
+/// takes more code at each place.
+///
+/// # Contract
+///
+/// ```text
+/// requires { at + length given.now ≤ N }
+/// ensures { array.new ≡ take at array.old ++ (given.now ++ drop (at + length given.now) array.old) }
+/// ```
+#[inline]
+pub(crate) fn write_by_call<const N: usize>(array: &mut [u8; N], at: usize, given: &[u8]) {
+    let all = &mut array[..];
+    all[at..at + given.len()].copy_from_slice(given);
+}
