@@ -11,7 +11,7 @@ const USERS: u32 = 211;
 
 /// The user of a turn, of an order in which the ranks are mixed.
 fn mixed(turn: u32) -> User {
-    ranked((turn * 90 % USERS) as u16)
+    ranked((turn.wrapping_mul(90) % USERS) as u16)
 }
 
 /// With no memory at all, each user is given another role and is taken out, once and no second time.

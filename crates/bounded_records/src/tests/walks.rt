@@ -17,7 +17,7 @@ fn of_ranks(rt: &(impl Abort + AllocGlobal), count: u16) -> Directory {
 
 /// Both walks have these ranks left, by their lengths, and by a clone that is walked to its end.
 fn has_left(rt: &impl Abort, names: &Names, users: &Users, front: u16, back: u16) {
-    let left = (back - front) as usize;
+    let left = back.saturating_sub(front) as usize;
     agree(rt, names.len(), left);
     agree(rt, names.size_hint(), (left, Some(left)));
     agree(rt, users.len(), left);
@@ -50,13 +50,13 @@ fn walk(rt: &impl Abort, directory: &Directory, count: u16, ends: u32)
             break;
         }
         has_left(rt, &names, &users, front, back);
-        if ends >> (step % 8) & 1 == 0 {
+        if (ends >> (step % 8)) & 1 == 0 {
             let wanted = ranked(front);
             agree(rt, names.next(), Some(&wanted.username));
             agree(rt, users.next(), Some(&wanted));
-            front += 1;
+            front = front.saturating_add(1);
         } else {
-            back -= 1;
+            back = back.saturating_sub(1);
             let wanted = ranked(back);
             agree(rt, names.next_back(), Some(&wanted.username));
             agree(rt, users.next_back(), Some(&wanted));
