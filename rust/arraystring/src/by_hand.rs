@@ -1,4 +1,5 @@
-//! What Rust asks beyond erasure: nothing here is proved. It has no `unsafe`.
+//! What Rust asks beyond erasure: nothing here is proved. It has no `unsafe`, but `retain` and `simd` could break
+//! UTF-8 all the same.
 //!
 //! - `convert`: the traits of the Rust crate that the language of the sources can't have.
 //! - `retain`: what is left where a closure panics, since the language of the sources does not unwind.

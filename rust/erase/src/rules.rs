@@ -52,7 +52,8 @@ const MUST_BE_A_PLACE: &str =
 const MUST_BE_TEXT: &str = "The bytes must be well-formed UTF-8, and must fit into the capacity.";
 const MUST_LIE_IN_ARRAY: &str = "What is written must lie in the array.";
 const ENDS: &str = "No precondition is left here: an iterator that never ends, or that panics, is allowed. The call stops at the \
-                    first item that does not fit. What was taken before a panic is a text.";
+                    first item that does not fit, so only empty pieces without an end keep it. What was taken before a \
+                    panic is a text.";
 const COUNTS: &str = "No precondition is left here: a count that would pass 2^64 - 1 stays there.";
 const LIKE_STR: &str = "Where the range ends before it starts, ends past the text, or has an end inside a character, as the index of \
                         `str` does.";

@@ -80,7 +80,8 @@ impl<const N: usize> ArrayString<N> {
     /// # In Rust
     ///
     /// No precondition is left here: an iterator that never ends, or that panics, is allowed. The call stops at the
-    /// first item that does not fit. What was taken before a panic is a text.
+    /// first item that does not fit, so only empty pieces without an end keep it. What was taken before a panic is a
+    /// text.
     ///
     /// # Contract
     ///
@@ -107,7 +108,8 @@ impl<const N: usize> ArrayString<N> {
     /// # In Rust
     ///
     /// No precondition is left here: an iterator that never ends, or that panics, is allowed. The call stops at the
-    /// first item that does not fit. What was taken before a panic is a text.
+    /// first item that does not fit, so only empty pieces without an end keep it. What was taken before a panic is a
+    /// text.
     ///
     /// # Contract
     ///
@@ -160,7 +162,8 @@ impl<const N: usize> ArrayString<N> {
     /// # In Rust
     ///
     /// No precondition is left here: an iterator that never ends, or that panics, is allowed. The call stops at the
-    /// first item that does not fit. What was taken before a panic is a text.
+    /// first item that does not fit, so only empty pieces without an end keep it. What was taken before a panic is a
+    /// text.
     ///
     /// # Contract
     ///
@@ -187,7 +190,8 @@ impl<const N: usize> ArrayString<N> {
     /// # In Rust
     ///
     /// No precondition is left here: an iterator that never ends, or that panics, is allowed. The call stops at the
-    /// first item that does not fit. What was taken before a panic is a text.
+    /// first item that does not fit, so only empty pieces without an end keep it. What was taken before a panic is a
+    /// text.
     ///
     /// # Contract
     ///
