@@ -74,14 +74,8 @@ fn behind_characters(given: &[u8]) -> &[u8] {
 #[inline(always)]
 fn characters_at_front(bytes: &[u8]) -> usize {
     match bytes {
-        [
-            0x00..=0x7F,
-            0x00..=0x7F,
-            0x00..=0x7F,
-            0x00..=0x7F,
-            rest @ ..,
-        ] => 4 + ascii_at_front(rest),
-        [0x00..=0x7F, ..] => 1,
+        [0..=0x7F, 0..=0x7F, 0..=0x7F, 0..=0x7F, rest @ ..] => 4 + ascii_at_front(rest),
+        [0..=0x7F, ..] => 1,
         [0xC2..=0xDF, 0x80..=0xBF, ..] => 2,
         [0xE0, 0xA0..=0xBF, 0x80..=0xBF, ..] => 3,
         [0xE1..=0xEC, 0x80..=0xBF, 0x80..=0xBF, ..] => 3,

@@ -15,8 +15,8 @@ use std::collections::BTreeMap;
 use literals::{Table, tables};
 use rows::{column, rows};
 
-/// Where the tables are: the first of these folders that is there.
-const FOLDERS: &[&str] = &["../../crates/arraystring_tests/src", "../../crates/arraystring/src/tests"];
+/// Where the tables are.
+const FOLDER: &str = "../../crates/arraystring_tests/src";
 
 /// How many rows of each shape there are at least.
 const LEAST: &[(&str, usize)] =
@@ -61,7 +61,7 @@ pub(crate) use at_capacity;
 
 #[test]
 fn each_table_holds_here_too() {
-    let folder = FOLDERS.iter().map(std::path::Path::new).find(|folder| folder.exists()).expect("a folder of tables");
+    let folder = std::path::Path::new(FOLDER);
     let mut played: BTreeMap<&str, usize> = BTreeMap::new();
     for table in tables(folder) {
         let shape = shape(&table)
