@@ -1,5 +1,6 @@
 //! Users as records of fixed width, and a directory of users by their usernames, as a caller of
-//! `arraystring` writes them: over its public calls, its contracts and its laws alone.
+//! `arraystring` writes them: over its public calls, its contracts and its laws alone. The tests
+//! are in the crate `bounded_records_tests`.
 #![tactic(auto)]
 
 mod directory;
@@ -11,6 +12,3 @@ pub use directory::Directory;
 pub use record::{RECORD_SIZE, RecordFault, decode, encode};
 pub use user::{User, UserFault};
 pub use walks::{Names, Users};
-
-#[cfg(test)]
-mod tests;

@@ -1,10 +1,11 @@
 //! Users that are taken out or given another role, without memory, and texts that are no user.
-use super::{agree, finds, hoard, ranked, user};
-use crate::{Directory, User, UserFault};
+use super::users::{agree, finds, ranked, user};
 use arraystring::ArrayString;
+use bounded_records::{Directory, User, UserFault};
 use std::hash::{DefaultHasher, Hash, Hasher};
 use std::process::Abort;
 use std::test::Fail;
+use test_support::memory::ScarceMemory;
 
 /// How many users are put in, a prime.
 const USERS: u32 = 211;
@@ -22,7 +23,9 @@ fn changes_take_no_memory(rt: HostRuntime) -> Result<(), Fail> {
     for turn in 0..USERS {
         agree(&rt, users.insert(mixed(turn)), Ok(None));
     }
-    let blocks = hoard(rt.alloc())?;
+    let Some(scarce) = ScarceMemory::take(rt.alloc())? else {
+        return Ok(());
+    };
     for turn in 0..USERS {
         let old = mixed(turn);
         let role = ArrayString::from_str_truncate("new");
@@ -42,7 +45,7 @@ fn changes_take_no_memory(rt: HostRuntime) -> Result<(), Fail> {
     }
     agree(&rt, users.is_empty(), true);
     agree(&rt, users.users().next(), None);
-    drop(blocks);
+    drop(scarce);
     Ok(())
 }
 

@@ -1,7 +1,9 @@
 //! The paths by which callers reach the crate, and the traits of the types at those paths.
-use super::agree;
-use crate::{Directory, Names, RECORD_SIZE, RecordFault, User, UserFault, Users, decode, encode};
+use super::users::agree;
 use arraystring::ArrayString;
+use bounded_records::{
+    Directory, Names, RECORD_SIZE, RecordFault, User, UserFault, Users, decode, encode,
+};
 use std::error::Error;
 use std::fmt::{Debug, Display};
 use std::hash::Hash;

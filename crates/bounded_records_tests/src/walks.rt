@@ -1,8 +1,8 @@
 //! Walks from both ends over directories of each size up to 60, and what is printed for debugging.
 ghost use Rattle.std.specs.Prelude.{◌≤◌};
 
-use super::{agree, ranked};
-use crate::{Directory, Names, User, Users};
+use super::users::{agree, ranked};
+use bounded_records::{Directory, Names, User, Users};
 use std::process::Abort;
 
 /// The users of the ranks below `count`, which ascend.
