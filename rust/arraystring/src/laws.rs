@@ -7,6 +7,6 @@ pub use crate::arraystring_base::laws::{
 };
 pub use crate::arraystring_core::laws::{
     equal_texts, left_fits, pieces_make_one_text, popped,
-    replaced_back, split_back, text_fits, trimmed, units_read_back, walks, what_comes_past_the_room,
-    white_space,
+    replaced_back, split_back, text_fits, trimmed, units_read_back, walks,
+    what_comes_past_the_room, white_space,
 };
