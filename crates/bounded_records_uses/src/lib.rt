@@ -1,4 +1,5 @@
-//! Uses of `bounded_records`, as a caller writes them: each is proved from the contracts alone.
+//! Uses of `bounded_records`, as a caller writes them: each is proved from the contracts alone. Its
+//! tests are in `tests.rt`.
 #![tactic(auto)]
 
 pub mod registry;
