@@ -141,7 +141,7 @@ nil-apart : NoPairApart []
 nil-apart [] after high low e h l = absurd (cc)
 nil-apart (item ∷ before) after high low e h l = absurd (cc)
 
--- a unit by itself is an item that spells it
+-- a unit by itself is an item that spells it: a step of this proof, which no law and no contract speaks of
 record IsSingle (unit : ℕ) : Type 0 where
   is_item : IsItem (single_item unit)
   spells : item_units (single_item unit) ≡ unit ∷ []

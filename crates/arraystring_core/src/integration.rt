@@ -111,6 +111,7 @@ impl<const N: usize> ArrayString<N> {
         let text = value.as_str().ok_or(NotText)?;
         Ok(Self::from_str_truncate(text))
     }
+
     /// The whole JSON text. Refused with `NotText` where the value is null, a truth value, a number,
     /// an array or an object, else with `OutOfBounds` where the text is larger than the capacity.
     pub fn try_from_value(value: &Value) -> Result<Self, ValueError>

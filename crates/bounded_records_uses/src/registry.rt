@@ -1,8 +1,9 @@
 //! A registry of users: entered, listed, renamed and struck off.
-ghost use Rattle.std.specs.Prelude.{◌≡◌, ◌≢◌, ℕ, List, Some, None, IfOk, OnOk, OnErr, IsSome, map, is_some};
+ghost use Rattle.std.specs.Prelude.{◌≡◌, ◌≢◌, ℕ, List, Some, None, IfOk, IfErr, OnOk, OnErr, IsSome, map, is_some};
 ghost use Rattle.std.specs.Option.{option_map};
 ghost use Rattle.std.specs.FinMap as finite;
 ghost use Rattle.bounded_records.specs.Users.{texts};
+ghost use Rattle.bounded_records_uses.specs.declared.registry.NotRenamed.TheVariants.{Missing, Taken, Memory};
 
 use arraystring::ArrayString;
 use bounded_records::{Directory, User};
@@ -50,6 +51,9 @@ pub fn rename(
     ensures gone { OnOk result (finite.get users.new from.now.text ≡ None) }
     ensures others { (name : List ℕ) → name ≢ from.now.text → name ≢ to.text → finite.get users.new name ≡ finite.get users.old name }
     ensures refused { OnErr result (users.new ≡ users.old) }
+    ensures missing { IfErr result (λ cause. cause ≡ Missing → finite.get users.old from.now.text ≡ None) }
+    ensures taken { IfErr result (λ cause. cause ≡ Taken → IsSome (finite.get users.old from.now.text) × IsSome (finite.get users.old to.text)) }
+    ensures memory { IfErr result (λ cause. cause ≡ Memory → IsSome (finite.get users.old from.now.text) × (finite.get users.old to.text ≡ None)) }
 {
     let Some(user) = users.get(from).copied() else {
         return Err(NotRenamed::Missing);

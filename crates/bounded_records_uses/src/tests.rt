@@ -2,9 +2,11 @@
 use crate::registry::{NotRenamed, dump, enter, rename, strike_off};
 use arraystring::ArrayString;
 use bounded_records::{Directory, User};
+use std::alloc::AllocError;
 use std::fmt::Debug;
 use std::process::Abort;
 use std::test::Fail;
+use test_support::memory::{ScarceMemory, TIMES};
 
 /// Asserts that two values are equal. An `assert_eq!` costs the proof of a test three times as much as
 /// a call.
@@ -40,5 +42,73 @@ fn users_are_entered_renamed_and_struck_off(rt: HostRuntime) -> Result<(), Fail>
     agree(&rt, strike_off(&mut users, &bob.username), true);
     agree(&rt, strike_off(&mut users, &bob.username), false);
     holds(&rt, &users, &[zoe]);
+    Ok(())
+}
+
+/// How many users are entered where memory is refused.
+const COUNT: u8 = 100;
+
+/// The user of a number. Their usernames ascend with the numbers.
+fn numbered(number: u8) -> User {
+    let mut username = ArrayString::new();
+    for letter in [b'a' + number / 26, b'a' + number % 26] {
+        let _ = username.try_push(letter as char);
+    }
+    let mut role = ArrayString::new();
+    let _ = role.try_push((b'a' + number % 26) as char);
+    User { username, role }
+}
+
+/// The users of the numbers below `count` are there, and no others.
+fn holds_first(rt: &impl Abort, users: &Directory, count: u8) {
+    let mut all = users.users();
+    for number in 0..count {
+        agree(rt, all.next(), Some(&numbered(number)));
+    }
+    agree(rt, all.next(), None);
+}
+
+/// Where ever more memory is left, from none up, each growth is refused in turn until it is met. Where a
+/// user is refused, so is a new name in its place.
+#[test]
+fn each_refused_growth_changes_nothing(rt: HostRuntime) -> Result<(), Fail> {
+    let mut users = Directory::new(rt.alloc());
+    let Some(mut scarce) = ScarceMemory::take(rt.alloc())? else {
+        return Ok(());
+    };
+    let mut count = 0u8;
+    let mut renames = 0u32;
+    let mut dumps = 0u32;
+    for _ in 0..TIMES {
+        scarce.leave_more(rt.alloc())?;
+        let before = count;
+        for number in before..COUNT {
+            let user = numbered(number);
+            let role = user.role;
+            match enter(&mut users, user) {
+                Ok(found) => agree(&rt, found, Some(role)),
+                Err(AllocError) => break,
+            }
+            count = number + 1;
+        }
+        if count == COUNT {
+            break;
+        }
+        if let Some(last) = count.checked_sub(1) {
+            let (last, next) = (numbered(last), numbered(count));
+            let renamed = rename(&mut users, &last.username, next.username);
+            agree(&rt, renamed, Err(NotRenamed::Memory));
+            renames = renames.saturating_add(1);
+        }
+        holds_first(&rt, &users, count);
+        if dump(&users, rt.alloc()).is_err() {
+            dumps = dumps.saturating_add(1);
+        }
+    }
+    drop(scarce);
+    agree(&rt, count, COUNT);
+    assert!(rt; renames > 10);
+    assert!(rt; dumps > 10);
+    holds_first(&rt, &users, COUNT);
     Ok(())
 }
