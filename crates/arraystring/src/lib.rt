@@ -1,5 +1,5 @@
-//! `ArrayString`, a string of bounded size in an array inside the value, under all its paths. Its tests
-//! are in `crates/arraystring_tests`.
+//! `ArrayString`, a string of bounded size in an array inside the value, under all its paths.
+//! Its tests are in `crates/arraystring_tests`.
 #![tactic(auto)]
 
 mod cache_string;

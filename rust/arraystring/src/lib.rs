@@ -1,6 +1,6 @@
 // Made from crates/arraystring/src/lib.rt by rust/erase. A change goes there.
-//! `ArrayString`, a string of bounded size in an array inside the value, under all its paths. Its tests
-//! are in `crates/arraystring_tests`.
+//! `ArrayString`, a string of bounded size in an array inside the value, under all its paths.
+//! Its tests are in `tests`, beside `src`.
 //!
 #![doc = include_str!("../README.md")]
 #![no_std]

@@ -227,6 +227,12 @@ pub struct Replaced {
 
 pub const REPLACED: &[Replaced] = &[
     Replaced {
+        file: "arraystring/src/lib.rt",
+        from: "//! Its tests are in `crates/arraystring_tests`.",
+        to: "//! Its tests are in `tests`, beside `src`.",
+        why: "the Rust crate has tests of its own",
+    },
+    Replaced {
         file: "arraystring_base/src/steps.rt",
         from: "self.moved += len as u64;",
         to: "self.moved = self.moved.saturating_add(len as u64);",
