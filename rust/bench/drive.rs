@@ -137,7 +137,7 @@ fn answers<const N: usize>(call: u8, case: &Case) -> Vec<u64> {
     let mut answers =
         vec![peers::answer::<ArrayString<N>>(call, case), peers::answer::<string::Limited<N>>(call, case)];
     #[cfg(has_arrayvec)]
-    if CALLS_OF_ARRAYVEC.contains(&call) {
+    if <::arrayvec::ArrayString<N> as Peer>::HAS.contains(&call) {
         answers.push(peers::answer::<::arrayvec::ArrayString<N>>(call, case));
     }
     answers
