@@ -1,5 +1,5 @@
 -- Laws of the rows that add: `addition`, `addition_of_cut`, `insertion` and `insertion_of_cut` (specs/Edits).
--- Of each row: what holds after an `Ok` (`-made`) and after an `Err` (`-refused`), when the answer is `Ok` (`-makes`), and
+-- Of each row: what holds after an `Ok` (`-made`) and after an `Err` (`-refused`), when the result is `Ok` (`-makes`), and
 -- when it is which `Err` (`-past`, `-over`, `-inside`). A law takes what its row takes after the text, and then facts.
 use Rattle.std.proofs.Common.{◌≡◌, ℕ, ◌+◌, ◌-◌, ◌<◌, ◌≤◌, ◌⊎◌, List, [], ◌++◌, ap, sym, ◌∙◌, arith, true, false, inl, inr, refl, Result, Ok, Err}
 use Rattle.std.proofs.lemmas.Bool.{lt-ltb, le-ltb, ltb-true, ltb-false, both_ways}
@@ -11,7 +11,7 @@ use Rattle.arraystring_base.specs.declared.error.Error.TheVariants.{Utf8, OutOfB
 use Rattle.arraystring_core.specs.Edits.{Cause, Past, Room, Inside, Makes, FirstHolds, error_of, past, addition, addition_of_cut, insertion, insertion_of_cut}
 use Rattle.arraystring_core.proofs.EditLaws.{inside-not, inside-so}
 use Rattle.arraystring_core.proofs.EditLaws as law
-use Rattle.arraystring.proofs.TestLaws.{past-failed, past-held, inside-failed, inside-held, place-held}
+use Rattle.arraystring.proofs.TestLaws.{past-failed, past-held, inside-failed, inside-held, index-held}
 use Rattle.arraystring.proofs.EditLaws.{edit-makes, edit-refuses, edit-none_held, edit-first_held}
 
 -- `given` is added at the end
@@ -40,12 +40,12 @@ module _ {t : List ℕ} (given : List ℕ) (n : ℕ) {new : List ℕ} {result : 
   pub addition_of_cut-makes : Makes (addition_of_cut t given n) t result new → (result ≡ Ok tt) × (new ≡ t ++ cut given (n - size t))
   addition_of_cut-makes m = edit-makes refl m
 
-  -- all of it, where it fits
+  -- all of it, if it fits
   pub addition_of_cut-fits : size t + size given ≤ n → Makes (addition_of_cut t given n) t result new → new ≡ t ++ given
   addition_of_cut-fits fits m =
       (edit-makes refl m).1 ∙ ap (λ l. t ++ l) (cut-all {t = given} {n = n - size t} (omega (arith, fits)))
 
-  -- the text after is the cut of both, where the text before fits
+  -- the text after is the cut of both, if the text before fits
   pub addition_of_cut-cuts : size t ≤ n → Makes (addition_of_cut t given n) t result new → new ≡ cut (t ++ given) n
   addition_of_cut-cuts fits m = (edit-makes refl m).1 ∙ sym (cut-past_part t given n fits)
 
@@ -131,7 +131,7 @@ module _ {t : List ℕ} (i : ℕ) (given : List ℕ) (n : ℕ) {new : List ℕ} 
       let none = edit-none_held m in
       let within = past-failed t i none.0 in (within, inside-failed t i within none.1.0, m.ok)
 
-  -- all of it, where it fits
+  -- all of it, if it fits
   pub insertion_of_cut-fits : size t + size given ≤ n → Makes (insertion_of_cut t i given n) t (Ok tt) new
       → new ≡ front t i ++ (given ++ back t i)
   insertion_of_cut-fits fits m = m.ok ∙ ap (λ l. front t i ++ (l ++ back t i)) (cut-all {t = given} {n = n - size t} (omega (arith, fits)))
@@ -139,10 +139,10 @@ module _ {t : List ℕ} (i : ℕ) (given : List ℕ) (n : ℕ) {new : List ℕ} 
   -- one that returned `Err`: the index is past the text, or inside a character
   pub insertion_of_cut-refused : {error : Error} → Makes (insertion_of_cut t i given n) t (Err error) new
       → (((size t < i) × (error ≡ OutOfBounds)) ⊎ ((i < size t) × (boundary t i ≡ false) × (error ≡ Utf8))) × (new ≡ t)
-  insertion_of_cut-refused m = let was = edit-first_held m in (place-held t i was.1 was.2, was.3)
+  insertion_of_cut-refused m = let was = edit-first_held m in (index-held t i was.1 was.2, was.3)
 
 module _ {t : List ℕ} (i : ℕ) (given : List ℕ) (n : ℕ) {new : List ℕ} {result : Result (Unit {0}) Error} where
-  -- at a boundary it answers `Ok`
+  -- at a boundary it returns `Ok`
   pub insertion_of_cut-makes : boundary t i ≡ true → Makes (insertion_of_cut t i given n) t result new
       → (result ≡ Ok tt) × (new ≡ front t i ++ (cut given (n - size t) ++ back t i))
   insertion_of_cut-makes b m = edit-makes (rw (le-ltb (size t) i (boundary-within t i b), inside-not t i b) refl) m

@@ -2,13 +2,13 @@
 use Rattle.std.proofs.Common.{◌≡◌, ℕ, ◌+◌, ◌-◌, ◌≤◌, ◌↔◌, List, [], ◌∷◌, ◌++◌, take, drop, true, false, Bool, Some, None, append_assoc, arith, if◌then◌else◌, ap, sym, ◌∙◌, refl}
 use Rattle.std.proofs.lemmas.Bool.{le-leb, leb-true, and_parts}
 use Rattle.std.specs.Prelude.{nat_le, ◌&&◌}
-use Rattle.arraystring_base.specs.Text.{IsText, IsLeadingPart, width, size, bytes, front, back, boundary}
+use Rattle.arraystring_base.specs.Text.{IsText, IsPrefix, width, size, bytes, front, back, boundary}
 use Rattle.arraystring_base.proofs.TextLaws.{size-append}
 use Rattle.arraystring_base.proofs.BoundaryLaws as law
 use Rattle.arraystring_core.proofs.PartLaws as part_law
 use Rattle.arraystring_core.specs.Edits.{part, part_in}
 
--- the parts before and from a place are the text
+-- the parts before and from an index are the text
 pub front-back : (t : List ℕ) (i : ℕ) → front t i ++ back t i ≡ t
 front-back = law.front-back
 
@@ -48,9 +48,9 @@ back-is = law.back-is
 pub boundary-is : (p q : List ℕ) (i : ℕ) → size p ≡ i → boundary (p ++ q) i ≡ true
 boundary-is = law.boundary-is
 
--- a place is a boundary where a leading part has its size, and nowhere else
-pub boundary-leading : (t : List ℕ) (i : ℕ) → (boundary t i ≡ true) ↔ ((p : List ℕ) × IsLeadingPart p t × (size p ≡ i))
-boundary-leading = law.boundary-leading
+-- an index is a boundary if a prefix has its size, and nowhere else
+pub boundary-prefix : (t : List ℕ) (i : ℕ) → (boundary t i ≡ true) ↔ ((p : List ℕ) × IsPrefix p t × (size p ≡ i))
+boundary-prefix = law.boundary-prefix
 
 -- no boundary lies past the text
 pub boundary-within : (t : List ℕ) (i : ℕ) → boundary t i ≡ true → i ≤ size t
@@ -77,7 +77,7 @@ pub next-char : (t : List ℕ) (i : ℕ) → boundary t i ≡ true → (c : ℕ)
     → (boundary t (i + width c) ≡ true) × (back t (i + width c) ≡ rest) × (front t (i + width c) ≡ front t i ++ c ∷ [])
 next-char = law.next-char
 
--- the part before a place is a text where the whole is
+-- the part before an index is a text if the whole is
 pub front-text : (t : List ℕ) (i : ℕ) → IsText t → IsText (front t i)
 front-text = law.front-text
 

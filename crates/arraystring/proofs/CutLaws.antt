@@ -15,7 +15,7 @@ cut-fits = law.cut-fits
 pub cut-cut : (t : List ℕ) {m n : ℕ} → n ≤ m → cut (cut t m) n ≡ cut t n
 cut-cut = law.cut-cut
 
--- a leading part that fits stays whole in the cut
+-- a prefix that fits stays whole in the cut
 pub cut-past_part : (p q : List ℕ) (n : ℕ) → size p ≤ n → cut (p ++ q) n ≡ p ++ cut q (n - size p)
 cut-past_part = law.cut-past_part
 
@@ -23,7 +23,7 @@ cut-past_part = law.cut-past_part
 pub cut-past : (p q : List ℕ) (n : ℕ) → n < size p → cut (p ++ q) n ≡ cut p n
 cut-past = law.cut-past
 
--- the cut is the longest leading part that fits
+-- the cut is the longest prefix that fits
 pub cut-is_longest : (t : List ℕ) (n : ℕ) → IsLongestFitting (cut t n) t n
 cut-is_longest = law.cut-is_longest
 

@@ -4,61 +4,61 @@ use Rattle.arraystring_base.specs.declared.error.Error.{Error}
 use Rattle.arraystring_core.specs.Edits.{Cause, Edit, Makes, NoneHolds, FirstHolds, error_of, ok_unless, first_cause, text_of, from_out_of_bounds, from_utf8_error}
 use Rattle.arraystring.proofs.TestLaws.{none-holds, first-holds}
 
--- an `Ok` says that no test held, and gives the row's answer
-pub ok_unless-ok : {A : Type 0} {f : Option Cause} {answer given : A} → Ok given ≡ ok_unless f answer → (f ≡ None) × (given ≡ answer)
+-- an `Ok` says that no test held, and gives the row's result
+pub ok_unless-ok : {A : Type 0} {f : Option Cause} {value given : A} → Ok given ≡ ok_unless f value → (f ≡ None) × (given ≡ value)
 ok_unless-ok {f = None} e = (refl, cc)
 ok_unless-ok {f = Some cause} e = absurd (cc)
 
 -- an `Err` says that a test held, and gives the error of its cause
-pub ok_unless-err : {A : Type 0} {f : Option Cause} (answer : A) {error : Error} → Err error ≡ ok_unless f answer
+pub ok_unless-err : {A : Type 0} {f : Option Cause} (value : A) {error : Error} → Err error ≡ ok_unless f value
     → (cause : Cause) × (f ≡ Some cause) × (error ≡ error_of cause)
-ok_unless-err {f = None} answer e = absurd (cc)
-ok_unless-err {f = Some cause} answer e = (cause, refl, cc)
+ok_unless-err {f = None} value e = absurd (cc)
+ok_unless-err {f = Some cause} value e = (cause, refl, cc)
 
--- a call that has one error answers `Ok` where the row does
-pub out_of_bounds-ok : {A E : Type 0} {result : Result A E} {answer : A} → from_out_of_bounds result ≡ Ok answer → result ≡ Ok answer
+-- a call that has one error returns `Ok` if the row does
+pub out_of_bounds-ok : {A E : Type 0} {result : Result A E} {value : A} → from_out_of_bounds result ≡ Ok value → result ≡ Ok value
 out_of_bounds-ok {result = Ok given} e = ap Ok (cc)
 out_of_bounds-ok {result = Err error} e = absurd (cc)
 
 -- the same of one whose error is `Utf8`
-pub utf8_error-ok : {A E : Type 0} {result : Result A E} {answer : A} → from_utf8_error result ≡ Ok answer → result ≡ Ok answer
+pub utf8_error-ok : {A E : Type 0} {result : Result A E} {value : A} → from_utf8_error result ≡ Ok value → result ≡ Ok value
 utf8_error-ok {result = Ok given} e = ap Ok (cc)
 utf8_error-ok {result = Err error} e = absurd (cc)
 
--- what an edit leaves, where its first cause is known
+-- what an edit leaves, if its first cause is known
 left_by : {A : Type 0} (edit : Edit A) (t new : List ℕ) (f : Option Cause) → first_cause edit.tests ≡ f
-    → Makes edit t (ok_unless f edit.answer) new → new ≡ text_of edit t
+    → Makes edit t (ok_unless f edit.result) new → new ≡ text_of edit t
 left_by edit t new None e m = rw e m.ok
 left_by edit t new (Some cause) e m = rw e m.err
 
 -- any edit, by its row
 module _ {A : Type 0} {edit : Edit A} {t new : List ℕ} where
-  -- an edit that answers `Ok`: no test held, the answer is the row's, and so is the text after
-  pub edit-made : {answer : A} → Makes edit t (Ok answer) new → (first_cause edit.tests ≡ None) × (answer ≡ edit.answer) × (new ≡ edit.after)
-  edit-made m = let is = ok_unless-ok m.answer in (is.0, is.1, m.ok)
+  -- an edit that returns `Ok`: no test held, the result is the row's, and so is the text after
+  pub edit-made : {value : A} → Makes edit t (Ok value) new → (first_cause edit.tests ≡ None) × (value ≡ edit.result) × (new ≡ edit.after)
+  edit-made m = let is = ok_unless-ok m.returns in (is.0, is.1, m.ok)
 
-  -- an edit that answers `Err`: a test held, the error is that of the first that did, and the text is the old one
+  -- an edit that returns `Err`: a test held, the error is that of the first that did, and the text is the old one
   pub edit-refused : {error : Error} → Makes edit t (Err error) new
       → (cause : Cause) × (first_cause edit.tests ≡ Some cause) × (error ≡ error_of cause) × (new ≡ t)
-  edit-refused m = let is = ok_unless-err edit.answer m.answer in (is.0, is.1, is.2, m.err)
+  edit-refused m = let is = ok_unless-err edit.result m.returns in (is.0, is.1, is.2, m.err)
 
 module _ {A : Type 0} {edit : Edit A} {t new : List ℕ} {result : Result A Error} where
-  -- where no test holds, the answer is `Ok`
-  pub edit-makes : first_cause edit.tests ≡ None → Makes edit t result new → (result ≡ Ok edit.answer) × (new ≡ edit.after)
-  edit-makes none m = let is : result ≡ Ok edit.answer = m.answer ∙ ap (λ f. ok_unless f edit.answer) none in (is, rw is at m.ok)
+  -- if no test holds, the result is `Ok`
+  pub edit-makes : first_cause edit.tests ≡ None → Makes edit t result new → (result ≡ Ok edit.result) × (new ≡ edit.after)
+  edit-makes none m = let is : result ≡ Ok edit.result = m.returns ∙ ap (λ f. ok_unless f edit.result) none in (is, rw is at m.ok)
 
-  -- where a test holds, the answer is the error of the first that does
+  -- if a test holds, the result is the error of the first that does
   pub edit-refuses : {cause : Cause} → first_cause edit.tests ≡ Some cause → Makes edit t result new → (result ≡ Err (error_of cause)) × (new ≡ t)
   edit-refuses {cause} some m =
-      let is : result ≡ Err (error_of cause) = m.answer ∙ ap (λ f. ok_unless f edit.answer) some in (is, rw is at m.err)
+      let is : result ≡ Err (error_of cause) = m.returns ∙ ap (λ f. ok_unless f edit.result) some in (is, rw is at m.err)
 
-  -- the text after, whatever was answered
+  -- the text after, whatever was returned
   pub edit-text : Makes edit t result new → new ≡ text_of edit t
-  edit-text m = left_by edit t new (first_cause edit.tests) refl (subst (λ x. Makes edit t x new) m.answer m)
+  edit-text m = left_by edit t new (first_cause edit.tests) refl (subst (λ x. Makes edit t x new) m.returns m)
 
 module _ {A : Type 0} {edit : Edit A} {t new : List ℕ} where
   -- an `Ok` says that no test held
-  pub edit-none_held : {answer : A} → Makes edit t (Ok answer) new → NoneHolds edit.tests
+  pub edit-none_held : {value : A} → Makes edit t (Ok value) new → NoneHolds edit.tests
   edit-none_held m = none-holds edit.tests (edit-made m).0
 
   -- an `Err` says which test was the first that held

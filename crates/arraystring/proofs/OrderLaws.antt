@@ -6,7 +6,7 @@ use Rattle.std.specs.declared.cmp.Ordering.{Ordering}
 use Rattle.arraystring_base.specs.Text.{IsBefore}
 use Rattle.arraystring_base.proofs.OrderLaws as law
 
--- what an answer of `cmp` says of the two texts
+-- what a result of `cmp` says of the two texts
 pub order-says : (a b : List ℕ) (o : Ordering) → o ≡ slice_cmp nat_cmp a b → MatchOrdering o (IsBefore a b) (a ≡ b) (IsBefore b a)
 order-says = law.order-says
 

@@ -1,5 +1,5 @@
 -- Laws of the rows of ranges, `draining` and `replacement` (specs/Edits).
--- Of each row: what holds after an `Ok` (`-made`) and after an `Err` (`-refused`), when the answer is `Ok` (`-makes`), and
+-- Of each row: what holds after an `Ok` (`-made`) and after an `Err` (`-refused`), when the result is `Ok` (`-makes`), and
 -- when it is which `Err` (`-crossed`, `-past`, `-over`, `-inside`). A law takes what its row takes after the text, and then facts.
 use Rattle.std.proofs.Common.{◌≡◌, ℕ, ◌+◌, ◌-◌, ◌<◌, ◌≤◌, ◌⊎◌, List, ◌++◌, ap, ◌∙◌, arith, true, false, inl, inr, refl, Result, Ok, Err}
 use Rattle.std.proofs.lemmas.Bool.{lt-ltb, le-ltb, ltb-true, ltb-false}
@@ -12,12 +12,12 @@ use Rattle.arraystring_core.proofs.EditLaws.{inside-not}
 use Rattle.arraystring.proofs.TestLaws.{past-failed, past-held, inside-failed, inside-held, ends-held}
 use Rattle.arraystring.proofs.EditLaws.{edit-made, edit-makes, edit-refuses, edit-none_held, edit-first_held}
 
--- the part from `start` to `end` is taken out, and is the answer
+-- the part from `start` to `end` is taken out, and is the result
 module _ {t : List ℕ} (start end : ℕ) {new : List ℕ} where
-  -- a drain that returned `Ok`: the range is in order and in the text, its ends are boundaries, and its part is the answer
-  pub draining-made : {answer : List ℕ} → Makes (draining t start end) t (Ok answer) new
+  -- a drain that returned `Ok`: the range is in order and in the text, its ends are boundaries, and its part is the result
+  pub draining-made : {value : List ℕ} → Makes (draining t start end) t (Ok value) new
       → (start ≤ end) × (end ≤ size t) × (boundary t start ≡ true) × (boundary t end ≡ true)
-      × (answer ≡ part t start end) × (new ≡ front t start ++ back t end)
+      × (value ≡ part t start end) × (new ≡ front t start ++ back t end)
   draining-made m =
       let was = edit-made m in
       let none = edit-none_held m in
@@ -71,7 +71,7 @@ module _ {t : List ℕ} (start end : ℕ) {new : List ℕ} {result : Result (Lis
   draining-inside order within at m =
       edit-refuses {cause = Inside} (rw (le-ltb end start order, le-ltb (size t) end within) (ends-held t start end order within at)) m
 
--- `given` is put in place of the part from `start` to `end`
+-- the part from `start` to `end` is replaced by `given`
 module _ {t : List ℕ} (start end : ℕ) (given : List ℕ) (n : ℕ) {new : List ℕ} where
   -- a replacement that returned `Ok`: as a drain that did, and all of what is given fitted
   pub replacement-made : Makes (replacement t start end given n) t (Ok tt) new

@@ -1,5 +1,5 @@
 -- Laws of the rows that take out or change characters, but for those of ranges (specs/Edits).
--- Of each row: what holds after an `Ok` (`-made`) and after an `Err` (`-refused`), when the answer is `Ok` (`-makes`), and
+-- Of each row: what holds after an `Ok` (`-made`) and after an `Err` (`-refused`), when the result is `Ok` (`-makes`), and
 -- when it is which `Err` (`-past`, `-inside`). A law takes what its row takes after the text, and then facts.
 use Rattle.std.proofs.Common.{◌≡◌, ℕ, ◌<◌, ◌≤◌, ◌⊎◌, List, [], ◌∷◌, ◌++◌, ap, sym, ◌∙◌, arith, true, false, Bool, inl, inr, refl, Option, Some, None, Result, Ok, Err, map, drop}
 use Rattle.std.proofs.lemmas.Bool.{lt-ltb, le-ltb, lt-leb, le-leb, leb-false, leb-true}
@@ -12,7 +12,7 @@ use Rattle.arraystring_base.specs.declared.error.Error.{Error}
 use Rattle.arraystring_base.specs.declared.error.Error.TheVariants.{Utf8, OutOfBounds}
 use Rattle.arraystring_core.specs.Edits.{Cause, Past, Inside, Makes, FirstHolds, error_of, popping, truncation, trimming, removal, clearing, split, uppercase, lowercase, last_of, all_but_last, without_leading, without_trailing}
 use Rattle.arraystring_core.proofs.EditLaws.{inside-not, inside-so}
-use Rattle.arraystring.proofs.TestLaws.{past-failed, inside-failed, inside-held, inside-fails, place-held}
+use Rattle.arraystring.proofs.TestLaws.{past-failed, inside-failed, inside-held, inside-fails, index-held}
 use Rattle.arraystring.proofs.EditLaws.{edit-made, edit-makes, edit-refuses, edit-none_held, edit-first_held}
 
 -- the last character of a text
@@ -31,21 +31,21 @@ none-of (a ∷ b ∷ t) e = absurd (cons-not (none-of (b ∷ t) e))
 
 -- the last character is taken
 module _ {t new : List ℕ} where
-  -- a pop answers the last character, and leaves those before it
+  -- a pop returns the last character, and leaves those before it
   pub popping-makes : {result : Result (Option ℕ) Error} → Makes (popping t) t result new → (result ≡ Ok (last_of t)) × (new ≡ all_but_last t)
   popping-makes m = edit-makes refl m
 
-  -- the text was what is left of it, and then the answer
+  -- the text was what is left of it, and then the result
   pub popping-some : {c : ℕ} → Makes (popping t) t (Ok (Some c)) new → t ≡ new ++ c ∷ []
   popping-some {c} m = last-of t c (edit-made m).1 ∙ ap (λ l. l ++ c ∷ []) (sym m.ok)
 
-  -- no answer comes of the empty text alone
+  -- no result comes of the empty text alone
   pub popping-none : Makes (popping t) t (Ok None) new → (t ≡ []) × (new ≡ [])
   popping-none m = let empty = none-of t (edit-made m).1 in (empty, m.ok ∙ ap all_but_last empty)
 
 -- the part before `i` is kept
 module _ {t : List ℕ} (i : ℕ) {new : List ℕ} where
-  -- a truncation that returned `Ok`: the index is no place inside a character, and the part before it is kept
+  -- a truncation that returned `Ok`: the index is not inside a character, and the part before it is kept
   pub truncation-made : Makes (truncation t i) t (Ok tt) new → (i ≤ size t → boundary t i ≡ true) × (new ≡ front t i)
   truncation-made m = let none = edit-none_held m in (λ within. inside-failed t i within none.0, m.ok)
 
@@ -60,7 +60,7 @@ module _ {t : List ℕ} (i : ℕ) {new : List ℕ} where
       go (inr (out, none)) e same = absurd none
 
 module _ {t : List ℕ} (i : ℕ) {new : List ℕ} {result : Result (Unit {0}) Error} where
-  -- at a boundary, or past the text, it answers `Ok`
+  -- at a boundary, or past the text, it returns `Ok`
   pub truncation-makes : (i ≤ size t → boundary t i ≡ true) → Makes (truncation t i) t result new → (result ≡ Ok tt) × (new ≡ front t i)
   truncation-makes b m = edit-makes (rw (inside-fails t i b) refl) m
 
@@ -89,7 +89,7 @@ lowercase-makes m = edit-makes refl m
 
 -- the character that begins at `i` is taken out
 module _ {t : List ℕ} (i : ℕ) {new : List ℕ} where
-  -- a removal that returned `Ok`: a character begins at the index, is the answer, and is gone
+  -- a removal that returned `Ok`: a character begins at the index, is the result, and is gone
   pub removal-made : {c : ℕ} → Makes (removal t i) t (Ok c) new
       → (i < size t) × (boundary t i ≡ true) × ((rest : List ℕ) × (back t i ≡ c ∷ rest) × (new ≡ front t i ++ rest))
   removal-made {c} m =
@@ -133,11 +133,11 @@ module _ {t : List ℕ} (i : ℕ) {new : List ℕ} {result : Result ℕ Error} w
   removal-inside under b m =
       edit-refuses {cause = Inside} (rw (lt-leb (size t) i under, inside-so t i (omega (arith, under)) b) refl) m
 
--- the part from `i` on is the answer
+-- the part from `i` on is the result
 module _ {t : List ℕ} (i : ℕ) {new : List ℕ} where
-  -- a split that returned `Ok`: the index is a boundary of the text, and the two parts are the answer and the text
-  pub split-made : {answer : List ℕ} → Makes (split t i) t (Ok answer) new
-      → (i ≤ size t) × (boundary t i ≡ true) × (answer ≡ back t i) × (new ≡ front t i)
+  -- a split that returned `Ok`: the index is a boundary of the text, and the two parts are the result and the text
+  pub split-made : {value : List ℕ} → Makes (split t i) t (Ok value) new
+      → (i ≤ size t) × (boundary t i ≡ true) × (value ≡ back t i) × (new ≡ front t i)
   split-made m =
       let was = edit-made m in
       let none = edit-none_held m in
@@ -146,10 +146,10 @@ module _ {t : List ℕ} (i : ℕ) {new : List ℕ} where
   -- one that returned `Err`: the index is past the text, or inside a character
   pub split-refused : {error : Error} → Makes (split t i) t (Err error) new
       → (((size t < i) × (error ≡ OutOfBounds)) ⊎ ((i < size t) × (boundary t i ≡ false) × (error ≡ Utf8))) × (new ≡ t)
-  split-refused m = let was = edit-first_held m in (place-held t i was.1 was.2, was.3)
+  split-refused m = let was = edit-first_held m in (index-held t i was.1 was.2, was.3)
 
 module _ {t : List ℕ} (i : ℕ) {new : List ℕ} {result : Result (List ℕ) Error} where
-  -- at a boundary it answers `Ok`
+  -- at a boundary it returns `Ok`
   pub split-makes : boundary t i ≡ true → Makes (split t i) t result new → (result ≡ Ok (back t i)) × (new ≡ front t i)
   split-makes b m = edit-makes (rw (le-ltb (size t) i (boundary-within t i b), inside-not t i b) refl) m
 

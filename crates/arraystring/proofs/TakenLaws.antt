@@ -1,4 +1,4 @@
--- Laws of iterators that are handed in: what all their items are.
+-- Laws of iterators that are passed in: what all their items are.
 use Rattle.std.proofs.Common.{◌≡◌, ℕ, ◌≤◌, List, ◌++◌, Option, map, Iter, IsUtf8, chars}
 use Rattle.std.specs.Iterator.{AlwaysYields}
 use Rattle.std.specs.declared.iter.Copied.{Copied}
@@ -27,7 +27,7 @@ joined-append = law.joined-append
 pub bytes-joined : (texts : List (List ℕ)) → bytes (joined texts) ≡ joined (map bytes texts)
 bytes-joined = law.bytes-joined
 
--- where all characters that an iterator gives fit, whatever comes of it fits
+-- if all characters that an iterator gives fit, whatever comes of it fits
 pub chars-fit : {U T : Type 0} (becomes : U → T → Type 0) (steps : T → Option ℕ → T → Type 0) (iter : U) (all : List ℕ)
     → Gives becomes steps (λ c. c) iter all → (room : ℕ) → size all ≤ room → Fits becomes steps (λ cs. cs) iter room
 chars-fit = law.chars-fit

@@ -9,11 +9,11 @@ use Rattle.arraystring_core.specs.Edits.{Cause, Inside, Test, NoneHolds, FirstHo
 use Rattle.arraystring_core.proofs.EditLaws.{inside-not, inside-so, inside-past}
 use Rattle.arraystring_core.proofs.EditLaws as law
 
--- where no cause is found, none of the tests holds
+-- if no cause is found, none of the tests holds
 pub none-holds : (tests : List Test) → first_cause tests ≡ None → NoneHolds tests
 none-holds = law.none-holds
 
--- where a cause is found, it is that of the first that holds
+-- if a cause is found, it is that of the first that holds
 pub first-holds : (tests : List Test) (found : Cause) → first_cause tests ≡ Some found → FirstHolds tests found
 first-holds [] found e = absurd (cc)
 first-holds (test ∷ rest) found e = go test.holds e (first-holds rest found)
@@ -51,14 +51,14 @@ inside-fails t i b = elim (cases_lt (size t) i) [
   | inr within ↦ inside-not t i (b within)
 ]
 
--- the first test of a place that holds
-pub place-held : (t : List ℕ) (i : ℕ) {cause : Cause} {error : Error} → FirstHolds (past t i ∷ inside t i ∷ []) cause → error ≡ error_of cause
+-- the first test of an index that holds
+pub index-held : (t : List ℕ) (i : ℕ) {cause : Cause} {error : Error} → FirstHolds (past t i ∷ inside t i ∷ []) cause → error ≡ error_of cause
     → ((size t < i) × (error ≡ OutOfBounds)) ⊎ ((i < size t) × (boundary t i ≡ false) × (error ≡ Utf8))
-place-held t i (inl (far, is)) e = inl (past-held t i far, e ∙ ap error_of is)
-place-held t i (inr (near, inl (inner, is))) e = let at = inside-held t i inner in inr (at.0, at.1, e ∙ ap error_of is)
-place-held t i (inr (near, inr (out, none))) e = absurd none
+index-held t i (inl (far, is)) e = inl (past-held t i far, e ∙ ap error_of is)
+index-held t i (inr (near, inl (inner, is))) e = let at = inside-held t i inner in inr (at.0, at.1, e ∙ ap error_of is)
+index-held t i (inr (near, inr (out, none))) e = absurd none
 
--- where the range is in order and in the text, an end inside a character is found
+-- if the range is in order and in the text, an end inside a character is found
 pub ends-held : (t : List ℕ) (start end : ℕ) → start ≤ end → end ≤ size t → (boundary t start ≡ false) ⊎ (boundary t end ≡ false)
     → first_cause (inside t start ∷ inside t end ∷ []) ≡ Some Inside
 ends-held t start end order within (inl b) = rw (inside-so t start (omega (arith, order, within)) b) refl

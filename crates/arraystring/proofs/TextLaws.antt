@@ -33,8 +33,8 @@ pub chars-bytes : {bs t : List ℕ} → IsUtf8 bs → bs ≡ bytes t → chars b
 chars-bytes spelled is = law.chars-bytes spelled is
 
 -- a `&str` is as long as the text that it borrows is large
-pub size-lent : {bs : List ℕ} → IsUtf8 bs → size (chars bs) ≡ length bs
-size-lent spelled = law.size-lent spelled
+pub size-borrowed : {bs : List ℕ} → IsUtf8 bs → size (chars bs) ≡ length bs
+size-borrowed spelled = law.size-borrowed spelled
 
 -- the characters of UTF-8 are scalar values
 pub text-chars : {bs : List ℕ} → IsUtf8 bs → IsText (chars bs)

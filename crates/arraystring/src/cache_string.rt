@@ -26,35 +26,43 @@ mod compare;
 pub struct CacheString(pub ArrayString<63>);
 
 impl CacheString {
-    /// The empty string.
+    /// Returns the empty string.
     pub const fn new() -> Self
         ensures { result.0.text ≡ [] }
     {
         CacheString(ArrayString::new())
     }
 
-    /// How many bytes fit: 63.
+    /// Returns how many bytes fit: 63.
     pub const fn capacity() -> u8
         ensures { result ≡ 63 }
     {
         ArrayString::<63>::capacity()
     }
 
-    /// The text `string`. Refused with `OutOfBounds` where it is larger than the capacity.
+    /// Returns the text `string`.
+    ///
+    /// # Errors
+    ///
+    /// Returns `Err(OutOfBounds)` if `string` is larger than the capacity.
     pub fn try_from_str(string: &str) -> Result<Self, OutOfBounds>
         ensures { IsWholeOrRefused (chars string.now) 63 (from_out_of_bounds (held result)) }
     {
         Ok(CacheString(ArrayString::try_from_str(string)?))
     }
 
-    /// The longest leading run of whole characters of `string` that fits.
+    /// Returns the longest prefix of whole characters of `string` that fits.
     pub fn from_str_truncate(string: &str) -> Self
         ensures { result.0.text ≡ cut (chars string.now) 63 }
     {
         CacheString(ArrayString::from_str_truncate(string))
     }
 
-    /// The text `string`. All of it must fit.
+    /// Returns the text `string`.
+    ///
+    /// # Precondition
+    ///
+    /// All of `string` must fit.
     pub fn from_str_unchecked(string: &str) -> Self
         requires { size (chars string.now) ≤ 63 }
         ensures { result.0.text ≡ chars string.now }
@@ -62,9 +70,15 @@ impl CacheString {
         CacheString(ArrayString::from_str_unchecked(string))
     }
 
-    /// The pieces joined. Refused with `OutOfBounds` where they are larger than the capacity. It
-    /// needs no piece after the first that does not fit, and a test shows that it takes none. The
-    /// iterator must end, and allow `next` until it does.
+    /// Returns the pieces joined.
+    ///
+    /// # Errors
+    ///
+    /// Returns `Err(OutOfBounds)` if `pieces` are larger than the capacity.
+    ///
+    /// # Precondition
+    ///
+    /// The iterator must end, as `ArrayString` says.
     pub fn try_from_iterator<'a, I: IntoIterator<Item = &'a str> + Drop>(
         pieces: I,
     ) -> Result<Self, OutOfBounds>
@@ -77,9 +91,11 @@ impl CacheString {
         Ok(CacheString(ArrayString::try_from_iterator(pieces)?))
     }
 
-    /// The longest leading run of whole characters of the joined pieces that fits. It needs no
-    /// piece after the first that does not fit, and a test shows that it takes none. The iterator
-    /// must end, and allow `next` until it does.
+    /// Returns the longest prefix of whole characters of the joined pieces that fits.
+    ///
+    /// # Precondition
+    ///
+    /// The iterator must end, as `ArrayString` says.
     pub fn from_iterator<'a, I: IntoIterator<Item = &'a str> + Drop>(pieces: I) -> Self
         requires { IsFiniteIterable I.into_iter_gives I.IntoIter.can_next I.IntoIter.remaining pieces }
         ensures taken { (taken : List (Bor (List ℕ))) × Takes I.into_iter_gives I.IntoIter.next_gives joined_pieces pieces 63 taken
@@ -90,8 +106,11 @@ impl CacheString {
         CacheString(ArrayString::from_iterator(pieces))
     }
 
-    /// The pieces joined. All of them must fit. The iterator must end, and allow `next` until it
-    /// does.
+    /// Returns the pieces joined.
+    ///
+    /// # Precondition
+    ///
+    /// All of `pieces` must fit. The iterator must end, as `ArrayString` says.
     pub fn from_iterator_unchecked<'a, I: IntoIterator<Item = &'a str> + Drop>(pieces: I) -> Self
         requires ends { IsFiniteIterable I.into_iter_gives I.IntoIter.can_next I.IntoIter.remaining pieces }
         requires fits { Fits I.into_iter_gives I.IntoIter.next_gives joined_pieces pieces 63 }
@@ -103,9 +122,15 @@ impl CacheString {
         CacheString(ArrayString::from_iterator_unchecked(pieces))
     }
 
-    /// The characters. Refused with `OutOfBounds` where they are larger than the capacity. It needs
-    /// no character after the first that does not fit, and a test shows that it takes none. The
-    /// iterator must end, and allow `next` until it does.
+    /// Returns the characters.
+    ///
+    /// # Errors
+    ///
+    /// Returns `Err(OutOfBounds)` if `characters` are larger than the capacity.
+    ///
+    /// # Precondition
+    ///
+    /// The iterator must end, as `ArrayString` says.
     pub fn try_from_chars<I: IntoIterator<Item = char> + Drop>(
         characters: I,
     ) -> Result<Self, OutOfBounds>
@@ -118,9 +143,12 @@ impl CacheString {
         Ok(CacheString(ArrayString::try_from_chars(characters)?))
     }
 
-    /// The characters up to the first that does not fit, also where a later shorter one would. It
-    /// needs no character after that one, and a test shows that it takes none. The iterator must
-    /// end, and allow `next` until it does.
+    /// Returns the characters up to the first that does not fit, even if a later shorter one would
+    /// fit.
+    ///
+    /// # Precondition
+    ///
+    /// The iterator must end, as `ArrayString` says.
     pub fn from_chars<I: IntoIterator<Item = char> + Drop>(characters: I) -> Self
         requires { IsFiniteIterable I.into_iter_gives I.IntoIter.can_next I.IntoIter.remaining characters }
         ensures taken { (taken : List ℕ) × Takes I.into_iter_gives I.IntoIter.next_gives (λ cs. cs) characters 63 taken
@@ -131,7 +159,11 @@ impl CacheString {
         CacheString(ArrayString::from_chars(characters))
     }
 
-    /// The characters. All of them must fit. The iterator must end, and allow `next` until it does.
+    /// Returns the characters.
+    ///
+    /// # Precondition
+    ///
+    /// All of `characters` must fit. The iterator must end, as `ArrayString` says.
     pub fn from_chars_unchecked<I: IntoIterator<Item = char> + Drop>(characters: I) -> Self
         requires ends { IsFiniteIterable I.into_iter_gives I.IntoIter.can_next I.IntoIter.remaining characters }
         requires fits { Fits I.into_iter_gives I.IntoIter.next_gives (λ cs. cs) characters 63 }
@@ -143,9 +175,15 @@ impl CacheString {
         CacheString(ArrayString::from_chars_unchecked(characters))
     }
 
-    /// The text whose UTF-8 is `given`. Refused with `Error::Utf8` where the whole slice is not
-    /// well-formed UTF-8 (the Unicode Standard, section 3.9), and else with `Error::OutOfBounds`
-    /// where it is larger than the capacity.
+    /// Returns the text whose UTF-8 is `given`.
+    ///
+    /// # Errors
+    ///
+    /// The first of these that holds decides:
+    ///
+    /// - `Err(Utf8)` if the whole slice is not well-formed UTF-8 (the Unicode Standard, section
+    ///   3.9);
+    /// - `Err(OutOfBounds)` if the text is larger than the capacity.
     pub fn try_from_utf8(given: &[u8]) -> Result<Self, Error>
         ensures malformed { ¬ (IsWellFormed given.now) → held result ≡ Err error.Utf8 }
         ensures whole { (t : List ℕ) → IsText t → bytes t ≡ given.now → IsWholeOrRefused t 63 (held result) }
@@ -155,8 +193,11 @@ impl CacheString {
         Ok(CacheString(ArrayString::try_from_utf8(given)?))
     }
 
-    /// The longest leading run of whole characters that fits of the text whose UTF-8 is `given`.
-    /// Refused with `Utf8` where the whole slice is not well-formed UTF-8 (the Unicode Standard,
+    /// Returns the longest prefix of whole characters that fits of the text whose UTF-8 is `given`.
+    ///
+    /// # Errors
+    ///
+    /// Returns `Err(Utf8)` if the whole slice is not well-formed UTF-8 (the Unicode Standard,
     /// section 3.9), also by bytes past the capacity.
     pub fn from_utf8(given: &[u8]) -> Result<Self, Utf8>
         ensures well_formed { IsOk result ↔ IsWellFormed given.now }
@@ -166,8 +207,12 @@ impl CacheString {
         Ok(CacheString(ArrayString::from_utf8(given)?))
     }
 
-    /// The text whose UTF-8 is `given`. It must be well-formed UTF-8 (the Unicode Standard,
-    /// section 3.9), and all of it must fit.
+    /// Returns the text whose UTF-8 is `given`.
+    ///
+    /// # Precondition
+    ///
+    /// `given` must be well-formed UTF-8 (the Unicode Standard, section 3.9), and all of it must
+    /// fit.
     pub fn from_utf8_unchecked(given: &[u8]) -> Self
         requires well_formed { IsWellFormed given.now }
         requires fits { length given.now ≤ 63 }
@@ -177,25 +222,35 @@ impl CacheString {
         CacheString(ArrayString::from_utf8_unchecked(given))
     }
 
-    /// The text whose UTF-16 `units` is. It is read item by item up to the first that ends it: a
-    /// lone surrogate is refused with `Utf16`, a character that does not fit with `OutOfBounds`.
+    /// Returns the text whose UTF-16 `units` is.
+    ///
+    /// # Errors
+    ///
+    /// The units are read item by item, and the first of these ends the reading:
+    ///
+    /// - `Err(Utf16)` if the item is a lone surrogate;
+    /// - `Err(OutOfBounds)` if the item is a character that does not fit.
     pub fn try_from_utf16(units: &[u16]) -> Result<Self, Error>
         ensures { (items : List Unit16) → IsReading units.now items → GivesWhole (first_stop items 63) (held result) }
     {
         Ok(CacheString(ArrayString::try_from_utf16(units)?))
     }
 
-    /// The longest leading run of characters of `units` that fits. Refused with `Utf16` where a
-    /// lone surrogate comes right after that run, also if the string is full. What comes after a
-    /// character that does not fit is not looked at.
+    /// Returns the longest prefix of characters of `units` that fits. What comes after a character
+    /// that does not fit is not looked at.
+    ///
+    /// # Errors
+    ///
+    /// Returns `Err(Utf16)` if a lone surrogate comes right after that prefix, also if the string
+    /// is full.
     pub fn from_utf16(units: &[u16]) -> Result<Self, Utf16>
         ensures { (items : List Unit16) → IsReading units.now items → GivesRun (first_stop items 63) (held result) }
     {
         Ok(CacheString(ArrayString::from_utf16(units)?))
     }
 
-    /// The text of `units`, where each lone surrogate is read as U+FFFD, which takes three bytes.
-    /// The first character that does not fit ends it.
+    /// Returns the text of `units`, with each lone surrogate read as U+FFFD, which takes three
+    /// bytes. The first character that does not fit ends it.
     pub fn from_utf16_lossy(units: &[u16]) -> Self
         ensures { (items : List Unit16) → IsReading units.now items → result.0.text ≡ cut (lossy_text items) 63 }
     {
@@ -203,8 +258,14 @@ impl CacheString {
     }
 
     /// Returns the part from the byte index `at` on and keeps the part before it. `at` may be the
-    /// length. Refused with `OutOfBounds` where `at` is past the text, then with `Utf8` where it is
-    /// inside a character. The text is then as it was.
+    /// length.
+    ///
+    /// # Errors
+    ///
+    /// The first of these that holds decides, and the text is then as it was:
+    ///
+    /// - `Err(OutOfBounds)` if `at` is past the text;
+    /// - `Err(Utf8)` if it is inside a character.
     pub fn split_off(&mut self, at: u8) -> Result<Self, Error>
         ensures { Makes (split self.old.0.text at) self.old.0.text (with_text (held result)) self.new.0.text }
     {
@@ -241,7 +302,7 @@ impl FromStr for CacheString {
     }
 }
 
-/// The text. A width that is asked for is ignored: nothing is padded.
+/// The text. A width in the format is ignored: nothing is padded.
 impl fmt::Display for CacheString {
     ghost output = { λ s. Some (bytes s.0.text) };
 
@@ -252,7 +313,8 @@ impl fmt::Display for CacheString {
     }
 }
 
-/// The string with the given text added at its end: as many of its leading whole characters as fit.
+/// The string with the given text added at its end: its longest prefix of whole characters that
+/// fits.
 impl<'a> Add<&'a str> for CacheString {
     type Output = Self;
 
@@ -266,8 +328,12 @@ impl<'a> Add<&'a str> for CacheString {
 impl fmt::Write for CacheString {
     ghost write_str_gives = { λ s given t. bytes t.0.text ≡ bytes s.0.text ++ given };
 
-    /// Adds `string` at the end. Refused where not all of it fits. The text is then as it was. A
-    /// `write!` of several pieces leaves those before the one that is refused.
+    /// Adds `string` at the end.
+    ///
+    /// # Errors
+    ///
+    /// Returns `Err(fmt::Error)` if not all of `string` fits. The text is then as it was. A `write!`
+    /// of several pieces leaves those before the one that is refused.
     fn write_str(&mut self, string: &str) -> fmt::Result
         ensures ok { IsOk result → bytes self.new.0.text ≡ bytes self.old.0.text ++ string.now }
         ensures made { Makes (addition self.old.0.text (chars string.now) 63) self.old.0.text (from_out_of_bounds result) self.new.0.text }

@@ -10,8 +10,12 @@ use serde_json::Value;
 use std::alloc::{AllocError, Global};
 
 impl CacheString {
-    /// The JSON text with the characters of the string. Read back it is the string. It takes memory
-    /// from `alloc`, and is refused with `AllocError` where there is none.
+    /// Returns the JSON text with the characters of the string. Read back it is the string. It
+    /// takes memory from `alloc`.
+    ///
+    /// # Errors
+    ///
+    /// Returns `Err(AllocError)` if there is not enough memory.
     pub fn to_value(&self, alloc: Global) -> Result<Value, AllocError>
         ensures text { IfOk result (λ value. view value ≡ json_text self.now.0.text) }
         ensures reads_back { IfOk result (λ value. text_within (view value) 63 ≡ Some self.now.0.text) }
@@ -20,9 +24,12 @@ impl CacheString {
         self.0.to_value(alloc)
     }
 
-    /// The longest leading run of whole characters of a JSON text that fits. Refused with `NotText`
-    /// where the value is null, a truth value, a number, an array or an object. A text that does not
-    /// fit is cut with no word of it; `try_from_value` refuses it.
+    /// Returns the longest prefix of whole characters of a JSON text that fits. A text that does
+    /// not fit is cut with no word of it; `try_from_value` refuses it.
+    ///
+    /// # Errors
+    ///
+    /// Returns `Err(NotText)` if the value is null, a truth value, a number, an array or an object.
     pub fn from_value(value: &Value) -> Result<Self, NotText>
         ensures { MatchResult result (λ string. text_within (view value.now) 63 ≡ Some string.0.text)
             (λ _. text_within (view value.now) 63 ≡ None) }
@@ -30,8 +37,14 @@ impl CacheString {
         Ok(CacheString(ArrayString::from_value(value)?))
     }
 
-    /// The whole JSON text. Refused with `NotText` where the value is null, a truth value, a number,
-    /// an array or an object, else with `OutOfBounds` where the text is larger than 63 bytes.
+    /// Returns the whole JSON text.
+    ///
+    /// # Errors
+    ///
+    /// The first of these that holds decides:
+    ///
+    /// - `Err(NotText)` if the value is null, a truth value, a number, an array or an object;
+    /// - `Err(OutOfBounds)` if the text is larger than 63 bytes.
     pub fn try_from_value(value: &Value) -> Result<Self, ValueError>
         ensures text { IfOk result (λ string. whole_text (view value.now) ≡ Some string.0.text) }
         ensures refusal { IfErr result (λ error. IsWhyRefused (whole_text (view value.now)) 63 error) }

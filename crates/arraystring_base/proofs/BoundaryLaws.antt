@@ -4,7 +4,7 @@ use Rattle.std.proofs.lemmas.Bool.{le-leb, lt-leb, cases_lt, eqb-true}
 use Rattle.std.proofs.lemmas.Bool.Decides.{same_from_decides}
 use Rattle.std.proofs.lemmas.List.{append-nil, drop_at}
 use Rattle.std.proofs.lemmas.Str.{chars-append, IsUtf8-take, IsUtf8-past_char, IsCharBoundary-start, IsCharBoundary-from_rest, cons_from_encodes}
-use Rattle.arraystring_base.specs.Text.{IsText, width, utf8, size, bytes, front, back, boundary, IsLeadingPart}
+use Rattle.arraystring_base.specs.Text.{IsText, width, utf8, size, bytes, front, back, boundary, IsPrefix}
 use Rattle.arraystring_base.proofs.TextLaws.{size-is, size-append, width-bounds, length-utf8, utf8-is, bytes-chars, bytes-is, bytes-append}
 use Rattle.arraystring_base.proofs.CutLaws.{cut-is, cut-cut}
 
@@ -138,24 +138,24 @@ pub bytes-part : (t : List ℕ) (start end : ℕ) → start ≤ end → boundary
 bytes-part t start end le b d =
     ap (drop start) (bytes-front t end d) ∙ bytes-back (front t end) start (boundary-in_front t start end le b)
 
--- a boundary is the size of a leading part
-pub boundary-leading : (t : List ℕ) (i : ℕ) → (boundary t i ≡ true) ↔ ((p : List ℕ) × IsLeadingPart p t × (size p ≡ i))
-boundary-leading t i = (
+-- a boundary is the size of a prefix
+pub boundary-prefix : (t : List ℕ) (i : ℕ) → (boundary t i ≡ true) ↔ ((p : List ℕ) × IsPrefix p t × (size p ≡ i))
+boundary-prefix t i = (
   λ b. (front t i, (back t i, sym (front-back t i)), front-size t i b),
   λ h. ap (λ l. boundary l i) h.1.1 ∙ boundary-is h.0 h.1.0 i h.2,
 )
 
 -- the parts of a text are texts
-leading-text : (a b : List ℕ) → IsText (a ++ b) → IsText a
-leading-text [] b is = tt
-leading-text (c ∷ a) b is = (is.0, leading-text a b is.1)
+prefix-text : (a b : List ℕ) → IsText (a ++ b) → IsText a
+prefix-text [] b is = tt
+prefix-text (c ∷ a) b is = (is.0, prefix-text a b is.1)
 
 trailing-text : (a b : List ℕ) → IsText (a ++ b) → IsText b
 trailing-text [] b is = is
 trailing-text (c ∷ a) b is = trailing-text a b is.1
 
 pub front-text : (t : List ℕ) (i : ℕ) → IsText t → IsText (front t i)
-front-text t i is = leading-text (front t i) (back t i) (rw (front-back t i) is)
+front-text t i is = prefix-text (front t i) (back t i) (rw (front-back t i) is)
 
 pub back-text : (t : List ℕ) (i : ℕ) → IsText t → IsText (back t i)
 back-text t i is = trailing-text (front t i) (back t i) (rw (front-back t i) is)

@@ -17,8 +17,8 @@ from_end bs k = get_or bs (length bs - k) 0
 
 from_end-behind : (xs ys : List ℕ) (k : ℕ) → k ≤ length ys → from_end (xs ++ ys) k ≡ from_end ys k
 from_end-behind xs ys k le =
-    let place : length (xs ++ ys) - k ≡ length xs + (length ys - k) = omega (arith, length-append xs ys) in
-    ap (λ i. get_or (xs ++ ys) i 0) place ∙ get_or-append-add xs ys (length ys - k) 0
+    let offset : length (xs ++ ys) - k ≡ length xs + (length ys - k) = omega (arith, length-append xs ys) in
+    ap (λ i. get_or (xs ++ ys) i 0) offset ∙ get_or-append-add xs ys (length ys - k) 0
 
 -- bs ends with the character c, which begins at m, and these are its bytes
 abbrev EndsWithOne : List ℕ → ℕ → ℕ → Type 0

@@ -9,7 +9,7 @@ use Rattle.std.specs.Ordering.{nat_cmp, ordering_then, ordering_reverse, is_eq, 
 use Rattle.arraystring_base.specs.Text.{utf8, continuation, bytes, IsBefore}
 use Rattle.arraystring_base.proofs.TextLaws.{utf8-one, utf8-two, utf8-three, utf8-four}
 
--- a lower number first decides; where the first are the same, the rest decides
+-- a lower number first decides; if the first are the same, the rest decides
 less-first : (x y : ℕ) (xs ys : List ℕ) → x < y → slice_cmp nat_cmp (x ∷ xs) (y ∷ ys) ≡ Less
 less-first x y xs ys lt = ap (λ o. ordering_then o (slice_cmp nat_cmp xs ys)) (sym (nat_cmp_is x y Less lt))
 

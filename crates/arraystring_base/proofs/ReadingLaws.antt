@@ -60,7 +60,7 @@ read_before-single unit (Lone next ∷ items) apart = by_test (is_high unit && i
     by_test true e = absurd (apart next items refl (high-is unit (and_parts _ _ e).0) (low-is next (and_parts _ _ e).1))
     by_test false e = refl
 
--- where the first item is lone, it is the first unit
+-- if the first item is lone, it is the first unit
 read_before-first : (v : ℕ) (items : List Unit16) (low : ℕ) (rest : List Unit16) → read_before v items ≡ Lone low ∷ rest → v ≡ low
 unfolding read_before
 read_before-first v [] low rest e = let one : single_item v ≡ Lone low = cc in single_item-same v low one
@@ -167,13 +167,13 @@ single-reads : (unit : ℕ) (units : List ℕ) (items : List Unit16) → unit < 
     → ((low : ℕ) (rest : List Unit16) → items ≡ Lone low ∷ rest → IsHigh unit → IsLow low → ⊥)
     → IsReading (unit ∷ units) (single_item unit ∷ items)
 single-reads unit units items small is apart =
-    let told = is-single unit small in
+    let single = is-single unit small in
     record {
       each_unit = All-cons (λ u. u < 0x1_0000) unit units small is.each_unit;
-      each_item = All-cons IsItem (single_item unit) items told.is_item is.each_item;
-      joined = ap (λ l. unit ∷ l) is.joined ∙ ap (λ l. l ++ joined_units items) (sym told.spells);
+      each_item = All-cons IsItem (single_item unit) items single.is_item is.each_item;
+      joined = ap (λ l. unit ∷ l) is.joined ∙ ap (λ l. l ++ joined_units items) (sym single.spells);
       apart = cons-apart (single_item unit) items
-          (λ high low rest e f h l. apart low rest f (subst IsHigh (sym (told.same high e)) h) l) is.apart;
+          (λ high low rest e f h l. apart low rest f (subst IsHigh (sym (single.same high e)) h) l) is.apart;
     }
 
 utf16-pair : (high low : ℕ) → IsHigh high → IsLow low → utf16 (pair_character high low) ≡ high ∷ low ∷ []

@@ -73,8 +73,8 @@ bytes_same {a} {b} e = encodes_same a b (sym (bytes-is a) ∙ e ∙ bytes-is b)
 pub chars-bytes : {bs t : List ℕ} → IsUtf8 bs → bs ≡ bytes t → chars bs ≡ t
 chars-bytes u e = bytes_same (bytes-chars u ∙ e)
 
-pub size-lent : {bs : List ℕ} → IsUtf8 bs → size (chars bs) ≡ length bs
-size-lent {bs} u = size-is (chars bs) ∙ ap length (bytes-chars u)
+pub size-borrowed : {bs : List ℕ} → IsUtf8 bs → size (chars bs) ≡ length bs
+size-borrowed {bs} u = size-is (chars bs) ∙ ap length (bytes-chars u)
 
 -- where a character ends, the next begins
 pub boundary-past_char : (bs rest : List ℕ) (i c : ℕ) → i ≤ length bs → IsUtf8 (drop i bs)

@@ -44,7 +44,7 @@ IsWellFormed bs = (t : List ℕ) × (IsText t × (bytes t ≡ bs))
 abbrev pub cap : ℕ → ℕ
 cap n = min n 255
 
--- the longest leading part of t of size at most n
+-- the longest prefix of t of size at most n
 abbrev pub cut : List ℕ → ℕ → List ℕ
 cut [] n = []
 cut (c ∷ cs) n = if nat_le (width c) n then c ∷ cut cs (n - width c) else []
@@ -58,19 +58,19 @@ abbrev pub back : List ℕ → ℕ → List ℕ
 back [] i = []
 back (c ∷ cs) i = if nat_le (width c) i then back cs (i - width c) else c ∷ cs
 
--- whether i is a boundary of t: the longest leading part that fits into i bytes fills them
+-- whether i is a boundary of t: the longest prefix that fits into i bytes fills them
 abbrev pub boundary : List ℕ → ℕ → Bool
 boundary t i = size (front t i) == i
 
--- p is a leading part of t
-abbrev pub IsLeadingPart : List ℕ → List ℕ → Type 0
-IsLeadingPart p t = (rest : List ℕ) × (t ≡ p ++ rest)
+-- p is a prefix of t
+abbrev pub IsPrefix : List ℕ → List ℕ → Type 0
+IsPrefix p t = (rest : List ℕ) × (t ≡ p ++ rest)
 
--- p is a leading part of t of size at most n, and each such part is a leading part of p
+-- p is a prefix of t of size at most n, and each such prefix is a prefix of p
 pub record IsLongestFitting (p t : List ℕ) (n : ℕ) : Type 0 where
-  pub leads : IsLeadingPart p t
+  pub prefix : IsPrefix p t
   pub fits : size p ≤ n
-  pub longest : (q : List ℕ) → IsLeadingPart q t → size q ≤ n → IsLeadingPart q p
+  pub longest : (q : List ℕ) → IsPrefix q t → size q ≤ n → IsPrefix q p
 
 -- a comes before b: b goes on where a ends, or has the greater character where they first differ
 abbrev pub IsBefore : List ℕ → List ℕ → Type 0

@@ -50,7 +50,7 @@ pub record IsReading (units : List ℕ) (items : List Unit16) : Type 0 where
   pub joined : units ≡ joined_units items
   pub apart : NoPairApart items
 
--- the leading run of characters that fits, and what comes after it: nothing, a lone surrogate, or a character
+-- the prefix of characters that fits, and what comes after it: nothing, a lone surrogate, or a character
 pub data Stop : Type 0 where
   End : List ℕ → Stop
   Fault : List ℕ → Stop
@@ -76,7 +76,7 @@ first_stop [] n = End []
 first_stop (Lone unit ∷ items) n = Fault []
 first_stop (Char c ∷ items) n = if nat_le (width c) n then stop_behind c (first_stop items (n - width c)) else Full []
 
--- an item as a character, where a lone surrogate is U+FFFD
+-- an item as a character, with U+FFFD for a lone surrogate
 abbrev pub shown : Unit16 → ℕ
 shown (Char c) = c
 shown (Lone unit) = 0xFFFD

@@ -1,5 +1,5 @@
-//! What a call refuses, and the conversions to `Error`. No printed form is padded to a width that
-//! is asked for.
+//! What a call refuses, and the conversions to `Error`. No printed form is padded to a width in the
+//! format.
 ghost use Rattle.std.specs.Prelude.{◌≡◌, ◌++◌, Some, codes};
 ghost use Rattle.std.proofs.Common.{ap};
 ghost use Rattle.std.specs.Hash as fed;

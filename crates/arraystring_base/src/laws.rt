@@ -4,13 +4,13 @@ ghost use Rattle.std.specs.Prelude.{◌≡◌, ◌≤◌, ◌↔◌, ◌⊎◌, 
 ghost use Rattle.std.specs.Ordering.{nat_cmp};
 ghost use Rattle.std.specs.Cmp.Lexicographic.{slice_cmp};
 ghost use Rattle.std.specs.declared.cmp.Ordering.TheVariants.{Less, Equal, Greater};
-ghost use Rattle.arraystring_base.specs.Text.{bytes, cut, size, front, back, boundary, IsText, IsWellFormed, IsLeadingPart, IsLongestFitting, IsBefore};
+ghost use Rattle.arraystring_base.specs.Text.{bytes, cut, size, front, back, boundary, IsText, IsWellFormed, IsPrefix, IsLongestFitting, IsBefore};
 ghost use Rattle.arraystring_base.specs.Utf16.{IsReading, Stop, StopsAt, first_stop, text_units};
 ghost use Rattle.arraystring_base.specs.declared.utf16.Unit16.{Unit16};
 ghost use Rattle.arraystring_base.specs.declared.utf16.Unit16.TheVariants.{Char};
 
-/// The cut of a text to `n` bytes is a leading part of it that fits, and no leading part that fits
-/// is longer; no other text is so. The cut of a text that fits is the text.
+/// The cut of a text to `n` bytes is a prefix of it that fits, and no prefix that fits is longer;
+/// no other text is so. The cut of a text that fits is the text.
 pub fn longest_cut()
     ensures longest { (t p : List ℕ) (n : ℕ) → (p ≡ cut t n) ↔ IsLongestFitting p t n }
     ensures whole { (t : List ℕ) (n : ℕ) → size t ≤ n → cut t n ≡ t }
@@ -21,9 +21,9 @@ pub fn cut_of_cut()
     ensures { (t : List ℕ) (m n : ℕ) → n ≤ m → cut (cut t m) n ≡ cut t n }
 {}
 
-/// `i` is a boundary of a text exactly where one of its leading parts has size `i`.
+/// `i` is a boundary of a text if and only if one of its prefixes has size `i`.
 pub fn boundaries()
-    ensures { (t : List ℕ) (i : ℕ) → IsTrue (boundary t i) ↔ ((p : List ℕ) × IsLeadingPart p t × (size p ≡ i)) }
+    ensures { (t : List ℕ) (i : ℕ) → IsTrue (boundary t i) ↔ ((p : List ℕ) × IsPrefix p t × (size p ≡ i)) }
 {}
 
 /// The parts before and from an index, joined, are the text. The part before a boundary has as many
@@ -47,13 +47,13 @@ pub fn one_text()
 {}
 
 /// Every `&str` is the bytes of its characters, and each of these is a Unicode scalar value.
-pub fn lent_text(given: &str)
+pub fn borrowed_text(given: &str)
     ensures text { IsText (chars given.now) }
     ensures bytes { bytes (chars given.now) ≡ given.now }
 {}
 
-/// The order of the bytes of two texts is the order of their characters: the bytes are less where
-/// the one text comes before the other, and equal where the texts are the same.
+/// The order of the bytes of two texts is the order of their characters. The bytes are less if and
+/// only if the one text comes before the other, and equal if and only if the texts are the same.
 pub fn order_of_bytes()
     ensures same { (a b : List ℕ) → slice_cmp nat_cmp (bytes a) (bytes b) ≡ slice_cmp nat_cmp a b }
     ensures less { (a b : List ℕ) → (slice_cmp nat_cmp (bytes a) (bytes b) ≡ Less) ↔ IsBefore a b }
@@ -80,8 +80,8 @@ pub fn text_reading()
     ensures { (t : List ℕ) (items : List Unit16) → IsText t → (IsReading (text_units t) items) ↔ (items ≡ map Char t) }
 {}
 
-/// The first stop of items at `n` bytes is where the longest leading run of characters that fits
-/// ends, with what comes after it; no other stop is so.
+/// The first stop of items at `n` bytes is where the longest prefix of characters that fits ends,
+/// with what comes after it; no other stop is so.
 pub fn one_stop()
     ensures { (items : List Unit16) (n : ℕ) (stop : Stop) → (StopsAt items n stop) ↔ (first_stop items n ≡ stop) }
 {}

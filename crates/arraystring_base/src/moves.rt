@@ -1,6 +1,6 @@
 //! How a run of bytes is moved inside an array: as its first `K` and its last `K` bytes, which may
 //! overlap, and both are read before the first is written. So does `memmove` with a short run. A
-//! byte that both hold is written twice, to one offset: it moves once. They are read as vectors,
+//! byte that both have is written twice, to one offset: it moves once. They are read as vectors,
 //! since those stay in registers; arrays of bytes would be put on the stack.
 ghost use Rattle.std.specs.Prelude.{◌≡◌, ◌+◌, ◌-◌, ◌≤◌, ◌<◌, ◌++◌, length, take, drop};
 
@@ -36,7 +36,7 @@ fn move_short_run<const N: usize>(array: &mut [u8; N], from: usize, to: usize, l
     }
 }
 
-/// The same for more than four bytes. What an array of `N` bytes can't have is not asked.
+/// The same for more than four bytes. What an array of `N` bytes can't have is not tested.
 #[inline(always)]
 fn move_long_run<const N: usize>(array: &mut [u8; N], from: usize, to: usize, len: usize)
     requires source { from + len ≤ N }
@@ -132,9 +132,12 @@ fn move_pairs<const N: usize, const K: usize>(
     put_pair(array, to + rest, before_end, end);
 }
 
-/// Writes `given` over the bytes of the array from the offset `at` on. It must fit into the array from
-/// there. No other byte changes. Up to 16 bytes cost no call, so that a function that makes no other
-/// has no register to save.
+/// Writes `given` over the bytes of the array from the offset `at` on. No other byte changes. Up to
+/// 16 bytes cost no call, so that a function that makes no other has no register to save.
+///
+/// # Precondition
+///
+/// `given` must fit into the array from there.
 #[inline(always)]
 pub fn write_over<const N: usize>(array: &mut [u8; N], at: usize, given: &[u8])
     requires { at + length given.now ≤ N }

@@ -22,7 +22,7 @@ impl Model for Steps {
 }
 
 impl Steps {
-    /// A fresh counter: no byte was looked at, and none was moved.
+    /// Returns a fresh counter: no byte was looked at, and none was moved.
     pub const fn new() -> Self
         ensures looked { result.looked ≡ 0 }
         ensures moved { result.moved ≡ 0 }
@@ -33,14 +33,14 @@ impl Steps {
         }
     }
 
-    /// How many bytes were looked at.
+    /// Returns how many bytes were looked at.
     pub const fn looked(&self) -> u64
         ensures { result ≡ self.now.looked }
     {
         self.looked
     }
 
-    /// How many bytes were moved.
+    /// Returns how many bytes were moved.
     pub const fn moved(&self) -> u64
         ensures { result ≡ self.now.moved }
     {
@@ -57,8 +57,11 @@ impl Steps {
     }
 }
 
-/// The byte at the index `at`, counted as one look. The index must be below the length, and the
-/// count of looks must be below 2^64 - 1.
+/// Returns the byte at the index `at`, counted as one look.
+///
+/// # Precondition
+///
+/// The index must be below the length, and the count of looks must be below 2^64 - 1.
 pub fn look(bytes: &[u8], at: usize, steps: &mut Steps) -> u8
     requires in_bounds { at < length bytes.now }
     requires countable { steps.old.looked < 2 ^ 64 - 1 }

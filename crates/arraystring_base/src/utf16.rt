@@ -36,7 +36,7 @@ impl<'a> Model for Units<'a> {
 }
 
 impl<'a> Units<'a> {
-    /// The walk over the reading of `units`, from its first item on.
+    /// Returns the walk over the reading of `units`, from its first item on.
     pub fn new(units: &'a [u16]) -> Self
         ensures { IsReading units.now result }
     {
@@ -51,7 +51,7 @@ impl<'a> Iterator for Units<'a> {
 
     ghost remaining = { item_count (λ items. items) };
 
-    /// The next item of the reading; `None` where none is left, and from then on.
+    /// Returns the next item of the reading, or `None` if none is left, and from then on.
     fn next(&mut self) -> Option<Unit16> {
         let (first, rest) = self.rest.split_first()?;
         let unit = *first;

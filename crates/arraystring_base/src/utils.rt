@@ -8,7 +8,11 @@ pub use crate::moves::write_over;
 pub use crate::steps::{Steps, look};
 use std::char;
 
-/// Whether `size` is at most `limit`; refused with `OutOfBounds` where it is greater.
+/// Tests that `size` is at most `limit`.
+///
+/// # Errors
+///
+/// Returns `Err(OutOfBounds)` if `size` is greater.
 pub fn is_inside_boundary(size: usize, limit: usize) -> Result<(), OutOfBounds>
     ensures { IsOk result ↔ (size ≤ limit) }
 {
@@ -18,24 +22,28 @@ pub fn is_inside_boundary(size: usize, limit: usize) -> Result<(), OutOfBounds>
     Ok(())
 }
 
-/// Whether `at` is a boundary of `text`, the size of one of its leading parts of whole characters.
-/// It is false past the length of the text.
+/// Returns whether `at` is a boundary of `text`, the size of one of its prefixes of whole
+/// characters. It is false past the length of the text.
 pub fn is_boundary(text: &str, at: usize) -> bool
     ensures { result ≡ boundary (chars text.now) at }
 {
     text.is_char_boundary(at)
 }
 
-/// The longest leading run of whole characters of `text` that takes at most `size` bytes, borrowed
-/// from the text.
+/// Returns the longest prefix of whole characters of `text` that takes at most `size` bytes,
+/// borrowed from the text.
 pub fn truncate_str(text: &str, size: u8) -> &str
     ensures { result.now ≡ bytes (cut (chars text.now) size) }
 {
     truncate_str_counted(text, size, &mut Steps::new())
 }
 
-/// The same as `truncate_str`. It looks at no more than four bytes, and at one at least where
-/// `size` is not 0 and is below the length. It moves none. The count of looks must be at most 2^63.
+/// The same as `truncate_str`. It looks at no more than four bytes, and at one at least if `size`
+/// is not 0 and is below the length. It moves none.
+///
+/// # Precondition
+///
+/// The count of looks must be at most 2^63.
 pub fn truncate_str_counted<'a>(text: &'a str, size: u8, steps: &mut Steps) -> &'a str
     requires { steps.old.looked ≤ 2 ^ 63 }
     ensures value { result.now ≡ bytes (cut (chars text.now) size) }
@@ -52,9 +60,13 @@ pub fn truncate_str_counted<'a>(text: &'a str, size: u8, steps: &mut Steps) -> &
     &text[..end]
 }
 
-/// The index at which the last character of `text` begins, and that character; `None` where the
-/// text is empty. It looks at no more than four bytes, and at one at least where there is a
-/// character. It moves none. The count of looks plus four must be below 2^64.
+/// Returns the index at which the last character of `text` begins, and that character, or `None` if
+/// the text is empty. It looks at no more than four bytes, and at one at least if there is a
+/// character. It moves none.
+///
+/// # Precondition
+///
+/// The count of looks plus four must be below 2^64.
 #[tactic(auto, using(crate::proofs::LastLemmas::chars_empty))]
 pub fn last_char(text: &str, steps: &mut Steps) -> Option<(usize, char)>
     requires { steps.old.looked + 4 < 2 ^ 64 }
@@ -73,7 +85,11 @@ pub fn last_char(text: &str, steps: &mut Steps) -> Option<(usize, char)>
 }
 
 /// Writes the UTF-8 of `ch` into the array, from the offset `at` on, and returns how many bytes it
-/// takes. It must fit into the array from there. No other byte changes.
+/// takes. No other byte changes.
+///
+/// # Precondition
+///
+/// `ch` must fit into the array from there.
 #[inline(always)]
 #[tactic(auto, unfolding(crate::specs::Text::width, crate::specs::Text::utf8))]
 pub fn encode<const N: usize>(ch: char, array: &mut [u8; N], at: usize) -> usize
@@ -108,9 +124,12 @@ pub fn encode<const N: usize>(ch: char, array: &mut [u8; N], at: usize) -> usize
 }
 
 /// Moves `len` bytes of the array from the offset `from` to the offset `to`; the two runs may
-/// overlap. Each byte counts as one move, also where it is written twice on the way (see `moves`),
-/// and none counts where `from` is `to`. Both runs must lie in the array, and the count of moves
-/// plus `len` must be below 2^64. No byte outside the target changes.
+/// overlap. Each byte counts as one move, also if it is written twice on the way (see `moves`), and
+/// none counts if `from` is `to`. No byte outside the target changes.
+///
+/// # Precondition
+///
+/// Both runs must lie in the array, and the count of moves plus `len` must be below 2^64.
 #[inline(always)]
 pub fn shift<const N: usize>(
     array: &mut [u8; N],
@@ -155,7 +174,8 @@ fn last_boundary(text: &str, limit: usize, steps: &mut Steps) -> usize
 {
     let all = text.as_bytes();
     let mut end = limit;
-    while end > 0 && continues(look(all, end, steps)) {
+    // At most three bytes continue a character. The bound is for the compiler, which unrolls the loop.
+    while end > 0 && continues(look(all, end, steps)) && limit - end < 3 {
         end -= 1;
     }
     end

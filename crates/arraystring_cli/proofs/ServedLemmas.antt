@@ -4,7 +4,7 @@ use Rattle.std.proofs.lemmas.List.{append-nil}
 use Rattle.std.specs.Prelude.{Option, None, Some, IfSome}
 use Rattle.std.specs.Borrow.{Bor}
 use Rattle.std.specs.Io.KnownBytes.{Appends, append_known}
-use Rattle.arraystring_run.specs.Script.{IsServed, AppendsFront, capacity_named, fault_line}
+use Rattle.arraystring_run.specs.Script.{IsServed, AppendsPrefix, capacity_named, fault_line}
 use Rattle.arraystring_run.specs.declared.player.PlayFault.TheVariants.{Write}
 use Rattle.arraystring_cli.proofs.BufferLemmas.{append-nothing}
 
@@ -20,10 +20,10 @@ appends-none : (known : Option (List ℕ)) → Appends known known []
 appends-none None = tt
 appends-none (Some xs) = sym (append-nil xs)
 
-whole-front : (old new : Option (List ℕ)) (bs : List ℕ) → Appends old new bs → AppendsFront old new bs
+whole-front : (old new : Option (List ℕ)) (bs : List ℕ) → Appends old new bs → AppendsPrefix old new bs
 whole-front old new bs all = record { done = bs; later = []; whole = sym (append-nil bs); appended = all }
 
-no-front : (old new : Option (List ℕ)) (bs : List ℕ) → new ≡ old → AppendsFront old new bs
+no-front : (old new : Option (List ℕ)) (bs : List ℕ) → new ≡ old → AppendsPrefix old new bs
 no-front old new bs same = record { done = []; later = bs; whole = refl; appended = subst (λ l. Appends old l []) (sym same) (appends-none old) }
 
 module _ (word : Option (Bor (List ℕ))) (given old new errors_old errors_new : Option (List ℕ)) (SameInput SameBuffer SameOutput SameErrors : Type 0) where
@@ -44,7 +44,7 @@ module _ (word : Option (Bor (List ℕ))) (given old new errors_old errors_new :
         known = s.known;
       }
 
-  -- where all is played and some of it waits, that much was not written
+  -- if all is played and some of it waits, that much was not written
   pub served-cut : (SameErrors → errors_new ≡ errors_old)
       → IsServed word given old new errors_old errors_new SameInput SameOutput SameErrors 0
       → IsServed word given old new errors_old errors_new SameInput SameOutput SameErrors 4

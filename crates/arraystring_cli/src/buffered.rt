@@ -15,7 +15,7 @@ pub(crate) struct Buffered<O> {
 }
 
 impl<O: Write> Buffered<O> {
-    /// Writes what waits. Where a write fails, what is not written still waits.
+    /// Writes what waits. If a write fails, what is not written still waits.
     fn send(&mut self) -> io::Result<()>
         ensures sent { OnOk result (self.new.waiting.items ≡ []) }
         ensures kept { Keeps (append_known (O.contents self.old.output) self.old.waiting.items) (append_known (O.contents self.new.output) self.new.waiting.items) }

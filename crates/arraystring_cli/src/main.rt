@@ -27,7 +27,7 @@ fn main(rt: HostRuntime) -> ExitCode {
     ExitCode::from(status)
 }
 
-/// How many bytes the buffer before the output holds.
+/// How many bytes the buffer before the output has room for.
 const BUFFER: usize = 8192;
 
 /// The arguments of a program. The kit's `Env` does not say what its calls return; this trait names
@@ -51,8 +51,8 @@ impl<E: Env> Arguments for E {
     }
 }
 
-/// The word that the program was given: its only argument, where that is UTF-8. It takes no memory,
-/// so an argument of more than 255 bytes counts as none. No capacity has so long a name.
+/// The word that the program was given: its only argument, if that is UTF-8. It takes no memory, so
+/// an argument of more than 255 bytes counts as none. No capacity has so long a name.
 fn given_word<A: Arguments>(arguments: &A) -> Option<MaxString>
     ensures { (count : Result ℕ Fault) × (first : List ℕ) × (second : Result ℕ Fault) × (rest : List ℕ) × A.gives arguments.now 1 count first
         × A.gives arguments.now 2 second rest × IsOnlyWord count first second result }
@@ -63,7 +63,7 @@ fn given_word<A: Arguments>(arguments: &A) -> Option<MaxString>
     only_word(count, &first, second)
 }
 
-/// The text of the first argument, the first `count` bytes of `first`, where there is no second.
+/// The text of the first argument, the first `count` bytes of `first`, if there is no second.
 fn only_word(
     count: Result<usize, FillError>,
     first: &[u8],
@@ -78,9 +78,9 @@ fn only_word(
 }
 
 /// Serves a word with a buffer before the output, so that a line costs no system call of its own.
-/// For a word that names no capacity no memory is taken. Where there is no memory for a buffer, the
-/// output is not buffered. Returns the output too. After a failed write the buffer may hold bytes
-/// (`held`), which are let go.
+/// For a word that names no capacity no memory is taken. If there is no memory for a buffer, the
+/// output is not buffered. Returns the output too. After a failed write bytes may be left in the
+/// buffer (`held`), which are dropped.
 fn serve_buffered<I: Read, O: Write + Drop, E: Write>(
     alloc: Global,
     word: Option<&str>,

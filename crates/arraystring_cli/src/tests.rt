@@ -62,7 +62,7 @@ fn the_only_argument_is_the_word(rt: HostRuntime) {
     assert_eq!(rt; word.map(|word| word.len()), Some(255));
 }
 
-/// A first argument of each length that fits is the word where it is the only one. No second is let
+/// A first argument of each length that fits is the word if it is the only one. No second is let
 /// pass, of whatever length.
 #[test]
 fn arguments_of_each_length(rt: HostRuntime) {
@@ -84,7 +84,7 @@ fn serves(
     word: Option<&str>,
     status: u8,
     wanted: &[u8],
-    told: &[u8],
+    reported: &[u8],
 ) {
     let mut input: &[u8] = b"push_str ab\nlen\n";
     let mut output = Vec::new(alloc);
@@ -92,7 +92,7 @@ fn serves(
     let (served, _) = serve_buffered(alloc, word, &mut input, &mut output, &mut errors);
     assert_eq!(rt; served, status);
     assert_eq!(rt; output.as_slice(), wanted);
-    assert_eq!(rt; errors.as_slice(), told);
+    assert_eq!(rt; errors.as_slice(), reported);
 }
 
 const USAGE: &[u8] = b"usage: arraystring_run small or cache or max\n";
@@ -134,7 +134,7 @@ fn words_are_judged_without_memory(rt: HostRuntime) -> Result<(), Fail> {
     drop(scarce);
     assert_eq!(rt; (big, max), (2, 3));
     assert_eq!(rt; output.len(), 0);
-    let told = b"usage: arraystring_run small or cache or max\nout of memory\n".as_slice();
-    assert_eq!(rt; errors.as_slice(), told);
+    let reported = b"usage: arraystring_run small or cache or max\nout of memory\n".as_slice();
+    assert_eq!(rt; errors.as_slice(), reported);
     Ok(())
 }

@@ -8,7 +8,7 @@ use Rattle.arraystring_core.specs.Edits.{first_cause, part, replacement}
 use Rattle.arraystring_core.proofs.EditLaws.{none-holds, inside-failed, inside-not}
 use Rattle.arraystring_core.proofs.PartLaws.{part-joined, part-size}
 
--- what is known where a replacement has no cause
+-- what is known if a replacement has no cause
 record IsAllowed (t : List ℕ) (start end : ℕ) (given : List ℕ) (n : ℕ) : Type 0 where
   order : start ≤ end
   within : end ≤ size t

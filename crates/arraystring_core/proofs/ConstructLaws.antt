@@ -15,7 +15,7 @@ pub refused-made : (result : Result Stored OutOfBounds) (t : List ℕ) (n : ℕ)
 refused-made (Ok s) t n err past = absurd (cc)
 refused-made (Err e) t n err past = (past, refl)
 
--- a text that is a larger one's leading part, or is larger than n, decides for the larger one
+-- a text that is a larger one's prefix, or is larger than n, decides for the larger one
 pub made-more : (result : Result Stored Error) (t all : List ℕ) (n : ℕ) → ((t ≡ all) × (size t ≤ n)) ⊎ ((more : List ℕ) × (all ≡ t ++ more) × (n < size t))
     → IsWholeOrRefused t n result → IsWholeOrRefused all n result
 made-more result t all n (inl ends) made = subst (λ l. IsWholeOrRefused l n result) ends.0 made

@@ -1,16 +1,17 @@
 -- A character comes off the front, or off the back, of what is left.
-use Rattle.std.proofs.Common.{◌≡◌, ◌≢◌, ℕ, ◌+◌, ◌-◌, ◌/◌, ◌%◌, ◌<◌, ◌≤◌, List, [], ◌∷◌, ◌++◌, refl, sym, ap, subst, ◌∙◌, arith, true, inl, inr, length, length-append, append_assoc, get_or, chars, take, drop, IsUtf8}
-use Rattle.std.proofs.lemmas.Bool.{cases_lt, lt-ltb, le-ltb}
+use Rattle.std.proofs.Common.{◌≡◌, ◌≢◌, ℕ, ◌+◌, ◌-◌, ◌/◌, ◌%◌, ◌<◌, ◌≤◌, Option, Some, None, Ok, List, [], ◌∷◌, ◌++◌, refl, sym, ap, subst, ◌∙◌, arith, true, inl, inr, length, length-append, append_assoc, get_or, chars, take, drop, IsUtf8}
+use Rattle.std.proofs.lemmas.Bool.{cases_lt, lt-ltb, le-ltb, ltb-false}
 use Rattle.std.proofs.lemmas.Str.{chars_past_char}
 use Rattle.std.specs.Char.{encode_utf8}
 use Rattle.std.proofs.lemmas.List.{append-nil, get_or-append-add, get_or-take, get_or-drop}
 use Rattle.arraystring_base.specs.Text.{width, size, cap, utf8, bytes, front, back, boundary}
-use Rattle.arraystring_base.proofs.TextLaws.{size-is, size-append, size-lent, bytes-append, chars-bytes, empty-size}
+use Rattle.arraystring_base.proofs.TextLaws.{size-is, size-append, size-borrowed, bytes-append, chars-bytes, empty-size}
 use Rattle.arraystring_base.proofs.BoundaryLaws.{front-back, front-is, back-is, front-size, back-size, boundary-is, boundary-within, boundary-in_front, bytes-back, next-char}
 use Rattle.arraystring_core.specs.Stored.{Stored, stored, IsStored}
 use Rattle.arraystring_core.specs.GhostProofs.{stored-utf8, stored-size, stored-bytes}
 use Rattle.arraystring_core.specs.Drained.{IsDrained}
-use Rattle.arraystring_core.specs.Edits.{part}
+use Rattle.arraystring_core.specs.Edits.{Cause, Test, first_cause, ok_unless, part, draining}
+use Rattle.arraystring_core.proofs.EditLaws.{none-holds, inside-failed}
 use Rattle.arraystring_core.proofs.SpanLemmas.{dropped as dropped_part, kept as kept_part}
 
 -- a text that is not empty ends with a character
@@ -46,8 +47,8 @@ high-bytes c past =
 
 last-byte : (bs xs : List ℕ) (z : ℕ) → bs ≡ xs ++ z ∷ [] → get_or bs (length bs - 1) 0 ≡ z
 last-byte bs xs z is =
-    let place : length bs - 1 ≡ length xs + 0 = omega (arith, ap length is, length-append xs (z ∷ [])) in
-    ap (λ i. get_or bs i 0) place ∙ ap (λ l. get_or l (length xs + 0) 0) is ∙ get_or-append-add xs (z ∷ []) 0 0
+    let offset : length bs - 1 ≡ length xs + 0 = omega (arith, ap length is, length-append xs (z ∷ [])) in
+    ap (λ i. get_or bs i 0) offset ∙ ap (λ l. get_or l (length xs + 0) 0) is ∙ get_or-append-add xs (z ∷ []) 0 0
 
 -- a text whose first byte is below 128 begins with it, and one whose last byte is ends with it
 first-low : (t : List ℕ) (b : ℕ) → t ≢ [] → get_or (bytes t) 0 0 ≡ b → b < 128 → (rest : List ℕ) × (t ≡ b ∷ rest) × (width b ≡ 1)
@@ -82,24 +83,50 @@ last-low t b some e lt =
           absurd (omega (arith, same, high.5))
     ]
 
+-- what is known if no test of a removal holds
+pub record IsPart (t : List ℕ) (start end : ℕ) : Type 0 where
+  pub order : start ≤ end
+  pub within : end ≤ size t
+  pub starts : boundary t start ≡ true
+  pub ends : boundary t end ≡ true
+
+pub no_cause : (tests : List Test) → Ok (tt {0}) ≡ ok_unless (first_cause tests) (tt {0}) → first_cause tests ≡ None
+no_cause tests is = go (first_cause tests) is
+  where
+    go : (found : Option Cause) → Ok (tt {0}) ≡ ok_unless found (tt {0}) → found ≡ None
+    go None is = refl
+    go (Some cause) is = absurd (cc)
+
+pub part-where : (t : List ℕ) (start end : ℕ) → first_cause (draining t start end).tests ≡ None → IsPart t start end
+part-where t start end e =
+    let none = none-holds (draining t start end).tests e in
+    let le : start ≤ end = ltb-false end start none.0 in
+    let reached : end ≤ size t = ltb-false (size t) end none.1.0 in
+    record {
+      order = le;
+      within = reached;
+      starts = inside-failed t start (omega arith) none.1.1.0;
+      ends = inside-failed t end reached none.1.1.1.0;
+    }
+
 -- the part between two boundaries of a stored text, where it is in the array
-module _ (places : ℕ) (array : List ℕ) (p n : ℕ) (is : IsStored places array p n) (v : Stored) (e : stored array p n ≡ v)
+module _ (array_size : ℕ) (array : List ℕ) (p n : ℕ) (is : IsStored array_size array p n) (v : Stored) (e : stored array p n ≡ v)
     (start end : ℕ) (order : start ≤ end) (b : boundary v.text start ≡ true) (d : boundary v.text end ≡ true) where
-  kept : IsStored places array p end
-  kept = (kept_part places array p n is v e end d).held
+  kept : IsStored array_size array p end
+  kept = (kept_part array_size array p n is v e end d).held
 
   starts : boundary (stored array p end).text start ≡ true
-  starts = rw (kept_part places array p n is v e end d).shown (boundary-in_front v.text start end order b)
+  starts = rw (kept_part array_size array p n is v e end d).shown (boundary-in_front v.text start end order b)
 
-  pub part-held : IsStored places array (p + start) (end - start)
-  part-held = (dropped_part places array p end kept (stored array p end) refl start starts).held
+  pub part-held : IsStored array_size array (p + start) (end - start)
+  part-held = (dropped_part array_size array p end kept (stored array p end) refl start starts).held
 
   pub part-text : (stored array (p + start) (end - start)).text ≡ part v.text start end
   part-text =
-      (dropped_part places array p end kept (stored array p end) refl start starts).shown
-      ∙ ap (λ t. back t start) (kept_part places array p n is v e end d).shown
+      (dropped_part array_size array p end kept (stored array p end) refl start starts).shown
+      ∙ ap (λ t. back t start) (kept_part array_size array p n is v e end d).shown
 
-module _ (places : ℕ) (array : List ℕ) (p n i : ℕ) (held : IsStored places array p n) (is : IsDrained places (stored array p n) i) where
+module _ (array_size : ℕ) (array : List ℕ) (p n i : ℕ) (held : IsStored array_size array p n) (is : IsDrained array_size (stored array p n) i) where
   abbrev removed : List ℕ
   removed = (stored array p n).text
 
@@ -107,7 +134,7 @@ module _ (places : ℕ) (array : List ℕ) (p n i : ℕ) (held : IsStored places
   left = back removed i
 
   removed-size : size removed ≡ n
-  removed-size = stored-size places array p n held
+  removed-size = stored-size array_size array p n held
 
   pub given-within : i ≤ n
   given-within = omega (arith, boundary-within removed i is.at, removed-size)
@@ -116,26 +143,26 @@ module _ (places : ℕ) (array : List ℕ) (p n i : ℕ) (held : IsStored places
   left-size = back-size removed i is.at ∙ ap (λ k. k - i) removed-size
 
   left-bytes : bytes left ≡ drop i (take n (drop p array))
-  left-bytes = sym (bytes-back removed i is.at) ∙ ap (drop i) (stored-bytes places array p n held)
+  left-bytes = sym (bytes-back removed i is.at) ∙ ap (drop i) (stored-bytes array_size array p n held)
 
-  lent-stored : IsStored places array (p + i) (n - i)
-  lent-stored = (dropped_part places array p n held (stored array p n) refl i is.at).held
+  borrowed-stored : IsStored array_size array (p + i) (n - i)
+  borrowed-stored = (dropped_part array_size array p n held (stored array p n) refl i is.at).held
 
   -- its bytes are those of the array from f to e
   module _ (f e : ℕ) (from : f ≡ p + i) (to : e ≡ p + n) where
     long : e - f ≡ n - i
     long = omega (arith, from, to, given-within)
 
-    pub lent-utf8 : IsUtf8 (take (e - f) (drop f array))
-    lent-utf8 = rw (long, from) (stored-utf8 places array (p + i) (n - i) lent-stored)
+    pub borrowed-utf8 : IsUtf8 (take (e - f) (drop f array))
+    borrowed-utf8 = rw (long, from) (stored-utf8 array_size array (p + i) (n - i) borrowed-stored)
 
-    pub lent-bytes : take (e - f) (drop f array) ≡ bytes left
-    lent-bytes =
+    pub borrowed-bytes : take (e - f) (drop f array) ≡ bytes left
+    borrowed-bytes =
         ap (λ k. take k (drop f array)) long ∙ ap (λ k. take (n - i) (drop k array)) from
-        ∙ sym (stored-bytes places array (p + i) (n - i) lent-stored)
-        ∙ ap bytes (dropped_part places array p n held (stored array p n) refl i is.at).shown
+        ∙ sym (stored-bytes array_size array (p + i) (n - i) borrowed-stored)
+        ∙ ap bytes (dropped_part array_size array p n held (stored array p n) refl i is.at).shown
 
-  pub left-fits : size left ≤ cap places
+  pub left-fits : size left ≤ cap array_size
   left-fits = omega (arith, left-size, held.0)
 
   pub none-left : n ≤ i → left ≡ []
@@ -146,19 +173,19 @@ module _ (places : ℕ) (array : List ℕ) (p n i : ℕ) (held : IsStored places
 
   -- the first character is given
   module _ (c : ℕ) (rest : List ℕ) (starts : left ≡ c ∷ rest) where
-    pub front-given : IsDrained places (stored array p n) (i + width c)
+    pub front-given : IsDrained array_size (stored array p n) (i + width c)
     front-given = record { fits = is.fits; at = (next-char removed i is.at c rest starts).0 }
 
     pub front-rest : back removed (i + width c) ≡ rest
     front-rest = (next-char removed i is.at c rest starts).1
 
-  -- where what is left is known by its bytes, and by those after its first character
+  -- if what is left is known by its bytes, and by those after its first character
   module _ (bs : List ℕ) (u : IsUtf8 bs) (shown : bs ≡ bytes left) (c : ℕ) (rest : List ℕ) (v : IsUtf8 rest) (begins : bs ≡ encode_utf8 c ++ rest) where
     begun : left ≡ c ∷ chars rest
     begun = sym (chars-bytes u shown) ∙ chars_past_char bs rest c u begins
 
     stepped : i + width c + length rest ≡ n
-    stepped = omega (arith, given-within, left-size, ap size begun, size-lent v)
+    stepped = omega (arith, given-within, left-size, ap size begun, size-borrowed v)
 
     next : i + width c ≡ n - length rest
     next = omega (arith, stepped)
@@ -166,13 +193,13 @@ module _ (places : ℕ) (array : List ℕ) (p n i : ℕ) (held : IsStored places
     pub decoded-within : length rest ≤ n
     decoded-within = omega (arith, stepped)
 
-    pub decoded-given : IsDrained places (stored array p n) (n - length rest)
+    pub decoded-given : IsDrained array_size (stored array p n) (n - length rest)
     decoded-given = rw (← next) (front-given c (chars rest) begun)
 
     pub decoded-rest : left ≡ c ∷ back removed (n - length rest)
     decoded-rest = begun ∙ ap (λ l. c ∷ l) (sym (front-rest c (chars rest) begun) ∙ ap (back removed) next)
 
-  -- where it is ASCII
+  -- if it is ASCII
   module _ (some : i < n) (low : get_or array (p + i) 0 < 128) where
     first-byte : get_or (bytes left) 0 0 ≡ get_or array (p + i) 0
     first-byte =
@@ -183,9 +210,9 @@ module _ (places : ℕ) (array : List ℕ) (p n i : ℕ) (held : IsStored places
     abbrev first-is : (rest : List ℕ) × (left ≡ get_or array (p + i) 0 ∷ rest) × (width (get_or array (p + i) 0) ≡ 1)
     first-is = first-low left (get_or array (p + i) 0) (some-left some) first-byte low
 
-    pub first-given : IsDrained places (stored array p n) (i + 1)
+    pub first-given : IsDrained array_size (stored array p n) (i + 1)
     first-given =
-        subst (λ w. IsDrained places (stored array p n) (i + w)) first-is.2 (front-given (get_or array (p + i) 0) first-is.0 first-is.1)
+        subst (λ w. IsDrained array_size (stored array p n) (i + w)) first-is.2 (front-given (get_or array (p + i) 0) first-is.0 first-is.1)
 
     pub first-rest : left ≡ get_or array (p + i) 0 ∷ back removed (i + 1)
     first-rest =
@@ -208,16 +235,16 @@ module _ (places : ℕ) (array : List ℕ) (p n i : ℕ) (held : IsStored places
 
     kept-text : (stored array p (i + size rest)).text ≡ before ++ rest
     kept-text =
-        (kept_part places array p n held (stored array p n) refl (i + size rest) last-starts).shown
+        (kept_part array_size array p n held (stored array p n) refl (i + size rest) last-starts).shown
         ∙ ap (λ t. front t (i + size rest)) parts ∙ front-is (before ++ rest) (c ∷ []) (i + size rest) shorter
 
     pub back-within : i + size rest ≤ n
     back-within = omega (arith, boundary-within removed (i + size rest) last-starts, removed-size)
 
-    pub back-held : IsStored places array p (i + size rest)
-    back-held = (kept_part places array p n held (stored array p n) refl (i + size rest) last-starts).held
+    pub back-held : IsStored array_size array p (i + size rest)
+    back-held = (kept_part array_size array p n held (stored array p n) refl (i + size rest) last-starts).held
 
-    pub back-given : IsDrained places (stored array p (i + size rest)) i
+    pub back-given : IsDrained array_size (stored array p (i + size rest)) i
     back-given = record {
       fits = omega (arith, ap size kept-text, shorter, back-within, removed-size, is.fits);
       at = ap (λ t. boundary t i) kept-text ∙ boundary-is before rest i (front-size removed i is.at);
@@ -226,28 +253,28 @@ module _ (places : ℕ) (array : List ℕ) (p n i : ℕ) (held : IsStored places
     pub back-rest : back (stored array p (i + size rest)).text i ≡ rest
     back-rest = ap (λ t. back t i) kept-text ∙ back-is before rest i (front-size removed i is.at)
 
-  -- where it is ASCII
+  -- if it is ASCII
   module _ (some : i < n) (low : get_or array (p + n - 1) 0 < 128) where
-    last-place : get_or (bytes left) (length (bytes left) - 1) 0 ≡ get_or array (p + n - 1) 0
-    last-place =
+    last-stored : get_or (bytes left) (length (bytes left) - 1) 0 ≡ get_or array (p + n - 1) 0
+    last-stored =
         let within : n - 1 < n = omega (arith, some) in
         let long : length (bytes left) - 1 ≡ n - i - 1 = omega (arith, size-is left, left-size) in
         let whole : i + (n - i - 1) ≡ n - 1 = omega (arith, some) in
-        let place : p + (n - 1) ≡ p + n - 1 = omega (arith, some) in
+        let offset : p + (n - 1) ≡ p + n - 1 = omega (arith, some) in
         ap (λ k. get_or (bytes left) k 0) long ∙ ap (λ l. get_or l (n - i - 1) 0) left-bytes
         ∙ get_or-drop i (take n (drop p array)) (n - i - 1) 0 ∙ ap (λ k. get_or (take n (drop p array)) k 0) whole
-        ∙ get_or-take n (drop p array) (n - 1) 0 within ∙ get_or-drop p array (n - 1) 0 ∙ ap (λ k. get_or array k 0) place
+        ∙ get_or-take n (drop p array) (n - 1) 0 within ∙ get_or-drop p array (n - 1) 0 ∙ ap (λ k. get_or array k 0) offset
 
     abbrev last-is : (rest : List ℕ) × (left ≡ rest ++ get_or array (p + n - 1) 0 ∷ []) × (width (get_or array (p + n - 1) 0) ≡ 1)
-    last-is = last-low left (get_or array (p + n - 1) 0) (some-left some) last-place low
+    last-is = last-low left (get_or array (p + n - 1) 0) (some-left some) last-stored low
 
     ended : i + size last-is.0 ≡ n - 1
     ended = omega (arith, given-within, left-size, ap size last-is.1, size-append last-is.0 (get_or array (p + n - 1) 0 ∷ []), last-is.2)
 
-    pub last-held : IsStored places array p (n - 1)
+    pub last-held : IsStored array_size array p (n - 1)
     last-held = rw (← ended) (back-held (get_or array (p + n - 1) 0) last-is.0 last-is.1)
 
-    pub last-given : IsDrained places (stored array p (n - 1)) i
+    pub last-given : IsDrained array_size (stored array p (n - 1)) i
     last-given = rw (← ended) (back-given (get_or array (p + n - 1) 0) last-is.0 last-is.1)
 
     pub last-rest : left ≡ back (stored array p (n - 1)).text i ++ get_or array (p + n - 1) 0 ∷ []

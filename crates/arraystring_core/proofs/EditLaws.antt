@@ -14,13 +14,13 @@ use Rattle.arraystring_base.specs.declared.error.Error.TheVariants.{OutOfBounds}
 -- an edit with a cause, and one without
 module _ {A : Type 0} (edit : Edit A) (t : List ℕ) where
   pub refuses : (cause : Cause) → first_cause edit.tests ≡ Some cause → Makes edit t (Err (error_of cause)) t
-  refuses cause e = record { answer = ap (λ f. ok_unless f edit.answer) (sym e); ok = tt; err = refl }
+  refuses cause e = record { returns = ap (λ f. ok_unless f edit.result) (sym e); ok = tt; err = refl }
 
-  pub makes : (answer : A) (new : List ℕ) → first_cause edit.tests ≡ None → answer ≡ edit.answer → new ≡ edit.after
-      → Makes edit t (Ok answer) new
-  makes answer new e a n = record { answer = ap Ok a ∙ ap (λ f. ok_unless f edit.answer) (sym e); ok = n; err = tt }
+  pub makes : (value : A) (new : List ℕ) → first_cause edit.tests ≡ None → value ≡ edit.result → new ≡ edit.after
+      → Makes edit t (Ok value) new
+  makes value new e a n = record { returns = ap Ok a ∙ ap (λ f. ok_unless f edit.result) (sym e); ok = n; err = tt }
 
--- where no cause is found, none of the tests holds
+-- if no cause is found, none of the tests holds
 pub none-holds : (tests : List Test) → first_cause tests ≡ None → NoneHolds tests
 none-holds [] e = tt
 none-holds (test ∷ rest) e = go test.holds e (none-holds rest)
@@ -66,7 +66,7 @@ inside-failed t i within out = go (boundary t i) refl
     go true e = e
     go false e = absurd (both_ways (inside t i).holds out (inside-so t i within e))
 
--- an addition has a cause exactly where it does not fit
+-- an addition has a cause exactly if it does not fit
 pub addition-no_cause : (t given : List ℕ) (n : ℕ) → size t + size given ≤ n → first_cause (addition t given n).tests ≡ None
 addition-no_cause t given n fits = rw (le-ltb n (size t + size given) fits) refl
 
@@ -78,7 +78,7 @@ module _ {t : List ℕ} (given : List ℕ) (n : ℕ) {new : List ℕ} where
   pub addition-made : Makes (addition t given n) t (Ok tt) new → (size t + size given ≤ n) × (new ≡ t ++ given)
   addition-made m =
       elim (cases_lt n (size t + size given)) [
-        | inl over ↦ let is = m.answer ∙ ap (λ f. ok_unless f tt) (addition-room t given n over) in absurd (cc)
+        | inl over ↦ let is = m.returns ∙ ap (λ f. ok_unless f tt) (addition-room t given n over) in absurd (cc)
         | inr fits ↦ (fits, m.ok)
       ]
 
@@ -87,9 +87,9 @@ module _ {t : List ℕ} (given : List ℕ) (n : ℕ) {new : List ℕ} where
   addition-refused {error} m =
       elim (cases_lt n (size t + size given)) [
         | inl over ↦
-            let is : Err error ≡ Err OutOfBounds = m.answer ∙ ap (λ f. ok_unless f tt) (addition-room t given n over) in
+            let is : Err error ≡ Err OutOfBounds = m.returns ∙ ap (λ f. ok_unless f tt) (addition-room t given n over) in
             (over, cc, m.err)
-        | inr fits ↦ let is = m.answer ∙ ap (λ f. ok_unless f tt) (addition-no_cause t given n fits) in absurd (cc)
+        | inr fits ↦ let is = m.returns ∙ ap (λ f. ok_unless f tt) (addition-no_cause t given n fits) in absurd (cc)
       ]
 
 -- the ranges of white space are those of `char::is_whitespace`

@@ -51,7 +51,7 @@ joined m p a b le front rest =
     let tail : drop m a ≡ drop m b = sym (drop_past m p a le) ∙ ap (drop (m - p)) same ∙ drop_past m p b le in
     sym (take-append-drop m a) ∙ ap (λ l. l ++ drop m a) front ∙ ap (λ l. take m b ++ l) tail ∙ take-append-drop m b
 
--- what is told of both tells whether the lists are equal
+-- what is known of both says whether the lists are equal
 pub both_ends : (m p : ℕ) (a b : List ℕ) (x y : Bool) → p ≤ m → (x ≡ true) ↔ (take m a ≡ take m b)
     → (y ≡ true) ↔ (take (length a - p) (drop p a) ≡ take (length b - p) (drop p b)) → ((x && y) ≡ true) ↔ (a ≡ b)
 both_ends m p a b x y le first last = (

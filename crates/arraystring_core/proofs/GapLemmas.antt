@@ -54,7 +54,7 @@ module _ (old new given : List ℕ) (at : ℕ) (within : at + length given ≤ l
   written-length =
       omega (arith, ap length written, length-append (take at old) (given ++ drop (at + length given) old), length-append given (drop (at + length given) old), length-take-le at old (omega arith), length-drop (at + length given) old)
 
-  -- from a place q on there is then what was there, what was given, and what was after the gap
+  -- from an offset q on there is then what was there, what was given, and what was after the gap
   pub written-parts : (q s k : ℕ) → at ≡ q + s
       → take (s + (length given + k)) (drop q new) ≡ take s (drop q old) ++ (given ++ take k (drop (at + length given) old))
   written-parts q s k e =

@@ -15,4 +15,5 @@ mod DrainLemmas
 mod BackLemmas
 mod WalkedLemmas
 mod EqualLemmas
+mod OrderLemmas
 mod WellFormedLemmas

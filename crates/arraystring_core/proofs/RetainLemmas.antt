@@ -1,4 +1,4 @@
--- A closure that is asked about the characters of a text, and the bytes of those that are kept.
+-- A closure that is called with the characters of a text, and the bytes of those that are kept.
 use Rattle.std.proofs.Common.{◌≡◌, ℕ, ◌+◌, ◌-◌, ◌≤◌, Bool, true, false, List, [], ◌∷◌, ◌++◌, suc, length, take, drop, chars, refl, sym, ap, ◌∙◌, arith, IsUtf8, append_assoc, length-append, length-take-le, length-drop, take_at}
 use Rattle.std.proofs.Math.Seq.{take-add}
 use Rattle.std.proofs.lemmas.List.{append-nil, drop-drop, drop_at}
@@ -8,7 +8,7 @@ use Rattle.std.specs.Prelude.{encode_utf8}
 use Rattle.std.specs.Char.{IsScalar}
 use Rattle.arraystring_base.specs.Text.{width, utf8}
 use Rattle.arraystring_base.proofs.TextLaws.{utf8-is, length-utf8, chars-bytes}
-use Rattle.arraystring_core.specs.Retain.{MayBeAsked}
+use Rattle.arraystring_core.specs.Retain.{IsCallableInTurn}
 use Rattle.arraystring_core.proofs.GapLemmas.{shift-before, shift-moved, shift-behind, shift-length}
 
 module _ {F : Type 0} (R : F → ℕ → Bool → F → Type 0) (f : F) (c : ℕ) (g : F) (cs more : List ℕ) where
@@ -19,125 +19,125 @@ module _ {F : Type 0} (R : F → ℕ → Bool → F → Type 0) (f : F) (c : ℕ
   filtered-dropped s h = (false ∷ h.0, h.1, ap suc h.2, (g, s, h.3), h.4)
 
 module _ {F : Type 0} (can : F → ℕ → Type 0) (steps : F → ℕ → Bool → F → Type 0) (f : F) (c : ℕ) (cs : List ℕ)
-    (may : MayBeAsked can steps f (c ∷ cs)) where
-  pub asked-now : can f c
-  asked-now = may.at [] c cs f refl refl
+    (may : IsCallableInTurn can steps f (c ∷ cs)) where
+  pub callable-now : can f c
+  callable-now = may.at [] c cs f refl refl
 
-  pub asked-later : (b : Bool) (g : F) → steps f c b g → MayBeAsked can steps g cs
-  asked-later b g s = record { at = λ before d after h e w. may.at (c ∷ before) d after h (ap (λ l. c ∷ l) e) (g, (b, s), w) }
+  pub callable-later : (b : Bool) (g : F) → steps f c b g → IsCallableInTurn can steps g cs
+  callable-later b g s = record { at = λ before d after h e w. may.at (c ∷ before) d after h (ap (λ l. c ∷ l) e) (g, (b, s), w) }
 
--- the bytes from place + from to place + to
+-- the bytes from offset + from to offset + to
 abbrev pub between : List ℕ → ℕ → ℕ → ℕ → List ℕ
-between array place from to = take (to - from) (drop (place + from) array)
+between array offset from to = take (to - from) (drop (offset + from) array)
 
 -- the bytes that are kept so far: the first `kept`, and those from `run` to `read`
 abbrev pub kept_bytes : List ℕ → ℕ → ℕ → ℕ → ℕ → List ℕ
-kept_bytes array place kept run read = take kept (drop place array) ++ between array place run read
+kept_bytes array offset kept run read = take kept (drop offset array) ++ between array offset run read
 
--- the first `read` of the `size` bytes from `place` on were judged, and those of the characters that f₀ kept are together
-pub record IsPartRetained {F : Type 0} (can : F → ℕ → Type 0) (steps : F → ℕ → Bool → F → Type 0) (places : ℕ) (array₀ : List ℕ) (f₀ : F)
-    (place size : ℕ) (array : List ℕ) (f : F) (kept run read : ℕ) : Type 0 where
-  pub long : length array ≡ places
+-- the first `read` of the `size` bytes from `offset` on were judged, and those of the characters that f₀ kept are together
+pub record IsPartRetained {F : Type 0} (can : F → ℕ → Type 0) (steps : F → ℕ → Bool → F → Type 0) (array_size : ℕ) (array₀ : List ℕ) (f₀ : F)
+    (offset size : ℕ) (array : List ℕ) (f : F) (kept run read : ℕ) : Type 0 where
+  pub long : length array ≡ array_size
   pub kept_first : kept ≤ run
   pub run_next : run ≤ read
   pub read_within : read ≤ size
-  pub rest_text : IsUtf8 (between array place read size)
-  pub kept_text : IsUtf8 (kept_bytes array place kept run read)
-  pub asked : MayBeAsked can steps f (chars (between array place read size))
-  pub told : (more : List ℕ) → IsFiltered steps f (chars (between array place read size)) more
-      → IsFiltered steps f₀ (chars (take size (drop place array₀))) (chars (kept_bytes array place kept run read) ++ more)
+  pub rest_text : IsUtf8 (between array offset read size)
+  pub kept_text : IsUtf8 (kept_bytes array offset kept run read)
+  pub callable : IsCallableInTurn can steps f (chars (between array offset read size))
+  pub filtered : (more : List ℕ) → IsFiltered steps f (chars (between array offset read size)) more
+      → IsFiltered steps f₀ (chars (take size (drop offset array₀))) (chars (kept_bytes array offset kept run read) ++ more)
 
 -- one run of bytes after another
-between-split : (array : List ℕ) (place from mid to : ℕ) → from ≤ mid → mid ≤ to
-    → between array place from to ≡ between array place from mid ++ between array place mid to
-between-split array place from mid to low high =
+between-split : (array : List ℕ) (offset from mid to : ℕ) → from ≤ mid → mid ≤ to
+    → between array offset from to ≡ between array offset from mid ++ between array offset mid to
+between-split array offset from mid to low high =
     let sum : to - from ≡ mid - from + (to - mid) = omega arith in
-    let next : place + from + (mid - from) ≡ place + mid = omega arith in
-    ap (λ k. take k (drop (place + from) array)) sum ∙ take-add (mid - from) (to - mid) (drop (place + from) array)
-    ∙ ap (λ l. between array place from mid ++ take (to - mid) l)
-    (drop-drop (mid - from) (place + from) array ∙ ap (λ k. drop k array) next)
+    let next : offset + from + (mid - from) ≡ offset + mid = omega arith in
+    ap (λ k. take k (drop (offset + from) array)) sum ∙ take-add (mid - from) (to - mid) (drop (offset + from) array)
+    ∙ ap (λ l. between array offset from mid ++ take (to - mid) l)
+    (drop-drop (mid - from) (offset + from) array ∙ ap (λ k. drop k array) next)
 
-between-length : (array : List ℕ) (place from to : ℕ) → from ≤ to → place + to ≤ length array
-    → length (between array place from to) ≡ to - from
-between-length array place from to order within =
-    length-take-le (to - from) (drop (place + from) array) (omega (arith, length-drop (place + from) array))
+between-length : (array : List ℕ) (offset from to : ℕ) → from ≤ to → offset + to ≤ length array
+    → length (between array offset from to) ≡ to - from
+between-length array offset from to order within =
+    length-take-le (to - from) (drop (offset + from) array) (omega (arith, length-drop (offset + from) array))
 
 -- the rest begins with the character c
-module _ (array : List ℕ) (place read size c : ℕ) (rest : List ℕ) (order : read ≤ size) (within : place + size ≤ length array)
-    (starts : between array place read size ≡ utf8 c ++ rest) where
+module _ (array : List ℕ) (offset read size c : ℕ) (rest : List ℕ) (order : read ≤ size) (within : offset + size ≤ length array)
+    (starts : between array offset read size ≡ utf8 c ++ rest) where
   pub char-within : read + width c ≤ size
   char-within =
-      omega (arith, ap length starts, length-append (utf8 c) rest, length-utf8 c, between-length array place read size order within)
+      omega (arith, ap length starts, length-append (utf8 c) rest, length-utf8 c, between-length array offset read size order within)
 
-  char-split : between array place read (read + width c) ++ between array place (read + width c) size ≡ utf8 c ++ rest
-  char-split = sym (between-split array place read (read + width c) size (omega arith) char-within) ∙ starts
+  char-split : between array offset read (read + width c) ++ between array offset (read + width c) size ≡ utf8 c ++ rest
+  char-split = sym (between-split array offset read (read + width c) size (omega arith) char-within) ∙ starts
 
-  char-long : length (between array place read (read + width c)) ≡ width c
+  char-long : length (between array offset read (read + width c)) ≡ width c
   char-long =
       let sum : read + width c - read ≡ width c = omega arith in
-      between-length array place read (read + width c) (omega arith) (omega (arith, char-within)) ∙ sum
+      between-length array offset read (read + width c) (omega arith) (omega (arith, char-within)) ∙ sum
 
-  pub char-bytes : between array place read (read + width c) ≡ utf8 c
+  pub char-bytes : between array offset read (read + width c) ≡ utf8 c
   char-bytes =
-      let there = between array place read (read + width c) in
-      sym (take_at there (between array place (read + width c) size) (width c) char-long)
+      let there = between array offset read (read + width c) in
+      sym (take_at there (between array offset (read + width c) size) (width c) char-long)
       ∙ ap (take (width c)) char-split ∙ take_at (utf8 c) rest (width c) (length-utf8 c)
 
-  pub char-rest : between array place (read + width c) size ≡ rest
+  pub char-rest : between array offset (read + width c) size ≡ rest
   char-rest =
-      let there = between array place read (read + width c) in
-      sym (drop_at there (between array place (read + width c) size) (width c) char-long)
+      let there = between array offset read (read + width c) in
+      sym (drop_at there (between array offset (read + width c) size) (width c) char-long)
       ∙ ap (drop (width c)) char-split ∙ drop_at (utf8 c) rest (width c) (length-utf8 c)
 
 -- a character that is kept
-pub kept_bytes-more : (array : List ℕ) (place kept run read size c : ℕ) (rest : List ℕ) → run ≤ read → read ≤ size → place + size ≤ length array
-    → between array place read size ≡ utf8 c ++ rest
-    → kept_bytes array place kept run (read + width c) ≡ kept_bytes array place kept run read ++ utf8 c
-kept_bytes-more array place kept run read size c rest low order within starts =
-    ap (λ l. take kept (drop place array) ++ l)
-    (between-split array place run read (read + width c) low (omega arith)
-    ∙ ap (λ l. between array place run read ++ l) (char-bytes array place read size c rest order within starts))
-    ∙ sym (append_assoc (take kept (drop place array)) (between array place run read) (utf8 c))
+pub kept_bytes-more : (array : List ℕ) (offset kept run read size c : ℕ) (rest : List ℕ) → run ≤ read → read ≤ size → offset + size ≤ length array
+    → between array offset read size ≡ utf8 c ++ rest
+    → kept_bytes array offset kept run (read + width c) ≡ kept_bytes array offset kept run read ++ utf8 c
+kept_bytes-more array offset kept run read size c rest low order within starts =
+    ap (λ l. take kept (drop offset array) ++ l)
+    (between-split array offset run read (read + width c) low (omega arith)
+    ∙ ap (λ l. between array offset run read ++ l) (char-bytes array offset read size c rest order within starts))
+    ∙ sym (append_assoc (take kept (drop offset array)) (between array offset run read) (utf8 c))
 
 -- the run of kept bytes is moved after the first ones
-module _ (old new : List ℕ) (place kept run read size : ℕ) (first : kept ≤ run) (next : run ≤ read) (order : read ≤ size)
-    (within : place + size ≤ length old)
-    (moved : new ≡ take (place + kept) old ++ (take (read - run) (drop (place + run) old) ++ drop (place + kept + (read - run)) old)) where
-  source : place + run + (read - run) ≤ length old
+module _ (old new : List ℕ) (offset kept run read size : ℕ) (first : kept ≤ run) (next : run ≤ read) (order : read ≤ size)
+    (within : offset + size ≤ length old)
+    (moved : new ≡ take (offset + kept) old ++ (take (read - run) (drop (offset + run) old) ++ drop (offset + kept + (read - run)) old)) where
+  source : offset + run + (read - run) ≤ length old
   source = omega arith
 
-  target : place + kept + (read - run) ≤ length old
+  target : offset + kept + (read - run) ≤ length old
   target = omega arith
 
   pub moved-length : length new ≡ length old
-  moved-length = shift-length old new (place + run) (place + kept) (read - run) source target moved
+  moved-length = shift-length old new (offset + run) (offset + kept) (read - run) source target moved
 
-  pub moved-bytes : take (kept + (read - run)) (drop place new) ≡ kept_bytes old place kept run read
+  pub moved-bytes : take (kept + (read - run)) (drop offset new) ≡ kept_bytes old offset kept run read
   moved-bytes =
-      take-add kept (read - run) (drop place new)
-      ∙ ap (λ l. l ++ take (read - run) (drop kept (drop place new)))
-      (shift-before old new (place + run) (place + kept) (read - run) source target moved place kept (omega arith))
-      ∙ ap (λ l. take kept (drop place old) ++ take (read - run) l) (drop-drop kept place new)
-      ∙ ap (λ l. take kept (drop place old) ++ l)
-      (shift-moved old new (place + run) (place + kept) (read - run) source target moved)
+      take-add kept (read - run) (drop offset new)
+      ∙ ap (λ l. l ++ take (read - run) (drop kept (drop offset new)))
+      (shift-before old new (offset + run) (offset + kept) (read - run) source target moved offset kept (omega arith))
+      ∙ ap (λ l. take kept (drop offset old) ++ take (read - run) l) (drop-drop kept offset new)
+      ∙ ap (λ l. take kept (drop offset old) ++ l)
+      (shift-moved old new (offset + run) (offset + kept) (read - run) source target moved)
 
-  pub moved-rest : (from to : ℕ) → read ≤ from → between new place from to ≡ between old place from to
+  pub moved-rest : (from to : ℕ) → read ≤ from → between new offset from to ≡ between old offset from to
   moved-rest from to behind =
       ap (take (to - from))
-      (shift-behind old new (place + run) (place + kept) (read - run) source target moved (place + from) (omega arith))
+      (shift-behind old new (offset + run) (offset + kept) (read - run) source target moved (offset + from) (omega arith))
 
-pub none-between : (array : List ℕ) (place at : ℕ) → between array place at at ≡ []
-none-between array place at =
-    let none : at - at ≡ 0 = omega arith in ap (λ k. take k (drop (place + at) array)) none
+pub none-between : (array : List ℕ) (offset at : ℕ) → between array offset at at ≡ []
+none-between array offset at =
+    let none : at - at ≡ 0 = omega arith in ap (λ k. take k (drop (offset + at) array)) none
 
-module _ {F : Type 0} (can : F → ℕ → Type 0) (steps : F → ℕ → Bool → F → Type 0) (places : ℕ) (array₀ : List ℕ) (f₀ : F) (place size : ℕ) where
+module _ {F : Type 0} (can : F → ℕ → Type 0) (steps : F → ℕ → Bool → F → Type 0) (array_size : ℕ) (array₀ : List ℕ) (f₀ : F) (offset size : ℕ) where
   -- nothing was judged
-  pub retained-init : length array₀ ≡ places → IsUtf8 (take size (drop place array₀))
-      → MayBeAsked can steps f₀ (chars (take size (drop place array₀)))
-      → IsPartRetained can steps places array₀ f₀ place size array₀ f₀ 0 0 0
-  retained-init long text asked =
-      let all : between array₀ place 0 size ≡ take size (drop place array₀) = grind arith in
-      let nothing : kept_bytes array₀ place 0 0 0 ≡ [] = refl in
+  pub retained-init : length array₀ ≡ array_size → IsUtf8 (take size (drop offset array₀))
+      → IsCallableInTurn can steps f₀ (chars (take size (drop offset array₀)))
+      → IsPartRetained can steps array_size array₀ f₀ offset size array₀ f₀ 0 0 0
+  retained-init long text callable =
+      let all : between array₀ offset 0 size ≡ take size (drop offset array₀) = grind arith in
+      let nothing : kept_bytes array₀ offset 0 0 0 ≡ [] = refl in
       record {
         long = long;
         kept_first = omega arith;
@@ -145,12 +145,12 @@ module _ {F : Type 0} (can : F → ℕ → Type 0) (steps : F → ℕ → Bool �
         read_within = omega arith;
         rest_text = rw all text;
         kept_text = IsUtf8-nil;
-        asked = rw all asked;
-        told = λ more h. rw chars-nil (rw all at h);
+        callable = rw all callable;
+        filtered = λ more h. rw chars-nil (rw all at h);
       }
 
-  module _ (array : List ℕ) (f : F) (kept run read : ℕ) (part : IsPartRetained can steps places array₀ f₀ place size array f kept run read)
-      (within : place + size ≤ length array) (c : ℕ) (scalar : IsScalar c) (rest : List ℕ) (starts : between array place read size ≡ utf8 c ++ rest)
+  module _ (array : List ℕ) (f : F) (kept run read : ℕ) (part : IsPartRetained can steps array_size array₀ f₀ offset size array f kept run read)
+      (within : offset + size ≤ length array) (c : ℕ) (scalar : IsScalar c) (rest : List ℕ) (starts : between array offset read size ≡ utf8 c ++ rest)
       (g : F) where
     c-utf8 : IsUtf8 (utf8 c)
     c-utf8 = rw (utf8-is c) (IsUtf8-encode c scalar)
@@ -158,65 +158,65 @@ module _ {F : Type 0} (can : F → ℕ → Type 0) (steps : F → ℕ → Bool �
     c-chars : chars (utf8 c) ≡ c ∷ []
     c-chars = chars-bytes c-utf8 (sym (append-nil (utf8 c)))
 
-    starts-std : between array place read size ≡ encode_utf8 c ++ rest
+    starts-std : between array offset read size ≡ encode_utf8 c ++ rest
     starts-std = starts ∙ ap (λ l. l ++ rest) (utf8-is c)
 
     rest-utf8 : IsUtf8 rest
-    rest-utf8 = IsUtf8-past_char (between array place read size) rest c part.rest_text starts-std
+    rest-utf8 = IsUtf8-past_char (between array offset read size) rest c part.rest_text starts-std
 
-    pub rest-chars : chars (between array place read size) ≡ c ∷ chars rest
-    rest-chars = chars_past_char (between array place read size) rest c part.rest_text starts-std
+    pub rest-chars : chars (between array offset read size) ≡ c ∷ chars rest
+    rest-chars = chars_past_char (between array offset read size) rest c part.rest_text starts-std
 
-    asked-rest : MayBeAsked can steps f (c ∷ chars rest)
-    asked-rest = rw rest-chars at part.asked
+    callable-rest : IsCallableInTurn can steps f (c ∷ chars rest)
+    callable-rest = rw rest-chars at part.callable
 
-    told-rest : (more : List ℕ) → IsFiltered steps f (c ∷ chars rest) more
-        → IsFiltered steps f₀ (chars (take size (drop place array₀))) (chars (kept_bytes array place kept run read) ++ more)
-    told-rest = rw rest-chars at part.told
+    filtered-rest : (more : List ℕ) → IsFiltered steps f (c ∷ chars rest) more
+        → IsFiltered steps f₀ (chars (take size (drop offset array₀))) (chars (kept_bytes array offset kept run read) ++ more)
+    filtered-rest = rw rest-chars at part.filtered
 
-    after : between array place (read + width c) size ≡ rest
-    after = char-rest array place read size c rest part.read_within within starts
+    after : between array offset (read + width c) size ≡ rest
+    after = char-rest array offset read size c rest part.read_within within starts
 
     pub retained-keep : steps f c true g
-        → IsPartRetained can steps places array₀ f₀ place size array g kept run (read + width c)
+        → IsPartRetained can steps array_size array₀ f₀ offset size array g kept run (read + width c)
     retained-keep step =
-        let more_bytes = kept_bytes-more array place kept run read size c rest part.run_next part.read_within within starts in
-        let more_chars : chars (kept_bytes array place kept run (read + width c)) ≡ chars (kept_bytes array place kept run read) ++ c ∷ [] =
-        ap chars more_bytes ∙ chars-append (kept_bytes array place kept run read) (utf8 c) part.kept_text
-        ∙ ap (λ l. chars (kept_bytes array place kept run read) ++ l) c-chars in
+        let more_bytes = kept_bytes-more array offset kept run read size c rest part.run_next part.read_within within starts in
+        let more_chars : chars (kept_bytes array offset kept run (read + width c)) ≡ chars (kept_bytes array offset kept run read) ++ c ∷ [] =
+        ap chars more_bytes ∙ chars-append (kept_bytes array offset kept run read) (utf8 c) part.kept_text
+        ∙ ap (λ l. chars (kept_bytes array offset kept run read) ++ l) c-chars in
         record {
           long = part.long;
           kept_first = part.kept_first;
           run_next = omega (arith, part.run_next);
-          read_within = char-within array place read size c rest part.read_within within starts;
+          read_within = char-within array offset read size c rest part.read_within within starts;
           rest_text = rw after rest-utf8;
-          kept_text = rw more_bytes (IsUtf8-append (kept_bytes array place kept run read) (utf8 c) part.kept_text c-utf8);
-          asked = rw after (asked-later can steps f c (chars rest) asked-rest true g step);
-          told = λ more h.
-              rw (more_chars, append_assoc (chars (kept_bytes array place kept run read)) (c ∷ []) more)
-              (told-rest (c ∷ more) (filtered-kept steps f c g (chars rest) more step (rw after at h)));
+          kept_text = rw more_bytes (IsUtf8-append (kept_bytes array offset kept run read) (utf8 c) part.kept_text c-utf8);
+          callable = rw after (callable-later can steps f c (chars rest) callable-rest true g step);
+          filtered = λ more h.
+              rw (more_chars, append_assoc (chars (kept_bytes array offset kept run read)) (c ∷ []) more)
+              (filtered-rest (c ∷ more) (filtered-kept steps f c g (chars rest) more step (rw after at h)));
         }
 
     pub retained-drop : (moved : List ℕ)
-        → moved ≡ take (place + kept) array ++ (take (read - run) (drop (place + run) array) ++ drop (place + kept + (read - run)) array)
+        → moved ≡ take (offset + kept) array ++ (take (read - run) (drop (offset + run) array) ++ drop (offset + kept + (read - run)) array)
         → steps f c false g
-        → IsPartRetained can steps places array₀ f₀ place size moved g (kept + (read - run)) (read + width c) (read + width c)
+        → IsPartRetained can steps array_size array₀ f₀ offset size moved g (kept + (read - run)) (read + width c) (read + width c)
     retained-drop moved written step =
         let next = read + width c in
-        let fits = char-within array place read size c rest part.read_within within starts in
-        let same : kept_bytes moved place (kept + (read - run)) next next ≡ kept_bytes array place kept run read =
-        ap (λ l. take (kept + (read - run)) (drop place moved) ++ l) (none-between moved place next)
-        ∙ append-nil (take (kept + (read - run)) (drop place moved))
-        ∙ moved-bytes array moved place kept run read size part.kept_first part.run_next part.read_within within written in
-        let left : between moved place next size ≡ rest =
-        moved-rest array moved place kept run read size part.kept_first part.run_next part.read_within within written next size (omega arith) ∙ after in
+        let fits = char-within array offset read size c rest part.read_within within starts in
+        let same : kept_bytes moved offset (kept + (read - run)) next next ≡ kept_bytes array offset kept run read =
+        ap (λ l. take (kept + (read - run)) (drop offset moved) ++ l) (none-between moved offset next)
+        ∙ append-nil (take (kept + (read - run)) (drop offset moved))
+        ∙ moved-bytes array moved offset kept run read size part.kept_first part.run_next part.read_within within written in
+        let left : between moved offset next size ≡ rest =
+        moved-rest array moved offset kept run read size part.kept_first part.run_next part.read_within within written next size (omega arith) ∙ after in
         record {
-          long = moved-length array moved place kept run read size part.kept_first part.run_next part.read_within within written ∙ part.long;
+          long = moved-length array moved offset kept run read size part.kept_first part.run_next part.read_within within written ∙ part.long;
           kept_first = omega (arith, part.kept_first, part.run_next);
           run_next = omega arith;
           read_within = fits;
           rest_text = rw left rest-utf8;
           kept_text = rw same part.kept_text;
-          asked = rw left (asked-later can steps f c (chars rest) asked-rest false g step);
-          told = λ more h. rw same (told-rest more (filtered-dropped steps f c g (chars rest) more step (rw left at h)));
+          callable = rw left (callable-later can steps f c (chars rest) callable-rest false g step);
+          filtered = λ more h. rw same (filtered-rest more (filtered-dropped steps f c g (chars rest) more step (rw left at h)));
         }

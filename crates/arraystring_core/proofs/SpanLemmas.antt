@@ -12,11 +12,11 @@ use Rattle.arraystring_core.proofs.StoredLaws.{opened-bytes, opened-size}
 use Rattle.arraystring_core.proofs.GapLemmas.{gap-filled, written-length, written-from-zero, tail-from-zero, shift-before, shift-moved, shift-length}
 
 -- the n bytes of the array from the offset p on are the text t, and end within the capacity
-pub record Lies (places : ℕ) (array : List ℕ) (p n : ℕ) (t : List ℕ) : Type 0 where
-  pub held : IsStored places array p n
+pub record Lies (array_size : ℕ) (array : List ℕ) (p n : ℕ) (t : List ℕ) : Type 0 where
+  pub held : IsStored array_size array p n
   pub shown : chars (take n (drop p array)) ≡ t
 
--- xs shows the text t in its first n bytes; `new` shows it with `given` in place of the part from start to end
+-- xs shows the text t in its first n bytes; `new` shows it with `given` instead of the part from start to end
 module _ (t xs : List ℕ) (n : ℕ) (is : bytes t ≡ take n xs) (u : IsUtf8 (take n xs)) (given : List ℕ) (g : IsUtf8 given)
     (start end : ℕ) (low : start ≤ n) (high : end ≤ n) (b : boundary t start ≡ true) (d : boundary t end ≡ true)
     (new : List ℕ) (written : new ≡ take start xs ++ (given ++ take (n - end) (drop end xs))) where
@@ -54,32 +54,32 @@ module _ (t xs : List ℕ) (n : ℕ) (is : bytes t ≡ take n xs) (u : IsUtf8 (t
       chars-bytes restored-utf8 (new-bytes ∙ sym joined)
 
 -- the same of the value that a contract sees
-module _ (places : ℕ) (array : List ℕ) (p n : ℕ) (is : IsStored places array p n) (v : Stored) (e : stored array p n ≡ v)
+module _ (array_size : ℕ) (array : List ℕ) (p n : ℕ) (is : IsStored array_size array p n) (v : Stored) (e : stored array p n ≡ v)
     (start end : ℕ) (given : List ℕ) (order : start ≤ end) (b : boundary v.text start ≡ true) (d : boundary v.text end ≡ true)
-    (room : size v.text - (end - start) + length given ≤ cap places) where
+    (room : size v.text - (end - start) + length given ≤ cap array_size) where
   pub replaced-within : end ≤ n
-  replaced-within = omega (arith, opened-size places array p n is v e, boundary-within v.text end d)
+  replaced-within = omega (arith, opened-size array_size array p n is v e, boundary-within v.text end d)
 
-  pub replaced-room : start + (length given + (n - end)) ≤ cap places
-  replaced-room = omega (arith, opened-size places array p n is v e, boundary-within v.text end d)
+  pub replaced-room : start + (length given + (n - end)) ≤ cap array_size
+  replaced-room = omega (arith, opened-size array_size array p n is v e, boundary-within v.text end d)
 
   -- q is the offset of the text afterwards
-  module _ (u : IsUtf8 given) (after : List ℕ) (q : ℕ) (long : length after ≡ places)
-      (held : q + (start + (length given + (n - end))) ≤ cap places)
+  module _ (u : IsUtf8 given) (after : List ℕ) (q : ℕ) (long : length after ≡ array_size)
+      (held : q + (start + (length given + (n - end))) ≤ cap array_size)
       (written : take (start + (length given + (n - end))) (drop q after) ≡ take start (drop p array) ++ (given ++ take (n - end) (drop end (drop p array)))) where
-    pub replaced : Lies places after q (start + (length given + (n - end))) (front v.text start ++ (chars given ++ back v.text end))
+    pub replaced : Lies array_size after q (start + (length given + (n - end))) (front v.text start ++ (chars given ++ back v.text end))
     replaced =
         let low : start ≤ n = omega (arith, replaced-within) in
-        let old = opened-bytes places array p n is v e in
-        let old_utf8 = stored-utf8 places array p n is in
+        let old = opened-bytes array_size array p n is v e in
+        let old_utf8 = stored-utf8 array_size array p n is in
         record {
           held = (held, long, ∣ restored-utf8 v.text (drop p array) n old old_utf8 given u start end low replaced-within b d _ written ∣₁);
           shown = replaced-text v.text (drop p array) n old old_utf8 given u start end low replaced-within b d _ written;
         }
 
   -- the text was moved to offset q, and `given` was written into the gap
-  module _ (u : IsUtf8 given) (gapped after : List ℕ) (q : ℕ) (long : length gapped ≡ places)
-      (held : q + (start + (length given + (n - end))) ≤ cap places)
+  module _ (u : IsUtf8 given) (gapped after : List ℕ) (q : ℕ) (long : length gapped ≡ array_size)
+      (held : q + (start + (length given + (n - end))) ≤ cap array_size)
       (moved : take start (drop q gapped) ≡ take start (drop p array))
       (tail : take (n - end) (drop (q + (start + length given)) gapped) ≡ take (n - end) (drop (p + end) array))
       (written : after ≡ take (q + start) gapped ++ (given ++ drop (q + start + length given) gapped)) where
@@ -89,18 +89,18 @@ module _ (places : ℕ) (array : List ℕ) (p n : ℕ) (is : IsStored places arr
     written-parts : take (start + (length given + (n - end))) (drop q after) ≡ take start (drop p array) ++ (given ++ take (n - end) (drop end (drop p array)))
     written-parts = gap-filled array gapped after given p q start end (n - end) within moved tail written
 
-    same : length after ≡ places
+    same : length after ≡ array_size
     same = written-length gapped after given (q + start) within written ∙ long
 
-    pub filled : Lies places after q (start + (length given + (n - end))) (front v.text start ++ (chars given ++ back v.text end))
+    pub filled : Lies array_size after q (start + (length given + (n - end))) (front v.text start ++ (chars given ++ back v.text end))
     filled = replaced u after q same held written-parts
 
   -- and to offset 0
-  module _ (u : IsUtf8 given) (gapped after : List ℕ) (long : length gapped ≡ places)
+  module _ (u : IsUtf8 given) (gapped after : List ℕ) (long : length gapped ≡ array_size)
       (moved : take start gapped ≡ take start (drop p array))
       (tail : take (n - end) (drop (start + length given) gapped) ≡ take (n - end) (drop (p + end) array))
       (written : after ≡ take start gapped ++ (given ++ drop (start + length given) gapped)) where
-    from-zero : 0 + (start + (length given + (n - end))) ≤ cap places
+    from-zero : 0 + (start + (length given + (n - end))) ≤ cap array_size
     from-zero = omega (arith, replaced-room)
 
     abbrev tail-at : take (n - end) (drop (0 + (start + length given)) gapped) ≡ take (n - end) (drop (p + end) array)
@@ -109,18 +109,18 @@ module _ (places : ℕ) (array : List ℕ) (p n : ℕ) (is : IsStored places arr
     abbrev written-at : after ≡ take (0 + start) gapped ++ (given ++ drop (0 + start + length given) gapped)
     written-at = written-from-zero gapped after given start written
 
-    pub moved_to_start : Lies places after 0 (start + (length given + (n - end))) (front v.text start ++ (chars given ++ back v.text end))
+    pub moved_to_start : Lies array_size after 0 (start + (length given + (n - end))) (front v.text start ++ (chars given ++ back v.text end))
     moved_to_start = filled u gapped after 0 long from-zero moved tail-at written-at
 
 -- `given` was written after the text
-module _ (places : ℕ) (array : List ℕ) (p n : ℕ) (is : IsStored places array p n) (v : Stored) (e : stored array p n ≡ v)
-    (given : List ℕ) (u : IsUtf8 given) (room : p + n + length given ≤ cap places) (after : List ℕ)
+module _ (array_size : ℕ) (array : List ℕ) (p n : ℕ) (is : IsStored array_size array p n) (v : Stored) (e : stored array p n ≡ v)
+    (given : List ℕ) (u : IsUtf8 given) (room : p + n + length given ≤ cap array_size) (after : List ℕ)
     (written : after ≡ take (p + n) array ++ (given ++ drop (p + n + length given) array)) where
   appended-end : boundary v.text n ≡ true
-  appended-end = ap (boundary v.text) (sym (opened-size places array p n is v e)) ∙ boundary-end v.text
+  appended-end = ap (boundary v.text) (sym (opened-size array_size array p n is v e)) ∙ boundary-end v.text
 
-  appended-fits : size v.text - (n - n) + length given ≤ cap places
-  appended-fits = omega (arith, opened-size places array p n is v e, room)
+  appended-fits : size v.text - (n - n) + length given ≤ cap array_size
+  appended-fits = omega (arith, opened-size array_size array p n is v e, room)
 
   appended-size : n + (length given + (n - n)) ≡ n + length given
   appended-size = omega arith
@@ -133,28 +133,28 @@ module _ (places : ℕ) (array : List ℕ) (p n : ℕ) (is : IsStored places arr
       let none : n - n ≡ 0 = omega arith in
       gap-filled array array after given p p n n (n - n) appended-within refl (rw none refl) written
 
-  appended-lies : Lies places after p (n + (length given + (n - n))) (front v.text n ++ (chars given ++ back v.text n))
+  appended-lies : Lies array_size after p (n + (length given + (n - n))) (front v.text n ++ (chars given ++ back v.text n))
   appended-lies =
-      let held : p + (n + (length given + (n - n))) ≤ cap places = omega (arith, room) in
+      let held : p + (n + (length given + (n - n))) ≤ cap array_size = omega (arith, room) in
       let long = written-length array after given (p + n) appended-within written ∙ is.1 in
-      replaced places array p n is v e n n given (omega arith) appended-end appended-end appended-fits u after p long held appended-parts
+      replaced array_size array p n is v e n n given (omega arith) appended-end appended-end appended-fits u after p long held appended-parts
 
-  pub appended : Lies places after p (n + length given) (v.text ++ chars given)
+  pub appended : Lies array_size after p (n + length given) (v.text ++ chars given)
   appended = record {
     held = rw (← appended-size) appended-lies.held;
     shown =
         ap (λ m. chars (take m (drop p after))) (sym appended-size) ∙ appended-lies.shown
-        ∙ ap (λ m. front v.text m ++ (chars given ++ back v.text m)) (sym (opened-size places array p n is v e))
+        ∙ ap (λ m. front v.text m ++ (chars given ++ back v.text m)) (sym (opened-size array_size array p n is v e))
         ∙ ap (λ l. l ++ (chars given ++ back v.text (size v.text))) (front-end v.text)
         ∙ ap (λ l. v.text ++ (chars given ++ l)) (back-end v.text) ∙ ap (λ l. v.text ++ l) (append-nil (chars given));
   }
 
 -- the bytes from the boundary `end` on were moved to the boundary `start`
-module _ (places : ℕ) (array : List ℕ) (p n : ℕ) (is : IsStored places array p n) (v : Stored) (e : stored array p n ≡ v)
+module _ (array_size : ℕ) (array : List ℕ) (p n : ℕ) (is : IsStored array_size array p n) (v : Stored) (e : stored array p n ≡ v)
     (start end : ℕ) (order : start ≤ end) (b : boundary v.text start ≡ true) (d : boundary v.text end ≡ true) (after : List ℕ)
     (moved : after ≡ take (p + start) array ++ (take (n - end) (drop (p + end) array) ++ drop (p + start + (n - end)) array)) where
   closed-within : end ≤ n
-  closed-within = omega (arith, opened-size places array p n is v e, boundary-within v.text end d)
+  closed-within = omega (arith, opened-size array_size array p n is v e, boundary-within v.text end d)
 
   closed-source : p + end + (n - end) ≤ length array
   closed-source = omega (arith, closed-within, is.0, is.1)
@@ -162,8 +162,8 @@ module _ (places : ℕ) (array : List ℕ) (p n : ℕ) (is : IsStored places arr
   closed-target : p + start + (n - end) ≤ length array
   closed-target = omega (arith, closed-within, is.0, is.1)
 
-  closed-fits : size v.text - (end - start) + length {A = ℕ} [] ≤ cap places
-  closed-fits = omega (arith, opened-size places array p n is v e, is.0)
+  closed-fits : size v.text - (end - start) + length {A = ℕ} [] ≤ cap array_size
+  closed-fits = omega (arith, opened-size array_size array p n is v e, is.0)
 
   closed-size : start + (length {A = ℕ} [] + (n - end)) ≡ start + (n - end)
   closed-size = omega arith
@@ -177,16 +177,16 @@ module _ (places : ℕ) (array : List ℕ) (p n : ℕ) (is : IsStored places arr
       ∙ ap (λ l. take start (drop p array) ++ l) (shift-moved array after (p + end) (p + start) (n - end) closed-source closed-target moved)
       ∙ ap (λ l. take start (drop p array) ++ take (n - end) l) (sym (drop-drop end p array))
 
-  closed-long : length after ≡ places
+  closed-long : length after ≡ array_size
   closed-long = shift-length array after (p + end) (p + start) (n - end) closed-source closed-target moved ∙ is.1
 
-  closed-held : p + (start + (length {A = ℕ} [] + (n - end))) ≤ cap places
+  closed-held : p + (start + (length {A = ℕ} [] + (n - end))) ≤ cap array_size
   closed-held = omega (arith, closed-within, is.0)
 
-  closed-lies : Lies places after p (start + (length {A = ℕ} [] + (n - end))) (front v.text start ++ (chars [] ++ back v.text end))
-  closed-lies = replaced places array p n is v e start end [] order b d closed-fits IsUtf8-nil after p closed-long closed-held closed-parts
+  closed-lies : Lies array_size after p (start + (length {A = ℕ} [] + (n - end))) (front v.text start ++ (chars [] ++ back v.text end))
+  closed-lies = replaced array_size array p n is v e start end [] order b d closed-fits IsUtf8-nil after p closed-long closed-held closed-parts
 
-  pub closed : Lies places after p (start + (n - end)) (front v.text start ++ back v.text end)
+  pub closed : Lies array_size after p (start + (n - end)) (front v.text start ++ back v.text end)
   closed = record {
     held = rw (← closed-size) closed-lies.held;
     shown =
@@ -195,46 +195,46 @@ module _ (places : ℕ) (array : List ℕ) (p n : ℕ) (is : IsStored places arr
   }
 
 -- the part before the boundary m is dropped
-module _ (places : ℕ) (array : List ℕ) (p n : ℕ) (is : IsStored places array p n) (v : Stored) (e : stored array p n ≡ v)
+module _ (array_size : ℕ) (array : List ℕ) (p n : ℕ) (is : IsStored array_size array p n) (v : Stored) (e : stored array p n ≡ v)
     (m : ℕ) (b : boundary v.text m ≡ true) where
   pub dropped-within : m ≤ n
-  dropped-within = omega (arith, opened-size places array p n is v e, boundary-within v.text m b)
+  dropped-within = omega (arith, opened-size array_size array p n is v e, boundary-within v.text m b)
 
   whole-utf8 : IsUtf8 (bytes v.text)
-  whole-utf8 = rw (opened-bytes places array p n is v e) (stored-utf8 places array p n is)
+  whole-utf8 = rw (opened-bytes array_size array p n is v e) (stored-utf8 array_size array p n is)
 
   dropped-bytes : take (n - m) (drop (p + m) array) ≡ bytes (back v.text m)
   dropped-bytes =
       let whole : m + (n - m) ≡ n = omega (arith, dropped-within) in
       ap (take (n - m)) (sym (drop-drop m p array)) ∙ sym (drop-take m (n - m) (drop p array))
-      ∙ ap (λ k. drop m (take k (drop p array))) whole ∙ ap (drop m) (sym (opened-bytes places array p n is v e)) ∙ bytes-back v.text m b
+      ∙ ap (λ k. drop m (take k (drop p array))) whole ∙ ap (drop m) (sym (opened-bytes array_size array p n is v e)) ∙ bytes-back v.text m b
 
   dropped-utf8 : IsUtf8 (take (n - m) (drop (p + m) array))
   dropped-utf8 =
       rw (dropped-bytes, ← bytes-back v.text m b) (IsUtf8-drop (bytes v.text) m whole-utf8 (boundary-to_bytes v.text (bytes v.text) m whole-utf8 refl b))
 
-  pub dropped : Lies places array (p + m) (n - m) (back v.text m)
+  pub dropped : Lies array_size array (p + m) (n - m) (back v.text m)
   dropped = record {
     held = (omega (arith, is.0, dropped-within), is.1, ∣ dropped-utf8 ∣₁);
     shown = chars-bytes dropped-utf8 dropped-bytes;
   }
 
 -- the part before the boundary m is kept
-module _ (places : ℕ) (array : List ℕ) (p n : ℕ) (is : IsStored places array p n) (v : Stored) (e : stored array p n ≡ v)
+module _ (array_size : ℕ) (array : List ℕ) (p n : ℕ) (is : IsStored array_size array p n) (v : Stored) (e : stored array p n ≡ v)
     (m : ℕ) (b : boundary v.text m ≡ true) where
   kept-within : m ≤ n
-  kept-within = omega (arith, opened-size places array p n is v e, boundary-within v.text m b)
+  kept-within = omega (arith, opened-size array_size array p n is v e, boundary-within v.text m b)
 
   kept-bytes : take m (drop p array) ≡ bytes (front v.text m)
   kept-bytes =
-      sym (take-take m n (drop p array) kept-within) ∙ ap (take m) (sym (opened-bytes places array p n is v e)) ∙ bytes-front v.text m b
+      sym (take-take m n (drop p array) kept-within) ∙ ap (take m) (sym (opened-bytes array_size array p n is v e)) ∙ bytes-front v.text m b
 
   kept-utf8 : IsUtf8 (take m (drop p array))
   kept-utf8 =
-      let u : IsUtf8 (bytes v.text) = rw (opened-bytes places array p n is v e) (stored-utf8 places array p n is) in
+      let u : IsUtf8 (bytes v.text) = rw (opened-bytes array_size array p n is v e) (stored-utf8 array_size array p n is) in
       rw (kept-bytes, ← bytes-front v.text m b) (IsUtf8-take (bytes v.text) m u (boundary-to_bytes v.text (bytes v.text) m u refl b))
 
-  pub kept : Lies places array p m (front v.text m)
+  pub kept : Lies array_size array p m (front v.text m)
   kept = record {
     held = (omega (arith, is.0, kept-within), is.1, ∣ kept-utf8 ∣₁);
     shown = chars-bytes kept-utf8 kept-bytes;

@@ -5,17 +5,17 @@ use Rattle.arraystring_base.proofs.TextLaws.{text-chars}
 use Rattle.arraystring_core.specs.Stored.{Stored, stored, IsStored}
 use Rattle.arraystring_core.specs.GhostProofs as ghost_proof
 
-module _ (places : ℕ) (array : List ℕ) (start n : ℕ) (is : IsStored places array start n) where
+module _ (array_size : ℕ) (array : List ℕ) (start n : ℕ) (is : IsStored array_size array start n) where
   -- how long the range is that is borrowed
-  pub lent-range : (start + n) - start ≡ n
-  lent-range = omega arith
+  pub borrowed-range : (start + n) - start ≡ n
+  borrowed-range = omega arith
 
   -- the same of the value that a contract sees
   pub opened-bytes : (v : Stored) → stored array start n ≡ v → bytes v.text ≡ take n (drop start array)
-  opened-bytes v e = ap (λ s. bytes s.text) (sym e) ∙ ghost_proof.stored-bytes places array start n is
+  opened-bytes v e = ap (λ s. bytes s.text) (sym e) ∙ ghost_proof.stored-bytes array_size array start n is
 
   pub opened-size : (v : Stored) → stored array start n ≡ v → size v.text ≡ n
-  opened-size v e = ap (λ s. size s.text) (sym e) ∙ ghost_proof.stored-size places array start n is
+  opened-size v e = ap (λ s. size s.text) (sym e) ∙ ghost_proof.stored-size array_size array start n is
 
   pub opened-text : (v : Stored) → stored array start n ≡ v → IsText v.text
-  opened-text v e = subst (λ (s : Stored). IsText s.text) e (text-chars (ghost_proof.stored-utf8 places array start n is))
+  opened-text v e = subst (λ (s : Stored). IsText s.text) e (text-chars (ghost_proof.stored-utf8 array_size array start n is))

@@ -35,9 +35,9 @@ cut-joined_past taken more n past = ap (λ l. cut l n) (joined-append taken more
 module _ {U T A B : Type 0} (becomes : U → T → Type 0) (steps : T → Option A → T → Type 0) (spelled : List A → List ℕ)
     (value : A → B) (whole : List B → List ℕ) (is : (items : List A) → spelled items ≡ whole (map value items))
     (parts : (a b : List B) → whole (a ++ b) ≡ whole a ++ whole b) where
-  leads-text : (it : T) (all : List B) (items : List A) (t : T) → AlwaysYields steps value it all → Yields steps it items t
+  prefix-text : (it : T) (all : List B) (items : List A) (t : T) → AlwaysYields steps value it all → Yields steps it items t
       → (more : List ℕ) × (whole all ≡ spelled items ++ more)
-  leads-text it all items t always yields =
+  prefix-text it all items t always yields =
       let rest = gives_left steps value items all it t always yields in (
         whole rest.0,
         ap whole rest.1 ∙ parts (map value items) rest.0 ∙ ap (λ l. l ++ whole rest.0) (sym (is items)),
@@ -47,11 +47,11 @@ module _ {U T A B : Type 0} (becomes : U → T → Type 0) (steps : T → Option
   all-text : (it : T) (all : List B) (items : List A) → AlwaysYields steps value it all → Drains steps it items → spelled items ≡ whole all
   all-text it all items always drains = is items ∙ ap whole (gives_Drains steps value items all it always drains)
 
-  -- where all fits, whatever comes fits
+  -- if all fits, whatever comes fits
   gives-fit : (iter : U) (room : ℕ) (all : List B) → Gives becomes steps value iter all → size (whole all) ≤ room → Fits becomes steps spelled iter room
   gives-fit iter room all gives fits = λ it b items rest yields.
-      let lead = leads-text it all items rest (gives it b) yields in
-      omega (arith, ap size lead.1, size-append (spelled items) lead.0)
+      let prefix = prefix-text it all items rest (gives it b) yields in
+      omega (arith, ap size prefix.1, size-append (spelled items) prefix.0)
 
   -- what was taken is all, or so much that it is larger than the room
   takes-text : (iter : U) (room : ℕ) (items : List A) (all : List B) → Takes becomes steps spelled iter room items → Gives becomes steps value iter all
@@ -59,7 +59,7 @@ module _ {U T A B : Type 0} (becomes : U → T → Type 0) (steps : T → Option
   takes-text iter room items all takes gives = elim takes.2 [
     | inl ends ↦ inl (all-text takes.0 all items (gives takes.0 takes.1) ends.0, ends.1)
     | inr stops ↦
-        let lead = leads-text takes.0 all items stops.0 (gives takes.0 takes.1) stops.1 in inr (lead.0, lead.1, stops.2.4)
+        let prefix = prefix-text takes.0 all items stops.0 (gives takes.0 takes.1) stops.1 in inr (prefix.0, prefix.1, stops.2.4)
   ]
 
   -- so its cut is the cut of all
@@ -113,7 +113,7 @@ module _ {U T : Type 0} (becomes : U → T → Type 0) (steps : T → Option (Bo
     pieces-made result = made-more result (joined_pieces taken) (joined all) room
         (takes-text becomes steps joined_pieces piece_text joined spelled joined-append iter room taken all takes gives)
 
--- the same, where the values are seen by a function more
+-- the same, if the values are seen by a function more
 always-map : {S A B C : Type 0} (steps : S → Option A → S → Type 0) (value : A → B) (f : B → C) (s : S) (all : List B)
     → AlwaysYields steps value s all → AlwaysYields steps (λ x. f (value x)) s (map f all)
 always-map steps value f s [] always = always

@@ -63,7 +63,7 @@ module _ {A : Type 0} (spelled : List A → List ℕ) (one : A → List ℕ)
       ∙ ap (λ l. old ++ l) (ap (λ k. spelled items ++ cut (one x) k) left
       ∙ sym (ap (λ l. cut l (n - size old)) (more items x) ∙ cut-past_part (spelled items) (one x) (n - size old) fits))
 
-  -- where a part of x was added, and where x has none
+  -- if a part of x was added, and if x has none
   pub added-part : (before new : List ℕ) → before ≡ now → new ≡ before ++ cut (one x) (n - size before)
       → new ≡ old ++ cut (spelled (items ++ x ∷ [])) (n - size old)
   added-part before new e f = f ∙ ap (λ s. s ++ cut (one x) (n - size s)) e ∙ added-cut

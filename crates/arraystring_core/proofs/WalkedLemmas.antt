@@ -7,7 +7,7 @@ use Rattle.arraystring_core.proofs.EditLaws.{last_of-push, all_but_last-push}
 use Rattle.arraystring_core.specs.Drained.{End, Front, Back, Walked, from_front, from_back, walked}
 use Rattle.arraystring_core.proofs.DrainLemmas.{last-split}
 
--- where nothing is left nothing is given
+-- if nothing is left nothing is given
 pub walked-none : (ends : List End) → walked ends [] ≡ walked [] []
 walked-none [] = refl
 walked-none (Front ∷ ends) = walked-none ends

@@ -24,12 +24,12 @@ abbrev pub with_left : Result Drained Error → Result (List ℕ) Error
 with_left (Ok d) = Ok d.left
 with_left (Err e) = Err e
 
--- `removed` is within the capacity of `places` bytes, and i is a boundary of it
-pub record IsDrained (places : ℕ) (removed : Stored) (i : ℕ) : Type 0 where
-  pub fits : size removed.text ≤ cap places
+-- `removed` is within the capacity of `array_size` bytes, and i is a boundary of it
+pub record IsDrained (array_size : ℕ) (removed : Stored) (i : ℕ) : Type 0 where
+  pub fits : size removed.text ≤ cap array_size
   pub at : IsTrue (boundary removed.text i)
 
--- the end from which a character is asked for
+-- the end from which a character is taken
 pub data End : Type 0 where
   Front : End
   Back : End

@@ -57,18 +57,18 @@ abbrev pub FirstHolds : List Test → Cause → Type 0
 FirstHolds [] found = ⊥
 FirstHolds (test ∷ rest) found = ((test.holds ≡ true) × (found ≡ test.cause)) ⊎ ((test.holds ≡ false) × FirstHolds rest found)
 
--- one row: what is tested in turn, and what comes of the edit where no cause holds
+-- one row: what is tested in turn, and what comes of the edit if no cause holds
 pub record Edit (A : Type 0) : Type 0 where
   pub tests : List Test
-  pub answer : A
+  pub result : A
   pub after : List ℕ
 
 abbrev pub ok_unless : {A : Type 0} → Option Cause → A → Result A Error
-ok_unless None answer = Ok answer
-ok_unless (Some cause) answer = Err (error_of cause)
+ok_unless None value = Ok value
+ok_unless (Some cause) value = Err (error_of cause)
 
-abbrev pub answer_of : {A : Type 0} → Edit A → Result A Error
-answer_of edit = ok_unless (first_cause edit.tests) edit.answer
+abbrev pub result_of : {A : Type 0} → Edit A → Result A Error
+result_of edit = ok_unless (first_cause edit.tests) edit.result
 
 -- the text that the edit leaves of t
 abbrev pub text_of : {A : Type 0} → Edit A → List ℕ → List ℕ
@@ -76,18 +76,18 @@ text_of edit t = if is_none (first_cause edit.tests) then edit.after else t
 
 -- the result is the row's, the text after it is the row's, and after a refusal t stays
 pub record Makes {A : Type 0} (edit : Edit A) (t : List ℕ) (result : Result A Error) (new : List ℕ) : Type 0 where
-  pub answer : result ≡ answer_of edit
+  pub returns : result ≡ result_of edit
   pub ok : OnOk result (new ≡ edit.after)
   pub err : OnErr result (new ≡ t)
 
 -- the result of a call that has `OutOfBounds` as its one error
 abbrev pub from_out_of_bounds : {A E : Type 0} → Result A E → Result A Error
-from_out_of_bounds (Ok answer) = Ok answer
+from_out_of_bounds (Ok value) = Ok value
 from_out_of_bounds (Err e) = Err error.OutOfBounds
 
 -- the result of a call that has `Utf8` as its one error
 abbrev pub from_utf8_error : {A E : Type 0} → Result A E → Result A Error
-from_utf8_error (Ok answer) = Ok answer
+from_utf8_error (Ok value) = Ok value
 from_utf8_error (Err e) = Err error.Utf8
 
 -- the result of a call that returns a string
@@ -146,67 +146,67 @@ is_white_space = in_ranges (
 -- the table
 
 abbrev pub addition : List ℕ → List ℕ → ℕ → Edit (Unit {0})
-addition t given n = record { tests = no_room (size t + size given) n ∷ []; answer = tt; after = t ++ given }
+addition t given n = record { tests = no_room (size t + size given) n ∷ []; result = tt; after = t ++ given }
 
 abbrev pub addition_of_cut : List ℕ → List ℕ → ℕ → Edit (Unit {0})
-addition_of_cut t given n = record { tests = []; answer = tt; after = t ++ cut given (n - size t) }
+addition_of_cut t given n = record { tests = []; result = tt; after = t ++ cut given (n - size t) }
 
 abbrev pub popping : List ℕ → Edit (Option ℕ)
-popping t = record { tests = []; answer = last_of t; after = all_but_last t }
+popping t = record { tests = []; result = last_of t; after = all_but_last t }
 
 abbrev pub insertion : List ℕ → ℕ → List ℕ → ℕ → Edit (Unit {0})
 insertion t i given n = record {
   tests = past t i ∷ no_room (size t + size given) n ∷ inside t i ∷ [];
-  answer = tt;
+  result = tt;
   after = front t i ++ (given ++ back t i);
 }
 
 abbrev pub insertion_of_cut : List ℕ → ℕ → List ℕ → ℕ → Edit (Unit {0})
 insertion_of_cut t i given n = record {
   tests = past t i ∷ inside t i ∷ [];
-  answer = tt;
+  result = tt;
   after = front t i ++ (cut given (n - size t) ++ back t i);
 }
 
 abbrev pub truncation : List ℕ → ℕ → Edit (Unit {0})
-truncation t i = record { tests = inside t i ∷ []; answer = tt; after = front t i }
+truncation t i = record { tests = inside t i ∷ []; result = tt; after = front t i }
 
 -- the characters at both ends that pass are dropped
 abbrev pub trimming : (ℕ → Bool) → List ℕ → Edit (Unit {0})
-trimming passes t = record { tests = []; answer = tt; after = without_leading passes (without_trailing passes t) }
+trimming passes t = record { tests = []; result = tt; after = without_leading passes (without_trailing passes t) }
 
 -- the character that begins at i is taken out
 abbrev pub removal : List ℕ → ℕ → Edit ℕ
 removal t i = record {
   tests = at_end t i ∷ inside t i ∷ [];
-  answer = slice_index (back t i) 0;
+  result = slice_index (back t i) 0;
   after = front t i ++ drop 1 (back t i);
 }
 
 abbrev pub clearing : Edit (Unit {0})
-clearing = record { tests = []; answer = tt; after = [] }
+clearing = record { tests = []; result = tt; after = [] }
 
 -- the part from i on is returned
 abbrev pub split : List ℕ → ℕ → Edit (List ℕ)
-split t i = record { tests = past t i ∷ inside t i ∷ []; answer = back t i; after = front t i }
+split t i = record { tests = past t i ∷ inside t i ∷ []; result = back t i; after = front t i }
 
 -- a..z become A..Z, and A..Z become a..z
 abbrev pub uppercase : List ℕ → Edit (Unit {0})
-uppercase t = record { tests = []; answer = tt; after = map to_ascii_uppercase t }
+uppercase t = record { tests = []; result = tt; after = map to_ascii_uppercase t }
 
 abbrev pub lowercase : List ℕ → Edit (Unit {0})
-lowercase t = record { tests = []; answer = tt; after = map to_ascii_lowercase t }
+lowercase t = record { tests = []; result = tt; after = map to_ascii_lowercase t }
 
 abbrev pub draining : List ℕ → ℕ → ℕ → Edit (List ℕ)
 draining t start end = record {
   tests = crossed start end ∷ past t end ∷ inside t start ∷ inside t end ∷ [];
-  answer = part t start end;
+  result = part t start end;
   after = front t start ++ back t end;
 }
 
 abbrev pub replacement : List ℕ → ℕ → ℕ → List ℕ → ℕ → Edit (Unit {0})
 replacement t start end given n = record {
   tests = crossed start end ∷ past t end ∷ no_room (size t - (end - start) + size given) n ∷ inside t start ∷ inside t end ∷ [];
-  answer = tt;
+  result = tt;
   after = front t start ++ (given ++ back t end);
 }

@@ -9,7 +9,7 @@ use Rattle.arraystring_core.specs.Stored.{Stored, stored, IsStored, array_of}
 use Rattle.arraystring_core.specs.Drained.{drained, IsDrained, removed_of}
 
 -- the text, and the array, of a string
-module _ (places : ℕ) (array : List ℕ) (start n : ℕ) (is : IsStored places array start n) where
+module _ (array_size : ℕ) (array : List ℕ) (start n : ℕ) (is : IsStored array_size array start n) where
   pub stored-utf8 : IsUtf8 (take n (drop start array))
   stored-utf8 = IsUtf8-had _ is.2
 
@@ -32,7 +32,7 @@ module _ (places : ℕ) (array : List ℕ) (start n : ℕ) (is : IsStored places
       ∙ ap (λ d. front ++ d) (take-append-drop n (drop start array)) ∙ take-append-drop start array
 
 -- the removed text, and what was given of it
-module _ (places : ℕ) (removed : Stored) (i : ℕ) (is : IsDrained places removed i) where
+module _ (array_size : ℕ) (removed : Stored) (i : ℕ) (is : IsDrained array_size removed i) where
   drained-removed : removed_of (drained removed i) ≡ removed
   drained-removed = ap with_spare (front-back removed.text i)
     where
@@ -43,9 +43,9 @@ module _ (places : ℕ) (removed : Stored) (i : ℕ) (is : IsDrained places remo
   drained-front = front-size removed.text i is.at
 
 -- and where it lies: the n bytes of the array from `start` on
-module _ (places : ℕ) (array : List ℕ) (start n i : ℕ) (held : IsStored places array start n) (is : IsDrained places (stored array start n) i) where
+module _ (array_size : ℕ) (array : List ℕ) (start n i : ℕ) (held : IsStored array_size array start n) (is : IsDrained array_size (stored array start n) i) where
   pub drained-array : array_of (removed_of (drained (stored array start n) i)) ≡ array
-  drained-array = ap array_of (drained-removed places (stored array start n) i is) ∙ stored-all places array start n held
+  drained-array = ap array_of (drained-removed array_size (stored array start n) i is) ∙ stored-all array_size array start n held
 
   pub drained-size : size (removed_of (drained (stored array start n) i)).text ≡ n
-  drained-size = ap (λ r. size r.text) (drained-removed places (stored array start n) i is) ∙ stored-size places array start n held
+  drained-size = ap (λ r. size r.text) (drained-removed array_size (stored array start n) i is) ∙ stored-size array_size array start n held

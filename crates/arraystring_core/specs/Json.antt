@@ -10,11 +10,11 @@ use Rattle.arraystring_core.specs.declared.integration.ValueError.TheVariants.{N
 abbrev pub json_text : List ℕ → Data
 json_text t = string (bytes t)
 
--- the characters of a JSON text, cut to n bytes; none where the value is not a text
+-- the characters of a JSON text, cut to n bytes; none if the value is not a text
 abbrev pub text_within : Data → ℕ → Option (List ℕ)
 text_within value n = option_map (λ given. cut (chars given) n) (as_str value)
 
--- the characters of a JSON text, all of them; none where the value is not a text
+-- the characters of a JSON text, all of them; none if the value is not a text
 abbrev pub whole_text : Data → Option (List ℕ)
 whole_text value = option_map chars (as_str value)
 

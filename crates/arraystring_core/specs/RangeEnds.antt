@@ -5,21 +5,21 @@ use Rattle.std.specs.declared.ops.Bound.TheVariants.{Included, Excluded, Unbound
 
 -- The claim holds of the bounds that the range's methods return: its own if it has bounds, and else some.
 -- (An inclusive range that was iterated to its end has none, nor has a range type that does not say which it has.)
-pub record OfToldBounds {R : Type 0} (has : R → Type 0) (start_of end_of : R → Bound ℕ) (range : R)
+pub record OfReturnedBounds {R : Type 0} (has : R → Type 0) (start_of end_of : R → Bound ℕ) (range : R)
     (claim : Bound ℕ → Bound ℕ → Type 0) : Type 0 where
   pub start : Bound ℕ
   pub end : Bound ℕ
-  pub told : has range → (start ≡ start_of range) × (end ≡ end_of range)
+  pub returned : has range → (start ≡ start_of range) × (end ≡ end_of range)
   pub holds : claim start end
 
 -- the ends as `drain` and `replace_range` read them: sums stop at 255
-abbrev pub lo : Bound ℕ → ℕ
-lo (Included a) = a
-lo (Excluded a) = min (a + 1) 255
-lo Unbounded = 0
+abbrev pub saturated_start : Bound ℕ → ℕ
+saturated_start (Included a) = a
+saturated_start (Excluded a) = min (a + 1) 255
+saturated_start Unbounded = 0
 
 -- in a text of `len` bytes
-abbrev pub hi : Bound ℕ → ℕ → ℕ
-hi (Included b) len = min (b + 1) 255
-hi (Excluded b) len = b
-hi Unbounded len = len
+abbrev pub saturated_end : Bound ℕ → ℕ → ℕ
+saturated_end (Included b) len = min (b + 1) 255
+saturated_end (Excluded b) len = b
+saturated_end Unbounded len = len

@@ -14,9 +14,9 @@ stored array start n = record {
   spare = start ∷ (take start array ++ drop n (drop start array));
 }
 
--- an array of `places` bytes, of which the n from `start` on are UTF-8 and end within the capacity
+-- an array of `array_size` bytes, of which the n from `start` on are UTF-8 and end within the capacity
 abbrev pub IsStored : ℕ → List ℕ → ℕ → ℕ → Type 0
-IsStored places array start n = (start + n ≤ cap places) × (length array ≡ places) × ∥ IsUtf8 (take n (drop start array)) ∥₁
+IsStored array_size array start n = (start + n ≤ cap array_size) × (length array ≡ array_size) × ∥ IsUtf8 (take n (drop start array)) ∥₁
 
 -- the start and the array, given back
 abbrev pub start_of : Stored → ℕ

@@ -1,5 +1,5 @@
 //! `ArrayString`: the type, what it shows, and what is added and taken at its end. The modules below
-//! hold its other calls, and `edit` the private ones that reach its array.
+//! have its other calls, and `edit` the private ones that reach its array.
 ghost use Rattle.std.specs.Prelude.{◌≡◌, ◌≢◌, ◌+◌, ◌-◌, ◌^◌, ◌<◌, ◌≤◌, ◌↔◌, min, IfSome, Ok, [], ◌∷◌, ◌++◌, IsTrue, chars, length, nat_eq};
 ghost use Rattle.std.specs.Cmp.{on_equiv, on_per, partial_equiv_from_equiv};
 ghost use Rattle.std.specs.Cmp.Lexicographic.{pointwise, nat_list_eq_equiv};
@@ -26,6 +26,9 @@ mod utf16;
 
 /// A string of at most `N` bytes of UTF-8, and at most 255, that lies in the value itself. In all
 /// its calls sizes, indices and capacity count bytes of UTF-8.
+///
+/// An iterator that is passed in must end, and allow `next` until it does. A call that cuts or can
+/// refuse needs no item after the first that does not fit, and a test shows that it takes none.
 ///
 /// Contracts name its text, the list of its characters, and no byte of the array.
 #[derive(Clone, Copy)]
@@ -56,7 +59,7 @@ impl<const N: usize> Model for ArrayString<N> {
 }
 
 impl<const N: usize> ArrayString<N> {
-    /// The empty string.
+    /// Returns the empty string.
     #[inline(always)]
     pub const fn new() -> Self
         ensures { result.text ≡ [] }
@@ -68,7 +71,7 @@ impl<const N: usize> ArrayString<N> {
         }
     }
 
-    /// How many bytes fit: the lesser of `N` and 255.
+    /// Returns how many bytes fit: the lesser of `N` and 255.
     #[inline]
     pub const fn capacity() -> u8
         ensures { result ≡ cap N }
@@ -76,7 +79,7 @@ impl<const N: usize> ArrayString<N> {
         if N < 255 { N as u8 } else { 255 }
     }
 
-    /// How many bytes the text takes, which is never more than the capacity.
+    /// Returns how many bytes the text takes, which is never more than the capacity.
     #[inline]
     pub const fn len(&self) -> u8
         ensures value { result ≡ size self.now.text }
@@ -85,7 +88,7 @@ impl<const N: usize> ArrayString<N> {
         self.size
     }
 
-    /// Whether the text has no character.
+    /// Returns whether the text has no character.
     #[inline]
     pub const fn is_empty(&self) -> bool
         ensures { IsTrue result ↔ (self.now.text ≡ []) }
@@ -93,7 +96,7 @@ impl<const N: usize> ArrayString<N> {
         self.size == 0
     }
 
-    /// The text, borrowed without a copy. Each of its characters is a Unicode scalar value.
+    /// Returns the text, borrowed without a copy. Each of its characters is a Unicode scalar value.
     #[inline]
     pub fn as_str(&self) -> &str
         ensures bytes { result.now ≡ bytes self.now.text }
@@ -106,8 +109,8 @@ impl<const N: usize> ArrayString<N> {
         unsafe { str::from_utf8_unchecked(&all[start..start + self.size as usize]) }
     }
 
-    /// The UTF-8 of the text, borrowed without a copy: as many bytes as `len` says. Each character
-    /// of the text is a Unicode scalar value.
+    /// Returns the UTF-8 of the text, borrowed without a copy: as many bytes as `len` says. Each
+    /// character of the text is a Unicode scalar value.
     #[inline]
     pub fn as_bytes(&self) -> &[u8]
         ensures bytes { result.now ≡ bytes self.now.text }
@@ -120,21 +123,28 @@ impl<const N: usize> ArrayString<N> {
         &all[start..start + self.size as usize]
     }
 
-    /// Adds `ch` at the end. Refused with `OutOfBounds` where it does not fit. The text is then as
-    /// it was.
+    /// Adds `ch` at the end.
+    ///
+    /// # Errors
+    ///
+    /// Returns `Err(OutOfBounds)` if `ch` does not fit. The text is then as it was.
     #[inline(always)]
     pub fn try_push(&mut self, ch: char) -> Result<(), OutOfBounds>
         ensures { Makes (addition self.old.text (ch ∷ []) (cap N)) self.old.text (from_out_of_bounds result) self.new.text }
     {
         let end = self.start as usize + self.size as usize;
-        if end + 4 > Self::capacity() as usize {
-            return self.try_push_near_end(ch);
+        if Self::has_room(end, ch) {
+            self.push_unchecked(ch);
+            return Ok(());
         }
-        self.push_unchecked(ch);
-        Ok(())
+        self.try_push_near_end(ch)
     }
 
-    /// Adds `ch` at the end. It must fit.
+    /// Adds `ch` at the end.
+    ///
+    /// # Precondition
+    ///
+    /// `ch` must fit.
     #[inline(always)]
     pub fn push_unchecked(&mut self, ch: char)
         requires { size self.old.text + width ch ≤ cap N }
@@ -142,33 +152,38 @@ impl<const N: usize> ArrayString<N> {
     {
         let end = self.start as usize + self.size as usize;
         if !Self::has_room(end, ch) {
-            return self.push_at_start(ch);
+            return self.compact_and_push(ch);
         }
         let len = encode(ch, &mut self.array, end);
         self.size = (self.size as usize + len) as u8;
     }
 
-    /// Adds `string` at the end. Refused with `OutOfBounds` where not all of it fits. The text is
-    /// then as it was.
+    /// Adds `string` at the end.
+    ///
+    /// # Errors
+    ///
+    /// Returns `Err(OutOfBounds)` if not all of `string` fits. The text is then as it was.
     #[inline]
     pub fn try_push_str(&mut self, string: &str) -> Result<(), OutOfBounds>
         ensures { Makes (addition self.old.text (chars string.now) (cap N)) self.old.text (from_out_of_bounds result) self.new.text }
     {
-        // Room after the text is asked first: where there is some, it is the only test.
+        // Room after the text is tested first: if there is some, it is the only test.
         let size = self.len() as usize;
         let capacity = Self::capacity() as usize;
         if self.start as usize + size + string.len() > capacity {
             if size + string.len() > capacity {
                 return Err(OutOfBounds);
             }
-            self.push_str_at_start(string);
+            self.compact_and_push_str(string);
         } else {
             self.push_str_unchecked(string);
         }
         Ok(())
     }
 
-    /// Adds the longest leading run of whole characters of `string` that fits at the end.
+    /// Adds the longest prefix of whole characters of `string` that fits at the end.
+    ///
+    /// # Examples
     ///
     /// ```
     /// let mut line = ArrayString::<4>::from_str_truncate("abc");
@@ -181,7 +196,11 @@ impl<const N: usize> ArrayString<N> {
         self.push_str_unchecked(truncate_str(string, room));
     }
 
-    /// Adds `string` at the end. All of it must fit.
+    /// Adds `string` at the end.
+    ///
+    /// # Precondition
+    ///
+    /// All of `string` must fit.
     #[inline]
     pub fn push_str_unchecked(&mut self, string: &str)
         requires { size self.old.text + size (chars string.now) ≤ cap N }
@@ -189,21 +208,25 @@ impl<const N: usize> ArrayString<N> {
     {
         let end = self.start as usize + self.size as usize;
         if end + string.len() > Self::capacity() as usize {
-            return self.push_str_at_start(string);
+            return self.compact_and_push_str(string);
         }
         self.size = (self.size as usize + string.len()) as u8;
         write_by_call(&mut self.array, end, string.as_bytes());
     }
 
-    /// Takes the last character; `None` where the text is empty.
+    /// Removes the last character and returns it. Returns `None` if the text is empty.
     pub fn pop(&mut self) -> Option<char>
         ensures { Makes (popping self.old.text) self.old.text (Ok result) self.new.text }
     {
         self.pop_counted(&mut Steps::new())
     }
 
-    /// The same as `pop`. It looks at no more than four bytes, and at one at least where there is a
-    /// character. It moves none. Both counts must be at most 2^63.
+    /// The same as `pop`. It looks at no more than four bytes, and at one at least if there is a
+    /// character. It moves none.
+    ///
+    /// # Precondition
+    ///
+    /// Both counts must be at most 2^63.
     pub fn pop_counted(&mut self, steps: &mut Steps) -> Option<char>
         requires looks { steps.old.looked ≤ 2 ^ 63 }
         requires moves { steps.old.moved ≤ 2 ^ 63 }
@@ -228,7 +251,7 @@ impl<const N: usize> Default for ArrayString<N> {
     }
 }
 
-/// Strings are equal where their texts are.
+/// Strings are equal if and only if their texts are.
 impl<const N: usize> PartialEq for ArrayString<N> {
     ghost eq = { λ s t. pointwise nat_eq s.text t.text };
 

@@ -14,9 +14,9 @@ mod compare;
 /// The characters that `drain` took out of a string. They are given from the front and from the
 /// back, each once; what is not given stays in its order.
 ///
-/// Contracts name the list of the characters that are left. It keeps a copy of the string's array,
-/// where in it the removed text is, without what was given from the back, and an index into that
-/// text. It takes no memory.
+/// Contracts name the list of the characters that are left. A drain keeps a copy of the string's
+/// array, where in it the removed text is, without what was given from the back, and an index into
+/// that text. It takes no memory.
 #[derive(Clone, Copy)]
 pub struct Drain<const N: usize> {
     // The index at which what is left begins, and the offset and the size of the removed text. They
@@ -65,7 +65,7 @@ impl<const N: usize> Drain<N> {
         }
     }
 
-    /// What is left, borrowed without a copy.
+    /// Returns what is left, borrowed without a copy.
     #[inline]
     pub fn as_str(&self) -> &str
         ensures bytes { result.now ≡ bytes self.now.left }
@@ -97,7 +97,7 @@ impl<const N: usize> Iterator for Drain<N> {
 
     ghost remaining = { item_count (λ d. d.left) };
 
-    /// The first character that is left; `None` where none is, and from then on.
+    /// Returns the first character that is left, or `None` if none is, and from then on.
     #[inline(always)]
     fn next(&mut self) -> Option<char> {
         if self.front == self.size {
@@ -120,7 +120,7 @@ impl<const N: usize> Iterator for Drain<N> {
 impl<const N: usize> DoubleEndedIterator for Drain<N> {
     ghost next_back_gives = { YieldsLast (λ d. d.left) };
 
-    /// The last character that is left; `None` where none is, and from then on.
+    /// Returns the last character that is left, or `None` if none is, and from then on.
     #[inline(always)]
     fn next_back(&mut self) -> Option<char> {
         if self.size == self.front {

@@ -11,7 +11,7 @@ pub(crate) struct Span {
     pub(crate) size: usize,
 }
 
-/// Opens a gap of `len` bytes in place of the bytes from `start` to `end` of a text. There must be
+/// Opens a gap of `len` bytes instead of the bytes from `start` to `end` of a text. There must be
 /// room after the text: it keeps its offset, and only the bytes after the gap move.
 #[inline(always)]
 pub(crate) fn open_gap<const N: usize>(
@@ -47,7 +47,7 @@ pub(crate) fn open_gap<const N: usize>(
 
 /// The same for a text that moves to the start of the array. Each byte moves at most once.
 #[inline(always)]
-pub(crate) fn open_gap_at_start<const N: usize>(
+pub(crate) fn compact_and_open_gap<const N: usize>(
     array: &mut [u8; N],
     text: Span,
     start: usize,
@@ -73,9 +73,9 @@ pub(crate) fn open_gap_at_start<const N: usize>(
     shift(array, text.offset + end, start + len, tail, steps);
 }
 
-/// Writes `given` over the bytes from `at` on, by one call whatever its length. It is for texts that may
-/// be long and for functions that make a call anyway; `write_over` is for those that make no other, and
-/// takes more code at each place.
+/// Writes `given` over the bytes from `at` on, by one call whatever its length. It is for texts
+/// that may be long and for functions that make a call anyway; `write_over` is for those that make
+/// no other, and takes more code at each call site.
 pub(crate) fn write_by_call<const N: usize>(array: &mut [u8; N], at: usize, given: &[u8])
     requires { at + length given.now ≤ N }
     ensures { array.new ≡ take at array.old ++ (given.now ++ drop (at + length given.now) array.old) }

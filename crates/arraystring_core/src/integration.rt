@@ -12,7 +12,7 @@ use std::alloc::{AllocError, Global};
 use std::error::Error;
 use std::fmt;
 
-/// A JSON value that is not a text. No printed form is padded to a width that is asked for.
+/// A JSON value that is not a text. No printed form is padded to a width in the format.
 #[derive(Clone, Copy, PartialEq, Eq)]
 pub struct NotText;
 
@@ -59,7 +59,7 @@ impl ValueError {
     }
 }
 
-/// The name alone, which is not padded to a width that is asked for.
+/// The name alone, which is not padded to a width in the format.
 impl fmt::Display for ValueError {
     ghost output = { λ error. Some (value_error_name error) };
 
@@ -91,8 +91,12 @@ impl From<OutOfBounds> for ValueError {
 }
 
 impl<const N: usize> ArrayString<N> {
-    /// The JSON text with the characters of the string. Read back at the same capacity it is the
-    /// string. It takes memory from `alloc`, and is refused with `AllocError` where there is none.
+    /// Returns the JSON text with the characters of the string. Read back at the same capacity it
+    /// is the string. It takes memory from `alloc`.
+    ///
+    /// # Errors
+    ///
+    /// Returns `Err(AllocError)` if there is not enough memory.
     pub fn to_value(&self, alloc: Global) -> Result<Value, AllocError>
         ensures text { IfOk result (λ value. view value ≡ json_text self.now.text) }
         ensures reads_back { IfOk result (λ value. text_within (view value) (cap N) ≡ Some self.now.text) }
@@ -101,9 +105,12 @@ impl<const N: usize> ArrayString<N> {
         Ok(Value::String(String::from_str(alloc, self.as_str())?))
     }
 
-    /// The longest leading run of whole characters of a JSON text that fits. Refused with `NotText`
-    /// where the value is null, a truth value, a number, an array or an object. A text that does not
-    /// fit is cut with no word of it; `try_from_value` refuses it.
+    /// Returns the longest prefix of whole characters of a JSON text that fits. A text that does
+    /// not fit is cut without an error; `try_from_value` refuses it.
+    ///
+    /// # Errors
+    ///
+    /// Returns `Err(NotText)` if the value is null, a truth value, a number, an array or an object.
     pub fn from_value(value: &Value) -> Result<Self, NotText>
         ensures { MatchResult result (λ string. text_within (view value.now) (cap N) ≡ Some string.text)
             (λ _. text_within (view value.now) (cap N) ≡ None) }
@@ -112,8 +119,14 @@ impl<const N: usize> ArrayString<N> {
         Ok(Self::from_str_truncate(text))
     }
 
-    /// The whole JSON text. Refused with `NotText` where the value is null, a truth value, a number,
-    /// an array or an object, else with `OutOfBounds` where the text is larger than the capacity.
+    /// Returns the whole JSON text.
+    ///
+    /// # Errors
+    ///
+    /// The first of these that holds decides:
+    ///
+    /// - `Err(NotText)` if the value is null, a truth value, a number, an array or an object;
+    /// - `Err(OutOfBounds)` if the text is larger than the capacity.
     pub fn try_from_value(value: &Value) -> Result<Self, ValueError>
         ensures text { IfOk result (λ string. whole_text (view value.now) ≡ Some string.text) }
         ensures refusal { IfErr result (λ error. IsWhyRefused (whole_text (view value.now)) (cap N) error) }

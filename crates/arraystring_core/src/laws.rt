@@ -24,7 +24,7 @@ use crate::{ArrayString, Drain};
 pub fn text_fits<const N: usize>(string: &ArrayString<N>)
     ensures { size string.now.text ≤ cap N }
 {
-    // The invariant of a type is known of a value only where something is asked of it.
+    // The invariant of a type is known of a value only after a call on it.
     let _ = string.len();
 }
 
@@ -63,8 +63,8 @@ pub fn units_read_back()
 /// What a pop leaves, followed by the character that it returns, is the text before. Of the empty
 /// text it returns none, and leaves it.
 pub fn popped()
-    ensures last { (front : List ℕ) (ch : ℕ) → ((popping (front ++ ch ∷ [])).answer ≡ Some ch) × ((popping (front ++ ch ∷ [])).after ≡ front) }
-    ensures empty { ((popping []).answer ≡ None) × ((popping []).after ≡ []) }
+    ensures last { (front : List ℕ) (ch : ℕ) → ((popping (front ++ ch ∷ [])).result ≡ Some ch) × ((popping (front ++ ch ∷ [])).after ≡ front) }
+    ensures empty { ((popping []).result ≡ None) × ((popping []).after ≡ []) }
 {}
 
 /// A text is characters that pass, then what a trim of those leaves of it, then characters that
@@ -80,15 +80,15 @@ pub fn white_space()
     ensures { (c : ℕ) → is_white_space c ≡ is_whitespace c }
 {}
 
-/// Where a split is not refused, the text that it keeps, followed by the part that it returns, is
-/// the text before.
+/// If a split is not refused, the text that it keeps, followed by the part that it returns, is the
+/// text before.
 pub fn split_back()
-    ensures { (t : List ℕ) (i : ℕ) → first_cause (split t i).tests ≡ None → (split t i).after ++ (split t i).answer ≡ t }
+    ensures { (t : List ℕ) (i : ℕ) → first_cause (split t i).tests ≡ None → (split t i).after ++ (split t i).result ≡ t }
 {}
 
-/// What is replaced can be put back. Where a replacement in a text that fits `n` bytes is not
-/// refused, neither is the replacement of what was given by what was taken out, and it leaves the
-/// text before.
+/// What is replaced can be put back. If a replacement in a text that fits `n` bytes is not refused,
+/// neither is the replacement of what was given by what was taken out, and it leaves the text
+/// before.
 pub fn replaced_back()
     ensures allowed { (t given : List ℕ) (start end n : ℕ) → size t ≤ n →
         first_cause (replacement t start end given n).tests ≡ None →
@@ -100,7 +100,7 @@ pub fn replaced_back()
 /// A walk from both ends in any mix gives each character at most once: what came from the front,
 /// then what is left, then what came from the back in reversed order, joined, are the characters
 /// that were walked. Each end takes one while one is left, so with as many ends as characters
-/// nothing is left, and where nothing is left nothing is given.
+/// nothing is left, and if nothing is left nothing is given.
 pub fn walks()
     ensures whole { (ends : List End) (t : List ℕ) → (walked ends t).fronts ++ ((walked ends t).left ++ reverse (walked ends t).backs) ≡ t }
     ensures each { (ends : List End) (t : List ℕ) → length (walked ends t).left ≡ length t - length ends }
@@ -124,7 +124,7 @@ pub fn json_reads_back()
 {}
 
 /// The whole JSON text of a text is the text. What a JSON value gives within `n` bytes is its whole
-/// text cut to `n` bytes, so all of it where it fits.
+/// text cut to `n` bytes, so all of it if it fits.
 pub fn json_reads_whole()
     ensures back { (t : List ℕ) → IsText t → whole_text (json_text t) ≡ Some t }
     ensures cut { (value : Data) (n : ℕ) → text_within value n ≡ option_map (λ t. cut t n) (whole_text value) }

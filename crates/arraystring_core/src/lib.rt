@@ -1,5 +1,5 @@
 //! `ArrayString`, a string of bounded size in an array inside the value, and its laws. It takes no
-//! memory, but where a JSON value is made. Its tests are in `crates/arraystring_tests`.
+//! memory, except to make a JSON value. Its tests are in `crates/arraystring_tests`.
 #![tactic(auto)]
 
 pub mod array_string;
@@ -9,6 +9,7 @@ mod equal;
 mod gap;
 pub mod integration;
 pub mod laws;
+mod order;
 mod range_ends;
 mod retain;
 pub mod utils;

@@ -6,8 +6,11 @@ use crate::array_string::ArrayString;
 use arraystring_base::error::Utf8;
 use arraystring_base::utils::is_boundary;
 
-/// Whether `idx` is a boundary of `s`, the size of one of its leading parts of whole characters;
-/// refused with `Utf8` where it is not, also past the length.
+/// Tests that `idx` is a boundary of `s`, the size of one of its prefixes of whole characters.
+///
+/// # Errors
+///
+/// Returns `Err(Utf8)` if `idx` is not a boundary. An index past the length is none.
 pub fn is_char_boundary<const N: usize>(s: &ArrayString<N>, idx: u8) -> Result<(), Utf8>
     ensures { IsOk result ↔ IsTrue (boundary s.now.text idx) }
 {

@@ -5,8 +5,8 @@ use arraystring_base::error::Utf8;
 use std::simd::Simd;
 use std::str;
 
-/// The text whose UTF-8 is `given`. Refused where `given` is not well-formed. Most texts are ASCII,
-/// for which a test by blocks is enough.
+/// Returns the text whose UTF-8 is `given`, or `Err(Utf8)` if `given` is not well-formed. Most
+/// texts are ASCII, for which a test by blocks is enough.
 pub(crate) fn read_utf8(given: &[u8]) -> Result<&str, Utf8>
     ensures { MatchResult result (λ string. (string.now ≡ given.now) × IsUtf8 given.now) (λ _. ¬ (IsUtf8 given.now)) }
 {
@@ -46,9 +46,9 @@ fn behind_characters(given: &[u8]) -> &[u8]
     rest
 }
 
-/// How many bytes the first character takes, by the Unicode Standard's table of well-formed UTF-8 byte
-/// sequences (section 3.9, table 3-7), of which each row is an arm. Four characters of ASCII are taken
-/// together with those that follow. 0 where no character is at the front.
+/// How many bytes the first character takes, by the Unicode Standard's table of well-formed UTF-8
+/// byte sequences (section 3.9, table 3-7), of which each row is an arm. Four characters of ASCII
+/// are taken together with those that follow. 0 if no character is at the front.
 #[inline(always)]
 fn characters_at_front(bytes: &[u8]) -> usize
     requires four { 4 ≤ length bytes.now }

@@ -10,7 +10,7 @@ use Rattle.arraystring_run.specs.declared.commands.Command.{Command}
 use Rattle.arraystring_run.specs.declared.commands.Command.TheVariants as command
 use Rattle.arraystring_run.proofs.RunLemmas.{is_cut-larger}
 
--- a command that isn't tight at the lesser capacity isn't at the greater, where it does the same
+-- a command that isn't tight at the lesser capacity isn't at the greater, if it does the same
 pub record IsSameStep (c : Command) (t : List ℕ) (n m : ℕ) : Type 0 where
   pub untight : tight c t m ≡ false
   pub text : (edit c t n).text ≡ (edit c t m).text
@@ -110,7 +110,7 @@ no-sooner (c ∷ cs) t n m le = go (tight c t n) refl (no-sooner cs (edit c t n)
         (subst (IsNoSooner (next (first_tight_from 0 cs (edit c t n).text n)))
         (sym (ap (λ b. if b then Some 0 else first_tight_from 1 cs (edit c t m).text m) same.untight ∙ tight-from_next 0 cs (edit c t m).text m)) later)
 
--- where no command is tight, the last texts are the same
+-- if no command is tight, the last texts are the same
 pub same-text : (cs : List Command) (t : List ℕ) (n m : ℕ) → n ≤ m → first_tight_from 0 cs t n ≡ None → (after cs t n).text ≡ (after cs t m).text
 same-text [] t n m le none = refl
 same-text (c ∷ cs) t n m le none = go (tight c t n) refl none (same-text cs (edit c t n).text n m le)

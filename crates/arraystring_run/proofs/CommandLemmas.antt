@@ -1,4 +1,4 @@
--- What the word of a command tells. Each proof goes through all commands, and is the same for each: it names one because a
+-- What the word of a command says. Each proof goes through all commands, and is the same for each: it names one because a
 -- catch-all is split into cases only below a clause that has one.
 use Rattle.std.proofs.Common.{◌≡◌, ℕ, List, [], ◌∷◌, map, refl, subst, nat_eq, nat_le, Bool, true, ◌==◌, ◌&&◌}
 use Rattle.std.specs.Cmp.Lexicographic.{pointwise}
@@ -36,7 +36,7 @@ pub kinds-numbers_first : (c : Command) → numbers_first (kinds c) ≡ true
 kinds-numbers_first command.Pop = refl
 kinds-numbers_first _ = refl
 
--- commands whose arguments are of the same kinds, and which make the same edit where these are equal
+-- commands whose arguments are of the same kinds, and which make the same edit if these are equal
 pub record IsNamesake (c d : Command) : Type 0 where
   pub same_kinds : kinds c ≡ kinds d
   pub same_edit : arguments c ≡ arguments d → (t : List ℕ) (n : ℕ) → edit c t n ≡ edit d t n

@@ -81,7 +81,7 @@ pub line-parts : (w rest : List ℕ) (c : Command) → IsOneWord w → IsLineOf 
     → (w ≡ word c) × AreSpelled (space ∷ rest) (arguments c)
 line-parts w rest c one (more, e, spelled) = split-line w (word c) rest more (arguments c) one (one-word c) e spelled
 
--- no line has the word of d where what follows can't be read as arguments of those kinds
+-- no line has the word of d if what follows can't be read as arguments of those kinds
 pub unread : (d : Command) (w rest : List ℕ) → IsOneWord w → w ≡ word d → (Reads rest (kinds d) → ⊥)
     → (c : Command) → IsLineOf (w ++ space ∷ rest) c → ⊥
 unread d w rest one known bad c line =

@@ -103,23 +103,23 @@ head-same x y xs ys e = ap (λ l. get_or l 0 []) e
 tail-same : (x y : List ℕ) (xs ys : List (List ℕ)) → x ∷ xs ≡ y ∷ ys → xs ≡ ys
 tail-same x y xs ys e = ap (drop 1) e
 
-same-place : (f g : List (List ℕ)) (l m : List ℕ) (r s : List (List ℕ)) (cs ds : List Command) → f ++ l ∷ r ≡ g ++ m ∷ s
+same-position : (f g : List (List ℕ)) (l m : List ℕ) (r s : List (List ℕ)) (cs ds : List Command) → f ++ l ∷ r ≡ g ++ m ∷ s
     → AreLinesOf f cs → AreLinesOf g ds → ((c : Command) → IsLineOf l c → ⊥) → ((c : Command) → IsLineOf m c → ⊥)
     → length f ≡ length g
-same-place [] [] l m r s cs ds e are also bad worse = refl
-same-place [] (x ∷ g) l m r s cs [] e are also bad worse = absurd also
-same-place [] (x ∷ g) l m r s cs (d ∷ ds) e are also bad worse =
+same-position [] [] l m r s cs ds e are also bad worse = refl
+same-position [] (x ∷ g) l m r s cs [] e are also bad worse = absurd also
+same-position [] (x ∷ g) l m r s cs (d ∷ ds) e are also bad worse =
     absurd (bad d (subst (λ k. IsLineOf k d) (sym (head-same l x r (g ++ m ∷ s) e)) also.0))
-same-place (x ∷ f) [] l m r s [] ds e are also bad worse = absurd are
-same-place (x ∷ f) [] l m r s (c ∷ cs) ds e are also bad worse =
+same-position (x ∷ f) [] l m r s [] ds e are also bad worse = absurd are
+same-position (x ∷ f) [] l m r s (c ∷ cs) ds e are also bad worse =
     absurd (worse c (subst (λ k. IsLineOf k c) (head-same x m (f ++ l ∷ r) s e) are.0))
-same-place (x ∷ f) (y ∷ g) l m r s [] ds e are also bad worse = absurd are
-same-place (x ∷ f) (y ∷ g) l m r s (c ∷ cs) [] e are also bad worse = absurd also
-same-place (x ∷ f) (y ∷ g) l m r s (c ∷ cs) (d ∷ ds) e are also bad worse =
-    ap suc (same-place f g l m r s cs ds (tail-same x y (f ++ l ∷ r) (g ++ m ∷ s) e) are.1 also.1 bad worse)
+same-position (x ∷ f) (y ∷ g) l m r s [] ds e are also bad worse = absurd are
+same-position (x ∷ f) (y ∷ g) l m r s (c ∷ cs) [] e are also bad worse = absurd also
+same-position (x ∷ f) (y ∷ g) l m r s (c ∷ cs) (d ∷ ds) e are also bad worse =
+    ap suc (same-position f g l m r s cs ds (tail-same x y (f ++ l ∷ r) (g ++ m ∷ s) e) are.1 also.1 bad worse)
 
 pub one-bad : (all : List (List ℕ)) (j k : ℕ) → IsBadAt all j → IsBadAt all k → j ≡ k
 one-bad all j k at also =
-    let same = same-place at.front also.front at.line also.line at.rest also.rest at.commands also.commands
+    let same = same-position at.front also.front at.line also.line at.rest also.rest at.commands also.commands
     (sym at.whole ∙ also.whole) at.before also.before at.bad also.bad in
     omega (arith, same, at.number, also.number)

@@ -7,7 +7,7 @@ use Rattle.arraystring_run.specs.Runs.{Said, said}
 use Rattle.arraystring_run.specs.declared.commands.Reply.{Reply}
 use Rattle.std.proofs.KnownBytes.{Appends-nil, Appends-trans}
 use Rattle.std.specs.Io.KnownBytes.{Appends}
-use Rattle.arraystring_run.specs.Script.{line_feed, ended, printed, replies_printed, AppendsFront}
+use Rattle.arraystring_run.specs.Script.{line_feed, ended, printed, replies_printed, AppendsPrefix}
 
 pub printed-more : (rs : List Said) (r : Said) → replies_printed (rs ++ r ∷ []) ≡ replies_printed rs ++ ended (printed r)
 printed-more [] r = append-nil (ended (printed r))
@@ -25,15 +25,15 @@ printed-parts rs i =
     ap (λ l. replies_printed (map said l)) (sym (take-append-drop i rs)) ∙ ap replies_printed (map-append said (take i rs) (drop i rs))
     ∙ printed-both (map said (take i rs)) (map said (drop i rs))
 
--- ---- a leading part of what was to be appended
+-- ---- a prefix of what was to be appended
 
-pub front-none : (a : Option (List ℕ)) (bs : List ℕ) → AppendsFront a a bs
+pub front-none : (a : Option (List ℕ)) (bs : List ℕ) → AppendsPrefix a a bs
 front-none a bs = record { done = []; later = bs; whole = refl; appended = Appends-nil a }
 
-pub front-all : (a b : Option (List ℕ)) (bs : List ℕ) → Appends a b bs → AppendsFront a b bs
+pub front-all : (a b : Option (List ℕ)) (bs : List ℕ) → Appends a b bs → AppendsPrefix a b bs
 front-all a b bs p = record { done = bs; later = []; whole = sym (append-nil bs); appended = p }
 
-pub front-more : (a b : Option (List ℕ)) (bs cs : List ℕ) → AppendsFront a b bs → AppendsFront a b (bs ++ cs)
+pub front-more : (a b : Option (List ℕ)) (bs cs : List ℕ) → AppendsPrefix a b bs → AppendsPrefix a b (bs ++ cs)
 front-more a b bs cs p = record {
   done = p.done;
   later = p.later ++ cs;
@@ -41,13 +41,17 @@ front-more a b bs cs p = record {
   appended = p.appended;
 }
 
-pub front-then : (a b c : Option (List ℕ)) (bs cs : List ℕ) → Appends a b bs → AppendsFront b c cs → AppendsFront a c (bs ++ cs)
+pub front-then : (a b c : Option (List ℕ)) (bs cs : List ℕ) → Appends a b bs → AppendsPrefix b c cs → AppendsPrefix a c (bs ++ cs)
 front-then a b c bs cs p q = record {
   done = bs ++ q.done;
   later = q.later;
   whole = ap (λ l. bs ++ l) q.whole ∙ sym (append_assoc bs q.done q.later);
   appended = Appends-trans a b c bs q.done p q.appended;
 }
+
+-- a first write, and what comes of the rest
+pub front-rest : (a b c : Option (List ℕ)) (all done rest : List ℕ) → all ≡ done ++ rest → Appends a b done → AppendsPrefix b c rest → AppendsPrefix a c all
+front-rest a b c all done rest parts p q = subst (AppendsPrefix a c) (sym parts) (front-then a b c done rest p q)
 
 -- ---- a line that was printed into a string
 

@@ -1,5 +1,5 @@
 -- Runs of commands, part way.
-use Rattle.std.proofs.Common.{◌≡◌, ℕ, suc, ◌+◌, ◌<◌, ◌≤◌, List, [], ◌∷◌, ◌++◌, length, drop, get_or, refl, sym, ap, ◌∙◌, arith, Option, Some, None, Bool, true, false, nat_lt, if◌then◌else◌, append_assoc, inl, inr, reverse, nat_le, ◌&&◌}
+use Rattle.std.proofs.Common.{◌≡◌, ℕ, suc, ◌+◌, ◌<◌, ◌≤◌, List, [], ◌∷◌, ◌++◌, length, drop, get_or, refl, sym, ap, ◌∙◌, arith, Option, Some, None, Bool, true, false, nat_lt, if◌then◌else◌, append_assoc, inl, inr, reverse}
 use Rattle.std.proofs.lemmas.List.{append-nil, drop_all, reverse-append}
 use Rattle.std.proofs.lemmas.Bool.{cases_lt, lt-ltb, le-ltb}
 use Rattle.std.proofs.Math.Seq.{drop-cons}
@@ -10,7 +10,7 @@ use Rattle.arraystring.specs.Edits.{part_in}
 use Rattle.arraystring_run.specs.Runs.{Said, edit, tight, after, first_tight_from, earlier_of}
 use Rattle.arraystring_run.specs.declared.commands.Command.{Command}
 
--- a cut is not the whole text exactly where the text is larger
+-- a cut is not the whole text exactly if the text is larger
 pub is_cut-larger : (t : List ℕ) (n : ℕ) → nat_lt n (size t) ≡ nat_lt (size (cut t n)) (size t)
 is_cut-larger t n =
     elim (cases_lt n (size t)) [
@@ -41,7 +41,7 @@ earlier_of-step None true i rest = refl
 earlier_of-step None false i rest = refl
 earlier_of-step (Some k) b i rest = refl
 
--- the first i commands are done: `done` is what they answered, t what they left, and first their first tight one
+-- the first i commands are done: `done` is what they replied, t what they left, and first their first tight one
 pub record IsPartWay (cs : List Command) (t₀ : List ℕ) (n i : ℕ) (done : List Said) (t : List ℕ) (first : Option ℕ) : Type 0 where
   pub replies : (after cs t₀ n).replies ≡ done ++ (after (drop i cs) t n).replies
   pub text : (after cs t₀ n).text ≡ (after (drop i cs) t n).text

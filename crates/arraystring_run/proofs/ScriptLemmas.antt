@@ -1,7 +1,7 @@
 -- A script, part read.
-use Rattle.std.proofs.Common.{◌≡◌, ◌≢◌, ℕ, suc, zero, ◌+◌, ◌<◌, ◌≤◌, List, [], ◌∷◌, ◌++◌, length, take, drop, slice_index, refl, sym, ap, subst, ◌∙◌, arith, append_assoc, length-append, IsUtf8, chars, Bool, true, false, eqb}
-use Rattle.std.proofs.lemmas.List.{append-nil, nil_from_length}
-use Rattle.std.proofs.lemmas.Str.{cons_from_encodes, encodes-chars, encode_same}
+use Rattle.std.proofs.Common.{◌≡◌, ◌≢◌, ℕ, suc, zero, ◌+◌, ◌-◌, ◌<◌, ◌≤◌, List, [], ◌∷◌, ◌++◌, length, take, drop, slice_index, slice_range, length-drop, take_all, refl, sym, ap, subst, ◌∙◌, arith, append_assoc, length-append, IsUtf8, chars, Bool, true, false, eqb}
+use Rattle.std.proofs.lemmas.List.{append-nil, nil_from_length, drop-drop, get_or-drop}
+use Rattle.std.proofs.lemmas.Str.{cons_from_encodes, encodes-chars, encode_same, lead_after_ascii}
 use Rattle.std.proofs.lemmas.Bool.{eqb-true}
 use Rattle.std.specs.Char.{encode_utf8}
 use Rattle.arraystring.specs.Text.{utf8, IsScalarValue, IsText}
@@ -48,6 +48,33 @@ first-line (b ∷ d ∷ bs) (suc end) some le ended one =
     let rest = first-line (d ∷ bs) end (omega arith) (omega arith) (λ lt. ended (omega arith)) (λ i lt. one (suc i) (omega arith)) in
     let up : suc end + 1 ≡ suc (end + 1) = omega arith in
     rw (not_line_feed b (one 0 (omega arith)), up) (ap (first_byte b) rest)
+
+-- A line of a script, if a search in what is left from `start` on found its end.
+module _ (bs : List ℕ) (start len : ℕ) where
+  -- what is left, as a slice has it
+  abbrev rest : List ℕ
+  rest = take (length bs - start) (drop start bs)
+
+  rest-is : rest ≡ drop start bs
+  rest-is = take_all (length bs - start) (drop start bs) (omega (arith, length-drop start bs))
+
+  pub line-from : start < length bs → len ≤ length rest → (len < length rest → slice_index rest len ≡ line_feed)
+      → ((i : ℕ) → i < len → slice_index rest i ≢ line_feed)
+      → lines (drop start bs) ≡ slice_range bs start (start + len) ∷ lines (drop (start + len + 1) bs)
+  line-from lt le ended one =
+      let some : 0 < length rest = omega (arith, lt, ap length rest-is, length-drop start bs) in
+      let size : start + len - start ≡ len = omega arith in
+      let up : start + (len + 1) ≡ start + len + 1 = omega arith in
+      let next : drop (len + 1) (drop start bs) ≡ drop (start + len + 1) bs = drop-drop (len + 1) start bs ∙ ap (λ k. drop k bs) up in
+      subst (λ l. lines l ≡ take len l ∷ lines (drop (len + 1) l)) rest-is (first-line rest len some le ended one)
+      ∙ ap (λ l. take len (drop start bs) ∷ lines l) next ∙ ap (λ k. take k (drop start bs) ∷ lines (drop (start + len + 1) bs)) (sym size)
+
+  -- a character begins after its end
+  pub after-line_feed : (len < length rest → slice_index rest len ≡ line_feed)
+      → IsUtf8 bs → start + len + 1 < length bs → 128 ≤ slice_index bs (start + len + 1) → 192 ≤ slice_index bs (start + len + 1)
+  after-line_feed ended u lt =
+      let at = subst (λ l. len < length l → slice_index l len ≡ line_feed) rest-is ended (omega (arith, lt, length-drop start bs)) in
+      lead_after_ascii bs (start + len) u (omega (arith, at, get_or-drop start bs len 0)) lt
 
 -- the first lines are read, and `left` are not
 pub record IsPartRead (all : List (List ℕ)) (done : List Command) (left : List (List ℕ)) (number : ℕ) : Type 0 where

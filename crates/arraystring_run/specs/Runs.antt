@@ -2,7 +2,7 @@
 use Rattle.std.specs.Prelude.{◌≡◌, ℕ, ◌+◌, ◌-◌, ◌==◌, ◌&&◌, List, [], ◌∷◌, ◌++◌, length, Bool, true, false, not, Option, Some, None, is_none, Result, Ok, Err, if◌then◌else◌, nat_lt, min, chars, reverse}
 use Rattle.std.specs.List.{filter}
 use Rattle.arraystring.specs.Text.{size, cut}
-use Rattle.arraystring.specs.Edits.{Edit, Cause, Room, answer_of, text_of, first_cause, part_in, addition, addition_of_cut, popping, truncation, trimming, is_white_space, removal, insertion, insertion_of_cut, split, clearing, draining, replacement, uppercase, lowercase}
+use Rattle.arraystring.specs.Edits.{Edit, Cause, Room, result_of, text_of, first_cause, part_in, addition, addition_of_cut, popping, truncation, trimming, is_white_space, removal, insertion, insertion_of_cut, split, clearing, draining, replacement, uppercase, lowercase}
 use Rattle.arraystring.specs.Refusals.{Error, OutOfBounds}
 use Rattle.arraystring_run.specs.declared.commands.Command.{Command}
 use Rattle.arraystring_run.specs.declared.commands.Command.TheVariants as command
@@ -38,12 +38,12 @@ leaves r t = record { reply = r; text = t }
 
 -- a result as a reply
 abbrev pub said_of : {A : Type 0} → (A → Said) → Result A Error → Said
-said_of say (Ok answer) = say answer
+said_of say (Ok value) = say value
 said_of say (Err e) = Refused e
 
 -- a row of the table of edits, as it is made of t
 abbrev pub made : {A : Type 0} → (A → Said) → Edit A → List ℕ → Edited
-made say row t = leaves (said_of say (answer_of row)) (text_of row t)
+made say row t = leaves (said_of say (result_of row)) (text_of row t)
 
 -- a row with the reply Done
 abbrev pub done : Edit (Unit {0}) → List ℕ → Edited
@@ -132,7 +132,7 @@ after [] t n = record { replies = []; text = t }
 after (c ∷ cs) t n =
     let rest = after cs (edit c t n).text n in record { replies = (edit c t n).reply ∷ rest.replies; text = rest.text }
 
--- the position of the first tight command, where the first command is at k
+-- the position of the first tight command, if the first command is at k
 abbrev pub first_tight_from : ℕ → List Command → List ℕ → ℕ → Option ℕ
 first_tight_from k [] t n = None
 first_tight_from k (c ∷ cs) t n = if tight c t n then Some k else first_tight_from (k + 1) cs (edit c t n).text n

@@ -60,7 +60,7 @@ pub record IsBadAt (all : List (List ℕ)) (k : ℕ) : Type 0 where
   pub before : AreLinesOf front commands
   pub bad : (c : Command) → IsLineOf line c → ⊥
 
--- what a fault says where it is a bad line
+-- what a fault says if it is a bad line
 abbrev pub IfBadLine : PlayFault → (ℕ → Type 0) → Type 0
 IfBadLine (BadLine k) P = P k
 IfBadLine _ P = ⊤
@@ -84,8 +84,8 @@ replies_printed (r ∷ rs) = ended (printed r) ++ replies_printed rs
 abbrev pub all_printed : List Said → List ℕ → List ℕ
 all_printed rs t = replies_printed rs ++ ended (codes "final " ++ bytes t)
 
--- some leading part of bs was appended
-pub record AppendsFront (old new : Option (List ℕ)) (bs : List ℕ) : Type 0 where
+-- some prefix of bs was appended
+pub record AppendsPrefix (old new : Option (List ℕ)) (bs : List ℕ) : Type 0 where
   pub done : List ℕ
   pub later : List ℕ
   pub whole : bs ≡ done ++ later
@@ -99,9 +99,9 @@ run_printed cs n = let ran = after cs [] n in all_printed ran.replies ran.text
 abbrev pub IsPlayed : List ℕ → ℕ → Option (List ℕ) → Option (List ℕ) → Type 0
 IsPlayed input n old new = (cs : List Command) × AreLinesOf (lines input) cs × Appends old new (run_printed cs n)
 
--- the input is the lines of some commands, and a leading part of the printed lines of their run was appended
+-- the input is the lines of some commands, and a prefix of the printed lines of their run was appended
 abbrev pub IsPartPlayed : List ℕ → ℕ → Option (List ℕ) → Option (List ℕ) → Type 0
-IsPartPlayed input n old new = (cs : List Command) × AreLinesOf (lines input) cs × AppendsFront old new (run_printed cs n)
+IsPartPlayed input n old new = (cs : List Command) × AreLinesOf (lines input) cs × AppendsPrefix old new (run_printed cs n)
 
 -- the capacity that a word names
 abbrev pub capacity_named : Option (Bor (List ℕ)) → Option ℕ
@@ -131,22 +131,22 @@ fault_line Read = ended (codes "read failed")
 fault_line Write = ended (codes "write failed")
 
 -- what is said of a script that was played, or not
-abbrev pub told_of : {A : Type 0} → Result A PlayFault → List ℕ
-told_of (Ok _) = []
-told_of (Err e) = fault_line e
+abbrev pub report_of : {A : Type 0} → Result A PlayFault → List ℕ
+report_of (Ok _) = []
+report_of (Err e) = fault_line e
 
 -- what a program did that was given a word: the bytes of its input, those of its output and of its errors before and after,
 -- whether each of the three is as it was, and the exit status
 pub record IsServed (word : Option (Bor (List ℕ))) (given old new errors_old errors_new : Option (List ℕ))
     (SameInput SameOutput SameErrors : Type 0) (status : ℕ) : Type 0 where
-  pub other_word : capacity_named word ≡ None → (status ≡ 2) × SameInput × SameOutput × AppendsFront errors_old errors_new usage_line
+  pub other_word : capacity_named word ≡ None → (status ≡ 2) × SameInput × SameOutput × AppendsPrefix errors_old errors_new usage_line
   pub played : IfSome (capacity_named word) (λ n. status ≡ 0 → IfSome given (λ input. IsPlayed input n old new))
   pub bad_line : IfSome (capacity_named word) (λ _. status ≡ 2
-      → (k : ℕ) × IfSome given (λ input. IsBadAt (lines input) k) × AppendsFront errors_old errors_new (fault_line (BadLine k)))
-  pub no_memory : status ≡ 3 → AppendsFront errors_old errors_new (fault_line Memory)
+      → (k : ℕ) × IfSome given (λ input. IsBadAt (lines input) k) × AppendsPrefix errors_old errors_new (fault_line (BadLine k)))
+  pub no_memory : status ≡ 3 → AppendsPrefix errors_old errors_new (fault_line Memory)
   pub failed : IfSome (capacity_named word) (λ n. status ≡ 4
-      → (SameOutput × AppendsFront errors_old errors_new (fault_line Read))
-      ⊎ (IfSome given (λ input. IsPartPlayed input n old new) × AppendsFront errors_old errors_new (fault_line Write)))
+      → (SameOutput × AppendsPrefix errors_old errors_new (fault_line Read))
+      ⊎ (IfSome given (λ input. IsPartPlayed input n old new) × AppendsPrefix errors_old errors_new (fault_line Write)))
   pub quiet : status ≡ 0 → SameErrors
   pub unwritten : status ≢ 0 → status ≢ 4 → SameOutput
   -- 0, 2, 3 or 4

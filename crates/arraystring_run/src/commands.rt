@@ -4,69 +4,69 @@ use arraystring::error::Error;
 
 /// One edit of a text, or one question about it. Sizes and indices count bytes of UTF-8.
 ///
-/// An index is refused with `OutOfBounds` where it is past the text, and with `Utf8` where it is
-/// inside a character. What does not fit is refused with `OutOfBounds`. The first of a command's
-/// refusals decides, and the text is then as it was.
+/// An index is refused with `OutOfBounds` if it is past the text, and with `Utf8` if it is inside a
+/// character. What does not fit is refused with `OutOfBounds`. The first of a command's refusals
+/// decides, and the text is then as it was.
 ///
 /// The reply to `Pop` is `Char` or `NoChar`, to `Remove` `Char`, to `SplitOff`, `AsStr` and the
 /// three drains `Text`, to `Get` `Text` or `NoText`, to `Len` and `Capacity` `Number`, and to each
 /// other one `Done`.
 #[derive(Clone, Copy)]
 pub enum Command<'a> {
-    /// Adds a character at the end; refused where it does not fit.
+    /// Adds a character at the end; refused if it does not fit.
     TryPush(char),
-    /// Adds a text at the end; refused where not all of it fits.
+    /// Adds a text at the end; refused if not all of it fits.
     TryPushStr(&'a str),
-    /// Adds the longest leading run of whole characters of a text that fits at the end.
+    /// Adds the longest prefix of whole characters of a text that fits at the end.
     PushStr(&'a str),
     /// Takes the last character.
     Pop,
-    /// Keeps the part before an index; all of the text where the index is past it. Refused where it
-    /// is inside a character.
+    /// Keeps the part before an index; all of the text if the index is past it. Refused if it is
+    /// inside a character.
     Truncate(u8),
     /// Drops all white space at both ends, as `ArrayString::trim` does.
     Trim,
-    /// Takes the character at an index. Refused where the index is not below the length, then where
-    /// it is inside a character.
+    /// Takes the character at an index. Refused if the index is not below the length, then if it is
+    /// inside a character.
     Remove(u8),
     /// Drops each character that equals the given one.
     RetainNot(char),
-    /// Inserts a character at an index. Refused where the index is past the text, then where the
-    /// character does not fit, then where the index is inside a character.
+    /// Inserts a character at an index. Refused if the index is past the text, then if the
+    /// character does not fit, then if the index is inside a character.
     TryInsert(u8, char),
     /// Inserts a text at an index. Refused as `TryInsert` is.
     TryInsertStr(u8, &'a str),
-    /// Inserts the longest leading run of whole characters of a text that fits, at an index.
-    /// Refused where the index is past the text, then where it is inside a character.
+    /// Inserts the longest prefix of whole characters of a text that fits, at an index. Refused if
+    /// the index is past the text, then if it is inside a character.
     InsertStr(u8, &'a str),
-    /// Takes the part from an index on. Refused where the index is past the text, then where it is
-    /// inside a character.
+    /// Takes the part from an index on. Refused if the index is past the text, then if it is inside
+    /// a character.
     SplitOff(u8),
     /// Empties the text.
     Clear,
-    /// Takes the part from `start` to `end`. Refused where it ends before it starts, then where it
-    /// ends past the text, then where its start is inside a character, then where its end is.
+    /// Takes the part from `start` to `end`. Refused if it ends before it starts, then if it ends
+    /// past the text, then if its start is inside a character, then if its end is.
     Drain { start: u8, end: u8 },
     /// Takes the part from `start` through the byte at `last`, as `Drain` with the lesser of `last
     /// + 1` and 255 as its end.
     DrainThrough { start: u8, last: u8 },
     /// The same as `Drain`, with the characters in the reply from the last to the first.
     DrainBack { start: u8, end: u8 },
-    /// Puts a text in place of the part from `start` to `end`. Refused where the part ends before
-    /// it starts, then where it ends past the text, then where the result does not fit, then where
-    /// the start is inside a character, then where the end is.
+    /// Replaces the part from `start` to `end`. Refused if the part ends before it starts, then if
+    /// it ends past the text, then if the result does not fit, then if the start is inside a
+    /// character, then if the end is.
     ReplaceRange { start: u8, end: u8, given: &'a str },
     /// Changes a..z to A..Z.
     Upper,
     /// Changes A..Z to a..z.
     Lower,
-    /// Asks for the part from `start` to `end`.
+    /// Replies with the part from `start` to `end`.
     Get { start: u8, end: u8 },
-    /// Asks for the size of the text.
+    /// Replies with the size of the text.
     Len,
-    /// Asks how many bytes fit.
+    /// Replies with how many bytes fit.
     Capacity,
-    /// Asks for the text.
+    /// Replies with the text.
     AsStr,
 }
 

@@ -7,13 +7,13 @@ ghost use Rattle.arraystring_run.specs.Script.{lines, ended, all_ended, IsOneLin
 ghost use Rattle.arraystring_run.specs.declared.commands.Command.{Command as Edit};
 
 /// The first tight position of a run is that of a command that is tight on the text that those
-/// before it leave, where none of these is; there is none where no command is tight.
+/// before it leave, and none of these is; there is none if no command is tight.
 pub fn first_tight_position()
     ensures { (cs : List Edit) (t : List ℕ) (n : ℕ) → MatchOption (first_tight_from 0 cs t n) (NoneTight cs t n) (IsFirstTight cs t n) }
 {}
 
-/// The lines of lines that are each ended are those lines, and so they are where a last line that
-/// is not empty lacks its end. Each input is of one of these two forms.
+/// The lines of lines that are each ended are those lines, and so they are if a last line that is
+/// not empty lacks its end. Each input is of one of these two forms.
 pub fn lines_of_input()
     ensures all_ended { (all : List (List ℕ)) → AreOneLine all → lines (all_ended all) ≡ all }
     ensures last_open { (all : List (List ℕ)) (last : List ℕ) → AreOneLine all → IsOneLine last → 0 < length last
@@ -23,7 +23,7 @@ pub fn lines_of_input()
 {}
 
 /// Each command has a line: its word and its arguments, with numbers as they are printed. A script
-/// can hold the line where no character or text of the command has the byte 0A, which ends lines.
+/// can contain the line if no character or text of the command has the byte 0A, which ends lines.
 pub fn each_command_has_a_line()
     ensures { (c : Edit) → AreArguments (arguments c) → IsLineOf (line_of c) c }
 {}

@@ -8,14 +8,21 @@ use crate::Command;
 use crate::find::find_byte;
 use std::str;
 
-/// The command of a line of a script, given as UTF-8 without its line feed, which borrows its text
-/// from the line. `None` where the line is no command: it is not UTF-8, has another word or number,
-/// or more or less than its word asks for.
+/// Returns the command of a line of a script, given as UTF-8 without its line feed, which borrows
+/// its text from the line. Returns `None` if the line is no command: it is not UTF-8, has another
+/// word or number, or more or less than its word takes.
 pub fn command(line: &[u8]) -> Option<Command<'_>>
     ensures some { IfSome result (λ c. IsLineOf line.now c) }
     ensures none { IfNone result ((c : Edit) → IsLineOf line.now c → ⊥) }
 {
-    let text = str::from_utf8(line).ok()?;
+    command_of_text(str::from_utf8(line).ok()?)
+}
+
+/// The same of a line that is known to be UTF-8.
+pub(crate) fn command_of_text(text: &str) -> Option<Command<'_>>
+    ensures some { IfSome result (λ c. IsLineOf text.now c) }
+    ensures none { IfNone result ((c : Edit) → IsLineOf text.now c → ⊥) }
+{
     match split_at_space(text) {
         Some((word, rest)) => command_given(word, rest),
         None => command_alone(text),

@@ -2,7 +2,7 @@
 ghost use Rattle.std.specs.Prelude.{◌≡◌, ◌≢◌, is_some, IfOk, IfErr, IfSome, OnOk};
 ghost use Rattle.std.specs.Io.KnownBytes.{Appends, IsAtEnd};
 ghost use Rattle.arraystring.specs.Text.{cap};
-ghost use Rattle.arraystring_run.specs.Script.{lines, IsBadAt, IfBadLine, IsPlayed, IsPartPlayed, IsServed, AppendsFront, run_printed, capacity_named, status_of, told_of};
+ghost use Rattle.arraystring_run.specs.Script.{lines, IsBadAt, IfBadLine, IsPlayed, IsPartPlayed, IsServed, AppendsPrefix, run_printed, capacity_named, status_of, report_of};
 
 use crate::printing::{put, put_shown, write_all_replies};
 use crate::script::commands;
@@ -20,11 +20,11 @@ pub enum PlayFault {
     Memory,
     /// A read failed.
     Read,
-    /// A write failed, or the flush after the last one. A leading part of the output was written.
+    /// A write failed, or the flush after the last one. A prefix of the output was written.
     Write,
 }
 
-/// How many bytes are asked for at a time.
+/// How many bytes are read at a time.
 const CHUNK: usize = 8192;
 
 /// An array of more bytes fits into no memory. The compiler decides this test for each `N` that a
@@ -35,11 +35,16 @@ const LARGEST: usize = usize::MAX / 4;
 /// and writes a line for each reply and one for the last text.
 ///
 /// Nothing is written before the whole script was read and accepted and the run was made, and no
-/// memory is taken after that. The faults come in this order: `Read` or `Memory` while the input is
-/// read; `BadLine` or `Memory` while the lines are judged, whichever comes first; `Memory` of the
-/// run; and then `Write`. After a `Write` a leading part of the output has gone out, which may be
-/// none or all. A read that was interrupted is tried again. An `N` whose array fits into no memory
-/// is `Memory`.
+/// memory is taken after that. A read or a write that was interrupted is tried again.
+///
+/// # Errors
+///
+/// The first fault that is met decides:
+///
+/// - `Err(Read)` or `Err(Memory)` while the input is read;
+/// - `Err(BadLine)` or `Err(Memory)` while the lines are judged;
+/// - `Err(Memory)` of the run, and for an `N` whose array fits into no memory;
+/// - `Err(Write)` of the output. Then a prefix of it has gone out, which may be none or all.
 pub fn play<const N: usize, I: Read, O: Write>(
     alloc: Global,
     input: &mut I,
@@ -60,7 +65,7 @@ pub fn play<const N: usize, I: Read, O: Write>(
 /// The program: plays a script at the capacity of a word, `small` (23), `cache` (63) or `max`
 /// (255), and returns its exit status. The word is judged before anything is read.
 ///
-/// Where the status is not 0, one line on `errors` says why: 2 for another word, or none, and for a
+/// If the status is not 0, one line on `errors` says why: 2 for another word, or none, and for a
 /// bad line; 3 if memory ran out; 4 for a read or a write that failed. A fault of `errors` changes
 /// nothing but how much of the line has gone out.
 pub fn serve<I: Read, O: Write, E: Write>(
@@ -74,9 +79,9 @@ pub fn serve<I: Read, O: Write, E: Write>(
         (input.new ≡ input.old) (output.new ≡ output.old) (errors.new ≡ errors.old) result }
 {
     match word {
-        Some("small") => told(play::<23, I, O>(alloc, input, output), errors),
-        Some("cache") => told(play::<63, I, O>(alloc, input, output), errors),
-        Some("max") => told(play::<255, I, O>(alloc, input, output), errors),
+        Some("small") => report(play::<23, I, O>(alloc, input, output), errors),
+        Some("cache") => report(play::<63, I, O>(alloc, input, output), errors),
+        Some("max") => report(play::<255, I, O>(alloc, input, output), errors),
         _ => {
             let _ = put(errors, "usage: arraystring_run small or cache or max\n");
             2
@@ -84,7 +89,7 @@ pub fn serve<I: Read, O: Write, E: Write>(
     }
 }
 
-/// Whether a word names a capacity, as `serve` reads it: `small`, `cache` or `max`.
+/// Returns whether a word names a capacity, as `serve` reads it: `small`, `cache` or `max`.
 pub fn names_capacity(word: Option<&str>) -> bool
     ensures { result ≡ is_some (capacity_named word.entry) }
 {
@@ -92,9 +97,9 @@ pub fn names_capacity(word: Option<&str>) -> bool
 }
 
 /// Writes the line of a fault, and returns the status.
-fn told<E: Write>(played: Result<(), PlayFault>, errors: &mut E) -> u8
+fn report<E: Write>(played: Result<(), PlayFault>, errors: &mut E) -> u8
     ensures status { result ≡ status_of played }
-    ensures line { AppendsFront (E.contents errors.old) (E.contents errors.new) (told_of played) }
+    ensures line { AppendsPrefix (E.contents errors.old) (E.contents errors.new) (report_of played) }
     ensures quiet { result ≡ 0 → errors.new ≡ errors.old }
 {
     match played {
@@ -125,7 +130,7 @@ fn play_commands<const N: usize, O: Write>(
     output: &mut O,
 ) -> Result<(), PlayFault>
     ensures whole { OnOk result (Appends (O.contents output.old) (O.contents output.new) (run_printed commands.now (cap N))) }
-    ensures part { IfErr result (λ e. e ≡ PlayFault.Write → AppendsFront (O.contents output.old) (O.contents output.new) (run_printed commands.now (cap N))) }
+    ensures part { IfErr result (λ e. e ≡ PlayFault.Write → AppendsPrefix (O.contents output.old) (O.contents output.new) (run_printed commands.now (cap N))) }
     ensures unwritten { IfErr result (λ e. e ≢ PlayFault.Write → output.new ≡ output.old) }
     ensures no_line { IfErr result (λ e. IfBadLine e (λ _. ⊥)) }
 {

@@ -23,8 +23,12 @@ pub struct Outcome<const N: usize> {
 
 /// Makes each command in turn, each on the text that the one before left.
 ///
-/// Memory is taken for the list of replies alone, before the first command. If it is refused, so is
-/// the run, with `AllocError`, and the text is as it was. An empty list of commands takes none.
+/// Memory is taken for the list of replies alone, before the first command. An empty list of
+/// commands takes none.
+///
+/// # Errors
+///
+/// Returns `Err(AllocError)` if that memory is refused. The text is then as it was.
 pub fn run<const N: usize>(
     alloc: Global,
     text: &mut ArrayString<N>,
@@ -78,14 +82,17 @@ fn fill<const N: usize>(
 
 /// Makes the same commands on two strings, as `run` does on each.
 ///
-/// Memory is taken for the two lists of replies alone, before the first command. If it is refused,
-/// so is the run, with `AllocError`, and both texts are as they were. An empty list of commands
-/// takes none.
+/// Memory is taken for the two lists of replies alone, before the first command. An empty list of
+/// commands takes none.
 ///
-/// From equal texts, where the capacity of `first` is not greater than that of `second`: the
-/// replies to the commands before the one that `first` finds tight first agree, except those to
-/// `Capacity`, and `second` finds none of these commands tight. Where `first` finds none tight,
-/// neither does `second`, and the last texts are equal.
+/// From equal texts, if the capacity of `first` is not greater than that of `second`: the replies
+/// to the commands before the one that `first` finds tight first agree, except those to `Capacity`,
+/// and `second` finds none of these commands tight. If `first` finds none tight, neither does
+/// `second`, and the last texts are equal.
+///
+/// # Errors
+///
+/// Returns `Err(AllocError)` if that memory is refused. Both texts are then as they were.
 pub fn run_both<const N: usize, const M: usize>(
     alloc: Global,
     first: &mut ArrayString<N>,
@@ -128,7 +135,7 @@ pub fn run_both<const N: usize, const M: usize>(
     ))
 }
 
-/// The first tight position, where the one at `position` is tight or not.
+/// The first tight position, given whether the one at `position` is tight.
 fn earlier(first: Option<usize>, is_tight: bool, position: usize) -> Option<usize>
     ensures { result ≡ earlier_of first (if is_tight then Some position else None) }
 {

@@ -1,12 +1,16 @@
 //! The commands of a script.
-ghost use Rattle.std.specs.Prelude.{◌≡◌, ◌≢◌, ◌≤◌, ◌+◌, length, drop, IfOk, IfErr};
+ghost use Rattle.std.specs.Prelude.{◌≡◌, ◌≢◌, ◌≤◌, length, IfSome, IfNone, IfOk, IfErr, slice_range};
+ghost use Rattle.std.specs.Str.{IsCharBoundary};
+ghost use Rattle.arraystring_run.specs.Grammar.{IsLineOf};
 ghost use Rattle.arraystring_run.specs.Script.{lines, AreLinesOf, IsBadAt, IfBadLine};
+ghost use Rattle.arraystring_run.specs.declared.commands.Command.{Command as Edit};
 
 use crate::Command;
 use crate::find::find_byte;
-use crate::line::command;
+use crate::line::command_of_text;
 use crate::player::PlayFault;
 use std::alloc::Global;
+use std::str;
 
 /// The commands of a whole script, one a line, which borrow their texts from it.
 pub(crate) fn commands(alloc: Global, script: &[u8]) -> Result<Vec<Command<'_>>, PlayFault>
@@ -15,30 +19,41 @@ pub(crate) fn commands(alloc: Global, script: &[u8]) -> Result<Vec<Command<'_>>,
     ensures faults { IfErr result (λ e. e ≢ PlayFault.Write) }
 {
     let mut commands = Vec::new(alloc);
-    let mut rest = script;
+    let text = str::from_utf8(script).ok();
+    let mut start = 0usize;
     let mut number = 0usize;
-    while !rest.is_empty() {
+    while start < script.len() {
         number += 1;
-        let end = find_byte(b'\n', rest);
-        let Some(command) = command(&rest[..end]) else {
+        let end = start + find_byte(b'\n', &script[start..]);
+        let Some(command) = command_between(script, text, start, end) else {
             return Err(PlayFault::BadLine(number));
         };
         if commands.push(command).is_err() {
             return Err(PlayFault::Memory);
         }
-        rest = past_line(rest, end);
+        start = end + 1;
     }
     Ok(commands)
 }
 
-/// What follows a line that ends at `end`.
-fn past_line(text: &[u8], end: usize) -> &[u8]
-    requires { end ≤ length text.now }
-    ensures { result.now ≡ drop (end + 1) text.now }
+/// The command of the line from `start` to `end`. `text` is the script as a text, if all of it is
+/// UTF-8: no line has to be tested for that then.
+#[inline(always)]
+fn command_between<'a>(
+    script: &'a [u8],
+    text: Option<&'a str>,
+    start: usize,
+    end: usize,
+) -> Option<Command<'a>>
+    requires order { start ≤ end }
+    requires within { end ≤ length script.now }
+    requires text { IfSome text (λ t. (t.now ≡ script.now) × IsCharBoundary t.now start × IsCharBoundary t.now end) }
+    ensures some { IfSome result (λ c. IsLineOf (slice_range script.now start end) c) }
+    ensures none { IfNone result ((c : Edit) → IsLineOf (slice_range script.now start end) c → ⊥) }
 {
-    if end < text.len() {
-        &text[end + 1..]
-    } else {
-        &text[end..]
-    }
+    let line = match text {
+        Some(text) => &text[start..end],
+        None => str::from_utf8(&script[start..end]).ok()?,
+    };
+    command_of_text(line)
 }

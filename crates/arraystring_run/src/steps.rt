@@ -62,13 +62,13 @@ pub(crate) fn step<const N: usize>(
     }
 }
 
-/// The reply to an addition. One that is refused is tight, since it is refused only where it does
-/// not fit.
-fn added<const N: usize>(answer: Result<(), OutOfBounds>) -> (Reply<N>, bool)
-    ensures reply { said result.0 ≡ said_of (λ _. Done) (from_out_of_bounds answer) }
-    ensures tight { result.1 ≡ is_err answer }
+/// The reply to an addition. One that is refused is tight, since it is refused only if it does not
+/// fit.
+fn added<const N: usize>(outcome: Result<(), OutOfBounds>) -> (Reply<N>, bool)
+    ensures reply { said result.0 ≡ said_of (λ _. Done) (from_out_of_bounds outcome) }
+    ensures tight { result.1 ≡ is_err outcome }
 {
-    match answer {
+    match outcome {
         Ok(()) => (Reply::Done, false),
         Err(OutOfBounds) => (Reply::Refused(Error::OutOfBounds), true),
     }
@@ -93,30 +93,30 @@ fn adds_less<const N: usize>(text: &ArrayString<N>, given: &str) -> bool
 }
 
 /// The reply to `pop`.
-fn popped<const N: usize>(answer: Option<char>) -> Reply<N>
-    ensures { said result ≡ char_or_none answer }
+fn popped<const N: usize>(outcome: Option<char>) -> Reply<N>
+    ensures { said result ≡ char_or_none outcome }
 {
-    match answer {
+    match outcome {
         Some(ch) => Reply::Char(ch),
         None => Reply::NoChar,
     }
 }
 
 /// The reply to `truncate`.
-fn truncated<const N: usize>(answer: Result<(), Utf8>) -> Reply<N>
-    ensures { said result ≡ said_of (λ _. Done) (from_utf8_error answer) }
+fn truncated<const N: usize>(outcome: Result<(), Utf8>) -> Reply<N>
+    ensures { said result ≡ said_of (λ _. Done) (from_utf8_error outcome) }
 {
-    match answer {
+    match outcome {
         Ok(()) => Reply::Done,
         Err(Utf8) => Reply::Refused(Error::Utf8),
     }
 }
 
 /// The reply to `remove`.
-fn removed<const N: usize>(answer: Result<char, Error>) -> Reply<N>
-    ensures { said result ≡ said_of Char answer }
+fn removed<const N: usize>(outcome: Result<char, Error>) -> Reply<N>
+    ensures { said result ≡ said_of Char outcome }
 {
-    match answer {
+    match outcome {
         Ok(ch) => Reply::Char(ch),
         Err(error) => Reply::Refused(error),
     }
@@ -162,7 +162,7 @@ fn insert_cut<const N: usize>(text: &mut ArrayString<N>, index: u8, given: &str)
     }
 }
 
-/// Puts a text in place of a part.
+/// Replaces a part by a text.
 fn replace<const N: usize>(
     text: &mut ArrayString<N>,
     start: u8,
@@ -177,13 +177,13 @@ fn replace<const N: usize>(
     put(text.replace_range(start..end, given), is_within)
 }
 
-/// The reply to what is put at an index. Where that is within the text, `OutOfBounds` says that it
+/// The reply to what is put at an index. If that is within the text, `OutOfBounds` says that it
 /// does not fit.
-fn put<const N: usize>(answer: Result<(), Error>, is_within: bool) -> (Reply<N>, bool)
-    ensures reply { said result.0 ≡ said_of (λ _. Done) answer }
-    ensures tight { result.1 ≡ (is_within && is_out_of_bounds answer) }
+fn put<const N: usize>(outcome: Result<(), Error>, is_within: bool) -> (Reply<N>, bool)
+    ensures reply { said result.0 ≡ said_of (λ _. Done) outcome }
+    ensures tight { result.1 ≡ (is_within && is_out_of_bounds outcome) }
 {
-    match answer {
+    match outcome {
         Ok(()) => (Reply::Done, false),
         Err(Error::OutOfBounds) => (Reply::Refused(Error::OutOfBounds), is_within),
         Err(error) => (Reply::Refused(error), false),
@@ -191,20 +191,20 @@ fn put<const N: usize>(answer: Result<(), Error>, is_within: bool) -> (Reply<N>,
 }
 
 /// The reply to `split_off`.
-fn split<const N: usize>(answer: Result<ArrayString<N>, Error>) -> Reply<N>
-    ensures { said result ≡ said_of Text (with_text answer.entry) }
+fn split<const N: usize>(outcome: Result<ArrayString<N>, Error>) -> Reply<N>
+    ensures { said result ≡ said_of Text (with_text outcome.entry) }
 {
-    match answer {
+    match outcome {
         Ok(text) => Reply::Text(text),
         Err(error) => Reply::Refused(error),
     }
 }
 
 /// The reply to `drain`, with the characters in order.
-fn drained<const N: usize>(answer: Result<Drain<N>, Error>) -> Reply<N>
-    ensures { said result ≡ said_of Text (with_left answer.entry) }
+fn drained<const N: usize>(outcome: Result<Drain<N>, Error>) -> Reply<N>
+    ensures { said result ≡ said_of Text (with_left outcome.entry) }
 {
-    match answer {
+    match outcome {
         Ok(removed) => {
             let left = removed.as_str();
             Reply::Text(ArrayString::from_str_unchecked(left))
@@ -214,10 +214,10 @@ fn drained<const N: usize>(answer: Result<Drain<N>, Error>) -> Reply<N>
 }
 
 /// The reply to `drain`, with the characters from the last to the first.
-fn drained_back<const N: usize>(answer: Result<Drain<N>, Error>) -> Reply<N>
-    ensures { said result ≡ said_of (λ left. Text (reverse left)) (with_left answer.entry) }
+fn drained_back<const N: usize>(outcome: Result<Drain<N>, Error>) -> Reply<N>
+    ensures { said result ≡ said_of (λ left. Text (reverse left)) (with_left outcome.entry) }
 {
-    match answer {
+    match outcome {
         Ok(removed) => Reply::Text(walked_back(removed)),
         Err(error) => Reply::Refused(error),
     }

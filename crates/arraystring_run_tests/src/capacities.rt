@@ -1,4 +1,4 @@
-//! Scripts and runs at capacities where something changes: none, the widths of characters, the
+//! Scripts and runs at capacities if something changes: none, the widths of characters, the
 //! capacities that have names, and the greatest length.
 ghost use Rattle.std.specs.Prelude.{◌≤◌};
 
@@ -15,7 +15,7 @@ fn letters(rt: &(impl Abort + AllocGlobal), count: usize) -> String {
         .expect(rt, "memory for letters")
 }
 
-/// A script that fills a string with letters, and puts another in place of the last.
+/// A script that fills a string with letters, and replaces the last by another.
 fn filling_script(rt: &(impl Abort + AllocGlobal)) -> String {
     let given = letters(rt, 300);
     format!(in rt.alloc();
@@ -23,7 +23,7 @@ fn filling_script(rt: &(impl Abort + AllocGlobal)) -> String {
     ).expect(rt, "memory for a script")
 }
 
-/// What is printed of that script where `fit` bytes fit.
+/// What is printed of that script if `fit` bytes fit.
 fn filling_printed(rt: &(impl Abort + AllocGlobal), fit: u8) -> String {
     let kept = filled(rt, fit);
     let (taken, put) = if fit == 0 {
@@ -46,7 +46,7 @@ fn filled(rt: &(impl Abort + AllocGlobal), fit: u8) -> String {
 }
 
 /// Asserts what a run of `COMMANDS` on a full text gave, and the text that it left.
-fn answered<const N: usize>(
+fn check_replies<const N: usize>(
     rt: &(impl Abort + AllocGlobal),
     outcome: &Outcome<N>,
     text: &ArrayString<N>,
@@ -116,15 +116,15 @@ fn at_capacity<const N: usize>(rt: &(impl Abort + AllocGlobal))
     let most: ArrayString<255> = text_of(&given);
     let mut text = full;
     let outcome = run(rt.alloc(), &mut text, &COMMANDS).expect(rt, "memory");
-    answered(rt, &outcome, &text);
+    check_replies(rt, &outcome, &text);
     let (mut first, mut second) = (full, most);
     let both = run_both(rt.alloc(), &mut first, &mut second, &COMMANDS).expect(rt, "memory");
-    answered(rt, &both.0, &first);
-    answered(rt, &both.1, &second);
+    check_replies(rt, &both.0, &first);
+    check_replies(rt, &both.1, &second);
     let (mut first, mut second) = (most, full);
     let both = run_both(rt.alloc(), &mut first, &mut second, &COMMANDS).expect(rt, "memory");
-    answered(rt, &both.0, &first);
-    answered(rt, &both.1, &second);
+    check_replies(rt, &both.0, &first);
+    check_replies(rt, &both.1, &second);
 }
 
 #[test]

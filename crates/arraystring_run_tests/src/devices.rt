@@ -35,7 +35,7 @@ impl Read for FakeReader<'_> {
 }
 
 /// Takes at most `step` bytes a write. After the first `room` bytes, as many writes as `faults`
-/// says fail with `kind`, or take nothing where there is no `kind`; after each later one, as many as
+/// says fail with `kind`, or take nothing if there is no `kind`; after each later one, as many as
 /// `again` says.
 #[derive(Drop)]
 struct FakeWriter {
@@ -90,9 +90,9 @@ impl Write for FakeWriter {
     }
 }
 
-/// A read that fails is reported, also where a bad line was read before it.
+/// A read that fails is reported, also if a bad line was read before it.
 #[test]
-fn a_failed_read_is_told(rt: HostRuntime) {
+fn a_failed_read_is_reported(rt: HostRuntime) {
     for reads in 0..8usize {
         let mut input = FakeReader {
             bytes: b"len\nbad\nlen\n",
@@ -150,24 +150,24 @@ fn writes<const N: usize>(
     alloc: Global,
     mut output: FakeWriter,
     script: &[u8],
-    answer: Result<(), PlayFault>,
+    outcome: Result<(), PlayFault>,
     wanted: &[u8],
 ) {
     let mut input = script;
     let played = play::<N, &[u8], FakeWriter>(alloc, &mut input, &mut output);
-    agree(rt, "what is returned", played, answer);
+    agree(rt, "what is returned", played, outcome);
     agree(rt, "the output", output.taken.as_slice(), wanted);
 }
 
 /// What a writer took before it failed is all that it had room for, and nothing comes after it.
 #[test]
-fn a_failed_write_is_told(rt: HostRuntime) {
+fn a_failed_write_is_reported(rt: HostRuntime) {
     let (script, whole) = (SCRIPT.as_bytes(), OUTPUT.as_bytes());
-    let answer = Err(PlayFault::Write);
+    let outcome = Err(PlayFault::Write);
     for room in 0..whole.len() {
         for kind in [Some(ErrorKind::Other), None] {
             let output = FakeWriter::new(rt.alloc(), room, kind);
-            writes::<23>(&rt, rt.alloc(), output, script, answer, &whole[..room]);
+            writes::<23>(&rt, rt.alloc(), output, script, outcome, &whole[..room]);
         }
     }
 }
@@ -185,8 +185,8 @@ fn texts_of_each_size_are_printed(rt: HostRuntime) {
         let (script, whole) = (script.as_bytes(), wanted.as_bytes());
         for room in 0..whole.len() {
             let output = FakeWriter::new(rt.alloc(), room, Some(ErrorKind::Other));
-            let answer = Err(PlayFault::Write);
-            writes::<255>(&rt, rt.alloc(), output, script, answer, &whole[..room]);
+            let outcome = Err(PlayFault::Write);
+            writes::<255>(&rt, rt.alloc(), output, script, outcome, &whole[..room]);
         }
         let output = FakeWriter::new(rt.alloc(), usize::MAX, None);
         writes::<255>(&rt, rt.alloc(), output, script, Ok(()), whole);
@@ -219,32 +219,32 @@ fn short_and_interrupted_writes_are_gone_on_with(rt: HostRuntime) {
 
 /// A flush that fails is a failed write, however many replies there are.
 #[test]
-fn a_failed_flush_is_told(rt: HostRuntime) {
+fn a_failed_flush_is_reported(rt: HostRuntime) {
     for count in 0..=100usize {
         let script = "len\n".repeat(rt.alloc(), count).expect(&rt, "memory");
         let replies = "number 0\n".repeat(rt.alloc(), count).expect(&rt, "memory");
         let wanted = format!(in rt.alloc(); "{replies}final \n").expect(&rt, "memory");
         let mut output = FakeWriter::new(rt.alloc(), usize::MAX, None);
         output.flushes = false;
-        let answer = Err(PlayFault::Write);
+        let outcome = Err(PlayFault::Write);
         writes::<23>(
             &rt,
             rt.alloc(),
             output,
             script.as_bytes(),
-            answer,
+            outcome,
             wanted.as_bytes(),
         );
     }
     let mut output = FakeWriter::new(rt.alloc(), usize::MAX, None);
     output.flushes = false;
-    let answer = Err(PlayFault::Write);
+    let outcome = Err(PlayFault::Write);
     writes::<23>(
         &rt,
         rt.alloc(),
         output,
         SCRIPT.as_bytes(),
-        answer,
+        outcome,
         OUTPUT.as_bytes(),
     );
 }

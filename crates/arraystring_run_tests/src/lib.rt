@@ -1,6 +1,6 @@
 //! Tests of `arraystring_run`: what no contract says of commands, runs and scripts, on values worked out
 //! by hand. A module is named as the module that it tests. `capacities`, `devices` and `memory` play
-//! scripts at each capacity, on devices that fail, and where memory is refused.
+//! scripts at each capacity, on devices that fail, and with refused memory.
 #![tactic(auto)]
 
 #[cfg(test)]

@@ -23,7 +23,7 @@ fn second_line(rt: &(impl Abort + AllocGlobal), line: &str) -> String {
 
 /// Each is the second line of a script.
 #[test]
-fn bad_lines_are_told(rt: HostRuntime) {
+fn bad_lines_are_reported(rt: HostRuntime) {
     let bad = "| | len|len |pop |pop x|len\r|capacity 1|as_str |clear |trim x|Pop|Push_str x|push|\
         push_str|push_str\tx|try_push_str|try_push|try_push |try_push ab|try_push  a|\
         retain_not|retain_not |retain_not ab|truncate|truncate |truncate 256|truncate 999|\

@@ -11,7 +11,7 @@ use std::process::Abort;
 use std::test::Fail;
 use test_support::memory::{ScarceMemory, TIMES};
 
-/// Where ever more memory is left, from none up, `serve` reports each growth that is refused.
+/// With ever more memory, from none up, `serve` reports each growth that is refused.
 #[test]
 fn want_of_memory_is_served(rt: HostRuntime) -> Result<(), Fail> {
     let mut output = Vec::with_capacity(rt.alloc(), 1000)?;
@@ -43,9 +43,9 @@ fn want_of_memory_is_served(rt: HostRuntime) -> Result<(), Fail> {
     Ok(())
 }
 
-/// Where ever more memory is left, from none up, `play` reports each growth that is refused.
+/// With ever more memory, from none up, `play` reports each growth that is refused.
 #[test]
-fn want_of_memory_is_told(rt: HostRuntime) -> Result<(), Fail> {
+fn want_of_memory_is_reported(rt: HostRuntime) -> Result<(), Fail> {
     let mut output = Vec::with_capacity(rt.alloc(), 1000)?;
     let Some(mut scarce) = ScarceMemory::take(rt.alloc())? else {
         return Ok(());
@@ -77,38 +77,38 @@ fn hundred_lines(rt: &(impl Abort + AllocGlobal), first: &str, second: &str, las
 }
 
 /// Plays a script and serves it, and compares what is returned, the status and what was written.
-fn answers(
+fn check_serve(
     rt: &impl Abort,
     alloc: Global,
     output: &mut Vec<u8>,
     script: &str,
-    answer: Result<(), PlayFault>,
-    told: &str,
+    outcome: Result<(), PlayFault>,
+    reported: &str,
 ) {
     let mut input = script.as_bytes();
     let played = play::<255, &[u8], Vec<u8>>(alloc, &mut input, output);
-    agree(rt, "what is returned", played, answer);
+    agree(rt, "what is returned", played, outcome);
     agree(
         rt,
         "the output",
         output.len(),
-        if answer.is_ok() { 907 } else { 0 },
+        if outcome.is_ok() { 907 } else { 0 },
     );
     output.clear();
     let mut input = script.as_bytes();
     let mut none = io::sink();
     let _ = serve(alloc, Some("max"), &mut input, &mut none, output);
-    agree(rt, "the errors", output.as_slice(), told.as_bytes());
+    agree(rt, "the errors", output.as_slice(), reported.as_bytes());
     output.clear();
 }
 
-/// Each growth that is refused is told. The script has 400 bytes, the commands more than 2,000, and
-/// the replies, each with room for 255 bytes, more than 25,000. So where 1,000 bytes are left, it is
-/// the commands that are refused, since the script is read to its bad first line; and the replies where
-/// 10,000 are, since it is then judged to its bad last line. Of want of memory and a bad line,
-/// whichever is met first is told.
+/// Each growth that is refused is reported. The script has 400 bytes, the commands more than 2,000, and
+/// the replies, each with room for 255 bytes, more than 25,000. So if 1,000 bytes are left, it is
+/// the commands that are refused, since the script is read to its bad first line; and the replies
+/// if 10,000 are, since it is then judged to its bad last line. Of want of memory and a bad line,
+/// whichever is met first is reported.
 #[test]
-fn each_refused_growth_is_told(rt: HostRuntime) -> Result<(), Fail> {
+fn each_refused_growth_is_reported(rt: HostRuntime) -> Result<(), Fail> {
     let alloc = rt.alloc();
     let bad_first = hundred_lines(&rt, "Len", "len", "len");
     let bad_second = hundred_lines(&rt, "len", "Len", "len");
@@ -121,24 +121,24 @@ fn each_refused_growth_is_told(rt: HostRuntime) -> Result<(), Fail> {
         return Ok(());
     };
     scarce.leave(alloc, 0)?;
-    answers(&rt, alloc, &mut output, &bad_first, none, wanting);
+    check_serve(&rt, alloc, &mut output, &bad_first, none, wanting);
     scarce.leave(alloc, 1000)?;
     let bad = Err(PlayFault::BadLine(1));
-    answers(&rt, alloc, &mut output, &bad_first, bad, "bad line 1\n");
+    check_serve(&rt, alloc, &mut output, &bad_first, bad, "bad line 1\n");
     let bad = Err(PlayFault::BadLine(2));
-    answers(&rt, alloc, &mut output, &bad_second, bad, "bad line 2\n");
-    answers(&rt, alloc, &mut output, &bad_last, none, wanting);
+    check_serve(&rt, alloc, &mut output, &bad_second, bad, "bad line 2\n");
+    check_serve(&rt, alloc, &mut output, &bad_last, none, wanting);
     scarce.leave(alloc, 10000)?;
     let bad = Err(PlayFault::BadLine(100));
-    answers(&rt, alloc, &mut output, &bad_last, bad, "bad line 100\n");
-    answers(&rt, alloc, &mut output, &good, none, wanting);
+    check_serve(&rt, alloc, &mut output, &bad_last, bad, "bad line 100\n");
+    check_serve(&rt, alloc, &mut output, &good, none, wanting);
     scarce.leave(alloc, 50000)?;
-    answers(&rt, alloc, &mut output, &good, Ok(()), "");
+    check_serve(&rt, alloc, &mut output, &good, Ok(()), "");
     drop(scarce);
     Ok(())
 }
 
-/// Where ever more memory is left, from none up, a refused growth of `run` leaves the text.
+/// With ever more memory, from none up, a refused growth of `run` leaves the text.
 #[test]
 fn want_of_memory_leaves_the_text(rt: HostRuntime) -> Result<(), Fail> {
     let commands = [Command::TryPush('c'); 100];
@@ -164,8 +164,8 @@ fn want_of_memory_leaves_the_text(rt: HostRuntime) -> Result<(), Fail> {
     Ok(())
 }
 
-/// Both lists are reserved before the first command is made. Where there is memory for either list
-/// alone and not for both, the texts are as they were; so they are where there is none for either.
+/// Both lists are reserved before the first command is made. If there is memory for either list
+/// alone and not for both, the texts are as they were; so they are if there is none for either.
 #[test]
 fn want_of_memory_leaves_both_texts(rt: HostRuntime) -> Result<(), Fail> {
     let commands = [Command::TryPush('c'); 300];

@@ -16,13 +16,13 @@ pub(super) fn plays(
     rt: &impl Abort,
     alloc: Global,
     script: &[u8],
-    answer: Result<(), PlayFault>,
+    outcome: Result<(), PlayFault>,
     wanted: &[u8],
 ) {
     let mut output = Vec::new(alloc);
     let mut input = script;
     let played = play::<23, &[u8], Vec<u8>>(alloc, &mut input, &mut output);
-    agree(rt, "what is returned", played, answer);
+    agree(rt, "what is returned", played, outcome);
     agree(rt, "what is printed", output.as_slice(), wanted);
 }
 
@@ -121,7 +121,7 @@ pub(super) const EXAMPLE_OUTPUT: &str =
     "done\ndone\ndone\ntext 🤔DC\nno text\nrefused OutOfBounds\ntext AABB\n\
     final AABB\n";
 
-/// What is printed of the example where it is cut at a byte; cut elsewhere, its last line is bad. The
+/// What is printed of the example if it is cut at a byte; cut elsewhere, its last line is bad. The
 /// columns of a row are
 ///
 ///     byte | printed replies | last text
@@ -190,7 +190,7 @@ fn serves(
     script: &[u8],
     status: u8,
     wanted: &[u8],
-    told: &[u8],
+    reported: &[u8],
 ) {
     let mut output = Vec::new(alloc);
     let mut errors = Vec::new(alloc);
@@ -198,8 +198,8 @@ fn serves(
     let served = serve(alloc, word, &mut input, &mut output, &mut errors);
     agree(rt, "the status", served, status);
     agree(rt, "the output", output.as_slice(), wanted);
-    agree(rt, "the errors", errors.as_slice(), told);
-    let left = if told.starts_with(b"usage") {
+    agree(rt, "the errors", errors.as_slice(), reported);
+    let left = if reported.starts_with(b"usage") {
         script.len()
     } else {
         0

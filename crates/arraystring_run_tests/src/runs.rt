@@ -17,7 +17,7 @@ pub(super) fn text_of<const N: usize>(text: &str) -> ArrayString<N> {
 }
 
 #[test]
-fn each_command_is_answered(rt: HostRuntime) {
+fn each_command_has_a_reply(rt: HostRuntime) {
     let mut text: ArrayString<5> = ArrayString::new();
     let commands = [
         Command::PushStr("a🤔b"),
@@ -86,8 +86,8 @@ fn no_more_than_255_bytes_fit(rt: HostRuntime) {
     agree(&rt, "the text", text.as_str(), letters.as_str());
 }
 
-/// Asserts that a character fits into `N` bytes where it is no wider, comes back whole, and is as
-/// long as it should be.
+/// Asserts that a character fits into `N` bytes if it is no wider, comes back whole, and is as long
+/// as it should be.
 fn check_width<const N: usize>(rt: &(impl Abort + AllocGlobal), row: &str, ch: char, width: u8)
     requires { N ≤ 300 }
 {

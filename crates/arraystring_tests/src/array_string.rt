@@ -72,7 +72,7 @@ fn texts_and_capacities(rt: HostRuntime) {
         # 255 | the greatest capacity
         new       | capacity           | |                    | ok |                           | 255
         My String | push_str_unchecked | | ' My other String' | ok | My String My other String
-        # 300 | a larger one holds no more
+        # 300 | a larger one has no more room
         new | capacity | | | ok | | 255
         # 5 | strings are equal by their texts
         abcde | pop   | |     | e     | abcd
@@ -130,11 +130,11 @@ fn a_small_string_is_filled(rt: HostRuntime) {
 fn a_small_string_refuses(rt: HostRuntime) {
     let refused = Err(Error::OutOfBounds);
     let mut replaced = SmallString::try_from_str("ABCD🤔").unwrap_or_default();
-    let answer = replaced.replace_range(0..1, ZEROS_23);
-    agree(&rt, "too large", answer, refused);
+    let result = replaced.replace_range(0..1, ZEROS_23);
+    agree(&rt, "too large", result, refused);
     agree(&rt, "the text", replaced.as_str(), "ABCD🤔");
-    let answer = SmallString::new().remove(0);
-    agree(&rt, "empty", answer, Err(Error::OutOfBounds));
+    let result = SmallString::new().remove(0);
+    agree(&rt, "empty", result, Err(Error::OutOfBounds));
 }
 
 #[test]
@@ -143,8 +143,8 @@ fn a_greatest_string_is_filled(rt: HostRuntime) -> Result<(), Fail> {
     let mut added = MaxString::from("My String My other String");
     let all_but_one = letters.as_str().get(1..).unwrap_or_default();
     agree(&rt, "255 zeros", all_but_one.len(), 255);
-    let answer = added.try_push_str(all_but_one);
-    agree(&rt, "no room", answer, Err(OutOfBounds));
+    let result = added.try_push_str(all_but_one);
+    agree(&rt, "no room", result, Err(OutOfBounds));
     agree(&rt, "the text", added.as_str(), "My String My other String");
     let refused = ArrayString::<300>::try_from_str(&letters);
     agree(&rt, "256 zeros", refused, Err(OutOfBounds));

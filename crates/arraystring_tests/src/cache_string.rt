@@ -54,7 +54,7 @@ fn made(rt: &impl Abort, text: &str) {
     made_or_cut(rt, text);
 }
 
-/// Asserts that each constructor that can refuse gives the text, and each that is called where it
+/// Asserts that each constructor that can refuse gives the text, and each that is called if it
 /// fits.
 fn made_or_refused(rt: &impl Abort, text: &str) {
     let wanted = CacheString(ArrayString::from(text));

@@ -3,12 +3,12 @@
 //!     text before | call | index or range | what is given | result | text after | number
 //!
 //! With no text before, the call goes on with the string that the row above left; `new` is a new
-//! string, and `again` the last one that a row began with. Several calls may be in a row, each on the
-//! text before. A text in quotes keeps its spaces, and `255 x` is a text of so many letters. Pieces
-//! are written with `,` between them.
+//! string, and `again` the last one that a row began with. Several calls may be in a row, each on
+//! the text before. A text in quotes keeps its spaces, and `255 x` is a text of so many letters.
+//! Pieces are written with `,` between them.
 //!
 //! The result is a text or a character itself, `ok` for a call that returns nothing, `None`, or the
-//! name of the refusal; bytes are as `{:?}` writes them. An unchecked call is made where its
+//! name of the refusal; bytes are as `{:?}` writes them. An unchecked call is made if its
 //! conditions hold, and else gives `None`. The number is what `len` and `capacity` return, how many
 //! bytes `pop_counted` looked at, and how many bytes any other call that counts moved.
 //!
@@ -25,7 +25,7 @@ use std::ops::{Bound, RangeBounds, RangeInclusive};
 use std::process::Abort;
 use test_support::table::{column, rows};
 
-/// Makes the calls of a table in blocks. The line over a block is `# 8 | what it shows`, where 8 is
+/// Makes the calls of a table in blocks. The line over a block is `# 8 | what it shows`, if 8 is
 /// the capacity.
 pub(crate) fn check_table(rt: &(impl Abort + AllocGlobal), table: &str) {
     for block in table.split('#') {
@@ -48,7 +48,7 @@ pub(crate) fn check_table(rt: &(impl Abort + AllocGlobal), table: &str) {
     }
 }
 
-/// Makes the calls of a table on strings of one capacity, the first on a default string where its row
+/// Makes the calls of a table on strings of one capacity, the first on a default string if its row
 /// says no other, and asserts what each returns and leaves.
 pub(crate) fn check_rows<const N: usize>(rt: &(impl Abort + AllocGlobal), table: &str)
     requires { N ≤ 300 }
@@ -94,7 +94,7 @@ pub(crate) fn check_row<R: Abort + AllocGlobal, const N: usize>(
 }
 
 /// The calls that return nothing, and the numbers of a string. Like each function below, it makes
-/// the call of a row, asserts what it returns, and tells whether it has such a call. The arms are in
+/// the call of a row, asserts what it returns, and returns whether it has such a call. The arms are in
 /// the order of the names: a number costs a proof less than a name does.
 fn quiet<R: Abort + AllocGlobal, const N: usize>(
     rt: &R,
@@ -160,18 +160,18 @@ fn at_the_end<R: Abort + AllocGlobal, const N: usize>(
 }
 
 /// Keeps the characters at whose turn no `-` is given and that are not among the dropped ones, and
-/// returns all that were asked about.
-fn retained<const N: usize>(text: &mut ArrayString<N>, answers: &str, dropped: &str) -> MaxString {
-    let mut asked = MaxString::new();
-    let mut answers = answers.chars();
+/// returns all that it was called with.
+fn retained<const N: usize>(text: &mut ArrayString<N>, results: &str, dropped: &str) -> MaxString {
+    let mut seen = MaxString::new();
+    let mut results = results.chars();
     text.retain(|ch| {
-        let _ = asked.try_push(ch);
-        answers.next() != Some('-') && !dropped.contains(ch)
+        let _ = seen.try_push(ch);
+        results.next() != Some('-') && !dropped.contains(ch)
     });
-    asked
+    seen
 }
 
-/// The calls that compare the string with that which is given: each comparison has to tell their
+/// The calls that compare the string with that which is given: each comparison has to give their
 /// order, and each hash has to be that of the text.
 fn compared<R: Abort + AllocGlobal, const N: usize>(
     rt: &R,
@@ -201,7 +201,7 @@ fn compared<R: Abort + AllocGlobal, const N: usize>(
     true
 }
 
-/// Adds `ch` by `push_unchecked`, or puts it before an index by `insert_unchecked`, where the
+/// Adds `ch` by `push_unchecked`, or puts it before an index by `insert_unchecked`, if the
 /// conditions hold.
 fn put<const N: usize>(text: &mut ArrayString<N>, index: Option<u8>, ch: char) -> Option<()> {
     let size = text.len() as usize + ch.len_utf8();
@@ -219,7 +219,7 @@ fn put<const N: usize>(text: &mut ArrayString<N>, index: Option<u8>, ch: char) -
     Some(())
 }
 
-/// Adds `given` by `push_str_unchecked`, or puts it before an index by `insert_str_unchecked`, where
+/// Adds `given` by `push_str_unchecked`, or puts it before an index by `insert_str_unchecked`, if
 /// the conditions hold.
 fn put_str<const N: usize>(
     text: &mut ArrayString<N>,
@@ -266,12 +266,12 @@ fn counted<R: Abort + AllocGlobal, const N: usize>(
         }
         1 => returned(rt, row, text.trim_counted(&mut steps)),
         2 => {
-            let answer = text.remove_counted(number(rt, row, 2), &mut steps);
-            returned(rt, row, answer);
+            let result = text.remove_counted(number(rt, row, 2), &mut steps);
+            returned(rt, row, result);
         }
         _ => {
-            let answer = text.try_insert_str_counted(number(rt, row, 2), given, &mut steps);
-            returned(rt, row, answer);
+            let result = text.try_insert_str_counted(number(rt, row, 2), given, &mut steps);
+            returned(rt, row, result);
         }
     }
     agree(rt, row, steps.moved(), moved);
@@ -351,7 +351,7 @@ fn in_range<R: Abort + AllocGlobal, const N: usize>(
 }
 
 /// The calls that want a part of the text, on a range of Rust: for 0 `slice`, and for 1 and 2 those
-/// that turn letters to upper case and to lower case. They are made where `get` finds a part.
+/// that turn letters to upper case and to lower case. They are made if `get` finds a part.
 fn part<R: Abort + AllocGlobal, const N: usize>(
     rt: &R,
     text: &mut ArrayString<N>,
@@ -360,7 +360,7 @@ fn part<R: Abort + AllocGlobal, const N: usize>(
     start: &str,
     end: &str,
 ) {
-    let (first, last) = (place(rt, start), place(rt, end));
+    let (first, last) = (index(rt, start), index(rt, end));
     if end.is_empty() {
         if text.get(..).is_some() {
             return returned(rt, row, Some(text.slice(..)));
@@ -395,7 +395,7 @@ fn in_rust_range<R: Abort + AllocGlobal, const N: usize>(
 ) -> bool
     requires { N ≤ 300 }
 {
-    let (first, last) = (place(rt, start), place(rt, end));
+    let (first, last) = (index(rt, start), index(rt, end));
     match (start.is_empty(), end.is_empty(), end.starts_with('=')) {
         (true, true, _) => of_range(rt, text, call, row, ..),
         (false, true, _) => of_range(rt, text, call, row, first..),
@@ -428,8 +428,8 @@ fn of_range<R: Abort + AllocGlobal, B: RangeBounds<u8> + Drop, const N: usize>(
         2 => returned(rt, row, text.replace_range(range, given)),
         3 => returned(rt, row, text.drain_counted(range, &mut steps)),
         4 => {
-            let answer = text.replace_range_counted(range, given, &mut steps);
-            returned(rt, row, answer);
+            let result = text.replace_range_counted(range, given, &mut steps);
+            returned(rt, row, result);
         }
         _ => return false,
     }
@@ -465,13 +465,13 @@ fn walked() -> RangeInclusive<u8> {
     range
 }
 
-/// A place in a range, or any where none is written.
-fn place(rt: &impl Abort, written: &str) -> u8 {
+/// An index in a range, or any if none is written.
+fn index(rt: &impl Abort, written: &str) -> u8 {
     let digits = written.trim_start_matches('=');
     if digits.is_empty() {
         return 0;
     }
-    digits.parse().expect(rt, "a place in the range")
+    digits.parse().expect(rt, "an index in the range")
 }
 
 /// The bound that is written with its bracket, as `[3` or `3)`.
@@ -482,7 +482,7 @@ fn bound(rt: &impl Abort, written: &str) -> Bound<u8> {
         return Bound::Unbounded;
     }
     if excluded.len() < written.len() {
-        return Bound::Excluded(place(rt, excluded));
+        return Bound::Excluded(index(rt, excluded));
     }
-    Bound::Included(place(rt, written.trim_matches('[').trim_matches(']')))
+    Bound::Included(index(rt, written.trim_matches('[').trim_matches(']')))
 }

@@ -30,7 +30,7 @@ fn the_least_and_the_greatest_capacities(rt: HostRuntime) {
         new   | capacity |  |   | ok          |       | 255
         255 x | len      |  |   | ok          | 255 x | 255
               | try_push |  | a | OutOfBounds | 255 x
-        # 255 | the end of a full string is a place
+        # 255 | the end of a full string is an index
         255 x | insert_str | 255 | x | ok          | 255 x
               | try_insert | 255 | x | OutOfBounds | 255 x
               | truncate   | 255 |   | ok          | 255 x

@@ -4,7 +4,7 @@ ghost use Rattle.std.specs.Prelude.{◌≡◌, ◌≤◌, IfSome, chars};
 ghost use Rattle.arraystring.specs.Text.{cap, cut};
 ghost use Rattle.arraystring.specs.Taken.{joined_pieces};
 
-use super::table::{agree, string, told_made};
+use super::table::{agree, string, text_or_error};
 use arraystring::ArrayString;
 use arraystring::error::{Error, OutOfBounds, Utf8};
 use arraystring::prelude::MaxString;
@@ -18,9 +18,9 @@ const ZEROS_23: &str = "00000000000000000000000";
 ///     text | the same in pieces | made whole | cut | next character | next piece
 ///
 /// with `,` between pieces. Each `try_..` and `parse` make the third, the text or the name of the
-/// refusal, and the others make the cut. The unchecked are called where the text fits. What is next in
-/// an iterator that is lent comes after the first item that does not fit, which is taken too: no
-/// character where the column is empty, no piece where it is `None`.
+/// refusal, and the others make the cut. The unchecked are called if the text fits. What is next in
+/// an iterator that is borrowed comes after the first item that does not fit, which is taken too:
+/// no character if the column is empty, no piece if it is `None`.
 pub(super) fn check_table<const N: usize>(rt: &impl Abort, table: &str)
     requires { N ≤ 300 }
 {
@@ -35,7 +35,7 @@ fn check_row<const N: usize>(rt: &impl Abort, row: &str)
 {
     let (text, pieces) = (column(row, 0), column(row, 1));
     let whole = ArrayString::<N>::try_from_utf8(text.as_bytes());
-    agree(rt, row, told_made(&whole).as_str(), column(row, 2));
+    agree(rt, row, text_or_error(&whole).as_str(), column(row, 2));
     let (mut chars, mut rest) = (text.chars(), pieces.split(','));
     let others = [
         ArrayString::try_from_str(text),
@@ -208,8 +208,8 @@ fn what_is_made_of_bytes_and_of_slices(rt: HostRuntime) {
     agree(&rt, "two pieces", made, (joined, Some(joined)));
 }
 
-/// Asserts how many characters are taken from iterators that are lent, where not all of a run fit behind
-/// the letters `before`: one more than fit, and then none.
+/// Asserts how many characters are taken from iterators that are borrowed, if not all of a run fit
+/// behind the letters `before`: one more than fit, and then none.
 fn takes_chars<const N: usize>(
     rt: &(impl Abort + AllocGlobal),
     before: &str,
@@ -259,7 +259,7 @@ fn takes_pieces<'a, const N: usize>(
 }
 
 /// Asserts how many items are taken of characters of each width, and of pieces of 1 to 12 bytes of
-/// them, where there is room for 0 to 12 bytes.
+/// them, if there is room for 0 to 12 bytes.
 fn takes<const N: usize>(rt: &(impl Abort + AllocGlobal))
     requires { N ≤ 300 }
 {
@@ -310,8 +310,8 @@ fn pieces_are_joined(rt: HostRuntime) {
     let cut = MaxString::from_iterator(pieces.iter().copied());
     agree(&rt, "joined and cut", cut, joined);
     let mut added = MaxString::try_from_str("My String").unwrap_or_default();
-    let answer = added.try_push_str(" My other String");
-    agree(&rt, "added", (answer, added), (Ok(()), joined));
+    let result = added.try_push_str(" My other String");
+    agree(&rt, "added", (result, added), (Ok(()), joined));
     let mut pushed = MaxString::try_from_str("My String").unwrap_or_default();
     pushed.push_str(" My other String");
     agree(&rt, "pushed", pushed, joined);

@@ -33,11 +33,11 @@ fn check_table<const N: usize>(rt: &impl Abort, table: &str)
         if !column(row, 0).is_empty() {
             drain = taken_out(column(row, 0));
         }
-        let answer = match column(row, 1) {
+        let result = match column(row, 1) {
             "next" => drain.next(),
             _ => drain.next_back(),
         };
-        agree(rt, row, answer, column(row, 2).chars().next());
+        agree(rt, row, result, column(row, 2).chars().next());
         agree(rt, row, drain.as_str(), column(row, 3));
     }
 }
@@ -84,7 +84,7 @@ fn steps_from_both_ends(rt: HostRuntime) {
     agree(&rt, "what is left of the copy", copy.as_str(), "A🤔");
 }
 
-/// Walks all of a text by one choice of ends: the back where the choice has a bit. What is left is
+/// Walks all of a text by one choice of ends: the back if the choice has a bit. What is left is
 /// printed after each step.
 fn walk_by(rt: &(impl Abort + AllocGlobal), text: &str, choice: u32) {
     let mut drain = string::<23>(text).drain(..).unwrap_or_default();
@@ -123,7 +123,7 @@ fn each_walk(rt: HostRuntime) {
     }
 }
 
-/// A drain of a text, of which `[ ]` has in it what is left after a step from each end where there is
+/// A drain of a text, of which `[ ]` has in it what is left after a step from each end if there is
 /// a character before or after it.
 fn left(written: &str) -> Drain<8> {
     let (before, rest) = written.split_once('[').unwrap_or_default();
@@ -141,7 +141,7 @@ fn left(written: &str) -> Drain<8> {
     drain
 }
 
-/// Asserts that each comparison tells the order of the row, that what is equal has one hash, and that
+/// Asserts that each comparison gives the order of the row, that what is equal has one hash, and that
 /// this is the hash of the text. The columns are
 ///
 ///     one drain | `cmp` | | the other | order

@@ -7,11 +7,11 @@ use arraystring::ArrayString;
 use std::process::Abort;
 use test_support::table::column;
 
-/// Asserts what is added from iterators that are lent. The columns of the row are
+/// Asserts what is added from iterators that are borrowed. The columns of the row are
 ///
 ///     text before | characters | pieces | text after | next character | next piece
 ///
-/// where the text after is the same by the characters and by the pieces.
+/// if the text after is the same by the characters and by the pieces.
 fn check_row<const N: usize>(rt: &impl Abort, row: &str)
     requires { N ≤ 300 }
 {

@@ -112,7 +112,7 @@ fn insertions(rt: HostRuntime) {
 }
 
 #[test]
-fn room_is_asked_before_the_place(rt: HostRuntime) {
+fn room_is_tested_before_the_index(rt: HostRuntime) {
     let mut text = SmallString::from("ABCD🤔");
     agree(&rt, "A at 1", text.try_insert(1, 'A'), Ok(()));
     agree(&rt, "B at 2", text.try_insert(2, 'B'), Ok(()));
@@ -124,7 +124,7 @@ fn room_is_asked_before_the_place(rt: HostRuntime) {
 }
 
 #[test]
-fn a_full_string_has_no_room_at_any_place(rt: HostRuntime) {
+fn a_full_string_has_no_room_at_any_index(rt: HostRuntime) {
     let refused = Err(Error::OutOfBounds);
     let mut full = SmallString::from("abcdefghijklmnopqrstuvw");
     agree(&rt, "C at 0", full.try_insert(0, 'C'), refused);

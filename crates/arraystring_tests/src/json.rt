@@ -11,8 +11,8 @@ use test_support::memory::{ScarceMemory, TIMES};
 /// As many letters as fit.
 const LETTERS: &str = "abcdefghijklmnopqrstuvwxyzABCDEFGHIJKLMNOPQRSTUVWXYZabcdefghijk";
 
-/// The longest leading run of whole characters that takes at most so many bytes.
-fn leading(text: &str, most: usize) -> &str {
+/// The longest prefix of whole characters that takes at most so many bytes.
+fn prefix(text: &str, most: usize) -> &str {
     for size in (0..=most).rev() {
         if let Some(front) = text.get(..size) {
             return front;
@@ -44,10 +44,10 @@ fn texts_of_each_size_are_read_back(rt: HostRuntime) -> Result<(), Fail> {
             for size in 0..301usize {
                 if let Some(text) = text.get(start..start + size) {
                     let given = Value::String(String::from_str(rt.alloc(), text)?);
-                    kept::<ArrayString<8>>(&rt, &given, leading(text, 8));
-                    kept::<ArrayString<63>>(&rt, &given, leading(text, 63));
-                    kept::<ArrayString<255>>(&rt, &given, leading(text, 255));
-                    kept::<CacheString>(&rt, &given, leading(text, 63));
+                    kept::<ArrayString<8>>(&rt, &given, prefix(text, 8));
+                    kept::<ArrayString<63>>(&rt, &given, prefix(text, 63));
+                    kept::<ArrayString<255>>(&rt, &given, prefix(text, 255));
+                    kept::<CacheString>(&rt, &given, prefix(text, 63));
                 }
             }
         }
@@ -123,7 +123,7 @@ impl Json for CacheString {
     }
 }
 
-/// The value of a string where ever more memory is left, from none up. A refused growth leaves the
+/// The value of a string if ever more memory is left, from none up. A refused growth leaves the
 /// string.
 fn value_at_last<S: Json>(
     rt: &impl Abort,

@@ -11,8 +11,8 @@ use std::fmt::{Debug, Display};
 use std::process::Abort;
 use std::test::Fail;
 
-/// Asserts that a JSON text is read whole at this capacity, and is then written as it, or is refused
-/// where it is larger.
+/// Asserts that a JSON text is read whole at this capacity, and is then written as it, or is
+/// refused if it is larger.
 fn whole_or_refused<const N: usize>(
     rt: &(impl Abort + AllocGlobal),
     given: &Value,
@@ -78,7 +78,7 @@ fn escapes_take_the_room_of_their_characters(rt: HostRuntime) -> Result<(), Fail
 }
 
 #[test]
-fn what_is_no_text_is_told_apart(rt: HostRuntime) -> Result<(), Fail> {
+fn what_is_no_text_has_its_own_refusal(rt: HostRuntime) -> Result<(), Fail> {
     for json in "null true false 7 -7 0.5 1e300 [] [\"a\"] {} {\"a\":\"a\"}".split(' ') {
         let value = Value::from_str(rt.alloc(), json)?;
         let string = ArrayString::<63>::try_from_value(&value);

@@ -8,7 +8,7 @@ fn ranges(rt: HostRuntime) {
     check_table(
         &rt,
         "
-        # 23 | parts are lent
+        # 23 | parts are borrowed
         ABCD🤔 | get   | ..     | | ABCD🤔 | ABCD🤔
                | get   | 3..    | | D🤔    | ABCD🤔
                | get   | ..3    | | ABC    | ABCD🤔
@@ -115,7 +115,7 @@ fn ranges(rt: HostRuntime) {
              | replace_range | 0..3 | xy     | Utf8        | 🤔
              | replace_range | 3..2 |        | OutOfBounds | 🤔
              | replace_range | 3..2 | xyzxyz | OutOfBounds | 🤔
-        # 255 | the last places
+        # 255 | the last indices
         255 x | get           | 0..=255   |       | None        | 255 x
               | get           | 0..=254   |       | 255 x       | 255 x
               | get           | 255..255  |       |             | 255 x
@@ -127,7 +127,7 @@ fn ranges(rt: HostRuntime) {
               | drain         | 0..=255   |       | 255 x       |
         255 x | replace_range | 0..=255   | x     | ok          | x
         new   | replace_range | 0..0      | 256 x | OutOfBounds |
-        # 300 | the last places
+        # 300 | the last indices
         255 x | replace_range | 255.. | x | OutOfBounds | 255 x
         # 0 | a string of no bytes
         new | replace_range           | 0..0  |   | ok          |

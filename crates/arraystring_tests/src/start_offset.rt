@@ -85,7 +85,7 @@ fn what_is_left_stays_where_it_is_until_it_grows(rt: HostRuntime) {
 
 #[test]
 fn texts_are_the_same_wherever_they_begin(rt: HostRuntime) {
-    // Texts and their parts are lent.
+    // Texts and their parts are borrowed.
     check_wherever_it_begins(
         &rt,
         "

@@ -115,7 +115,7 @@ fn the_laws_are_at_hand(_rt: HostRuntime) {
     if let Ok(drained) = text.drain(..) {
         laws::left_fits(&drained);
     }
-    laws::lent_text("a");
+    laws::borrowed_text("a");
     laws::longest_cut();
     laws::one_stop();
     laws::one_text();

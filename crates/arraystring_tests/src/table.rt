@@ -14,7 +14,7 @@ pub(crate) const MANY_LETTERS: &str =
     abcdeabcdeabcdeabcdeabcdeabcdeabcdeabcdeabcdeabcdeabcdeabcdeabcdeabcdeabcdeabcdeabcde\
     abcdeabcdeabcdeabcdeabcdeabcdeabcdeabcdeabcdeabcdeabcdeabcdeabcdeabcdeabcdeabcdeabcde";
 
-/// A string of `text`, or of the longest leading run of its characters that fits.
+/// A string of `text`, or of its longest prefix of whole characters that fits.
 pub(crate) fn string<const N: usize>(text: &str) -> ArrayString<N>
     ensures { result.text ≡ cut (chars text.now) (cap N) }
 {
@@ -23,7 +23,7 @@ pub(crate) fn string<const N: usize>(text: &str) -> ArrayString<N>
     string
 }
 
-/// Which of some names a call has, from 0; past them all where it is none of them.
+/// Which of some names a call has, from 0; past them all if it is none of them.
 pub(crate) fn order_of(call: &str, names: &str) -> usize {
     let mut order: usize = 0;
     for name in names.split(' ') {
@@ -55,8 +55,8 @@ pub(crate) fn agree<T: PartialEq + Debug + Drop>(rt: &impl Abort, case: &str, ga
 
 /// Asserts that a call returned what the row of a table says: a text or a character itself, `ok` for
 /// nothing, a refusal by its name, and all else as `{:?}` writes it.
-pub(crate) fn returned<T: Debug + Drop>(rt: &(impl Abort + AllocGlobal), row: &str, answer: T) {
-    let written = format!(in rt.alloc(); "{answer:?}").expect(rt, "memory for what is printed");
+pub(crate) fn returned<T: Debug + Drop>(rt: &(impl Abort + AllocGlobal), row: &str, outcome: T) {
+    let written = format!(in rt.alloc(); "{outcome:?}").expect(rt, "memory for what is printed");
     let written = written.as_str();
     let name = written.trim_end_matches(')').rsplit('(').next();
     let name = name.unwrap_or_default().trim_start_matches("Error::");
@@ -70,7 +70,7 @@ pub(crate) fn returned<T: Debug + Drop>(rt: &(impl Abort + AllocGlobal), row: &s
 }
 
 /// What was made as it is written in a table: the text itself, a refusal by its name.
-pub(crate) fn told_made<const N: usize>(made: &Result<ArrayString<N>, Error>) -> MaxString {
+pub(crate) fn text_or_error<const N: usize>(made: &Result<ArrayString<N>, Error>) -> MaxString {
     match made {
         Ok(made) => string(made.as_str()),
         Err(Error::Utf8) => string("Utf8"),

@@ -2,7 +2,7 @@
 //! pair is 10000 + (high - D800) * 400 + (low - DC00) in hexadecimal, and any other surrogate is lone.
 ghost use Rattle.std.specs.Prelude.{◌≤◌};
 
-use super::table::{agree, told_made};
+use super::table::{agree, text_or_error};
 use arraystring::utf16::{Unit16, Units};
 use arraystring::{ArrayString, Error};
 use std::process::Abort;
@@ -12,7 +12,7 @@ use test_support::table::{column, rows};
 ///
 ///     units in hexadecimal | `try_from_utf16` | `from_utf16` | `from_utf16_lossy`
 ///
-/// where the last three are texts, or the names of refusals.
+/// if the last three are texts, or the names of refusals.
 fn check_table<const N: usize>(rt: &impl Abort, table: &str)
     requires { N ≤ 300 }
 {
@@ -39,9 +39,9 @@ fn units_of(rt: &impl Abort, written: &str) -> ([u16; 8], usize) {
 fn check_row<const N: usize>(rt: &impl Abort, units: &[u16], row: &str)
     requires { N ≤ 300 }
 {
-    let made = told_made(&ArrayString::<N>::try_from_utf16(units));
+    let made = text_or_error(&ArrayString::<N>::try_from_utf16(units));
     agree(rt, row, made.as_str(), column(row, 1));
-    let cut = told_made(&ArrayString::<N>::from_utf16(units).map_err(Error::from));
+    let cut = text_or_error(&ArrayString::<N>::from_utf16(units).map_err(Error::from));
     agree(rt, row, cut.as_str(), column(row, 2));
     let lossy = ArrayString::<N>::from_utf16_lossy(units);
     agree(rt, row, lossy.as_str(), column(row, 3));

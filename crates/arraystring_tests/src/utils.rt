@@ -17,7 +17,8 @@ fn sizes_inside_a_limit(rt: HostRuntime) {
     agree(&rt, "inside a character", inside, Err(Utf8));
 }
 
-/// The columns are a text, a size, and the text cut to it. The size is a boundary where the cut has it.
+/// The columns are a text, a size, and the text cut to it. The size is a boundary if the cut has
+/// it.
 #[test]
 fn texts_are_cut_at_boundaries(rt: HostRuntime) {
     let table = "
@@ -49,7 +50,7 @@ fn texts_are_cut_at_boundaries(rt: HostRuntime) {
     }
 }
 
-/// The columns are a text, where its last character begins, and that character.
+/// The columns are a text, if its last character begins, and that character.
 #[test]
 fn the_last_character(rt: HostRuntime) {
     let table = "

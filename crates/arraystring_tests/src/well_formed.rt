@@ -1,7 +1,7 @@
 //! Reading, and comparing (`equal`), which go through a text in blocks of bytes, beside std's. Every
-//! size that a string has is tested with a fault or a difference at each place, so that one lies at
+//! size that a string has is tested with a fault or a difference at each offset, so that one lies at
 //! each end of each block.
-use super::table::{agree, told_made};
+use super::table::{agree, text_or_error};
 use arraystring::MaxString;
 use std::process::Abort;
 use std::str;
@@ -9,8 +9,8 @@ use std::str;
 /// Asserts that the bytes are read as std reads them, and compared as std compares them.
 fn as_in_std(rt: &impl Abort, bytes: &[u8], others: &[u8]) {
     let (text, read) = (str::from_utf8(bytes).ok(), MaxString::try_from_utf8(bytes));
-    let told = told_made(&read);
-    agree(rt, "read", told.as_str(), text.unwrap_or("Utf8"));
+    let written = text_or_error(&read);
+    agree(rt, "read", written.as_str(), text.unwrap_or("Utf8"));
     let (other, others) = (
         str::from_utf8(others).ok(),
         MaxString::try_from_utf8(others),
@@ -18,8 +18,8 @@ fn as_in_std(rt: &impl Abort, bytes: &[u8], others: &[u8]) {
     agree(rt, "compared", read == others, text == other);
 }
 
-/// Letters with a pair of bytes at each place: a letter that differs, a byte that begins no character, a
-/// character, and one that is written too long. At the last place the bytes end after the first of
+/// Letters with a pair of bytes at each offset: a letter that differs, a byte that begins no character, a
+/// character, and one that is written too long. At the last offset the bytes end after the first of
 /// the pair. They are read beside as many letters, and beside a part.
 #[test]
 fn bytes_are_read_and_compared_as_in_std(rt: HostRuntime) {

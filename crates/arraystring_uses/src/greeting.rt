@@ -1,12 +1,16 @@
-//! A greeting that is cut where it would get too long.
+//! A greeting that is cut if it would get too long.
 ghost use Rattle.std.specs.Prelude.{◌≡◌, ◌<◌, ◌↔◌, ◌++◌, IsOk, IfOk, IfErr, chars, codes};
 ghost use Rattle.arraystring.specs.Refusals.{OutOfBounds};
 ghost use Rattle.arraystring.specs.Text.{size, cut};
 
 use arraystring::{ArrayString, Error};
 
-/// `@`, the name and `, welcome back`, cut to the whole characters that fit into 20 bytes. Refused
-/// with `OutOfBounds` where not even `@` and the name fit.
+/// Returns the longest prefix of whole characters of `@`, the name and `, welcome back` that fits
+/// into 20 bytes.
+///
+/// # Errors
+///
+/// Returns `Err(OutOfBounds)` if `@` and the name do not fit.
 pub fn greet(name: &str) -> Result<ArrayString<20>, Error>
     ensures text { IfOk result (λ greeting. greeting.text ≡ cut (codes "@" ++ (chars name.now ++ codes ", welcome back")) 20) }
     ensures fits { IsOk result ↔ (size (chars name.now) < 20) }

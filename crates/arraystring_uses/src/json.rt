@@ -5,7 +5,11 @@ use arraystring::ArrayString;
 use arraystring::integration::NotText;
 use std::alloc::{AllocError, Global};
 
-/// The name after it was made a JSON value and read back, which is the name.
+/// Returns the name after it was made a JSON value and read back, which is the name.
+///
+/// # Errors
+///
+/// Returns `Err(AllocError)` if `to_value` does.
 pub fn sent_and_read(name: &ArrayString<32>, alloc: Global) -> Result<ArrayString<32>, AllocError>
     ensures { IfOk result (λ read. read.text ≡ name.now.text) }
 {

@@ -4,17 +4,25 @@ ghost use Rattle.arraystring.specs.Edits.{draining, first_cause, ok_unless, part
 
 use arraystring::{ArrayString, Error};
 
-/// The bytes from `start` to `end`, borrowed; `None` where there is no such part.
+/// Returns the bytes from `start` to `end`, borrowed, or `None` if there is no such part.
 pub fn part<const N: usize>(text: &ArrayString<N>, start: u8, end: u8) -> Option<&str>
     ensures { MatchOption result (part_in text.now.text start end ≡ None) (λ found. part_in text.now.text start end ≡ Some (chars found.now)) }
 {
     text.get(start..end)
 }
 
-/// Drops the bytes from `start` to `end`. Refused where `drain` is.
+/// Drops the bytes from `start` to `end`.
+///
+/// # Errors
+///
+/// Those of `drain`, in the same order. The text is then as it was.
+///
+/// # Precondition
+///
+/// `N` must be at most 300.
 pub fn drop_part<const N: usize>(text: &mut ArrayString<N>, start: u8, end: u8) -> Result<(), Error>
     requires { N ≤ 300 }
-    ensures answer { result ≡ ok_unless (first_cause (draining text.old.text start end).tests) tt }
+    ensures outcome { result ≡ ok_unless (first_cause (draining text.old.text start end).tests) tt }
     ensures text { text.new.text ≡ text_of (draining text.old.text start end) text.old.text }
 {
     text.drain(start..end)?;

@@ -11,7 +11,11 @@ use std::collections::BTreeMap;
 /// The name of a player.
 pub type Name = ArrayString<16>;
 
-/// Puts `score` under `name`, and returns what was there.
+/// Puts `score` under `name`, and returns what was there, or `None` if nothing was.
+///
+/// # Errors
+///
+/// Returns `Err(AllocError)` if `BTreeMap::insert` does. What is under each name is then as it was.
 pub fn record(
     scores: &mut BTreeMap<Name, u32>,
     name: Name,
@@ -26,7 +30,7 @@ pub fn record(
     Ok(scores.insert(name, score)?)
 }
 
-/// What is under `name`.
+/// Returns what is under `name`, or `None` if nothing is.
 pub fn look_up(scores: &BTreeMap<Name, u32>, name: &Name) -> Option<u32>
     ensures { result ≡ points scores.now name.now.text }
 {

@@ -1,4 +1,4 @@
--- What `decode` answers is decided by its bytes.
+-- What `decode` returns is decided by its bytes.
 use Rattle.std.proofs.Common.{◌≡◌, ◌↔◌, ℕ, ◌≤◌, List, length, take, drop, Result, Ok, Err, refl, sym, ap, subst, ◌∙◌, arith, length-append, length-drop, length-take-le, take-append-drop, take_at}
 use Rattle.std.specs.List.{All}
 use Rattle.std.specs.Result.{IsOkAnd, IsErrAnd}
@@ -72,20 +72,20 @@ one_user bs u r v s is other = (
   bytes_same {a = r} {b = s} (sym (role_bytes bs u r is) ∙ role_bytes bs v s other),
 )
 
--- what `decode` says of its answer
-pub record IsAnswered (bs : List ℕ) (result : Result User RecordFault) : Type 0 where
+-- what `decode` says of its result
+pub record IsDecoded (bs : List ℕ) (result : Result User RecordFault) : Type 0 where
   pub user : (username role : List ℕ) → IsOkAnd result (λ user. texts user ≡ (username, role)) ↔ IsRecord bs username role
   pub only : (u r v s : List ℕ) → IsRecord bs u r → IsRecord bs v s → (u ≡ v) × (r ≡ s)
-  pub fault : (fault : RecordFault) → IsErrAnd result (λ told. told ≡ fault) ↔ IsFirstFault bs fault
+  pub fault : (fault : RecordFault) → IsErrAnd result (λ e. e ≡ fault) ↔ IsFirstFault bs fault
 
-pub refused : (bs : List ℕ) (fault : RecordFault) → IsFirstFault bs fault → IsAnswered bs (Err fault)
+pub refused : (bs : List ℕ) (fault : RecordFault) → IsFirstFault bs fault → IsDecoded bs (Err fault)
 refused bs fault is = record {
   user = λ u r. (λ none. absurd none, λ record_is. absurd (no_fault bs u r record_is fault is));
   only = one_user bs;
   fault = λ other. (λ same. subst (IsFirstFault bs) same is, λ first_is. one_fault bs fault other is first_is);
 }
 
-accept : (bs : List ℕ) (user : User) → IsRecord bs user.username.text user.role.text → IsAnswered bs (Ok user)
+accept : (bs : List ℕ) (user : User) → IsRecord bs user.username.text user.role.text → IsDecoded bs (Ok user)
 accept bs user is =
     let u = user.username.text in
     let r = user.role.text in record {
@@ -99,21 +99,21 @@ accept bs user is =
 
 -- what the tests of the two fields decide
 module _ (bs u r : List ℕ) (long : HasLength bs) (cut_at : u ≡ username_field bs) (rest : r ≡ role_field bs) where
-  pub refused_count : ¬ ((count u ≤ 20) × (count r ≤ 5)) → IsAnswered bs (Err Count)
+  pub refused_count : ¬ ((count u ≤ 20) × (count r ≤ 5)) → IsDecoded bs (Err Count)
   refused_count fails = refused bs Count (long, λ fit. fails (rw (cut_at, rest) fit))
 
   module _ (fits : (count u ≤ 20) × (count r ≤ 5)) where
-    pub refused_text : ¬ (IsWellFormed (counted u) × IsWellFormed (counted r)) → IsAnswered bs (Err Utf8)
+    pub refused_text : ¬ (IsWellFormed (counted u) × IsWellFormed (counted r)) → IsDecoded bs (Err Utf8)
     refused_text fails = refused bs Utf8 (long, rw (cut_at, rest) at fits, λ well. fails (rw (cut_at, rest) well))
 
     module _ (user : User) (name : IsText user.username.text × (bytes user.username.text ≡ counted u))
         (role : IsText user.role.text × (bytes user.role.text ≡ counted r)) where
-      pub refused_padding : ¬ (All (λ b. b ≡ 0) (padding u) × All (λ b. b ≡ 0) (padding r)) → IsAnswered bs (Err Padding)
+      pub refused_padding : ¬ (All (λ b. b ≡ 0) (padding u) × All (λ b. b ≡ 0) (padding r)) → IsDecoded bs (Err Padding)
       refused_padding fails =
           let well : IsWellFormed (counted u) × IsWellFormed (counted r) = ((user.username.text, name), (user.role.text, role)) in
           refused bs Padding (long, rw (cut_at, rest) at fits, rw (cut_at, rest) at well, λ padded. fails (rw (cut_at, rest) padded))
 
-      pub accepted : All (λ b. b ≡ 0) (padding u) → All (λ b. b ≡ 0) (padding r) → IsAnswered bs (Ok user)
+      pub accepted : All (λ b. b ≡ 0) (padding u) → All (λ b. b ≡ 0) (padding r) → IsDecoded bs (Ok user)
       accepted zero_u zero_r =
           let long_u : length u ≡ 21 = ap length cut_at ∙ length-take-le 21 bs (omega arith) in
           let long_r : length r ≡ 6 = ap length rest ∙ omega (arith, length-drop 21 bs) in

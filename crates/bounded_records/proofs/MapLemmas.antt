@@ -121,7 +121,7 @@ module _ (m : finite.FinMap (slice_cmp nat_cmp) (List ℕ × List ℕ)) (t : Lis
   one_less true is left = omega (arith, has_one (finite.len m) refl is, left)
   one_less false is left = omega (arith, left)
 
-  -- a removal takes one where there is one
+  -- a removal takes one if there is one
   pub len_removed : (o : Option User) → option_map texts o ≡ finite.get m t → finite.len (finite.remove m t) + (if is_some o then 1 else 0) ≡ finite.len m
   len_removed None is = one_less false (ap is_some (sym is)) (finite.len-remove nat_list_cmp_total m t ∙ ap (λ b. cond b (finite.len m - 1) (finite.len m)) (ap is_some (sym is)))
   len_removed (Some u) is = one_less true (ap is_some (sym is)) (finite.len-remove nat_list_cmp_total m t ∙ ap (λ b. cond b (finite.len m - 1) (finite.len m)) (ap is_some (sym is)))

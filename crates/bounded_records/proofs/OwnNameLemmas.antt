@@ -48,7 +48,7 @@ module _ (m : finite.FinMap (slice_cmp nat_cmp) (List ℕ × List ℕ)) (own : A
   own-remove q =
       rw (finite.get-remove nat_list_cmp_total m t q) (none-cond q (finite.get m q) (eq_by_cmp (slice_cmp nat_cmp) q t) (own q))
 
--- a user that was found has the name that was asked for
+-- a user that was found has the name that was given
 own-some : (o : Option User) (m : finite.FinMap (slice_cmp nat_cmp) (List ℕ × List ℕ)) (q : List ℕ) → AreUnderTheirNames m
     → option_map texts o ≡ finite.get m q → IfSome o (λ u. u.username.text ≡ q)
 own-some None m q own is = tt

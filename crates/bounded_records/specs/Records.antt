@@ -7,7 +7,7 @@ use Rattle.bounded_records.specs.declared.record.RecordFault.TheVariants.{Length
 
 -- a text in a field for so many bytes: the number of its bytes, its UTF-8, and zero bytes
 abbrev pub field_of : ℕ → List ℕ → List ℕ
-field_of places text = size text ∷ (bytes text ++ replicate (places - size text) 0)
+field_of room text = size text ∷ (bytes text ++ replicate (room - size text) 0)
 
 -- the record of a user: the username in a field for 20 bytes, the role in one for 5
 abbrev pub record_of : List ℕ → List ℕ → List ℕ

@@ -42,7 +42,7 @@ impl Model for Directory {
 }
 
 impl Directory {
-    /// The directory of no users. It takes no memory.
+    /// Returns the directory of no users. It takes no memory.
     pub fn new(alloc: Global) -> Self
         ensures empty { result ≡ map.empty }
         ensures none_found { (name : List ℕ) → map.get result name ≡ None }
@@ -54,7 +54,7 @@ impl Directory {
         }
     }
 
-    /// How many users there are.
+    /// Returns how many users there are.
     pub fn len(&self) -> usize
         ensures len { result ≡ map.len self.now }
         ensures names { result ≡ length (map.keys self.now) }
@@ -63,7 +63,7 @@ impl Directory {
         self.users.len()
     }
 
-    /// Whether there is no user.
+    /// Returns whether there is no user.
     pub fn is_empty(&self) -> bool
         ensures { IsTrue result ↔ (self.now ≡ map.empty) }
     {
@@ -71,9 +71,12 @@ impl Directory {
     }
 
     /// Puts `user` under its username and returns the user that was there; all other users stay.
-    /// Refused only where no user was there, and only if there is not enough memory or the tree of
-    /// `std::collections::BTreeMap` would get higher than 11, for which it takes some 2^37 users. The
-    /// directory is then as it was.
+    ///
+    /// # Errors
+    ///
+    /// Returns `Err(AllocError)` only if no user was there, and only if there is not enough memory or
+    /// the tree of `std::collections::BTreeMap` would get higher than 11, for which it takes some
+    /// 2^37 users. The directory is then as it was.
     #[tactic(auto, using(crate::proofs::MapLemmas::get_users, crate::proofs::MapLemmas::insert_users, crate::proofs::MapLemmas::get_inserted))]
     pub fn insert(&mut self, user: User) -> Result<Option<User>, AllocError>
         ensures old { IfOk result (λ old. option_map texts old ≡ map.get self.old user.username.text) }
@@ -89,7 +92,7 @@ impl Directory {
         Ok(self.users.insert(user.username, user)?)
     }
 
-    /// The user under `username`; `None` where there is none. It takes no memory.
+    /// Returns the user under `username`, or `None` if there is none. It takes no memory.
     #[tactic(auto, using(crate::proofs::MapLemmas::get_users))]
     pub fn get(&self, username: &ArrayString<20>) -> Option<&User>
         ensures found { option_map texts (option_copied result) ≡ map.get self.now username.now.text }
@@ -98,7 +101,7 @@ impl Directory {
         self.users.get(username)
     }
 
-    /// Whether there is a user under `username`. It takes no memory.
+    /// Returns whether there is a user under `username`. It takes no memory.
     #[tactic(auto, using(crate::proofs::MapLemmas::get_users))]
     pub fn contains(&self, username: &ArrayString<20>) -> bool
         ensures { result ≡ is_some (map.get self.now username.now.text) }
@@ -106,8 +109,8 @@ impl Directory {
         self.users.contains_key(username)
     }
 
-    /// Takes out the user under `username` and returns it; `None` where there is none. All other
-    /// users stay. It takes no memory.
+    /// Takes out the user under `username` and returns it. Returns `None` if there is none. All
+    /// other users stay. It takes no memory.
     pub fn remove(&mut self, username: &ArrayString<20>) -> Option<User>
         ensures removed { option_map texts result ≡ map.get self.old username.now.text }
         ensures own { IfSome result (λ user. user.username.text ≡ username.now.text) }
@@ -120,8 +123,8 @@ impl Directory {
         self.users.remove(username)
     }
 
-    /// Gives the user under `username` another role and returns the role that it had; `None` where
-    /// there is no such user. All other users stay. It takes no memory.
+    /// Gives the user under `username` another role and returns the role that it had. Returns
+    /// `None` if there is no such user. All other users stay. It takes no memory.
     pub fn set_role(
         &mut self,
         username: &ArrayString<20>,
@@ -138,8 +141,8 @@ impl Directory {
         Some(mem::replace(&mut user.role, role))
     }
 
-    /// The usernames, each once, in ascending order of their characters, which is that of their
-    /// bytes. It takes no memory.
+    /// Returns the usernames, each once, in ascending order of their characters, which is that of
+    /// their bytes. It takes no memory.
     #[tactic(auto, using(crate::proofs::MapLemmas::keys_users))]
     pub fn names(&self) -> Names<'_>
         ensures keys { result ≡ map.keys self.now }
@@ -156,7 +159,7 @@ impl Directory {
         }
     }
 
-    /// The users, each once, in ascending order of their usernames. It takes no memory.
+    /// Returns the users, each once, in ascending order of their usernames. It takes no memory.
     pub fn users(&self) -> Users<'_>
         ensures users { result ≡ map.values self.now }
         ensures names { names_of result ≡ map.keys self.now }

@@ -50,7 +50,7 @@ impl RecordFault {
     }
 }
 
-/// The name alone, which is not padded to a width that is asked for.
+/// The name alone, which is not padded to a width in the format.
 impl fmt::Display for RecordFault {
     ghost output = { λ fault. Some (fault_name fault) };
 
@@ -63,7 +63,7 @@ impl fmt::Display for RecordFault {
 
 impl Error for RecordFault {}
 
-/// The record of a user, which is that of no other. It takes no memory.
+/// Returns the record of a user, which is that of no other. It takes no memory.
 pub fn encode(user: &User) -> [u8; RECORD_SIZE]
     ensures record { IsRecord result user.now.username.text user.now.role.text }
     ensures only { (username role : List ℕ) → IsRecord result username role → texts user.now ≡ (username, role) }
@@ -75,15 +75,21 @@ pub fn encode(user: &User) -> [u8; RECORD_SIZE]
     record
 }
 
-/// The user whose record `given` is, which is one alone. Refused with `Length` where there are not
-/// 27 bytes, else with `Count` where a count is above the capacity of its text, else with `Utf8`
-/// where counted bytes are not well-formed UTF-8, else with `Padding` where a byte after them is
-/// not zero. It takes no memory.
+/// Returns the user whose record `given` is, which is one alone. It takes no memory.
+///
+/// # Errors
+///
+/// The first of these that holds decides:
+///
+/// - `Err(Length)` if there are not 27 bytes;
+/// - `Err(Count)` if a count is above the capacity of its text;
+/// - `Err(Utf8)` if counted bytes are not well-formed UTF-8;
+/// - `Err(Padding)` if a byte after them is not zero.
 pub fn decode(given: &[u8]) -> Result<User, RecordFault>
     ensures user { (username role : List ℕ) → IsOkAnd result (λ user. texts user ≡ (username, role)) ↔ IsRecord given.now username role }
     ensures only { (username role other_username other_role : List ℕ) → IsRecord given.now username role → IsRecord given.now other_username other_role
         → (username ≡ other_username) × (role ≡ other_role) }
-    ensures fault { (fault : RecordFault) → IsErrAnd result (λ told. told ≡ fault) ↔ IsFirstFault given.now fault }
+    ensures fault { (fault : RecordFault) → IsErrAnd result (λ e. e ≡ fault) ↔ IsFirstFault given.now fault }
 {
     if !has_length(given) {
         return Err(RecordFault::Length);
@@ -131,8 +137,8 @@ fn counts_fit(username: &[u8], role: &[u8]) -> bool
     username[0] <= 20 && role[0] <= 5
 }
 
-/// The text of a field whose count fits. Refused with `Utf8` where its counted bytes are not
-/// well-formed UTF-8.
+/// The text of a field whose count fits, or `Err(Utf8)` if its counted bytes are not well-formed
+/// UTF-8.
 fn text_of<const N: usize>(field: &[u8]) -> Result<ArrayString<N>, RecordFault>
     requires long { length field.now ≡ 1 + N }
     requires fits { count field.now ≤ N }

@@ -11,7 +11,7 @@ use std::fmt;
 
 /// A user: a username of at most 20 bytes of UTF-8 and a role of at most 5.
 ///
-/// Users are equal where both texts are, and are ordered by their usernames and then by their roles.
+/// Users are equal if both texts are, and are ordered by their usernames and then by their roles.
 /// Contracts name a user by these texts.
 #[derive(Clone, Copy, PartialEq, Eq, PartialOrd, Ord, Hash, Debug)]
 pub struct User {
@@ -22,8 +22,14 @@ pub struct User {
 }
 
 impl User {
-    /// The user of these texts. Refused with `Username` where the username is larger than 20 bytes,
-    /// else with `Role` where the role is larger than 5. It takes no memory.
+    /// Returns the user of these texts. It takes no memory.
+    ///
+    /// # Errors
+    ///
+    /// The first of these that holds decides:
+    ///
+    /// - `Err(Username)` if the username is larger than 20 bytes;
+    /// - `Err(Role)` if the role is larger than 5 bytes.
     pub fn new(username: &str, role: &str) -> Result<Self, UserFault>
         ensures user { IfOk result (λ user. texts user ≡ (chars username.now, chars role.now)) }
         ensures fits { OnOk result ((size (chars username.now) ≤ 20) × (size (chars role.now) ≤ 5)) }
@@ -56,7 +62,7 @@ impl UserFault {
     }
 }
 
-/// The name alone, which is not padded to a width that is asked for.
+/// The name alone, which is not padded to a width in the format.
 impl fmt::Display for UserFault {
     ghost output = { λ fault. Some (user_fault_name fault) };
 

@@ -48,12 +48,12 @@ impl<'a> Iterator for Names<'a> {
 
     ghost remaining = { item_count (λ names. names) };
 
-    /// The first username that is left; `None` where none is, and from then on.
+    /// Returns the first username that is left, or `None` if none is, and from then on.
     fn next(&mut self) -> Option<&'a ArrayString<20>> {
         self.keys.next()
     }
 
-    /// How many are left, twice.
+    /// Returns how many are left, twice.
     fn size_hint(&self) -> (usize, Option<usize>) {
         self.keys.size_hint()
     }
@@ -62,14 +62,14 @@ impl<'a> Iterator for Names<'a> {
 impl<'a> DoubleEndedIterator for Names<'a> {
     ghost next_back_gives = { YieldsLastBy name_text (λ names. names) };
 
-    /// The last username that is left; `None` where none is, and from then on.
+    /// Returns the last username that is left, or `None` if none is, and from then on.
     fn next_back(&mut self) -> Option<&'a ArrayString<20>> {
         self.keys.next_back()
     }
 }
 
 impl ExactSizeIterator for Names<'_> {
-    /// How many are left.
+    /// Returns how many are left.
     fn len(&self) -> usize {
         self.keys.len()
     }
@@ -122,12 +122,12 @@ impl<'a> Iterator for Users<'a> {
 
     ghost remaining = { item_count (λ users. users) };
 
-    /// The first user that is left; `None` where none is, and from then on.
+    /// Returns the first user that is left, or `None` if none is, and from then on.
     fn next(&mut self) -> Option<&'a User> {
         self.values.next()
     }
 
-    /// How many are left, twice.
+    /// Returns how many are left, twice.
     fn size_hint(&self) -> (usize, Option<usize>) {
         self.values.size_hint()
     }
@@ -136,14 +136,14 @@ impl<'a> Iterator for Users<'a> {
 impl<'a> DoubleEndedIterator for Users<'a> {
     ghost next_back_gives = { YieldsLastBy user_texts (λ users. users) };
 
-    /// The last user that is left; `None` where none is, and from then on.
+    /// Returns the last user that is left, or `None` if none is, and from then on.
     fn next_back(&mut self) -> Option<&'a User> {
         self.values.next_back()
     }
 }
 
 impl ExactSizeIterator for Users<'_> {
-    /// How many are left.
+    /// Returns how many are left.
     fn len(&self) -> usize {
         self.values.len()
     }

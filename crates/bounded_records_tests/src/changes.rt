@@ -67,7 +67,7 @@ fn each_user_can_be_put_in_again(rt: HostRuntime) {
 
 /// Texts of each size up to 30 bytes, of letters and of characters of two bytes.
 #[test]
-fn the_first_text_that_is_too_large_is_told(rt: HostRuntime) -> Result<(), Fail> {
+fn the_first_text_that_is_too_large_is_reported(rt: HostRuntime) -> Result<(), Fail> {
     let letters = "abcdefghijklmnopqrstuvwxyzabcd";
     let wide = "éèêëàâîïôûùüçñö";
     for username in 0..31usize {
@@ -111,13 +111,13 @@ fn users_are_compared_by_both_texts(rt: HostRuntime) {
         ("\u{FFFF}", ""),
         ("\u{10000}", ""),
     ];
-    for (place, (username, role)) in texts.iter().enumerate() {
+    for (position, (username, role)) in texts.iter().enumerate() {
         let one = user(username, role);
         agree(&rt, hash_of(&one), hash_of(&(*username, *role)));
-        for (other_place, (username, role)) in texts.iter().enumerate() {
+        for (other_position, (username, role)) in texts.iter().enumerate() {
             let other = user(username, role);
-            agree(&rt, one.cmp(&other), place.cmp(&other_place));
-            agree(&rt, one == other, place == other_place);
+            agree(&rt, one.cmp(&other), position.cmp(&other_position));
+            agree(&rt, one == other, position == other_position);
         }
     }
 }

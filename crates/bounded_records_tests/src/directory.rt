@@ -48,7 +48,7 @@ fn equal_texts_are_one_key(rt: HostRuntime) {
 const USERS: u16 = 361;
 
 /// All ranked users are there, each with `more` behind its role, and no others.
-fn holds_ranked(rt: &impl Abort, users: &Directory, more: &str) {
+fn check_ranked(rt: &impl Abort, users: &Directory, more: &str) {
     let mut names = users.names();
     for rank in 0..USERS {
         let mut wanted = ranked(rank);
@@ -68,7 +68,7 @@ fn many_users_are_kept_and_replaced(rt: HostRuntime) {
         agree(&rt, users.insert(given), Ok(None));
         finds(&rt, &users, &given);
     }
-    holds_ranked(&rt, &users, "");
+    check_ranked(&rt, &users, "");
     for turn in 0..USERS as u32 {
         let rank = (turn * 26 % 361) as u16;
         let mut given = ranked(rank);
@@ -76,7 +76,7 @@ fn many_users_are_kept_and_replaced(rt: HostRuntime) {
         agree(&rt, users.insert(given), Ok(Some(ranked(rank))));
         finds(&rt, &users, &given);
     }
-    holds_ranked(&rt, &users, "new");
+    check_ranked(&rt, &users, "new");
 }
 
 /// So many that the directory grows a third layer of nodes.
@@ -96,7 +96,7 @@ fn numbered(number: u8) -> User {
 }
 
 /// The users of the numbers below `count` are there, and no others.
-fn holds_first(rt: &impl Abort, users: &Directory, count: u8) {
+fn check_first(rt: &impl Abort, users: &Directory, count: u8) {
     let mut names = users.names();
     for number in 0..=255 {
         let wanted = numbered(number);
@@ -110,8 +110,8 @@ fn holds_first(rt: &impl Abort, users: &Directory, count: u8) {
     agree(rt, names.next(), None);
 }
 
-/// Where ever more memory is left, from none up, each growth is refused in turn until it is met.
-/// A user that is there already is replaced without any.
+/// With ever more memory, from none up, each growth is refused in turn until it is met. A user that
+/// is there already is replaced without any.
 #[test]
 fn each_refused_growth_changes_nothing(rt: HostRuntime) -> Result<(), Fail> {
     let mut users = Directory::new(rt.alloc());
@@ -130,7 +130,7 @@ fn each_refused_growth_changes_nothing(rt: HostRuntime) -> Result<(), Fail> {
             }
             count = number + 1;
         }
-        holds_first(&rt, &users, count);
+        check_first(&rt, &users, count);
         if count == COUNT {
             break;
         }

@@ -25,9 +25,9 @@ const BEYOND_ASCII: [u8; 27] = [
 /// A record with other bytes at some offsets.
 fn with(record: [u8; 27], changes: &[(usize, u8)]) -> [u8; 27] {
     let mut changed = record;
-    for &(place, byte) in changes {
-        if place < 27 {
-            changed[place] = byte;
+    for &(offset, byte) in changes {
+        if offset < 27 {
+            changed[offset] = byte;
         }
     }
     changed
@@ -88,19 +88,19 @@ fn the_first_test_that_fails_decides(rt: HostRuntime) {
 
 #[test]
 fn each_padding_byte_is_judged(rt: HostRuntime) {
-    for place in 1..27usize {
-        if place != 21 {
-            let record = with([0; 27], &[(place, 0x01)]);
+    for offset in 1..27usize {
+        if offset != 21 {
+            let record = with([0; 27], &[(offset, 0x01)]);
             agree(&rt, decode(&record), Err(RecordFault::Padding));
         }
     }
-    for place in 5..21usize {
-        let record = with(RECORD, &[(place, 0x01)]);
+    for offset in 5..21usize {
+        let record = with(RECORD, &[(offset, 0x01)]);
         agree(&rt, decode(&record), Err(RecordFault::Padding));
     }
 }
 
-/// Each form that could pad or cut a name gives the name alone, whatever width is asked for.
+/// Each form that could pad or cut a name gives the name alone, whatever the width in the format.
 fn prints<T: Display + Debug>(rt: &(impl Abort + AllocGlobal), fault: &T, name: &str) {
     for width in 0..300usize {
         let printed = format!(in rt.alloc();

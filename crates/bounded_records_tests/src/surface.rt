@@ -36,8 +36,8 @@ fn each_type_has_its_traits(_rt: HostRuntime) {
     is_walked::<User, Users<'static>>();
 }
 
-/// The place of a test among the four. There is no other case.
-fn place(fault: RecordFault) -> u8 {
+/// The position of a test among the four. There is no other case.
+fn position(fault: RecordFault) -> u8 {
     match fault {
         RecordFault::Length => 0,
         RecordFault::Count => 1,
@@ -60,7 +60,7 @@ fn each_path_is_at_hand(rt: HostRuntime) {
     agree(&rt, read, Ok(user));
     let fault = decode(&[]).err();
     agree(&rt, fault, Some(RecordFault::Length));
-    agree(&rt, fault.map(place), Some(0));
+    agree(&rt, fault.map(position), Some(0));
     let mut users: Directory = Directory::new(rt.alloc());
     let replaced: Option<User> = users.insert(user).expect(&rt, "memory for a user");
     agree(&rt, replaced, None);

@@ -22,8 +22,8 @@ fn letter(number: u16) -> char {
     (b'a' + (number % 26) as u8) as char
 }
 
-/// The user at a place of the ascending order. The first username is empty, and then come `a`, `aa` and
-/// so on up to 20 letters, then `b`. Each role tells the place.
+/// The user at a position of the ascending order. The first username is empty, and then come `a`, `aa` and
+/// so on up to 20 letters, then `b`. Each role has the position.
 pub(super) fn ranked(rank: u16) -> User {
     let mut ranked = user("", "");
     let _ = ranked.role.try_push(letter(rank / 26));

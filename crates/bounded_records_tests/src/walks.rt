@@ -22,8 +22,8 @@ fn has_left(rt: &impl Abort, names: &Names, users: &Users, front: u16, back: u16
     agree(rt, names.size_hint(), (left, Some(left)));
     agree(rt, users.len(), left);
     agree(rt, users.size_hint(), (left, Some(left)));
-    let mut names = names.clone().expect(rt, "no memory is asked for");
-    let mut users = users.clone().expect(rt, "no memory is asked for");
+    let mut names = names.clone().expect(rt, "no memory is taken");
+    let mut users = users.clone().expect(rt, "no memory is taken");
     for rank in front..back {
         let wanted = ranked(rank);
         agree(rt, names.next(), Some(&wanted.username));
@@ -37,7 +37,7 @@ fn has_left(rt: &impl Abort, names: &Names, users: &Users, front: u16, back: u16
     }
 }
 
-/// Walks by the ends that the bits of `ends` tell, over and over.
+/// Walks by the ends that the bits of `ends` say, over and over.
 fn walk(rt: &impl Abort, directory: &Directory, count: u16, ends: u32)
     requires { count ≤ 60 }
 {

@@ -11,6 +11,10 @@ use std::alloc::{AllocError, Global};
 
 /// Enters a user, and returns the role that is then found under the username, which is the one that
 /// was entered.
+///
+/// # Errors
+///
+/// Returns `Err(AllocError)` if `Directory::insert` does. Nothing has changed then.
 pub fn enter(users: &mut Directory, user: User) -> Result<Option<ArrayString<5>>, AllocError>
     ensures role { IfOk result (λ role. option_map (λ role. role.text) role ≡ Some user.role.text) }
     ensures after { OnOk result (users.new ≡ finite.insert users.old user.username.text (texts user)) }
@@ -20,7 +24,11 @@ pub fn enter(users: &mut Directory, user: User) -> Result<Option<ArrayString<5>>
     Ok(users.get(&user.username).map(|found| found.role))
 }
 
-/// All users, in the order of their usernames.
+/// Returns all users, in the order of their usernames.
+///
+/// # Errors
+///
+/// Returns `Err(AllocError)` if `collect` does.
 pub fn dump(users: &Directory, alloc: Global) -> Result<Vec<User>, AllocError>
     ensures { IfOk result (λ all. map texts all.items ≡ finite.values users.now) }
 {
@@ -38,8 +46,15 @@ pub enum NotRenamed {
     Memory,
 }
 
-/// Gives the user under `from` the name `to`; its role stays, and so do all other users. Refused with
-/// `Missing`, else `Taken`, else `Memory`.
+/// Gives the user under `from` the name `to`; its role stays, and so do all other users.
+///
+/// # Errors
+///
+/// The first of these that holds decides, and nothing has changed then:
+///
+/// - `Err(Missing)` if no user has the old name;
+/// - `Err(Taken)` if some user has the new name;
+/// - `Err(Memory)` if there is not enough memory.
 pub fn rename(
     users: &mut Directory,
     from: &ArrayString<20>,

@@ -15,7 +15,7 @@ fn agree<T: PartialEq + Debug + Drop>(rt: &impl Abort, gave: T, wanted: T) {
 }
 
 /// The users of a directory are these, in this order.
-fn holds(rt: &(impl Abort + AllocGlobal), users: &Directory, wanted: &[User]) {
+fn check_users(rt: &(impl Abort + AllocGlobal), users: &Directory, wanted: &[User]) {
     let all = dump(users, rt.alloc()).expect(rt, "memory for the users");
     agree(rt, all.as_slice(), wanted);
 }
@@ -25,27 +25,27 @@ fn users_are_entered_renamed_and_struck_off(rt: HostRuntime) -> Result<(), Fail>
     let mut users = Directory::new(rt.alloc());
     let (ann, bob) = (User::new("ann", "admin")?, User::new("bob", "guest")?);
     let zoe = User::new("zoe", "admin")?;
-    holds(&rt, &users, &[]);
+    check_users(&rt, &users, &[]);
     agree(&rt, enter(&mut users, bob)?, Some(bob.role));
     agree(&rt, enter(&mut users, ann)?, Some(ann.role));
-    holds(&rt, &users, &[ann, bob]);
+    check_users(&rt, &users, &[ann, bob]);
     let taken = rename(&mut users, &ann.username, bob.username);
     agree(&rt, taken, Err(NotRenamed::Taken));
     let same = rename(&mut users, &ann.username, ann.username);
     agree(&rt, same, Err(NotRenamed::Taken));
     let missing = rename(&mut users, &zoe.username, ArrayString::new());
     agree(&rt, missing, Err(NotRenamed::Missing));
-    holds(&rt, &users, &[ann, bob]);
+    check_users(&rt, &users, &[ann, bob]);
     agree(&rt, rename(&mut users, &ann.username, zoe.username), Ok(()));
-    holds(&rt, &users, &[bob, zoe]);
+    check_users(&rt, &users, &[bob, zoe]);
     agree(&rt, strike_off(&mut users, &ann.username), false);
     agree(&rt, strike_off(&mut users, &bob.username), true);
     agree(&rt, strike_off(&mut users, &bob.username), false);
-    holds(&rt, &users, &[zoe]);
+    check_users(&rt, &users, &[zoe]);
     Ok(())
 }
 
-/// How many users are entered where memory is refused.
+/// How many users are entered if memory is refused.
 const COUNT: u8 = 100;
 
 /// The user of a number. Their usernames ascend with the numbers.
@@ -60,7 +60,7 @@ fn numbered(number: u8) -> User {
 }
 
 /// The users of the numbers below `count` are there, and no others.
-fn holds_first(rt: &impl Abort, users: &Directory, count: u8) {
+fn check_first(rt: &impl Abort, users: &Directory, count: u8) {
     let mut all = users.users();
     for number in 0..count {
         agree(rt, all.next(), Some(&numbered(number)));
@@ -68,8 +68,8 @@ fn holds_first(rt: &impl Abort, users: &Directory, count: u8) {
     agree(rt, all.next(), None);
 }
 
-/// Where ever more memory is left, from none up, each growth is refused in turn until it is met. Where a
-/// user is refused, so is a new name in its place.
+/// With ever more memory, from none up, each growth is refused in turn until it is met. If a user
+/// is refused, so is a new name instead of it.
 #[test]
 fn each_refused_growth_changes_nothing(rt: HostRuntime) -> Result<(), Fail> {
     let mut users = Directory::new(rt.alloc());
@@ -100,7 +100,7 @@ fn each_refused_growth_changes_nothing(rt: HostRuntime) -> Result<(), Fail> {
             agree(&rt, renamed, Err(NotRenamed::Memory));
             renames = renames.saturating_add(1);
         }
-        holds_first(&rt, &users, count);
+        check_first(&rt, &users, count);
         if dump(&users, rt.alloc()).is_err() {
             dumps = dumps.saturating_add(1);
         }
@@ -109,6 +109,6 @@ fn each_refused_growth_changes_nothing(rt: HostRuntime) -> Result<(), Fail> {
     agree(&rt, count, COUNT);
     assert!(rt; renames > 10);
     assert!(rt; dumps > 10);
-    holds_first(&rt, &users, COUNT);
+    check_first(&rt, &users, COUNT);
     Ok(())
 }

@@ -8,13 +8,13 @@ pub const LETTERS: &str = "xxxxxxxxxxxxxxxxxxxxxxxxxxxxxxxxxxxxxxxxxxxxxxxxxxxxx
     xxxxxxxxxxxxxxxxxxxxxxxxxxxxxxxxxxxxxxxxxxxxxxxxxxxxxxxxxxxxxxxx\
     xxxxxxxxxxxxxxxxxxxxxxxxxxxxxxxxxxxxxxxxxxxxxxxxxxxxxxxxxxxxxxxx";
 
-/// The rows of a table.
+/// Returns the rows of a table.
 pub fn rows(table: &str) -> Lines {
     table.trim().lines()
 }
 
-/// A column of a row, without the spaces round it and without the quotes in which a text may be.
-/// `255 x` is so many letters.
+/// Returns a column of a row, without the spaces round it and without the quotes in which a text
+/// may be. `255 x` is so many letters.
 pub fn column(row: &str, at: usize) -> &str {
     let column = row
         .split('|')

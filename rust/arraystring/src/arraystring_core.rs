@@ -1,6 +1,6 @@
 // Made from crates/arraystring_core/src/lib.rt by rust/erase. A change goes there.
 //! `ArrayString`, a string of bounded size in an array inside the value, and its laws. It takes no
-//! memory, but where a JSON value is made. Its tests are in `crates/arraystring_tests`.
+//! memory, except to make a JSON value. Its tests are in `crates/arraystring_tests`.
 
 pub mod array_string;
 mod decode;
@@ -8,6 +8,7 @@ pub mod drain;
 mod equal;
 mod gap;
 pub mod laws;
+mod order;
 mod range_ends;
 pub(crate) mod retain;
 pub mod utils;

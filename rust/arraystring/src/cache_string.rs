@@ -15,7 +15,7 @@ mod compare;
 pub struct CacheString(pub ArrayString<63>);
 
 impl CacheString {
-    /// The empty string.
+    /// Returns the empty string.
     ///
     /// # Contract
     ///
@@ -27,7 +27,7 @@ impl CacheString {
         CacheString(ArrayString::new())
     }
 
-    /// How many bytes fit: 63.
+    /// Returns how many bytes fit: 63.
     ///
     /// # Contract
     ///
@@ -39,7 +39,11 @@ impl CacheString {
         ArrayString::<63>::capacity()
     }
 
-    /// The text `string`. Refused with `OutOfBounds` where it is larger than the capacity.
+    /// Returns the text `string`.
+    ///
+    /// # Errors
+    ///
+    /// Returns `Err(OutOfBounds)` if `string` is larger than the capacity.
     ///
     /// # Contract
     ///
@@ -52,7 +56,7 @@ impl CacheString {
         Ok(CacheString(ArrayString::try_from_str(string)?))
     }
 
-    /// The longest leading run of whole characters of `string` that fits.
+    /// Returns the longest prefix of whole characters of `string` that fits.
     ///
     /// # Contract
     ///
@@ -65,7 +69,11 @@ impl CacheString {
         CacheString(ArrayString::from_str_truncate(string))
     }
 
-    /// The text `string`. All of it must fit.
+    /// Returns the text `string`.
+    ///
+    /// # Precondition
+    ///
+    /// All of `string` must fit.
     ///
     /// # Safety
     ///
@@ -84,9 +92,15 @@ impl CacheString {
         CacheString(unsafe { ArrayString::from_str_unchecked(string) })
     }
 
-    /// The pieces joined. Refused with `OutOfBounds` where they are larger than the capacity. It
-    /// needs no piece after the first that does not fit, and a test shows that it takes none. The
-    /// iterator must end, and allow `next` until it does.
+    /// Returns the pieces joined.
+    ///
+    /// # Errors
+    ///
+    /// Returns `Err(OutOfBounds)` if `pieces` are larger than the capacity.
+    ///
+    /// # Precondition
+    ///
+    /// The iterator must end, as `ArrayString` says.
     ///
     /// # In Rust
     ///
@@ -110,9 +124,11 @@ impl CacheString {
         Ok(CacheString(ArrayString::try_from_iterator(pieces)?))
     }
 
-    /// The longest leading run of whole characters of the joined pieces that fits. It needs no
-    /// piece after the first that does not fit, and a test shows that it takes none. The iterator
-    /// must end, and allow `next` until it does.
+    /// Returns the longest prefix of whole characters of the joined pieces that fits.
+    ///
+    /// # Precondition
+    ///
+    /// The iterator must end, as `ArrayString` says.
     ///
     /// # In Rust
     ///
@@ -134,8 +150,11 @@ impl CacheString {
         CacheString(ArrayString::from_iterator(pieces))
     }
 
-    /// The pieces joined. All of them must fit. The iterator must end, and allow `next` until it
-    /// does.
+    /// Returns the pieces joined.
+    ///
+    /// # Precondition
+    ///
+    /// All of `pieces` must fit. The iterator must end, as `ArrayString` says.
     ///
     /// # Safety
     ///
@@ -157,9 +176,15 @@ impl CacheString {
         CacheString(unsafe { ArrayString::from_iterator_unchecked(pieces) })
     }
 
-    /// The characters. Refused with `OutOfBounds` where they are larger than the capacity. It needs
-    /// no character after the first that does not fit, and a test shows that it takes none. The
-    /// iterator must end, and allow `next` until it does.
+    /// Returns the characters.
+    ///
+    /// # Errors
+    ///
+    /// Returns `Err(OutOfBounds)` if `characters` are larger than the capacity.
+    ///
+    /// # Precondition
+    ///
+    /// The iterator must end, as `ArrayString` says.
     ///
     /// # In Rust
     ///
@@ -183,9 +208,12 @@ impl CacheString {
         Ok(CacheString(ArrayString::try_from_chars(characters)?))
     }
 
-    /// The characters up to the first that does not fit, also where a later shorter one would. It
-    /// needs no character after that one, and a test shows that it takes none. The iterator must
-    /// end, and allow `next` until it does.
+    /// Returns the characters up to the first that does not fit, even if a later shorter one would
+    /// fit.
+    ///
+    /// # Precondition
+    ///
+    /// The iterator must end, as `ArrayString` says.
     ///
     /// # In Rust
     ///
@@ -207,7 +235,11 @@ impl CacheString {
         CacheString(ArrayString::from_chars(characters))
     }
 
-    /// The characters. All of them must fit. The iterator must end, and allow `next` until it does.
+    /// Returns the characters.
+    ///
+    /// # Precondition
+    ///
+    /// All of `characters` must fit. The iterator must end, as `ArrayString` says.
     ///
     /// # Safety
     ///
@@ -229,9 +261,15 @@ impl CacheString {
         CacheString(unsafe { ArrayString::from_chars_unchecked(characters) })
     }
 
-    /// The text whose UTF-8 is `given`. Refused with `Error::Utf8` where the whole slice is not
-    /// well-formed UTF-8 (the Unicode Standard, section 3.9), and else with `Error::OutOfBounds`
-    /// where it is larger than the capacity.
+    /// Returns the text whose UTF-8 is `given`.
+    ///
+    /// # Errors
+    ///
+    /// The first of these that holds decides:
+    ///
+    /// - `Err(Utf8)` if the whole slice is not well-formed UTF-8 (the Unicode Standard, section
+    ///   3.9);
+    /// - `Err(OutOfBounds)` if the text is larger than the capacity.
     ///
     /// # Contract
     ///
@@ -247,8 +285,11 @@ impl CacheString {
         Ok(CacheString(ArrayString::try_from_utf8(given)?))
     }
 
-    /// The longest leading run of whole characters that fits of the text whose UTF-8 is `given`.
-    /// Refused with `Utf8` where the whole slice is not well-formed UTF-8 (the Unicode Standard,
+    /// Returns the longest prefix of whole characters that fits of the text whose UTF-8 is `given`.
+    ///
+    /// # Errors
+    ///
+    /// Returns `Err(Utf8)` if the whole slice is not well-formed UTF-8 (the Unicode Standard,
     /// section 3.9), also by bytes past the capacity.
     ///
     /// # Contract
@@ -264,8 +305,12 @@ impl CacheString {
         Ok(CacheString(ArrayString::from_utf8(given)?))
     }
 
-    /// The text whose UTF-8 is `given`. It must be well-formed UTF-8 (the Unicode Standard,
-    /// section 3.9), and all of it must fit.
+    /// Returns the text whose UTF-8 is `given`.
+    ///
+    /// # Precondition
+    ///
+    /// `given` must be well-formed UTF-8 (the Unicode Standard, section 3.9), and all of it must
+    /// fit.
     ///
     /// # Safety
     ///
@@ -286,8 +331,14 @@ impl CacheString {
         CacheString(unsafe { ArrayString::from_utf8_unchecked(given) })
     }
 
-    /// The text whose UTF-16 `units` is. It is read item by item up to the first that ends it: a
-    /// lone surrogate is refused with `Utf16`, a character that does not fit with `OutOfBounds`.
+    /// Returns the text whose UTF-16 `units` is.
+    ///
+    /// # Errors
+    ///
+    /// The units are read item by item, and the first of these ends the reading:
+    ///
+    /// - `Err(Utf16)` if the item is a lone surrogate;
+    /// - `Err(OutOfBounds)` if the item is a character that does not fit.
     ///
     /// # Contract
     ///
@@ -300,9 +351,13 @@ impl CacheString {
         Ok(CacheString(ArrayString::try_from_utf16(units)?))
     }
 
-    /// The longest leading run of characters of `units` that fits. Refused with `Utf16` where a
-    /// lone surrogate comes right after that run, also if the string is full. What comes after a
-    /// character that does not fit is not looked at.
+    /// Returns the longest prefix of characters of `units` that fits. What comes after a character
+    /// that does not fit is not looked at.
+    ///
+    /// # Errors
+    ///
+    /// Returns `Err(Utf16)` if a lone surrogate comes right after that prefix, also if the string
+    /// is full.
     ///
     /// # Contract
     ///
@@ -315,8 +370,8 @@ impl CacheString {
         Ok(CacheString(ArrayString::from_utf16(units)?))
     }
 
-    /// The text of `units`, where each lone surrogate is read as U+FFFD, which takes three bytes.
-    /// The first character that does not fit ends it.
+    /// Returns the text of `units`, with each lone surrogate read as U+FFFD, which takes three
+    /// bytes. The first character that does not fit ends it.
     ///
     /// # Contract
     ///
@@ -330,8 +385,14 @@ impl CacheString {
     }
 
     /// Returns the part from the byte index `at` on and keeps the part before it. `at` may be the
-    /// length. Refused with `OutOfBounds` where `at` is past the text, then with `Utf8` where it is
-    /// inside a character. The text is then as it was.
+    /// length.
+    ///
+    /// # Errors
+    ///
+    /// The first of these that holds decides, and the text is then as it was:
+    ///
+    /// - `Err(OutOfBounds)` if `at` is past the text;
+    /// - `Err(Utf8)` if it is inside a character.
     ///
     /// # Contract
     ///
@@ -388,7 +449,7 @@ impl FromStr for CacheString {
     }
 }
 
-/// The text. A width that is asked for is ignored: nothing is padded.
+/// The text. A width in the format is ignored: nothing is padded.
 ///
 /// # Contract
 ///
@@ -403,7 +464,8 @@ impl fmt::Display for CacheString {
     }
 }
 
-/// The string with the given text added at its end: as many of its leading whole characters as fit.
+/// The string with the given text added at its end: its longest prefix of whole characters that
+/// fits.
 ///
 /// # Contract
 ///
@@ -425,8 +487,12 @@ impl<'a> Add<&'a str> for CacheString {
 /// ghost write_str_gives = { λ s given t. bytes t.0.text ≡ bytes s.0.text ++ given };
 /// ```
 impl fmt::Write for CacheString {
-    /// Adds `string` at the end. Refused where not all of it fits. The text is then as it was. A
-    /// `write!` of several pieces leaves those before the one that is refused.
+    /// Adds `string` at the end.
+    ///
+    /// # Errors
+    ///
+    /// Returns `Err(fmt::Error)` if not all of `string` fits. The text is then as it was. A `write!`
+    /// of several pieces leaves those before the one that is refused.
     ///
     /// # Contract
     ///

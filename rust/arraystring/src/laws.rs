@@ -2,7 +2,7 @@
 //! Laws, which callers may rely on. Each does nothing when it is called and carries its fact in its
 //! contract.
 pub use crate::arraystring_base::laws::{
-    boundaries, cut_of_cut, lent_text, longest_cut, one_stop, one_text, only_reading,
+    borrowed_text, boundaries, cut_of_cut, longest_cut, one_stop, one_text, only_reading,
     order_of_bytes, order_of_texts, parts, size_is_length, text_reading,
 };
 pub use crate::arraystring_core::laws::{

@@ -36,7 +36,7 @@ impl Fault {
     }
 }
 
-/// A place between two tokens of a source.
+/// A position between two tokens of a source.
 #[derive(Clone)]
 pub struct Cursor<'a> {
     pub source: &'a str,

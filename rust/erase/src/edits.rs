@@ -1,4 +1,4 @@
-//! Changes of a source, each at its place.
+//! Changes of a source, each at its range.
 
 use std::ops::Range;
 
@@ -9,7 +9,7 @@ pub struct Edits {
 }
 
 impl Edits {
-    /// Puts `put` in place of what is at `at`.
+    /// Replaces what is at `at` by `put`.
     pub fn replace(&mut self, at: Range<usize>, put: impl Into<String>) {
         self.edits.push((at, put.into()));
     }

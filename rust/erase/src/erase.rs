@@ -38,7 +38,7 @@ impl Tally {
     }
 }
 
-/// The line of a place in a text, from 1.
+/// The line of a position in a text, from 1.
 pub fn line_of(text: &str, at: usize) -> usize {
     text[..at.min(text.len())].matches('\n').count() + 1
 }

@@ -245,6 +245,12 @@ pub const REPLACED: &[Replaced] = &[
         why: "no precondition bounds the count",
     },
     Replaced {
+        file: "arraystring_core/src/order.rt",
+        from: "if common < 16 {",
+        to: "if common < usize::MAX {",
+        why: "std compares by `memcmp`, which has larger vectors",
+    },
+    Replaced {
         file: "arraystring_core/src/lib.rt",
         from: "mod retain;",
         to: "pub(crate) mod retain;",
@@ -258,8 +264,8 @@ pub const REPLACED: &[Replaced] = &[
     },
     Replaced {
         file: "arraystring_core/src/array_string/remove.rt",
-        from: "self.size = retain_at(&mut self.array, place, size, f) as u8;",
-        to: "retain_at(&mut self.array, &mut self.size, place, size, f);",
+        from: "self.size = retain_at(&mut self.array, offset, size, f) as u8;",
+        to: "retain_at(&mut self.array, &mut self.size, offset, size, f);",
         why: "a closure may panic",
     },
 ];

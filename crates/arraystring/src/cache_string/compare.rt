@@ -12,7 +12,7 @@ use crate::CacheString;
 use std::cmp::Ordering;
 use std::hash::{Hash, Hasher};
 
-/// Strings are equal where their texts are.
+/// Strings are equal if their texts are.
 impl PartialEq for CacheString {
     ghost eq = { λ s t. pointwise nat_eq s.0.text t.0.text };
 

@@ -28,8 +28,8 @@ impl<const N: usize> ArrayString<N> {
         requires end { IsTrue (boundary self.old.text end) }
         ensures { self.new.text ≡ front self.old.text start ++ (map to_ascii_uppercase (part self.old.text start end) ++ back self.old.text end) }
     {
-        let place = self.start as usize;
-        uppercase_bytes(&mut self.array, place + start, place + end);
+        let offset = self.start as usize;
+        uppercase_bytes(&mut self.array, offset + start, offset + end);
     }
 
     /// Changes A..Z to a..z between two boundaries.
@@ -39,8 +39,8 @@ impl<const N: usize> ArrayString<N> {
         requires end { IsTrue (boundary self.old.text end) }
         ensures { self.new.text ≡ front self.old.text start ++ (map to_ascii_lowercase (part self.old.text start end) ++ back self.old.text end) }
     {
-        let place = self.start as usize;
-        lowercase_bytes(&mut self.array, place + start, place + end);
+        let offset = self.start as usize;
+        lowercase_bytes(&mut self.array, offset + start, offset + end);
     }
 }
 

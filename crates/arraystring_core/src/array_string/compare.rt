@@ -8,6 +8,7 @@ ghost use Rattle.arraystring_base.specs.Text.{bytes, cap, IsBefore};
 ghost use Rattle.arraystring_core.specs.Edits.{Makes, from_out_of_bounds, addition, addition_of_cut};
 
 use crate::ArrayString;
+use crate::order::order;
 use std::cmp::Ordering;
 use std::fmt;
 use std::hash::{Hash, Hasher};
@@ -33,14 +34,14 @@ impl<const N: usize> Ord for ArrayString<N> {
 
     ghost matches_eq = { λ s t. texts_ties s.text t.text };
 
-    /// The order of the texts, by the numbers of their characters; a text that begins another is
-    /// less than it. It is the order of the bytes of UTF-8 too.
+    /// Returns the order of the texts, by the scalar values of their characters. A text that begins
+    /// another is less than it. The order of the bytes of UTF-8 is the same.
     fn cmp(&self, other: &Self) -> Ordering
         ensures order { result ≡ slice_cmp nat_cmp self.now.text other.now.text }
         ensures of_bytes { result ≡ slice_cmp nat_cmp (bytes self.now.text) (bytes other.now.text) }
         ensures says { MatchOrdering result (IsBefore self.now.text other.now.text) (self.now.text ≡ other.now.text) (IsBefore other.now.text self.now.text) }
     {
-        self.as_str().cmp(other.as_str())
+        order(self.as_str(), other.as_str())
     }
 }
 
@@ -55,7 +56,7 @@ impl<const N: usize> Hash for ArrayString<N> {
     }
 }
 
-/// The text. A width that is asked for is ignored: nothing is padded.
+/// The text. A width in the format is ignored: nothing is padded.
 impl<const N: usize> fmt::Display for ArrayString<N> {
     ghost output = { λ s. Some (bytes s.text) };
 
@@ -66,7 +67,7 @@ impl<const N: usize> fmt::Display for ArrayString<N> {
     }
 }
 
-/// The string with the given text added at its end: as many of its leading whole characters as fit.
+/// The string, with the longest prefix of whole characters of `given` that fits added at its end.
 impl<'a, const N: usize> Add<&'a str> for ArrayString<N> {
     type Output = Self;
 
@@ -81,8 +82,12 @@ impl<'a, const N: usize> Add<&'a str> for ArrayString<N> {
 impl<const N: usize> fmt::Write for ArrayString<N> {
     ghost write_str_gives = { λ s given t. bytes t.text ≡ bytes s.text ++ given };
 
-    /// Adds `string` at the end. Refused where not all of it fits. The text is then as it was. A
-    /// `write!` of several pieces leaves those before the one that is refused.
+    /// Adds `string` at the end.
+    ///
+    /// # Errors
+    ///
+    /// Returns `Err(fmt::Error)` if not all of `string` fits. The text is then as it was. A `write!`
+    /// of several pieces leaves those before the one that is refused.
     fn write_str(&mut self, string: &str) -> fmt::Result
         ensures ok { IsOk result → bytes self.new.text ≡ bytes self.old.text ++ string.now }
         ensures made { Makes (addition self.old.text (chars string.now) (cap N)) self.old.text (from_out_of_bounds result) self.new.text }

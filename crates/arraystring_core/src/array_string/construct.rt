@@ -15,7 +15,11 @@ use arraystring_base::utils::truncate_str;
 use std::str::{self, FromStr};
 
 impl<const N: usize> ArrayString<N> {
-    /// The text `string`. Refused with `OutOfBounds` where it is larger than the capacity.
+    /// Returns the text `string`.
+    ///
+    /// # Errors
+    ///
+    /// Returns `Err(OutOfBounds)` if `string` is larger than the capacity.
     pub fn try_from_str(string: &str) -> Result<Self, OutOfBounds>
         ensures { IsWholeOrRefused (chars string.now) (cap N) (from_out_of_bounds result) }
     {
@@ -35,14 +39,18 @@ impl<const N: usize> ArrayString<N> {
         result
     }
 
-    /// The longest leading run of whole characters of `string` that fits.
+    /// Returns the longest prefix of whole characters of `string` that fits.
     pub fn from_str_truncate(string: &str) -> Self
         ensures { result.text ≡ cut (chars string.now) (cap N) }
     {
         Self::from_str_unchecked(truncate_str(string, Self::capacity()))
     }
 
-    /// The text `string`. All of it must fit.
+    /// Returns the text `string`.
+    ///
+    /// # Precondition
+    ///
+    /// All of `string` must fit.
     #[inline]
     pub fn from_str_unchecked(string: &str) -> Self
         requires { size (chars string.now) ≤ cap N }
@@ -57,9 +65,15 @@ impl<const N: usize> ArrayString<N> {
         }
     }
 
-    /// The pieces joined. Refused with `OutOfBounds` where they are larger than the capacity. It
-    /// needs no piece after the first that does not fit, and a test shows that it takes none. The
-    /// iterator must end, and allow `next` until it does.
+    /// Returns the pieces joined.
+    ///
+    /// # Errors
+    ///
+    /// Returns `Err(OutOfBounds)` if `pieces` are larger than the capacity.
+    ///
+    /// # Precondition
+    ///
+    /// The iterator must end, as the type's documentation says.
     pub fn try_from_iterator<'a, I: IntoIterator<Item = &'a str> + Drop>(
         pieces: I,
     ) -> Result<Self, OutOfBounds>
@@ -74,9 +88,11 @@ impl<const N: usize> ArrayString<N> {
         Ok(made)
     }
 
-    /// The longest leading run of whole characters of the joined pieces that fits. It needs no
-    /// piece after the first that does not fit, and a test shows that it takes none. The iterator
-    /// must end, and allow `next` until it does.
+    /// Returns the longest prefix of whole characters of the joined pieces that fits.
+    ///
+    /// # Precondition
+    ///
+    /// The iterator must end, as the type's documentation says.
     pub fn from_iterator<'a, I: IntoIterator<Item = &'a str> + Drop>(pieces: I) -> Self
         requires { IsFiniteIterable I.into_iter_gives I.IntoIter.can_next I.IntoIter.remaining pieces }
         ensures taken { (taken : List (Bor (List ℕ))) × Takes I.into_iter_gives I.IntoIter.next_gives joined_pieces pieces (cap N) taken
@@ -89,8 +105,11 @@ impl<const N: usize> ArrayString<N> {
         made
     }
 
-    /// The pieces joined. All of them must fit. The iterator must end, and allow `next` until it
-    /// does.
+    /// Returns the pieces joined.
+    ///
+    /// # Precondition
+    ///
+    /// All of `pieces` must fit. The iterator must end, as the type's documentation says.
     pub fn from_iterator_unchecked<'a, I: IntoIterator<Item = &'a str> + Drop>(pieces: I) -> Self
         requires ends { IsFiniteIterable I.into_iter_gives I.IntoIter.can_next I.IntoIter.remaining pieces }
         requires fits { Fits I.into_iter_gives I.IntoIter.next_gives joined_pieces pieces (cap N) }
@@ -106,9 +125,15 @@ impl<const N: usize> ArrayString<N> {
         made
     }
 
-    /// The characters. Refused with `OutOfBounds` where they are larger than the capacity. It needs
-    /// no character after the first that does not fit, and a test shows that it takes none. The
-    /// iterator must end, and allow `next` until it does.
+    /// Returns the characters.
+    ///
+    /// # Errors
+    ///
+    /// Returns `Err(OutOfBounds)` if `characters` are larger than the capacity.
+    ///
+    /// # Precondition
+    ///
+    /// The iterator must end, as the type's documentation says.
     pub fn try_from_chars<I: IntoIterator<Item = char> + Drop>(
         characters: I,
     ) -> Result<Self, OutOfBounds>
@@ -123,9 +148,12 @@ impl<const N: usize> ArrayString<N> {
         Ok(made)
     }
 
-    /// The characters up to the first that does not fit, also where a later shorter one would. It
-    /// needs no character after that one, and a test shows that it takes none. The iterator must
-    /// end, and allow `next` until it does.
+    /// Returns the characters up to the first that does not fit, even if a later shorter one would
+    /// fit.
+    ///
+    /// # Precondition
+    ///
+    /// The iterator must end, as the type's documentation says.
     pub fn from_chars<I: IntoIterator<Item = char> + Drop>(characters: I) -> Self
         requires { IsFiniteIterable I.into_iter_gives I.IntoIter.can_next I.IntoIter.remaining characters }
         ensures taken { (taken : List ℕ) × Takes I.into_iter_gives I.IntoIter.next_gives (λ cs. cs) characters (cap N) taken
@@ -138,7 +166,11 @@ impl<const N: usize> ArrayString<N> {
         made
     }
 
-    /// The characters. All of them must fit. The iterator must end, and allow `next` until it does.
+    /// Returns the characters.
+    ///
+    /// # Precondition
+    ///
+    /// All of `characters` must fit. The iterator must end, as the type's documentation says.
     pub fn from_chars_unchecked<I: IntoIterator<Item = char> + Drop>(characters: I) -> Self
         requires ends { IsFiniteIterable I.into_iter_gives I.IntoIter.can_next I.IntoIter.remaining characters }
         requires fits { Fits I.into_iter_gives I.IntoIter.next_gives (λ cs. cs) characters (cap N) }
@@ -154,9 +186,15 @@ impl<const N: usize> ArrayString<N> {
         made
     }
 
-    /// The text whose UTF-8 is `given`. Refused with `Error::Utf8` where the whole slice is not
-    /// well-formed UTF-8 (the Unicode Standard, section 3.9), and else with `Error::OutOfBounds`
-    /// where it is larger than the capacity.
+    /// Returns the text whose UTF-8 is `given`.
+    ///
+    /// # Errors
+    ///
+    /// The first of these that holds decides:
+    ///
+    /// - `Err(Utf8)` if the whole slice is not well-formed UTF-8 (the Unicode Standard, section
+    ///   3.9);
+    /// - `Err(OutOfBounds)` if the text is larger than the capacity.
     pub fn try_from_utf8(given: &[u8]) -> Result<Self, Error>
         ensures malformed { ¬ (IsWellFormed given.now) → result ≡ Err Error.Utf8 }
         ensures whole { (t : List ℕ) → IsText t → bytes t ≡ given.now → IsWholeOrRefused t (cap N) result }
@@ -172,8 +210,11 @@ impl<const N: usize> ArrayString<N> {
         Ok(Self::from_str_unchecked(text))
     }
 
-    /// The longest leading run of whole characters that fits of the text whose UTF-8 is `given`.
-    /// Refused with `Utf8` where the whole slice is not well-formed UTF-8 (the Unicode Standard,
+    /// Returns the longest prefix of whole characters that fits of the text whose UTF-8 is `given`.
+    ///
+    /// # Errors
+    ///
+    /// Returns `Err(Utf8)` if the whole slice is not well-formed UTF-8 (the Unicode Standard,
     /// section 3.9), also by bytes past the capacity.
     pub fn from_utf8(given: &[u8]) -> Result<Self, Utf8>
         ensures well_formed { IsOk result ↔ IsWellFormed given.now }
@@ -186,8 +227,12 @@ impl<const N: usize> ArrayString<N> {
         Ok(Self::from_str_truncate(string))
     }
 
-    /// The text whose UTF-8 is `given`. It must be well-formed UTF-8 (the Unicode Standard,
-    /// section 3.9), and all of it must fit.
+    /// Returns the text whose UTF-8 is `given`.
+    ///
+    /// # Precondition
+    ///
+    /// `given` must be well-formed UTF-8 (the Unicode Standard, section 3.9), and all of it must
+    /// fit.
     pub fn from_utf8_unchecked(given: &[u8]) -> Self
         requires well_formed { IsWellFormed given.now }
         requires fits { length given.now ≤ cap N }

@@ -5,7 +5,7 @@ ghost use Rattle.arraystring_base.specs.Text.{size, width, cap, front, back, bou
 ghost use Rattle.arraystring_core.specs.Edits.{Makes, from_out_of_bounds, addition};
 
 use crate::ArrayString;
-use crate::gap::{Span, open_gap, open_gap_at_start, write_by_call};
+use crate::gap::{Span, compact_and_open_gap, open_gap, write_by_call};
 use arraystring_base::error::OutOfBounds;
 use arraystring_base::utils::{Steps, encode, is_boundary, shift, write_over};
 
@@ -17,8 +17,8 @@ impl<const N: usize> ArrayString<N> {
         is_boundary(self.as_str(), at)
     }
 
-    /// Whether there is room for `ch` after `len` bytes. Where there is room for four more, its
-    /// width is not asked.
+    /// Whether there is room for `ch` after `len` bytes. If there is room for four more, its width
+    /// is not tested.
     #[inline(always)]
     pub(super) fn has_room(len: usize, ch: char) -> bool
         requires { len ≤ 255 }
@@ -28,9 +28,8 @@ impl<const N: usize> ArrayString<N> {
         len + 4 <= capacity || len + ch.len_utf8() <= capacity
     }
 
-    /// `try_push` where there may be less room than for four bytes after the text.
-    #[cold]
-    #[inline(never)]
+    /// `try_push` if there is no room after the text. A refusal makes no call.
+    #[inline(always)]
     pub(super) fn try_push_near_end(&mut self, ch: char) -> Result<(), OutOfBounds>
         ensures { Makes (addition self.old.text (ch ∷ []) (cap N)) self.old.text (from_out_of_bounds result) self.new.text }
     {
@@ -39,37 +38,33 @@ impl<const N: usize> ArrayString<N> {
         if size + len > Self::capacity() as usize {
             return Err(OutOfBounds);
         }
-        if self.start as usize + size + len > Self::capacity() as usize {
-            self.put_char_at_start(size, ch);
-        } else {
-            self.push_unchecked(ch);
-        }
+        self.compact_and_push(ch);
         Ok(())
     }
 
     /// Adds `ch` at the end of a text that has to move to the start of the array for it.
     #[cold]
     #[inline(never)]
-    pub(super) fn push_at_start(&mut self, ch: char)
+    pub(super) fn compact_and_push(&mut self, ch: char)
         requires { size self.old.text + width ch ≤ cap N }
         ensures { self.new.text ≡ self.old.text ++ ch ∷ [] }
     {
         let len = self.len() as usize;
-        self.put_char_at_start(len, ch);
+        self.compact_and_put_char(len, ch);
     }
 
     /// Adds `string` at the end of a text that has to move to the start of the array for it.
     #[cold]
     #[inline(never)]
-    pub(super) fn push_str_at_start(&mut self, string: &str)
+    pub(super) fn compact_and_push_str(&mut self, string: &str)
         requires { size self.old.text + size (chars string.now) ≤ cap N }
         ensures { self.new.text ≡ self.old.text ++ chars string.now }
     {
         let len = self.len() as usize;
-        self.splice_at_start(len, len, string, &mut Steps::new());
+        self.compact_and_splice(len, len, string, &mut Steps::new());
     }
 
-    /// Puts `given` in place of the text between two boundaries. There must be room for it.
+    /// Replaces the text between two boundaries by `given`. There must be room for it.
     #[inline(always)]
     pub(super) fn splice(&mut self, start: usize, end: usize, given: &str, steps: &mut Steps)
         requires order { start ≤ end }
@@ -91,17 +86,17 @@ impl<const N: usize> ArrayString<N> {
         let len = given.len();
         let tail = text.size - end;
         if text.offset + (start + (len + tail)) > Self::capacity() as usize {
-            return self.splice_at_start(start, end, given, steps);
+            return self.compact_and_splice(start, end, given, steps);
         }
         self.size = (start + (len + tail)) as u8;
         open_gap(&mut self.array, text, start, end, len, steps);
         write_over(&mut self.array, text.offset + start, given.as_bytes());
     }
 
-    /// The same where the text moves to the start of the array for it.
+    /// The same for a text that has to move to the start of the array for it.
     #[cold]
     #[inline(never)]
-    pub(super) fn splice_at_start(
+    pub(super) fn compact_and_splice(
         &mut self,
         start: usize,
         end: usize,
@@ -126,7 +121,7 @@ impl<const N: usize> ArrayString<N> {
         let len = given.len();
         self.start = 0;
         self.size = (start + (len + (text.size - end))) as u8;
-        open_gap_at_start(&mut self.array, text, start, end, len, steps);
+        compact_and_open_gap(&mut self.array, text, start, end, len, steps);
         write_by_call(&mut self.array, start, given.as_bytes());
     }
 
@@ -143,27 +138,27 @@ impl<const N: usize> ArrayString<N> {
         };
         let len = ch.len_utf8();
         if text.offset + text.size + len > Self::capacity() as usize {
-            return self.insert_at_start(at, ch);
+            return self.compact_and_insert(at, ch);
         }
         self.size = (at + (len + (text.size - at))) as u8;
         open_gap(&mut self.array, text, at, at, len, &mut Steps::new());
         encode(ch, &mut self.array, text.offset + at);
     }
 
-    /// The same where the text moves to the start of the array for it, as a call.
+    /// The same for a text that has to move to the start of the array for it, as a call.
     #[cold]
     #[inline(never)]
-    pub(super) fn insert_at_start(&mut self, at: usize, ch: char)
+    pub(super) fn compact_and_insert(&mut self, at: usize, ch: char)
         requires boundary { IsTrue (boundary self.old.text at) }
         requires room { size self.old.text + width ch ≤ cap N }
         ensures { self.new.text ≡ front self.old.text at ++ (ch ∷ back self.old.text at) }
     {
-        self.put_char_at_start(at, ch);
+        self.compact_and_put_char(at, ch);
     }
 
     /// The same without a call.
     #[inline(always)]
-    pub(super) fn put_char_at_start(&mut self, at: usize, ch: char)
+    pub(super) fn compact_and_put_char(&mut self, at: usize, ch: char)
         requires boundary { IsTrue (boundary self.old.text at) }
         requires room { size self.old.text + width ch ≤ cap N }
         ensures { self.new.text ≡ front self.old.text at ++ (ch ∷ back self.old.text at) }
@@ -175,11 +170,11 @@ impl<const N: usize> ArrayString<N> {
         let len = ch.len_utf8();
         self.start = 0;
         self.size = (at + (len + (text.size - at))) as u8;
-        open_gap_at_start(&mut self.array, text, at, at, len, &mut Steps::new());
+        compact_and_open_gap(&mut self.array, text, at, at, len, &mut Steps::new());
         encode(ch, &mut self.array, at);
     }
 
-    /// Takes out the text between two boundaries, without a move where it begins at index 0.
+    /// Takes out the text between two boundaries, without a move if it begins at index 0.
     pub(super) fn take_out(&mut self, start: usize, end: usize, steps: &mut Steps)
         requires order { start ≤ end }
         requires start { IsTrue (boundary self.old.text start) }

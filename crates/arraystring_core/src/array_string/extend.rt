@@ -11,9 +11,11 @@ use crate::laws::text_fits;
 use arraystring_base::error::OutOfBounds;
 
 impl<const N: usize> ArrayString<N> {
-    /// Adds the longest leading run of the characters that fits at the end. It needs no character
-    /// after the first that does not fit, and a test shows that it takes none. The iterator must
-    /// end, and allow `next` until it does.
+    /// Adds the longest prefix of the characters that fits at the end.
+    ///
+    /// # Precondition
+    ///
+    /// The iterator must end, as the type's documentation says.
     pub fn extend_chars<I: IntoIterator<Item = char> + Drop>(&mut self, characters: I)
         requires { IsFiniteIterable I.into_iter_gives I.IntoIter.can_next I.IntoIter.remaining characters }
         ensures taken { (taken : List ℕ) × Takes I.into_iter_gives I.IntoIter.next_gives (λ cs. cs) characters (cap N - size self.old.text) taken
@@ -24,9 +26,11 @@ impl<const N: usize> ArrayString<N> {
         let _ = self.add_chars(characters);
     }
 
-    /// Adds the longest leading run of whole characters of the joined pieces that fits at the end.
-    /// It needs no piece after the first that does not fit, and a test shows that it takes none.
-    /// The iterator must end, and allow `next` until it does.
+    /// Adds the longest prefix of whole characters of the joined pieces that fits at the end.
+    ///
+    /// # Precondition
+    ///
+    /// The iterator must end, as the type's documentation says.
     pub fn extend_strs<'a, I: IntoIterator<Item = &'a str> + Drop>(&mut self, pieces: I)
         requires { IsFiniteIterable I.into_iter_gives I.IntoIter.can_next I.IntoIter.remaining pieces }
         ensures taken { (taken : List (Bor (List ℕ))) × Takes I.into_iter_gives I.IntoIter.next_gives joined_pieces pieces (cap N - size self.old.text) taken

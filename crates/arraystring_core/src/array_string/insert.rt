@@ -8,9 +8,15 @@ use arraystring_base::error::Error;
 use arraystring_base::utils::{Steps, truncate_str};
 
 impl<const N: usize> ArrayString<N> {
-    /// Inserts `ch` at the byte index `index`. Refused with `OutOfBounds` where the index is past
-    /// the text, then with `OutOfBounds` where `ch` does not fit, then with `Utf8` where the index
-    /// is inside a character. The text is then as it was.
+    /// Inserts `ch` at the byte index `index`.
+    ///
+    /// # Errors
+    ///
+    /// The first of these that holds decides, and the text is then as it was:
+    ///
+    /// - `Err(OutOfBounds)` if the index is past the text;
+    /// - `Err(OutOfBounds)` if `ch` does not fit;
+    /// - `Err(Utf8)` if the index is inside a character.
     pub fn try_insert(&mut self, index: u8, ch: char) -> Result<(), Error>
         ensures { Makes (insertion self.old.text index (ch ∷ []) (cap N)) self.old.text result self.new.text }
     {
@@ -27,7 +33,11 @@ impl<const N: usize> ArrayString<N> {
         Ok(())
     }
 
-    /// Inserts `ch` at the byte index `index`. The index must be a boundary, and `ch` must fit.
+    /// Inserts `ch` at the byte index `index`.
+    ///
+    /// # Precondition
+    ///
+    /// The index must be a boundary, and `ch` must fit.
     pub fn insert_unchecked(&mut self, index: u8, ch: char)
         requires boundary { IsTrue (boundary self.old.text index) }
         requires room { size self.old.text + width ch ≤ cap N }
@@ -36,9 +46,15 @@ impl<const N: usize> ArrayString<N> {
         self.put_char(index as usize, ch);
     }
 
-    /// Inserts `string` at the byte index `index`. Refused with `OutOfBounds` where the index is
-    /// past the text, then with `OutOfBounds` where not all of `string` fits, then with `Utf8`
-    /// where the index is inside a character. The text is then as it was.
+    /// Inserts `string` at the byte index `index`.
+    ///
+    /// # Errors
+    ///
+    /// The first of these that holds decides, and the text is then as it was:
+    ///
+    /// - `Err(OutOfBounds)` if the index is past the text;
+    /// - `Err(OutOfBounds)` if not all of `string` fits;
+    /// - `Err(Utf8)` if the index is inside a character.
     pub fn try_insert_str(&mut self, index: u8, string: &str) -> Result<(), Error>
         ensures { Makes (insertion self.old.text index (chars string.now) (cap N)) self.old.text result self.new.text }
     {
@@ -47,7 +63,15 @@ impl<const N: usize> ArrayString<N> {
 
     /// The same as `try_insert_str`. It moves no more bytes than the text had. An insertion of at
     /// least one character moves at least as many bytes as the shorter of the parts before and
-    /// after the index has. A refused one moves none. Both counts must be at most 2^63.
+    /// after the index has. A refused one moves none.
+    ///
+    /// # Errors
+    ///
+    /// Those of `try_insert_str`, in the same order.
+    ///
+    /// # Precondition
+    ///
+    /// Both counts must be at most 2^63.
     pub fn try_insert_str_counted(
         &mut self,
         index: u8,
@@ -77,9 +101,17 @@ impl<const N: usize> ArrayString<N> {
         Ok(())
     }
 
-    /// Inserts the longest leading run of whole characters of `string` that fits, at the byte index
-    /// `index`. Refused with `OutOfBounds` where the index is past the text, then with `Utf8` where
-    /// it is inside a character. The text is then as it was.
+    /// Inserts the longest prefix of whole characters of `string` that fits, at the byte index
+    /// `index`.
+    ///
+    /// # Errors
+    ///
+    /// The first of these that holds decides, and the text is then as it was:
+    ///
+    /// - `Err(OutOfBounds)` if the index is past the text;
+    /// - `Err(Utf8)` if the index is inside a character.
+    ///
+    /// # Examples
     ///
     /// ```
     /// let mut line = ArrayString::<4>::from_str_truncate("abc");
@@ -100,8 +132,11 @@ impl<const N: usize> ArrayString<N> {
         Ok(())
     }
 
-    /// Inserts `string` at the byte index `index`. The index must be a boundary, and all of
-    /// `string` must fit.
+    /// Inserts `string` at the byte index `index`.
+    ///
+    /// # Precondition
+    ///
+    /// The index must be a boundary, and all of `string` must fit.
     pub fn insert_str_unchecked(&mut self, index: u8, string: &str)
         requires boundary { IsTrue (boundary self.old.text index) }
         requires room { size self.old.text + size (chars string.now) ≤ cap N }

@@ -1,14 +1,14 @@
 //! Parts of a string by a range of bytes. Any `RangeBounds<u8>` is accepted. The contracts speak of
-//! the bounds that the range's methods return. Where the range has bounds (`has_bounds`), they are
-//! its own. Each range of Rust has them, except an inclusive one that was iterated to its end. For
+//! the bounds that the range's methods return. If the range has bounds (`has_bounds`), they are its
+//! own. Each range of Rust has them, except an inclusive one that was iterated to its end. For
 //! other ranges no contract says which bounds they are.
 ghost use Rattle.std.specs.Prelude.{◌≡◌, ◌≢◌, ◌+◌, ◌-◌, ◌^◌, ◌≤◌, ◌++◌, min, IsTrue, MatchOption, OnOk, OnErr, Some, None, chars, map};
 ghost use Rattle.std.specs.Char.{to_ascii_uppercase, to_ascii_lowercase};
 ghost use Rattle.std.specs.Range.Bound.{start_index, end_index};
 ghost use Rattle.arraystring_base.specs.Text.{bytes, cap, size, front, back, boundary};
-ghost use Rattle.arraystring_core.specs.RangeEnds.{OfToldBounds, lo, hi};
+ghost use Rattle.arraystring_core.specs.RangeEnds.{OfReturnedBounds, saturated_start, saturated_end};
 ghost use Rattle.arraystring_core.specs.Drained.{with_left};
-ghost use Rattle.arraystring_core.specs.Edits.{Makes, draining, replacement, part, part_in};
+ghost use Rattle.arraystring_core.specs.Edits.{Makes, first_cause, ok_unless, draining, replacement, part, part_in};
 
 use crate::range_ends::{plain_ends, saturating_ends};
 use crate::{ArrayString, Drain};
@@ -17,10 +17,16 @@ use arraystring_base::utils::Steps;
 use std::ops::RangeBounds;
 
 impl<const N: usize> ArrayString<N> {
-    /// The part in the range, borrowed without a copy. The range must have its bounds
-    /// (`has_bounds`), it must not end before it starts, and both ends must be boundaries. The ends
-    /// are plain numbers, so `..=255` ends at 256. For a range that has its bounds, a `get` that
-    /// was `Some` proves the rest.
+    /// Returns the part in the range, borrowed without a copy. The ends are plain numbers, so
+    /// `..=255` ends at 256.
+    ///
+    /// # Precondition
+    ///
+    /// - The range must have its bounds (`has_bounds`).
+    /// - It must not end before it starts.
+    /// - Both ends must be boundaries.
+    ///
+    /// For a range that has its bounds, a `get` that returned `Some` proves the rest.
     pub fn slice<R: RangeBounds<u8> + Drop>(&self, range: R) -> &str
         requires known { R.has_bounds range }
         requires order { start_index (R.start_bound range) ≤ end_index (R.end_bound range) (size self.now.text) }
@@ -33,8 +39,11 @@ impl<const N: usize> ArrayString<N> {
         self.between(start, end)
     }
 
-    /// The part in the range, borrowed without a copy. It is `None` where the range ends before it
-    /// starts, or an end is not a boundary. The ends are plain numbers, so `..=255` ends at 256.
+    /// Returns the part in the range, borrowed without a copy. Returns `None` if the range ends
+    /// before it starts, or if an end is not a boundary. The ends are plain numbers, so `..=255`
+    /// ends at 256.
+    ///
+    /// # Examples
     ///
     /// ```
     /// let line = ArrayString::<4>::from_str_truncate("aéb");
@@ -42,7 +51,7 @@ impl<const N: usize> ArrayString<N> {
     /// let inside = line.get(..2); // None
     /// ```
     pub fn get<R: RangeBounds<u8> + Drop>(&self, range: R) -> Option<&str>
-        ensures { OfToldBounds R.has_bounds R.start_bound R.end_bound range (λ start end.
+        ensures { OfReturnedBounds R.has_bounds R.start_bound R.end_bound range (λ start end.
             let found = part_in self.now.text (start_index start) (end_index end (size self.now.text)) in
             MatchOption result (found ≡ None) (λ s. found ≡ Some (chars s.now))) }
     {
@@ -53,10 +62,19 @@ impl<const N: usize> ArrayString<N> {
         Some(self.between(start, end))
     }
 
-    /// Takes the part in the range out of the string, at once, and gives its characters. An
-    /// excluded start and an included end add 1, and stop at 255. Refused with `OutOfBounds` where
-    /// the range ends before it starts, then where it ends past the text, then with `Utf8` where
-    /// its start is inside a character, then where its end is. The text is then as it was.
+    /// Removes the part in the range, at once, and returns its characters as a `Drain`. An excluded
+    /// start and an included end add 1, and stop at 255.
+    ///
+    /// # Errors
+    ///
+    /// The first of these that holds decides, and the text is then as it was:
+    ///
+    /// - `Err(OutOfBounds)` if the range ends before it starts;
+    /// - `Err(OutOfBounds)` if it ends past the text;
+    /// - `Err(Utf8)` if its start is inside a character;
+    /// - `Err(Utf8)` if its end is inside a character.
+    ///
+    /// # Examples
     ///
     /// ```
     /// let mut line = ArrayString::<5>::from_str_truncate("abcde");
@@ -65,16 +83,28 @@ impl<const N: usize> ArrayString<N> {
     /// ```
     #[inline(always)]
     pub fn drain<R: RangeBounds<u8> + Drop>(&mut self, range: R) -> Result<Drain<N>, Error>
-        ensures { OfToldBounds R.has_bounds R.start_bound R.end_bound range (λ start end. let t = self.old.text in
-            Makes (draining t (lo start) (hi end (size t))) t (with_left result) self.new.text) }
+        ensures { OfReturnedBounds R.has_bounds R.start_bound R.end_bound range (λ start end. let t = self.old.text in
+            Makes (draining t (saturated_start start) (saturated_end end (size t))) t (with_left result) self.new.text) }
     {
-        self.drain_counted(range, &mut Steps::new())
+        let (start, end) = saturating_ends(range, self.len());
+        self.is_part(start, end)?;
+        // Made here, and not in a function that both calls share: each one would copy the array once more.
+        let removed = Drain::new(self.array, self.start + start, end - start);
+        self.take_out(start as usize, end as usize, &mut Steps::new());
+        Ok(removed)
     }
 
-    /// The same as `drain`. It moves no more bytes than the part after the range has. Where the
-    /// range is not empty, it moves at least as many as the shorter of the parts before and after
-    /// it has. It moves none where the range begins at index 0, and none where it is refused. Both
-    /// counts must be at most 2^63.
+    /// The same as `drain`. It moves no more bytes than the part after the range has. If the range
+    /// is not empty, it moves at least as many as the shorter of the parts before and after it has.
+    /// It moves none if the range begins at index 0, and none if it is refused.
+    ///
+    /// # Errors
+    ///
+    /// Those of `drain`, in the same order.
+    ///
+    /// # Precondition
+    ///
+    /// Both counts must be at most 2^63.
     #[inline(always)]
     pub fn drain_counted<R: RangeBounds<u8> + Drop>(
         &mut self,
@@ -84,8 +114,8 @@ impl<const N: usize> ArrayString<N> {
         requires looks { steps.old.looked ≤ 2 ^ 63 }
         requires moves { steps.old.moved ≤ 2 ^ 63 }
         // The edit, and then the moves: none at the start, none before the range, and the lesser side at least.
-        ensures edit { OfToldBounds R.has_bounds R.start_bound R.end_bound range (λ start end.
-            let t = self.old.text in let from = lo start in let to = hi end (size t) in
+        ensures edit { OfReturnedBounds R.has_bounds R.start_bound R.end_bound range (λ start end.
+            let t = self.old.text in let from = saturated_start start in let to = saturated_end end (size t) in
             Makes (draining t from to) t (with_left result) self.new.text
             × (from ≡ 0 → steps.new.moved ≡ steps.old.moved)
             × (steps.new.moved ≤ steps.old.moved + (size t - to))
@@ -94,14 +124,27 @@ impl<const N: usize> ArrayString<N> {
         ensures counted { steps.old.moved ≤ steps.new.moved }
         ensures looked { steps.new.looked ≡ steps.old.looked }
     {
-        let (start, end) = saturating_ends(range, self.len());
-        self.take_between(start, end, steps)
+        let (from, to) = saturating_ends(range, self.len());
+        self.is_part(from, to)?;
+        let removed = Drain::new(self.array, self.start + from, to - from);
+        self.take_out(from as usize, to as usize, steps);
+        Ok(removed)
     }
 
-    /// Puts `with` in place of the part in the range. An excluded start and an included end add 1,
-    /// and stop at 255. Refused with `OutOfBounds` where the range ends before it starts, then
-    /// where it ends past the text, then where the result does not fit, then with `Utf8` where its
-    /// start is inside a character, then where its end is. The text is then as it was.
+    /// Replaces the part in the range by `with`. An excluded start and an included end add 1, and
+    /// stop at 255.
+    ///
+    /// # Errors
+    ///
+    /// The first of these that holds decides, and the text is then as it was:
+    ///
+    /// - `Err(OutOfBounds)` if the range ends before it starts;
+    /// - `Err(OutOfBounds)` if it ends past the text;
+    /// - `Err(OutOfBounds)` if the result does not fit;
+    /// - `Err(Utf8)` if its start is inside a character;
+    /// - `Err(Utf8)` if its end is inside a character.
+    ///
+    /// # Examples
     ///
     /// ```
     /// let mut line = ArrayString::<4>::from_str_truncate("abcd");
@@ -113,16 +156,24 @@ impl<const N: usize> ArrayString<N> {
         range: R,
         with: &str,
     ) -> Result<(), Error>
-        ensures { OfToldBounds R.has_bounds R.start_bound R.end_bound range (λ start end. let t = self.old.text in
-            Makes (replacement t (lo start) (hi end (size t)) (chars with.now) (cap N)) t result self.new.text) }
+        ensures { OfReturnedBounds R.has_bounds R.start_bound R.end_bound range (λ start end. let t = self.old.text in
+            Makes (replacement t (saturated_start start) (saturated_end end (size t)) (chars with.now) (cap N)) t result self.new.text) }
     {
         self.replace_range_counted(range, with, &mut Steps::new())
     }
 
-    /// The same as `replace_range`. It moves no more bytes than the text had. Where `with` is no
+    /// The same as `replace_range`. It moves no more bytes than the text had. If `with` is no
     /// larger than the range, it moves no more than the part after the range has. A replacement
     /// that changes the length moves at least as many bytes as the shorter of the parts before and
-    /// after the range has. A refused one moves none. Both counts must be at most 2^63.
+    /// after the range has. A refused one moves none.
+    ///
+    /// # Errors
+    ///
+    /// Those of `replace_range`, in the same order.
+    ///
+    /// # Precondition
+    ///
+    /// Both counts must be at most 2^63.
     pub fn replace_range_counted<R: RangeBounds<u8> + Drop>(
         &mut self,
         range: R,
@@ -131,9 +182,9 @@ impl<const N: usize> ArrayString<N> {
     ) -> Result<(), Error>
         requires looks { steps.old.looked ≤ 2 ^ 63 }
         requires moves { steps.old.moved ≤ 2 ^ 63 }
-        // The edit, and then the moves: none before the range where it does not grow, and the lesser side at least.
-        ensures edit { OfToldBounds R.has_bounds R.start_bound R.end_bound range (λ start end.
-            let t = self.old.text in let from = lo start in let to = hi end (size t) in let given = chars with.now in
+        // The edit, and then the moves: none before the range if it does not grow, and the lesser side at least.
+        ensures edit { OfReturnedBounds R.has_bounds R.start_bound R.end_bound range (λ start end.
+            let t = self.old.text in let from = saturated_start start in let to = saturated_end end (size t) in let given = chars with.now in
             Makes (replacement t from to given (cap N)) t result self.new.text
             × (size given ≤ to - from → steps.new.moved ≤ steps.old.moved + (size t - to))
             × OnOk result (to ≢ from + size given → steps.old.moved + min from (size t - to) ≤ steps.new.moved)) }
@@ -146,7 +197,13 @@ impl<const N: usize> ArrayString<N> {
         self.replace_between(start, end, with, steps)
     }
 
-    /// Changes a..z to A..Z in the range. All other characters stay. The range is as for `slice`.
+    /// Changes a..z to A..Z in the range. All other characters stay.
+    ///
+    /// # Precondition
+    ///
+    /// - The range must have its bounds (`has_bounds`).
+    /// - It must not end before it starts.
+    /// - Both ends, read as in `slice`, must be boundaries.
     pub fn make_ascii_uppercase_in<R: RangeBounds<u8> + Drop>(&mut self, range: R)
         requires known { R.has_bounds range }
         requires order { start_index (R.start_bound range) ≤ end_index (R.end_bound range) (size self.old.text) }
@@ -159,7 +216,13 @@ impl<const N: usize> ArrayString<N> {
         self.uppercase_between(start, end);
     }
 
-    /// Changes A..Z to a..z in the range. All other characters stay. The range is as for `slice`.
+    /// Changes A..Z to a..z in the range. All other characters stay.
+    ///
+    /// # Precondition
+    ///
+    /// - The range must have its bounds (`has_bounds`).
+    /// - It must not end before it starts.
+    /// - Both ends, read as in `slice`, must be boundaries.
     pub fn make_ascii_lowercase_in<R: RangeBounds<u8> + Drop>(&mut self, range: R)
         requires known { R.has_bounds range }
         requires order { start_index (R.start_bound range) ≤ end_index (R.end_bound range) (size self.old.text) }
@@ -182,37 +245,20 @@ impl<const N: usize> ArrayString<N> {
         &self.as_str()[start..end]
     }
 
-    /// Takes the bytes from `start` to `end` out of the string and returns them.
-    #[inline(always)]
-    fn take_between(&mut self, start: u8, end: u8, steps: &mut Steps) -> Result<Drain<N>, Error>
-        requires { steps.old.moved ≤ 2 ^ 63 }
-        ensures edit { Makes (draining self.old.text start end) self.old.text (with_left result) self.new.text }
-        ensures refused { OnErr result (steps.new.moved ≡ steps.old.moved) }
-        ensures free { start ≡ 0 → steps.new.moved ≡ steps.old.moved }
-        ensures tail_alone { steps.new.moved ≤ steps.old.moved + (size self.old.text - end) }
-        ensures least { OnOk result (start ≢ end → steps.old.moved + min start (size self.old.text - end) ≤ steps.new.moved) }
-        ensures counted { steps.old.moved ≤ steps.new.moved }
-        ensures looked { steps.new.looked ≡ steps.old.looked }
+    /// Whether the bytes from `start` to `end` can be taken out, and else why not.
+    fn is_part(&self, start: u8, end: u8) -> Result<(), Error>
+        ensures { result ≡ ok_unless (first_cause (draining self.now.text start end).tests) tt }
     {
-        if start > end {
+        if start > end || end > self.len() {
             return Err(Error::OutOfBounds);
         }
-        if end > self.len() {
-            return Err(Error::OutOfBounds);
-        }
-        let (from, to) = (start as usize, end as usize);
-        if !self.is_boundary(from) {
+        if !self.is_boundary(start as usize) || !self.is_boundary(end as usize) {
             return Err(Error::Utf8);
         }
-        if !self.is_boundary(to) {
-            return Err(Error::Utf8);
-        }
-        let removed = Drain::new(self.array, self.start + start, end - start);
-        self.take_out(from, to, steps);
-        Ok(removed)
+        Ok(())
     }
 
-    /// Puts `with` in place of the bytes from `start` to `end`.
+    /// Replaces the bytes from `start` to `end`.
     fn replace_between(
         &mut self,
         start: u8,

@@ -3,7 +3,7 @@ ghost use Rattle.std.specs.Prelude.{◌≡◌, ◌+◌, ◌-◌, ◌^◌, ◌<�
 ghost use Rattle.std.specs.List.Retain.{IsFiltered};
 ghost use Rattle.arraystring_base.specs.Text.{size, width, back, boundary};
 ghost use Rattle.arraystring_core.specs.Edits.{Makes, from_utf8_error, with_text, truncation, removal, clearing, split};
-ghost use Rattle.arraystring_core.specs.Retain.{MayBeAsked};
+ghost use Rattle.arraystring_core.specs.Retain.{IsCallableInTurn};
 
 use crate::ArrayString;
 use crate::decode::first_char;
@@ -12,8 +12,13 @@ use arraystring_base::error::{Error, Utf8};
 use arraystring_base::utils::Steps;
 
 impl<const N: usize> ArrayString<N> {
-    /// Keeps the part before the byte index `size`; one past the text changes nothing. Refused with
-    /// `Utf8` where `size` is inside a character. The text is then as it was.
+    /// Keeps the part before the byte index `size`; an index past the text changes nothing.
+    ///
+    /// # Errors
+    ///
+    /// Returns `Err(Utf8)` if `size` is inside a character. The text is then as it was.
+    ///
+    /// # Examples
     ///
     /// ```
     /// let mut line = ArrayString::<4>::from_str_truncate("aé");
@@ -33,9 +38,14 @@ impl<const N: usize> ArrayString<N> {
         Ok(())
     }
 
-    /// Takes the character that begins at the byte index `index`. Refused with `OutOfBounds` where
-    /// the index is not below the length, then with `Utf8` where it is inside a character. The text
-    /// is then as it was.
+    /// Removes the character that begins at the byte index `index` and returns it.
+    ///
+    /// # Errors
+    ///
+    /// The first of these that holds decides, and the text is then as it was:
+    ///
+    /// - `Err(OutOfBounds)` if the index is not below the length;
+    /// - `Err(Utf8)` if the index is inside a character.
     pub fn remove(&mut self, index: u8) -> Result<char, Error>
         ensures { Makes (removal self.old.text index) self.old.text result self.new.text }
     {
@@ -44,7 +54,15 @@ impl<const N: usize> ArrayString<N> {
 
     /// The same as `remove`. It moves no more bytes than the part after the character has, and at
     /// least as many as the shorter of the parts before and after it has. It moves none at index 0,
-    /// and none where it is refused. Both counts must be at most 2^63.
+    /// and none if it is refused.
+    ///
+    /// # Errors
+    ///
+    /// Those of `remove`, in the same order.
+    ///
+    /// # Precondition
+    ///
+    /// Both counts must be at most 2^63.
     pub fn remove_counted(&mut self, index: u8, steps: &mut Steps) -> Result<char, Error>
         requires looks { steps.old.looked ≤ 2 ^ 63 }
         requires moves { steps.old.moved ≤ 2 ^ 63 }
@@ -68,20 +86,24 @@ impl<const N: usize> ArrayString<N> {
         Ok(ch)
     }
 
-    /// Calls `f` once with each character, in order, and keeps those for which it returns true. The
-    /// precondition is that `f` may be called with each of them, in each state that its earlier
-    /// calls leave.
+    /// Calls `f` once with each character, in order, and keeps those for which it returns true.
+    ///
+    /// # Precondition
+    ///
+    /// `f` must be callable with each character, in each state that its earlier calls leave.
+    ///
+    /// # Examples
     ///
     /// ```
     /// let mut line = ArrayString::<5>::from_str_truncate("a-b-c");
     /// line.retain(|ch| ch != '-'); // "abc"
     /// ```
     pub fn retain<F: FnMut(char) -> bool + Drop>(&mut self, f: F)
-        requires { MayBeAsked F.pre F.step f self.old.text }
+        requires { IsCallableInTurn F.pre F.step f self.old.text }
         ensures { IsFiltered F.step f self.old.text self.new.text }
     {
-        let (place, size) = (self.start as usize, self.size as usize);
-        self.size = retain_at(&mut self.array, place, size, f) as u8;
+        let (offset, size) = (self.start as usize, self.size as usize);
+        self.size = retain_at(&mut self.array, offset, size, f) as u8;
     }
 
     /// Empties the string.
@@ -92,8 +114,14 @@ impl<const N: usize> ArrayString<N> {
     }
 
     /// Returns the part from the byte index `at` on and keeps the part before it. `at` may be the
-    /// length. Refused with `OutOfBounds` where `at` is past the text, then with `Utf8` where it is
-    /// inside a character. The text is then as it was.
+    /// length.
+    ///
+    /// # Errors
+    ///
+    /// The first of these that holds decides, and the text is then as it was:
+    ///
+    /// - `Err(OutOfBounds)` if `at` is past the text;
+    /// - `Err(Utf8)` if `at` is inside a character.
     pub fn split_off(&mut self, at: u8) -> Result<Self, Error>
         ensures { Makes (split self.old.text at) self.old.text (with_text result) self.new.text }
     {

@@ -1,6 +1,6 @@
 //! The ends of a string are trimmed.
 ghost use Rattle.std.specs.Prelude.{◌≡◌, ◌+◌, ◌-◌, ◌*◌, ◌^◌, ◌≤◌, ℕ, Bool, min, Ok, length};
-ghost use Rattle.arraystring_core.specs.Retain.{AnswersAs};
+ghost use Rattle.arraystring_core.specs.Retain.{ReturnsAs};
 ghost use Rattle.arraystring_core.specs.Edits.{Makes, trimming, is_space, is_white_space, without_leading, without_trailing};
 
 use crate::ArrayString;
@@ -16,9 +16,12 @@ impl<const N: usize> ArrayString<N> {
         self.trim_counted(&mut Steps::new());
     }
 
-    /// The same as `trim`. It moves no byte. It looks at each character that it drops at the end and
-    /// at the character before them: at each at least once, and at most four times. Both counts must
-    /// be at most 2^63.
+    /// The same as `trim`. It moves no byte. It looks at each character that it drops at the end
+    /// and at the character before them: at each at least once, and at most four times.
+    ///
+    /// # Precondition
+    ///
+    /// Both counts must be at most 2^63.
     pub fn trim_counted(&mut self, steps: &mut Steps)
         requires looks { steps.old.looked ≤ 2 ^ 63 }
         requires moves { steps.old.moved ≤ 2 ^ 63 }
@@ -44,9 +47,9 @@ impl<const N: usize> ArrayString<N> {
     /// it does not. It moves no byte. It looks at each character that it drops and at the one before
     /// them: at each at least once, and at most four times.
     fn drop_trailing<F: Fn(char) -> bool + Drop>(&mut self, drops: F, steps: &mut Steps)
-        requires asked { F.IsAlwaysCallable drops }
+        requires callable { F.IsAlwaysCallable drops }
         requires looks { steps.old.looked ≤ 2 ^ 63 }
-        ensures text { (passes : ℕ → Bool) → AnswersAs F.post drops passes → self.new.text ≡ without_trailing passes self.old.text }
+        ensures text { (passes : ℕ → Bool) → ReturnsAs F.post drops passes → self.new.text ≡ without_trailing passes self.old.text }
         ensures moved { steps.new.moved ≡ steps.old.moved }
         ensures looked { steps.new.looked ≤ steps.old.looked + 4 * (length self.old.text - length self.new.text + 1) }
         ensures least { steps.old.looked + min (length self.old.text) (length self.old.text - length self.new.text + 1) ≤ steps.new.looked }
@@ -64,8 +67,8 @@ impl<const N: usize> ArrayString<N> {
     /// Drops the characters at the start for which `drops` returns true, up to the first for which
     /// it does not.
     fn drop_leading<F: Fn(char) -> bool + Drop>(&mut self, drops: F)
-        requires asked { F.IsAlwaysCallable drops }
-        ensures { (passes : ℕ → Bool) → AnswersAs F.post drops passes → self.new.text ≡ without_leading passes self.old.text }
+        requires callable { F.IsAlwaysCallable drops }
+        ensures { (passes : ℕ → Bool) → ReturnsAs F.post drops passes → self.new.text ≡ without_leading passes self.old.text }
     {
         while let Some(ch) = self.as_str().chars().next() {
             if !drops(ch) {

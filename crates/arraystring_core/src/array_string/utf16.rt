@@ -12,22 +12,34 @@ use arraystring_base::utf16::{Unit16, Units};
 use std::char;
 
 impl<const N: usize> ArrayString<N> {
-    /// The text whose UTF-16 `units` is. It is read item by item up to the first that ends it: a
-    /// lone surrogate is refused with `Utf16`, a character that does not fit with `OutOfBounds`.
+    /// Returns the text whose UTF-16 is `units`.
+    ///
+    /// # Errors
+    ///
+    /// The units are read item by item, and the first of these ends the reading:
+    ///
+    /// - `Err(Utf16)` if the item is a lone surrogate;
+    /// - `Err(OutOfBounds)` if the item is a character that does not fit.
     pub fn try_from_utf16(units: &[u16]) -> Result<Self, Error>
         ensures { (items : List Unit16) → IsReading units.now items → GivesWhole (first_stop items (cap N)) result }
     {
         let mut run = Self::new();
-        match leading_run(&mut run, units) {
+        match add_prefix(&mut run, units) {
             None => Ok(run),
             Some(Unit16::Lone(_)) => Err(Error::Utf16),
             Some(Unit16::Char(_)) => Err(Error::OutOfBounds),
         }
     }
 
-    /// The longest leading run of characters of `units` that fits. Refused with `Utf16` where a
-    /// lone surrogate comes right after that run, also if the string is full. What comes after a
-    /// character that does not fit is not looked at.
+    /// Returns the longest prefix of characters of `units` that fits. What comes after a character
+    /// that does not fit is not looked at.
+    ///
+    /// # Errors
+    ///
+    /// Returns `Err(Utf16)` if a lone surrogate comes right after that prefix, also if the string
+    /// is full.
+    ///
+    /// # Examples
     ///
     /// ```
     /// let cut = ArrayString::<4>::from_utf16(&[0x61, 0xD83E, 0xDD14]); // Ok of "a"
@@ -37,14 +49,14 @@ impl<const N: usize> ArrayString<N> {
         ensures { (items : List Unit16) → IsReading units.now items → GivesRun (first_stop items (cap N)) result }
     {
         let mut run = Self::new();
-        match leading_run(&mut run, units) {
+        match add_prefix(&mut run, units) {
             Some(Unit16::Lone(_)) => Err(Utf16),
             _ => Ok(run),
         }
     }
 
-    /// The text of `units`, where each lone surrogate is read as U+FFFD, which takes three bytes.
-    /// The first character that does not fit ends it.
+    /// Returns the text of `units`, with each lone surrogate read as U+FFFD, which takes three
+    /// bytes. The first character that does not fit ends it.
     pub fn from_utf16_lossy(units: &[u16]) -> Self
         ensures { (items : List Unit16) → IsReading units.now items → result.text ≡ cut (lossy_text items) (cap N) }
     {
@@ -60,9 +72,9 @@ impl<const N: usize> ArrayString<N> {
     }
 }
 
-/// Adds to an empty string the longest leading run of characters of `units` that fits, and returns
-/// the item right after it.
-fn leading_run<const N: usize>(run: &mut ArrayString<N>, units: &[u16]) -> Option<Unit16>
+/// Adds to an empty string the longest prefix of characters of `units` that fits, and returns the
+/// item right after it.
+fn add_prefix<const N: usize>(run: &mut ArrayString<N>, units: &[u16]) -> Option<Unit16>
     requires { run.old.text ≡ [] }
     ensures { (items : List Unit16) → IsReading units.now items → first_stop items (cap N) ≡ stop_at result run.new.text }
 {
@@ -79,7 +91,7 @@ fn leading_run<const N: usize>(run: &mut ArrayString<N>, units: &[u16]) -> Optio
     None
 }
 
-/// An item as a character, where a lone surrogate is U+FFFD.
+/// An item as a character, with U+FFFD for a lone surrogate.
 fn shown(item: Unit16) -> char
     ensures { result ≡ shown item }
 {

@@ -7,11 +7,12 @@ ghost use Rattle.std.specs.Ordering.{nat_cmp, MatchOrdering};
 ghost use Rattle.arraystring_base.specs.Text.{bytes, IsBefore};
 
 use crate::Drain;
+use crate::order::order;
 use std::cmp::Ordering;
 use std::fmt;
 use std::hash::{Hash, Hasher};
 
-/// Two drains are equal where the same characters are left.
+/// Two drains are equal if and only if the same characters are left.
 impl<const N: usize> PartialEq for Drain<N> {
     ghost eq = { λ s t. pointwise nat_eq s.left t.left };
 
@@ -46,14 +47,14 @@ impl<const N: usize> Ord for Drain<N> {
 
     ghost matches_eq = { λ s t. texts_ties s.left t.left };
 
-    /// The order of what is left, by the numbers of the characters. It is the order of the bytes of
-    /// UTF-8 too.
+    /// Returns the order of what is left, by the scalar values of the characters. The order of the
+    /// bytes of UTF-8 is the same.
     fn cmp(&self, other: &Self) -> Ordering
         ensures order { result ≡ slice_cmp nat_cmp self.now.left other.now.left }
         ensures of_bytes { result ≡ slice_cmp nat_cmp (bytes self.now.left) (bytes other.now.left) }
         ensures says { MatchOrdering result (IsBefore self.now.left other.now.left) (self.now.left ≡ other.now.left) (IsBefore other.now.left self.now.left) }
     {
-        self.as_str().cmp(other.as_str())
+        order(self.as_str(), other.as_str())
     }
 }
 
@@ -68,7 +69,7 @@ impl<const N: usize> Hash for Drain<N> {
     }
 }
 
-/// `Drain("bc")` where `bc` is left.
+/// `Drain("bc")` if `bc` is left.
 impl<const N: usize> fmt::Debug for Drain<N> {
     fn fmt<W: fmt::Write>(&self, f: &mut fmt::Formatter<W>) -> fmt::Result {
         f.debug_tuple("Drain").field(&self.as_str()).finish()

@@ -1,6 +1,6 @@
 // Made from crates/arraystring_base/src/error.rt by rust/erase. A change goes there.
-//! What a call refuses, and the conversions to `Error`. No printed form is padded to a width that
-//! is asked for.
+//! What a call refuses, and the conversions to `Error`. No printed form is padded to a width in the
+//! format.
 
 use core::error::Error as StdError;
 use core::fmt;

@@ -2,8 +2,8 @@
 //! Laws of texts, which callers may rely on. Each does nothing when it is called and carries its
 //! fact in its contract.
 
-/// The cut of a text to `n` bytes is a leading part of it that fits, and no leading part that fits
-/// is longer; no other text is so. The cut of a text that fits is the text.
+/// The cut of a text to `n` bytes is a prefix of it that fits, and no prefix that fits is longer;
+/// no other text is so. The cut of a text that fits is the text.
 ///
 /// # Contract
 ///
@@ -22,12 +22,12 @@ pub fn longest_cut() {}
 /// ```
 pub fn cut_of_cut() {}
 
-/// `i` is a boundary of a text exactly where one of its leading parts has size `i`.
+/// `i` is a boundary of a text if and only if one of its prefixes has size `i`.
 ///
 /// # Contract
 ///
 /// ```text
-/// ensures { (t : List ℕ) (i : ℕ) → IsTrue (boundary t i) ↔ ((p : List ℕ) × IsLeadingPart p t × (size p ≡ i)) }
+/// ensures { (t : List ℕ) (i : ℕ) → IsTrue (boundary t i) ↔ ((p : List ℕ) × IsPrefix p t × (size p ≡ i)) }
 /// ```
 pub fn boundaries() {}
 
@@ -72,10 +72,10 @@ pub fn one_text() {}
 /// ensures bytes { bytes (chars given.now) ≡ given.now }
 /// ```
 #[allow(unused_variables)]
-pub fn lent_text(given: &str) {}
+pub fn borrowed_text(given: &str) {}
 
-/// The order of the bytes of two texts is the order of their characters: the bytes are less where
-/// the one text comes before the other, and equal where the texts are the same.
+/// The order of the bytes of two texts is the order of their characters. The bytes are less if and
+/// only if the one text comes before the other, and equal if and only if the texts are the same.
 ///
 /// # Contract
 ///
@@ -119,8 +119,8 @@ pub fn only_reading(units: &[u16]) {}
 /// ```
 pub fn text_reading() {}
 
-/// The first stop of items at `n` bytes is where the longest leading run of characters that fits
-/// ends, with what comes after it; no other stop is so.
+/// The first stop of items at `n` bytes is where the longest prefix of characters that fits ends,
+/// with what comes after it; no other stop is so.
 ///
 /// # Contract
 ///

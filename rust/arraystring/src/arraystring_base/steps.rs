@@ -17,7 +17,7 @@ pub struct Steps {
 }
 
 impl Steps {
-    /// A fresh counter: no byte was looked at, and none was moved.
+    /// Returns a fresh counter: no byte was looked at, and none was moved.
     ///
     /// # Contract
     ///
@@ -33,7 +33,7 @@ impl Steps {
         }
     }
 
-    /// How many bytes were looked at.
+    /// Returns how many bytes were looked at.
     ///
     /// # Contract
     ///
@@ -45,7 +45,7 @@ impl Steps {
         self.looked
     }
 
-    /// How many bytes were moved.
+    /// Returns how many bytes were moved.
     ///
     /// # Contract
     ///
@@ -72,8 +72,11 @@ impl Steps {
     }
 }
 
-/// The byte at the index `at`, counted as one look. The index must be below the length, and the
-/// count of looks must be below 2^64 - 1.
+/// Returns the byte at the index `at`, counted as one look.
+///
+/// # Precondition
+///
+/// The index must be below the length, and the count of looks must be below 2^64 - 1.
 ///
 /// # Panics
 ///

@@ -28,7 +28,7 @@ pub struct Units<'a> {
 }
 
 impl<'a> Units<'a> {
-    /// The walk over the reading of `units`, from its first item on.
+    /// Returns the walk over the reading of `units`, from its first item on.
     ///
     /// # Contract
     ///
@@ -50,7 +50,7 @@ impl<'a> Units<'a> {
 impl<'a> Iterator for Units<'a> {
     type Item = Unit16;
 
-    /// The next item of the reading; `None` where none is left, and from then on.
+    /// Returns the next item of the reading, or `None` if none is left, and from then on.
     #[inline]
     fn next(&mut self) -> Option<Unit16> {
         let (first, rest) = self.rest.split_first()?;

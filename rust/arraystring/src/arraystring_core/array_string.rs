@@ -1,6 +1,6 @@
 // Made from crates/arraystring_core/src/array_string.rt by rust/erase. A change goes there.
 //! `ArrayString`: the type, what it shows, and what is added and taken at its end. The modules below
-//! hold its other calls, and `edit` the private ones that reach its array.
+//! have its other calls, and `edit` the private ones that reach its array.
 
 use crate::arraystring_core::equal::equal;
 use crate::arraystring_core::gap::write_by_call;
@@ -21,6 +21,9 @@ mod utf16;
 
 /// A string of at most `N` bytes of UTF-8, and at most 255, that lies in the value itself. In all
 /// its calls sizes, indices and capacity count bytes of UTF-8.
+///
+/// An iterator that is passed in must end, and allow `next` until it does. A call that cuts or can
+/// refuse needs no item after the first that does not fit, and a test shows that it takes none.
 ///
 /// Contracts name its text, the list of its characters, and no byte of the array.
 ///
@@ -45,7 +48,7 @@ pub struct ArrayString<const N: usize> {
 }
 
 impl<const N: usize> ArrayString<N> {
-    /// The empty string.
+    /// Returns the empty string.
     ///
     /// # Contract
     ///
@@ -61,7 +64,7 @@ impl<const N: usize> ArrayString<N> {
         }
     }
 
-    /// How many bytes fit: the lesser of `N` and 255.
+    /// Returns how many bytes fit: the lesser of `N` and 255.
     ///
     /// # Contract
     ///
@@ -73,7 +76,7 @@ impl<const N: usize> ArrayString<N> {
         if N < 255 { N as u8 } else { 255 }
     }
 
-    /// How many bytes the text takes, which is never more than the capacity.
+    /// Returns how many bytes the text takes, which is never more than the capacity.
     ///
     /// # Contract
     ///
@@ -86,7 +89,7 @@ impl<const N: usize> ArrayString<N> {
         self.size
     }
 
-    /// Whether the text has no character.
+    /// Returns whether the text has no character.
     ///
     /// # Contract
     ///
@@ -98,7 +101,7 @@ impl<const N: usize> ArrayString<N> {
         self.size == 0
     }
 
-    /// The text, borrowed without a copy. Each of its characters is a Unicode scalar value.
+    /// Returns the text, borrowed without a copy. Each of its characters is a Unicode scalar value.
     ///
     /// # Contract
     ///
@@ -115,8 +118,8 @@ impl<const N: usize> ArrayString<N> {
         unsafe { str::from_utf8_unchecked(&all[start..start + self.size as usize]) }
     }
 
-    /// The UTF-8 of the text, borrowed without a copy: as many bytes as `len` says. Each character
-    /// of the text is a Unicode scalar value.
+    /// Returns the UTF-8 of the text, borrowed without a copy: as many bytes as `len` says. Each
+    /// character of the text is a Unicode scalar value.
     ///
     /// # Contract
     ///
@@ -133,8 +136,11 @@ impl<const N: usize> ArrayString<N> {
         &all[start..start + self.size as usize]
     }
 
-    /// Adds `ch` at the end. Refused with `OutOfBounds` where it does not fit. The text is then as
-    /// it was.
+    /// Adds `ch` at the end.
+    ///
+    /// # Errors
+    ///
+    /// Returns `Err(OutOfBounds)` if `ch` does not fit. The text is then as it was.
     ///
     /// # Contract
     ///
@@ -144,15 +150,19 @@ impl<const N: usize> ArrayString<N> {
     #[inline(always)]
     pub fn try_push(&mut self, ch: char) -> Result<(), OutOfBounds> {
         let end = self.start as usize + self.size as usize;
-        if end + 4 > Self::capacity() as usize {
-            return self.try_push_near_end(ch);
+        if Self::has_room(end, ch) {
+            // SAFETY: the proof of this body shows what `push_unchecked` requires.
+            unsafe { self.push_unchecked(ch) };
+            return Ok(());
         }
-        // SAFETY: the proof of this body shows what `push_unchecked` requires.
-        unsafe { self.push_unchecked(ch) };
-        Ok(())
+        self.try_push_near_end(ch)
     }
 
-    /// Adds `ch` at the end. It must fit.
+    /// Adds `ch` at the end.
+    ///
+    /// # Precondition
+    ///
+    /// `ch` must fit.
     ///
     /// # Safety
     ///
@@ -168,15 +178,18 @@ impl<const N: usize> ArrayString<N> {
     pub unsafe fn push_unchecked(&mut self, ch: char) {
         let end = self.start as usize + self.size as usize;
         if !Self::has_room(end, ch) {
-            return self.push_at_start(ch);
+            return self.compact_and_push(ch);
         }
         // SAFETY: the proof of this body shows what `encode` requires.
         let len = unsafe { encode(ch, &mut self.array, end) };
         self.size = (self.size as usize + len) as u8;
     }
 
-    /// Adds `string` at the end. Refused with `OutOfBounds` where not all of it fits. The text is
-    /// then as it was.
+    /// Adds `string` at the end.
+    ///
+    /// # Errors
+    ///
+    /// Returns `Err(OutOfBounds)` if not all of `string` fits. The text is then as it was.
     ///
     /// # Contract
     ///
@@ -186,14 +199,14 @@ impl<const N: usize> ArrayString<N> {
     #[inline]
     pub fn try_push_str<S: AsRef<str>>(&mut self, string: S) -> Result<(), OutOfBounds> {
         let string = string.as_ref();
-        // Room after the text is asked first: where there is some, it is the only test.
+        // Room after the text is tested first: if there is some, it is the only test.
         let size = self.len() as usize;
         let capacity = Self::capacity() as usize;
         if self.start as usize + size + string.len() > capacity {
             if size + string.len() > capacity {
                 return Err(OutOfBounds);
             }
-            self.push_str_at_start(string);
+            self.compact_and_push_str(string);
         } else {
             // SAFETY: the proof of this body shows what `push_str_unchecked` requires.
             unsafe { self.push_str_unchecked(string) };
@@ -201,7 +214,9 @@ impl<const N: usize> ArrayString<N> {
         Ok(())
     }
 
-    /// Adds the longest leading run of whole characters of `string` that fits at the end.
+    /// Adds the longest prefix of whole characters of `string` that fits at the end.
+    ///
+    /// # Examples
     ///
     /// ```
     /// # use arraystring::ArrayString;
@@ -222,7 +237,11 @@ impl<const N: usize> ArrayString<N> {
         unsafe { self.push_str_unchecked(truncate_str(string, room)) };
     }
 
-    /// Adds `string` at the end. All of it must fit.
+    /// Adds `string` at the end.
+    ///
+    /// # Precondition
+    ///
+    /// All of `string` must fit.
     ///
     /// # Safety
     ///
@@ -239,13 +258,13 @@ impl<const N: usize> ArrayString<N> {
         let string = string.as_ref();
         let end = self.start as usize + self.size as usize;
         if end + string.len() > Self::capacity() as usize {
-            return self.push_str_at_start(string);
+            return self.compact_and_push_str(string);
         }
         self.size = (self.size as usize + string.len()) as u8;
         write_by_call(&mut self.array, end, string.as_bytes());
     }
 
-    /// Takes the last character; `None` where the text is empty.
+    /// Removes the last character and returns it. Returns `None` if the text is empty.
     ///
     /// # Contract
     ///
@@ -257,8 +276,12 @@ impl<const N: usize> ArrayString<N> {
         self.pop_counted(&mut Steps::new())
     }
 
-    /// The same as `pop`. It looks at no more than four bytes, and at one at least where there is a
-    /// character. It moves none. Both counts must be at most 2^63.
+    /// The same as `pop`. It looks at no more than four bytes, and at one at least if there is a
+    /// character. It moves none.
+    ///
+    /// # Precondition
+    ///
+    /// Both counts must be at most 2^63.
     ///
     /// # In Rust
     ///
@@ -297,7 +320,7 @@ impl<const N: usize> Default for ArrayString<N> {
     }
 }
 
-/// Strings are equal where their texts are.
+/// Strings are equal if and only if their texts are.
 ///
 /// # Contract
 ///

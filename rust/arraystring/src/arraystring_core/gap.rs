@@ -10,7 +10,7 @@ pub(crate) struct Span {
     pub(crate) size: usize,
 }
 
-/// Opens a gap of `len` bytes in place of the bytes from `start` to `end` of a text. There must be
+/// Opens a gap of `len` bytes instead of the bytes from `start` to `end` of a text. There must be
 /// room after the text: it keeps its offset, and only the bytes after the gap move.
 ///
 /// # Contract
@@ -68,7 +68,7 @@ pub(crate) fn open_gap<const N: usize>(
 /// ensures looked { steps.new.looked ≡ steps.old.looked }
 /// ```
 #[inline(always)]
-pub(crate) fn open_gap_at_start<const N: usize>(
+pub(crate) fn compact_and_open_gap<const N: usize>(
     array: &mut [u8; N],
     text: Span,
     start: usize,
@@ -83,9 +83,9 @@ pub(crate) fn open_gap_at_start<const N: usize>(
     unsafe { shift(array, text.offset + end, start + len, tail, steps) };
 }
 
-/// Writes `given` over the bytes from `at` on, by one call whatever its length. It is for texts that may
-/// be long and for functions that make a call anyway; `write_over` is for those that make no other, and
-/// takes more code at each place.
+/// Writes `given` over the bytes from `at` on, by one call whatever its length. It is for texts
+/// that may be long and for functions that make a call anyway; `write_over` is for those that make
+/// no other, and takes more code at each call site.
 ///
 /// # Contract
 ///

@@ -13,7 +13,7 @@ use crate::arraystring_core::{ArrayString, Drain};
 /// ```
 #[inline]
 pub fn text_fits<const N: usize>(string: &ArrayString<N>) {
-    // The invariant of a type is known of a value only where something is asked of it.
+    // The invariant of a type is known of a value only after a call on it.
     let _ = string.len();
 }
 
@@ -72,8 +72,8 @@ pub fn units_read_back() {}
 /// # Contract
 ///
 /// ```text
-/// ensures last { (front : List ℕ) (ch : ℕ) → ((popping (front ++ ch ∷ [])).answer ≡ Some ch) × ((popping (front ++ ch ∷ [])).after ≡ front) }
-/// ensures empty { ((popping []).answer ≡ None) × ((popping []).after ≡ []) }
+/// ensures last { (front : List ℕ) (ch : ℕ) → ((popping (front ++ ch ∷ [])).result ≡ Some ch) × ((popping (front ++ ch ∷ [])).after ≡ front) }
+/// ensures empty { ((popping []).result ≡ None) × ((popping []).after ≡ []) }
 /// ```
 pub fn popped() {}
 
@@ -97,19 +97,19 @@ pub fn trimmed() {}
 /// ```
 pub fn white_space() {}
 
-/// Where a split is not refused, the text that it keeps, followed by the part that it returns, is
-/// the text before.
+/// If a split is not refused, the text that it keeps, followed by the part that it returns, is the
+/// text before.
 ///
 /// # Contract
 ///
 /// ```text
-/// ensures { (t : List ℕ) (i : ℕ) → first_cause (split t i).tests ≡ None → (split t i).after ++ (split t i).answer ≡ t }
+/// ensures { (t : List ℕ) (i : ℕ) → first_cause (split t i).tests ≡ None → (split t i).after ++ (split t i).result ≡ t }
 /// ```
 pub fn split_back() {}
 
-/// What is replaced can be put back. Where a replacement in a text that fits `n` bytes is not
-/// refused, neither is the replacement of what was given by what was taken out, and it leaves the
-/// text before.
+/// What is replaced can be put back. If a replacement in a text that fits `n` bytes is not refused,
+/// neither is the replacement of what was given by what was taken out, and it leaves the text
+/// before.
 ///
 /// # Contract
 ///
@@ -125,7 +125,7 @@ pub fn replaced_back() {}
 /// A walk from both ends in any mix gives each character at most once: what came from the front,
 /// then what is left, then what came from the back in reversed order, joined, are the characters
 /// that were walked. Each end takes one while one is left, so with as many ends as characters
-/// nothing is left, and where nothing is left nothing is given.
+/// nothing is left, and if nothing is left nothing is given.
 ///
 /// # Contract
 ///

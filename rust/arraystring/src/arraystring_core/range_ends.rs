@@ -8,7 +8,7 @@ use core::ops::{Bound, RangeBounds};
 /// # Contract
 ///
 /// ```text
-/// ensures { OfToldBounds R.has_bounds R.start_bound R.end_bound range (λ start end. (result.0 ≡ lo start) × (result.1 ≡ hi end len)) }
+/// ensures { OfReturnedBounds R.has_bounds R.start_bound R.end_bound range (λ start end. (result.0 ≡ saturated_start start) × (result.1 ≡ saturated_end end len)) }
 /// ```
 #[inline]
 pub(crate) fn saturating_ends<R: RangeBounds<u8>>(range: R, len: u8) -> (u8, u8) {
@@ -30,7 +30,7 @@ pub(crate) fn saturating_ends<R: RangeBounds<u8>>(range: R, len: u8) -> (u8, u8)
 /// # Contract
 ///
 /// ```text
-/// ensures { OfToldBounds R.has_bounds R.start_bound R.end_bound range (λ start end. (result.0 ≡ start_index start) × (result.1 ≡ end_index end len)) }
+/// ensures { OfReturnedBounds R.has_bounds R.start_bound R.end_bound range (λ start end. (result.0 ≡ start_index start) × (result.1 ≡ end_index end len)) }
 /// ```
 #[inline]
 pub(crate) fn plain_ends<R: RangeBounds<u8>>(range: R, len: u8) -> (usize, usize) {

@@ -1,30 +1,30 @@
 // Made from crates/arraystring_core/src/retain.rt by rust/erase. A change goes there.
-//! Which characters of a text are kept is asked of a closure.
+//! Which characters of a text are kept is decided by a closure.
 
 use crate::arraystring_core::decode::first_char;
 use crate::arraystring_base::utils::{Steps, shift};
 use core::str;
 
 /// Calls `f` once with each character of a text, in order, and moves those for which it returns
-/// true together. The text is the `size` bytes of the array from the offset `place` on, and keeps
+/// true together. The text is the `size` bytes of the array from `offset` on, and keeps
 /// its offset. Returns how many bytes are kept. A run of kept characters is moved as one piece, and
 /// only to the left.
 ///
 /// # Contract
 ///
 /// ```text
-/// requires held { place + size ≤ N }
-/// requires text { IsUtf8 (take size (drop place array.old)) }
-/// requires asked { MayBeAsked F.pre F.step f (chars (take size (drop place array.old))) }
+/// requires held { offset + size ≤ N }
+/// requires text { IsUtf8 (take size (drop offset array.old)) }
+/// requires callable { IsCallableInTurn F.pre F.step f (chars (take size (drop offset array.old))) }
 /// ensures len { length array.new ≡ N }
 /// ensures at_most { result ≤ size }
-/// ensures text { IsUtf8 (take result (drop place array.new)) }
-/// ensures filtered { IsFiltered F.step f (chars (take size (drop place array.old))) (chars (take result (drop place array.new))) }
+/// ensures text { IsUtf8 (take result (drop offset array.new)) }
+/// ensures filtered { IsFiltered F.step f (chars (take size (drop offset array.old))) (chars (take result (drop offset array.new))) }
 /// ```
 #[inline]
 pub(crate) fn retain_at<const N: usize, F: FnMut(char) -> bool>(
     array: &mut [u8; N],
-    place: usize,
+    offset: usize,
     size: usize,
     mut f: F,
 ) -> usize {
@@ -35,21 +35,21 @@ pub(crate) fn retain_at<const N: usize, F: FnMut(char) -> bool>(
     while read < size {
         let all = &array[..];
         // SAFETY: the clause `text`: what was not read yet is UTF-8, since a character begins at `read`.
-        let text = unsafe { str::from_utf8_unchecked(&all[place + read..place + size]) };
+        let text = unsafe { str::from_utf8_unchecked(&all[offset + read..offset + size]) };
         let (ch, width) = first_char(text);
         if !f(ch) {
-            shift_run(array, place + run, place + kept, read - run);
+            shift_run(array, offset + run, offset + kept, read - run);
             kept += read - run;
             run = read + width;
         }
         read += width;
     }
-    shift_run(array, place + run, place + kept, size - run);
+    shift_run(array, offset + run, offset + kept, size - run);
     kept + (size - run)
 }
 
-/// `shift`, as a call where more than four bytes move: the loop over the characters is short without
-/// the code of a long move.
+/// `shift`, as a call if more than four bytes move: the loop over the characters is short without
+/// the code of a long move. After a character that is dropped the next run is often empty.
 ///
 /// # Contract
 ///
@@ -60,6 +60,9 @@ pub(crate) fn retain_at<const N: usize, F: FnMut(char) -> bool>(
 /// ```
 #[inline(always)]
 fn shift_run<const N: usize>(array: &mut [u8; N], from: usize, to: usize, len: usize) {
+    if len == 0 {
+        return;
+    }
     if len > 4 {
         shift_long_run(array, from, to, len);
     } else {

@@ -5,8 +5,11 @@ use crate::arraystring_core::array_string::ArrayString;
 use crate::arraystring_base::error::Utf8;
 use crate::arraystring_base::utils::is_boundary;
 
-/// Whether `idx` is a boundary of `s`, the size of one of its leading parts of whole characters;
-/// refused with `Utf8` where it is not, also past the length.
+/// Tests that `idx` is a boundary of `s`, the size of one of its prefixes of whole characters.
+///
+/// # Errors
+///
+/// Returns `Err(Utf8)` if `idx` is not a boundary. An index past the length is none.
 ///
 /// # Contract
 ///

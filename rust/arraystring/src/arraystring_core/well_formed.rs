@@ -5,8 +5,8 @@ use crate::arraystring_base::error::Utf8;
 use crate::by_hand::simd::Simd;
 use core::str;
 
-/// The text whose UTF-8 is `given`. Refused where `given` is not well-formed. Most texts are ASCII,
-/// for which a test by blocks is enough.
+/// Returns the text whose UTF-8 is `given`, or `Err(Utf8)` if `given` is not well-formed. Most
+/// texts are ASCII, for which a test by blocks is enough.
 ///
 /// # Contract
 ///
@@ -60,9 +60,9 @@ fn behind_characters(given: &[u8]) -> &[u8] {
     rest
 }
 
-/// How many bytes the first character takes, by the Unicode Standard's table of well-formed UTF-8 byte
-/// sequences (section 3.9, table 3-7), of which each row is an arm. Four characters of ASCII are taken
-/// together with those that follow. 0 where no character is at the front.
+/// How many bytes the first character takes, by the Unicode Standard's table of well-formed UTF-8
+/// byte sequences (section 3.9, table 3-7), of which each row is an arm. Four characters of ASCII
+/// are taken together with those that follow. 0 if no character is at the front.
 ///
 /// # Contract
 ///

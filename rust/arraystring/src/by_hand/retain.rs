@@ -29,7 +29,7 @@ impl Progress {
 struct Unfinished<'a, const N: usize> {
     array: &'a mut [u8; N],
     size: &'a mut u8,
-    place: usize,
+    offset: usize,
     progress: Progress,
 }
 
@@ -37,7 +37,7 @@ impl<const N: usize> Drop for Unfinished<'_, N> {
     #[inline(always)]
     fn drop(&mut self) {
         let Progress { kept, run, read } = self.progress;
-        self.array.copy_within(self.place + run..self.place + read, self.place + kept);
+        self.array.copy_within(self.offset + run..self.offset + read, self.offset + kept);
         *self.size = (kept + (read - run)) as u8;
     }
 }
@@ -47,17 +47,17 @@ impl<const N: usize> Drop for Unfinished<'_, N> {
 pub(crate) fn retain_at<const N: usize, F: FnMut(char) -> bool>(
     array: &mut [u8; N],
     size: &mut u8,
-    place: usize,
+    offset: usize,
     len: usize,
     mut f: F,
 ) {
     let progress = Progress { kept: 0, run: 0, read: 0 };
-    let mut text = Unfinished { array, size, place, progress };
-    let left = retain::retain_at(text.array, place, len, |ch| {
+    let mut text = Unfinished { array, size, offset, progress };
+    let left = retain::retain_at(text.array, offset, len, |ch| {
         let keeps = f(ch);
         text.progress.answer(ch, keeps);
         keeps
     });
-    // All of it was asked about, and lies at the place.
+    // `f` was called with all of it, and it lies at the offset.
     text.progress = Progress { kept: left, run: left, read: left };
 }

@@ -54,7 +54,7 @@ impl<const K: usize> Mask<K> {
         self.0.iter().fold(0, |any, answer| any | answer) == 0
     }
 
-    /// The bits, of eight answers at a time: the factor moves that of byte `i` to place `56 + i`.
+    /// The bits, of eight results at a time: the factor moves that of byte `i` to bit `56 + i`.
     #[cold]
     #[inline(never)]
     fn bits(&self) -> u64 {
@@ -75,7 +75,7 @@ impl<const K: usize> Mask<K> {
 mod tests {
     use super::*;
 
-    /// Asserts that each byte answers at its own place.
+    /// Asserts that each byte sets its own bit.
     fn each_place<const K: usize>() {
         for at in 0..K {
             let mut bytes = [7; K];

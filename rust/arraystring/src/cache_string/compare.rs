@@ -7,7 +7,7 @@ use crate::CacheString;
 use core::cmp::Ordering;
 use core::hash::{Hash, Hasher};
 
-/// Strings are equal where their texts are.
+/// Strings are equal if their texts are.
 ///
 /// # Contract
 ///

@@ -1,10 +1,10 @@
 use Rattle.std.proofs.Common.{◌≡◌, ◌∙◌, arith, take, slice_range}
-use Rattle.arraystring_base.proofs.CutLaws.{cut-lent}
+use Rattle.arraystring_base.proofs.CutLaws.{cut-borrowed}
 use Rattle.arraystring_base.proofs.CutLemmas.{cut-at}
 use Rattle.arraystring_base.proofs.utils.truncate_str_counted.Goals as goal
 
 pub returns-then-text-limit-clause-value : goal.returns-then-text-limit-clause-value
-returns-then-text-limit-clause-value c = cut-lent c.args.text.now c.args.size c.utf8.text (omega arith)
+returns-then-text-limit-clause-value c = cut-borrowed c.args.text.now c.args.size c.utf8.text (omega arith)
 
 pub returns-clause-value : goal.returns-clause-value
 returns-clause-value c =

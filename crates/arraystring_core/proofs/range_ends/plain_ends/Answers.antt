@@ -5,7 +5,7 @@ use Rattle.std.specs.Range.Bound.{start_index, end_index}
 use Rattle.arraystring_core.proofs.range_ends.plain_ends.Goals.{in-Included, in-Excluded, in-Unbounded, in-Included-end_bound, in-Excluded-end_bound, in-Unbounded-end_bound}
 use Rattle.arraystring_core.proofs.range_ends.plain_ends.Goals as goal
 
--- the bounds that the two calls answered
+-- the bounds that the two calls returned
 pub returns : goal.returns
 returns g c =
     let s = bound_map {A = Bor ℕ} {B = ℕ} (λ x. x.now) c.start_bound.result in
@@ -22,4 +22,4 @@ returns g c =
       | in-Excluded-end_bound w ↦ search rules
       | in-Unbounded-end_bound w ↦ search rules
     ] in
-    record { start = s; end = e; told = λ h. (c.start_bound.ensures h, c.end_bound.ensures h); holds = (start, end) }
+    record { start = s; end = e; returned = λ h. (c.start_bound.ensures h, c.end_bound.ensures h); holds = (start, end) }

@@ -1,15 +1,8 @@
-use Rattle.std.proofs.Common.{◌≡◌, ℕ, ◌-◌, List, ◌++◌, length, take, drop, sym, ap, ◌∙◌, append_assoc, take-append-drop}
-use Rattle.std.proofs.lemmas.List.{take_rest}
-use Rattle.std.proofs.KnownBytes.{Appends-trans}
+use Rattle.std.proofs.Common.{◌∙◌, sym}
+use Rattle.arraystring_run.proofs.PrintLemmas.{front-rest}
 use Rattle.arraystring_run.proofs.printing.put.Goals as goal
 
-moves_front : (all done rest : List ℕ) (n : ℕ) → all ≡ done ++ rest → all ≡ (done ++ take n rest) ++ take (length rest - n) (drop n rest)
-moves_front all done rest n e =
-    e ∙ ap (λ l. done ++ l) (sym (take-append-drop n rest)) ∙ sym (append_assoc done (take n rest) (drop n rest)) ∙ ap (λ l. (done ++ take n rest) ++ l) (sym (take_rest rest n))
-
-pub loop-preserved-in-Ok : goal.loop-preserved-in-Ok
-loop-preserved-in-Ok g c =
-    let (done, split, appended) = c.loop.invariant in
-    let rest = c.loop.rest.now in
-    let n = c.in-Ok.n in
-    (done ++ take n rest, moves_front _ done rest n split, Appends-trans _ _ _ _ _ appended c.in-Ok.ensures.bytes)
+pub returns-clause-part : goal.returns-clause-part
+returns-clause-part g c =
+    let (done, parts, appended) = c.in_ok-rest.ensures.some in
+    front-rest _ _ _ _ done c.in_ok-rest.rest.now (sym c.as_bytes.ensures.value ∙ parts) appended c.put_rest.ensures.part

@@ -1,7 +1,7 @@
 use Rattle.std.proofs.Common.{ap, subst}
 use Rattle.std.specs.Io.KnownBytes.{Appends}
 use Rattle.arraystring.specs.Text.{bytes}
-use Rattle.arraystring_run.specs.Script.{AppendsFront}
+use Rattle.arraystring_run.specs.Script.{AppendsPrefix}
 use Rattle.arraystring_run.proofs.PrintLemmas.{on-ok, line_shown}
 use Rattle.arraystring_run.proofs.printing.put_shown.Goals as goal
 
@@ -14,5 +14,5 @@ returns-clause-whole g c = on-ok c.put.result _ _ (λ p.
 pub returns-clause-part : goal.returns-clause-part
 returns-clause-part g c =
     line_shown (λ x. bytes x.text) c.args.word.now (g.D.Display.output c.args.value) c.new-line.result c.writeln.new.self
-    (AppendsFront (g.O.Write.contents c.args.output.now) (g.O.Write.contents c.put.new.output)) c.in_ok-writeln.ensures.writes (ap bytes c.new-line.ensures)
-    (subst (AppendsFront (g.O.Write.contents c.args.output.now) (g.O.Write.contents c.put.new.output)) c.as_str.ensures.bytes c.put.ensures.part)
+    (AppendsPrefix (g.O.Write.contents c.args.output.now) (g.O.Write.contents c.put.new.output)) c.in_ok-writeln.ensures.writes (ap bytes c.new-line.ensures)
+    (subst (AppendsPrefix (g.O.Write.contents c.args.output.now) (g.O.Write.contents c.put.new.output)) c.as_str.ensures.bytes c.put.ensures.part)

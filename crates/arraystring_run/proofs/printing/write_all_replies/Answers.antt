@@ -4,7 +4,7 @@ use Rattle.std.proofs.KnownBytes.{Appends-trans, Appends-kept}
 use Rattle.std.specs.Io.KnownBytes.{Appends}
 use Rattle.arraystring.specs.Text.{bytes}
 use Rattle.arraystring_run.specs.Runs.{said}
-use Rattle.arraystring_run.specs.Script.{ended, printed, replies_printed, AppendsFront}
+use Rattle.arraystring_run.specs.Script.{ended, printed, replies_printed, AppendsPrefix}
 use Rattle.arraystring_run.specs.declared.commands.Reply.{Reply}
 use Rattle.arraystring_run.proofs.PrintLemmas.{printed-more, printed-parts, front-all, front-more, front-then}
 use Rattle.arraystring_run.proofs.printing.write_all_replies.Goals as goal
@@ -33,10 +33,10 @@ returns-in_err-write_reply-clause-part g c =
     let new = g.O.Write.contents c.write_reply.new.output in
     let one : take (i + 1) rs ≡ take i rs ++ r ∷ [] =
     take_more rs i r c.loop-reply-test.true ∙ ap (λ x. take i rs ++ x ∷ []) (sym c.reply-item.is) in
-    let so_far : AppendsFront old new (replies_printed (map said (take (i + 1) rs))) =
-    subst (AppendsFront old new) (sym (one-more rs i r one)) (front-then _ _ _ _ _ c.loop-reply.invariant c.in_err-write_reply.ensures.part) in
+    let so_far : AppendsPrefix old new (replies_printed (map said (take (i + 1) rs))) =
+    subst (AppendsPrefix old new) (sym (one-more rs i r one)) (front-then _ _ _ _ _ c.loop-reply.invariant c.in_err-write_reply.ensures.part) in
     front-more old new (replies_printed (map said rs)) (ended (codes "final " ++ bytes c.args.last.now.text))
-    (subst (AppendsFront old new) (sym (printed-parts rs (i + 1))) (front-more old new _ (replies_printed (map said (drop (i + 1) rs))) so_far))
+    (subst (AppendsPrefix old new) (sym (printed-parts rs (i + 1))) (front-more old new _ (replies_printed (map said (drop (i + 1) rs))) so_far))
 
 pub returns-in_err-put_line-clause-part : goal.returns-in_err-put_line-clause-part
 returns-in_err-put_line-clause-part g c =
@@ -44,7 +44,7 @@ returns-in_err-put_line-clause-part g c =
     let old = g.O.Write.contents c.args.output.now in
     let all : Appends old (g.O.Write.contents c.loop-reply.output) (replies_printed (map said rs)) =
     subst (λ l. Appends old (g.O.Write.contents c.loop-reply.output) (replies_printed (map said l))) (take_all c.loop-reply.reply-index rs c.loop-reply-test.false) c.loop-reply.invariant in
-    front-then _ _ _ _ _ all (subst (λ l. AppendsFront (g.O.Write.contents c.loop-reply.output) (g.O.Write.contents c.put_line.new.output) (ended (codes "final " ++ l))) c.as_str.ensures.bytes c.in_err-put_line.ensures.part)
+    front-then _ _ _ _ _ all (subst (λ l. AppendsPrefix (g.O.Write.contents c.loop-reply.output) (g.O.Write.contents c.put_line.new.output) (ended (codes "final " ++ l))) c.as_str.ensures.bytes c.in_err-put_line.ensures.part)
 
 pub returns-clause-part : goal.returns-clause-part
 returns-clause-part g c =

@@ -1,38 +1,54 @@
-use Rattle.std.proofs.Common.{◌≡◌, ◌+◌, ◌<◌, ◌++◌, ◌∷◌, [], drop, take, length, ap, subst, arith, rules, length-drop}
-use Rattle.std.proofs.lemmas.Grind.{common_steps}
+use Rattle.std.proofs.Common.{◌≡◌, ◌+◌, ◌++◌, ◌∷◌, [], drop, length, slice_range, subst, arith, rules, length-drop, length-take, ◌-◌}
+use Rattle.std.proofs.lemmas.Str.{IsCharBoundary-start}
 use Rattle.arraystring_run.specs.Grammar.{IsLineOf}
 use Rattle.arraystring_run.specs.Script.{lines}
-use Rattle.arraystring_run.proofs.ScriptLemmas.{IsPartRead, first-line, read-more, read-bad}
+use Rattle.arraystring_run.proofs.ScriptLemmas.{IsPartRead, line-from, after-line_feed, read-none, read-more, read-bad}
 use Rattle.arraystring_run.proofs.script.commands.Goals as goal
+
+pub loop-start-init : goal.loop-start-init
+loop-start-init c =
+    let bs = c.args.script.now in
+    let none : c.new-commands.result.items ≡ [] = search rules in
+    record {
+      short = omega arith;
+      within = omega arith;
+      read = rw none (read-none (lines bs));
+      text = search rules;
+      boundary = λ u. (IsCharBoundary-start bs u).1;
+    }
 
 pub returns-in_default-clause-bad_line : goal.returns-in_default-clause-bad_line
 returns-in_default-clause-bad_line c =
-    let all = lines c.args.script.now in
-    let rest = c.loop-rest.rest.now in
-    let end = c.find_byte-end.result in
-    let done = c.loop-rest.commands.items in
-    let way = c.loop-rest.invariant in
-    let found = c.find_byte-end.ensures in
-    let some : 0 < length rest = grind (arith, common_steps) in
-    let parts = first-line rest end some found.at_most found.found found.before in
-    let here = subst (λ l. IsPartRead all done l c.loop-rest.number) parts way.read in
-    read-bad all done (take end rest) (lines (drop (end + 1) rest)) c.loop-rest.number here c.in_default.ensures.none
+    let bs = c.args.script.now in
+    let all = lines bs in
+    let start = c.loop-start.start in
+    let size = c.find_byte.result in
+    let done = c.loop-start.commands.items in
+    let number = c.loop-start.number in
+    let found = c.find_byte.ensures in
+    let parts = line-from bs start size c.loop-start-test.true found.at_most found.found found.before in
+    let here = subst (λ l. IsPartRead all done l number) parts c.loop-start.invariant.read in
+    read-bad all done (slice_range bs start (start + size)) (lines (drop (start + size + 1) bs)) number here c.in_default.ensures.none
 
-pub loop-rest-preserved : goal.loop-rest-preserved
-loop-rest-preserved c =
-    let all = lines c.args.script.now in
-    let rest = c.loop-rest.rest.now in
-    let end = c.find_byte-end.result in
-    let done = c.loop-rest.commands.items in
-    let way = c.loop-rest.invariant in
-    let found = c.find_byte-end.ensures in
-    let some : 0 < length rest = grind (arith, common_steps) in
-    let parts = first-line rest end some found.at_most found.found found.before in
-    let is : IsLineOf (take end rest) c.in-Some.command = c.in-Some.ensures.some in
+pub loop-start-preserved : goal.loop-start-preserved
+loop-start-preserved c =
+    let bs = c.args.script.now in
+    let all = lines bs in
+    let start = c.loop-start.start in
+    let size = c.find_byte.result in
+    let done = c.loop-start.commands.items in
+    let number = c.loop-start.number in
+    let way = c.loop-start.invariant in
+    let found = c.find_byte.ensures in
+    let parts = line-from bs start size c.loop-start-test.true found.at_most found.found found.before in
+    let here = subst (λ l. IsPartRead all done l number) parts way.read in
+    let line = slice_range bs start (start + size) in
+    let is : IsLineOf line c.in-Some.command = c.in-Some.ensures.some in
     let pushed : c.push.new.self.items ≡ done ++ c.in-Some.command ∷ [] = search rules in
-    let left = c.past_line-rest.ensures in
-    let here = subst (λ l. IsPartRead all done l c.loop-rest.number) parts way.read in
     record {
-      short = omega (arith, way.short, ap length left, length-drop (end + 1) rest);
-      read = rw (pushed, left) (read-more all done (take end rest) (lines (drop (end + 1) rest)) c.loop-rest.number c.in-Some.command here is);
+      short = omega (arith, way.short);
+      within = omega (arith, found.at_most, length-take (length bs - start) (drop start bs), length-drop start bs, c.loop-start-test.true);
+      read = rw pushed (read-more all done line (lines (drop (start + size + 1) bs)) number c.in-Some.command here is);
+      text = way.text;
+      boundary = after-line_feed bs start size found.found;
     }

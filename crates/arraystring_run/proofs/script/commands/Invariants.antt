@@ -1,13 +1,16 @@
-use Rattle.std.proofs.Common.{◌+◌, ◌≤◌, length}
+use Rattle.std.proofs.Common.{◌≡◌, ◌+◌, ◌-◌, ◌<◌, ◌≤◌, drop, length, slice_index, IfSome, IsUtf8}
 use Rattle.arraystring_run.specs.Script.{lines}
 use Rattle.arraystring_run.proofs.ScriptLemmas.{IsPartRead}
 use Rattle.arraystring_run.proofs.script.commands.Given as goal
 
-abbrev pub invariant-loop-rest : goal.invariant-loop-rest
-invariant-loop-rest l = record {
-  short : l.number + length l.rest ≤ length l.script;
-  read : IsPartRead (lines l.script) l.commands.items (lines l.rest) l.number;
+abbrev pub invariant-loop-start : goal.invariant-loop-start
+invariant-loop-start l = record {
+  short : l.number ≤ l.start;
+  within : l.start ≤ length l.script + 1;
+  read : IsPartRead (lines l.script) l.commands.items (lines (drop l.start l.script)) l.number;
+  text : IfSome l.text (λ t. (t.now ≡ l.script) × IsUtf8 l.script);
+  boundary : IsUtf8 l.script → l.start < length l.script → 128 ≤ slice_index l.script l.start → 192 ≤ slice_index l.script l.start;
 }
 
-abbrev pub decreases-loop-rest : goal.decreases-loop-rest
-decreases-loop-rest l = length l.rest
+abbrev pub decreases-loop-start : goal.decreases-loop-start
+decreases-loop-start l = length l.script - l.start

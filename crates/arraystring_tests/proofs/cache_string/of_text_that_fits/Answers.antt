@@ -1,7 +1,7 @@
 use Rattle.std.proofs.Common.{◌≡◌, ◌≤◌, subst, sym, ap, chars, length, arith}
 use Rattle.std.proofs.iter.TextItems.{spells}
 use Rattle.arraystring.specs.Text.{IsWellFormed}
-use Rattle.arraystring.proofs.TextLaws.{size-lent, utf8-well_formed}
+use Rattle.arraystring.proofs.TextLaws.{size-borrowed, utf8-well_formed}
 use Rattle.arraystring.proofs.TakenLaws.{text-gives, chars-fit}
 use Rattle.arraystring_tests.proofs.cache_string.of_text_that_fits.Goals as goal
 
@@ -22,6 +22,6 @@ pub from_utf8_unchecked-requires : goal.from_utf8_unchecked-requires
 from_utf8_unchecked-requires c =
     let text = c.args.text.now in
     let tried = c.in-Ok.ensures.whole (chars text) (λ it e. text-gives c.chars.result it text c.utf8.text c.chars.ensures.rest e) in
-    let lent : c.as_bytes.result.now ≡ text = c.as_bytes.ensures.value in
-    let within : length c.as_bytes.result.now ≤ 63 = omega (arith, tried.0, size-lent c.utf8.text, ap length lent) in
-    record { well_formed = subst IsWellFormed (sym lent) (utf8-well_formed c.utf8.text); fits = within }
+    let borrowed : c.as_bytes.result.now ≡ text = c.as_bytes.ensures.value in
+    let within : length c.as_bytes.result.now ≤ 63 = omega (arith, tried.0, size-borrowed c.utf8.text, ap length borrowed) in
+    record { well_formed = subst IsWellFormed (sym borrowed) (utf8-well_formed c.utf8.text); fits = within }

@@ -1,7 +1,7 @@
 use Rattle.std.proofs.Common.{◌≡◌, ◌≤◌, subst, sym, ap, chars, length, rules, arith}
 use Rattle.std.proofs.iter.TextItems.{spells}
 use Rattle.arraystring.specs.Text.{cap, IsWellFormed}
-use Rattle.arraystring.proofs.TextLaws.{size-lent, utf8-well_formed}
+use Rattle.arraystring.proofs.TextLaws.{size-borrowed, utf8-well_formed}
 use Rattle.arraystring.proofs.TakenLaws.{text-gives, chars-fit}
 use Rattle.arraystring_tests.proofs.construct.of_text.Goals as goal
 
@@ -15,9 +15,9 @@ from_chars_unchecked-requires g c =
 pub from_utf8_unchecked-requires : goal.from_utf8_unchecked-requires
 from_utf8_unchecked-requires g c =
     let text = c.args.text.now in
-    let lent : c.as_bytes.result.now ≡ text = c.as_bytes.ensures.value in
-    let within : length c.as_bytes.result.now ≤ cap g.row.N = omega (arith, c.in-Ok.ensures.0, size-lent c.utf8.text, ap length lent) in
-    (search rules, (subst IsWellFormed (sym lent) (utf8-well_formed c.utf8.text), within))
+    let borrowed : c.as_bytes.result.now ≡ text = c.as_bytes.ensures.value in
+    let within : length c.as_bytes.result.now ≤ cap g.row.N = omega (arith, c.in-Ok.ensures.0, size-borrowed c.utf8.text, ap length borrowed) in
+    (search rules, (subst IsWellFormed (sym borrowed) (utf8-well_formed c.utf8.text), within))
 
 pub returns-in-Ok : goal.returns-in-Ok
 returns-in-Ok g c =

@@ -10,7 +10,7 @@ mark_width : width 0x2026 ≡ 3
 unfolding width
 mark_width = refl
 
--- where the text does not fit, the line has taken nothing of it
+-- if the text does not fit, the line has taken nothing of it
 pub overflow_sub-len : goal.overflow_sub-len
 overflow_sub-len c =
     let kept = c.in-Err.ensures.err in

@@ -11,14 +11,14 @@ passed : {A : Type 0} (result : Result A Error) (error : Error) → IsErrAnd res
 passed (Ok a) error is = absurd is
 passed (Err e) error is = ap Err is
 
-pub returns-clause-answer : goal.returns-clause-answer
-returns-clause-answer g c = ap (λ f. ok_unless f tt) (sym (edit-made (at_own_bounds c.in_ok-drain.ensures tt)).0)
+pub returns-clause-outcome : goal.returns-clause-outcome
+returns-clause-outcome g c = ap (λ f. ok_unless f tt) (sym (edit-made (at_own_bounds c.in_ok-drain.ensures tt)).0)
 
 pub returns-clause-text : goal.returns-clause-text
 returns-clause-text g c = edit-text (at_own_bounds c.in_ok-drain.ensures tt)
 
-pub returns-in_err-drain-clause-answer : goal.returns-in_err-drain-clause-answer
-returns-in_err-drain-clause-answer g c =
+pub returns-in_err-drain-clause-outcome : goal.returns-in_err-drain-clause-outcome
+returns-in_err-drain-clause-outcome g c =
     let refused = edit-refused (at_own_bounds c.in_err-drain.ensures tt) in
     passed _ _ c.from_residual.ensures.1 ∙ ap Err refused.2 ∙ ap (λ f. ok_unless f tt) (sym refused.1)
 

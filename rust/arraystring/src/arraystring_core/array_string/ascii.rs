@@ -40,8 +40,8 @@ impl<const N: usize> ArrayString<N> {
     /// ```
     #[inline]
     pub(super) fn uppercase_between(&mut self, start: usize, end: usize) {
-        let place = self.start as usize;
-        uppercase_bytes(&mut self.array, place + start, place + end);
+        let offset = self.start as usize;
+        uppercase_bytes(&mut self.array, offset + start, offset + end);
     }
 
     /// Changes A..Z to a..z between two boundaries.
@@ -56,8 +56,8 @@ impl<const N: usize> ArrayString<N> {
     /// ```
     #[inline]
     pub(super) fn lowercase_between(&mut self, start: usize, end: usize) {
-        let place = self.start as usize;
-        lowercase_bytes(&mut self.array, place + start, place + end);
+        let offset = self.start as usize;
+        lowercase_bytes(&mut self.array, offset + start, offset + end);
     }
 }
 

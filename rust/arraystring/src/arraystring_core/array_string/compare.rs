@@ -2,6 +2,7 @@
 //! How strings are ordered, hashed and printed, and how texts are added by `+` and `write!`.
 
 use crate::arraystring_core::ArrayString;
+use crate::arraystring_core::order::order;
 use core::cmp::Ordering;
 use core::fmt;
 use core::hash::{Hash, Hasher};
@@ -31,8 +32,8 @@ impl<const N: usize> PartialOrd for ArrayString<N> {
 /// ghost matches_eq = { λ s t. texts_ties s.text t.text };
 /// ```
 impl<const N: usize> Ord for ArrayString<N> {
-    /// The order of the texts, by the numbers of their characters; a text that begins another is
-    /// less than it. It is the order of the bytes of UTF-8 too.
+    /// Returns the order of the texts, by the scalar values of their characters. A text that begins
+    /// another is less than it. The order of the bytes of UTF-8 is the same.
     ///
     /// # Contract
     ///
@@ -43,7 +44,7 @@ impl<const N: usize> Ord for ArrayString<N> {
     /// ```
     #[inline]
     fn cmp(&self, other: &Self) -> Ordering {
-        self.as_str().cmp(other.as_str())
+        order(self.as_str(), other.as_str())
     }
 }
 
@@ -62,7 +63,7 @@ impl<const N: usize> Hash for ArrayString<N> {
     }
 }
 
-/// The text. A width that is asked for is ignored: nothing is padded.
+/// The text. A width in the format is ignored: nothing is padded.
 ///
 /// # Contract
 ///
@@ -77,7 +78,7 @@ impl<const N: usize> fmt::Display for ArrayString<N> {
     }
 }
 
-/// The string with the given text added at its end: as many of its leading whole characters as fit.
+/// The string, with the longest prefix of whole characters of `given` that fits added at its end.
 ///
 /// # Contract
 ///
@@ -100,8 +101,12 @@ impl<'a, const N: usize> Add<&'a str> for ArrayString<N> {
 /// ghost write_str_gives = { λ s given t. bytes t.text ≡ bytes s.text ++ given };
 /// ```
 impl<const N: usize> fmt::Write for ArrayString<N> {
-    /// Adds `string` at the end. Refused where not all of it fits. The text is then as it was. A
-    /// `write!` of several pieces leaves those before the one that is refused.
+    /// Adds `string` at the end.
+    ///
+    /// # Errors
+    ///
+    /// Returns `Err(fmt::Error)` if not all of `string` fits. The text is then as it was. A `write!`
+    /// of several pieces leaves those before the one that is refused.
     ///
     /// # Contract
     ///

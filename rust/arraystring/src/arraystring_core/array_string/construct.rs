@@ -9,7 +9,11 @@ use crate::arraystring_base::utils::truncate_str;
 use core::str::{self, FromStr};
 
 impl<const N: usize> ArrayString<N> {
-    /// The text `string`. Refused with `OutOfBounds` where it is larger than the capacity.
+    /// Returns the text `string`.
+    ///
+    /// # Errors
+    ///
+    /// Returns `Err(OutOfBounds)` if `string` is larger than the capacity.
     ///
     /// # Contract
     ///
@@ -35,7 +39,7 @@ impl<const N: usize> ArrayString<N> {
         result
     }
 
-    /// The longest leading run of whole characters of `string` that fits.
+    /// Returns the longest prefix of whole characters of `string` that fits.
     ///
     /// # Contract
     ///
@@ -49,7 +53,11 @@ impl<const N: usize> ArrayString<N> {
         unsafe { Self::from_str_unchecked(truncate_str(string, Self::capacity())) }
     }
 
-    /// The text `string`. All of it must fit.
+    /// Returns the text `string`.
+    ///
+    /// # Precondition
+    ///
+    /// All of `string` must fit.
     ///
     /// # Safety
     ///
@@ -73,9 +81,15 @@ impl<const N: usize> ArrayString<N> {
         }
     }
 
-    /// The pieces joined. Refused with `OutOfBounds` where they are larger than the capacity. It
-    /// needs no piece after the first that does not fit, and a test shows that it takes none. The
-    /// iterator must end, and allow `next` until it does.
+    /// Returns the pieces joined.
+    ///
+    /// # Errors
+    ///
+    /// Returns `Err(OutOfBounds)` if `pieces` are larger than the capacity.
+    ///
+    /// # Precondition
+    ///
+    /// The iterator must end, as the type's documentation says.
     ///
     /// # In Rust
     ///
@@ -101,9 +115,11 @@ impl<const N: usize> ArrayString<N> {
         Ok(made)
     }
 
-    /// The longest leading run of whole characters of the joined pieces that fits. It needs no
-    /// piece after the first that does not fit, and a test shows that it takes none. The iterator
-    /// must end, and allow `next` until it does.
+    /// Returns the longest prefix of whole characters of the joined pieces that fits.
+    ///
+    /// # Precondition
+    ///
+    /// The iterator must end, as the type's documentation says.
     ///
     /// # In Rust
     ///
@@ -127,8 +143,11 @@ impl<const N: usize> ArrayString<N> {
         made
     }
 
-    /// The pieces joined. All of them must fit. The iterator must end, and allow `next` until it
-    /// does.
+    /// Returns the pieces joined.
+    ///
+    /// # Precondition
+    ///
+    /// All of `pieces` must fit. The iterator must end, as the type's documentation says.
     ///
     /// # Safety
     ///
@@ -155,9 +174,15 @@ impl<const N: usize> ArrayString<N> {
         made
     }
 
-    /// The characters. Refused with `OutOfBounds` where they are larger than the capacity. It needs
-    /// no character after the first that does not fit, and a test shows that it takes none. The
-    /// iterator must end, and allow `next` until it does.
+    /// Returns the characters.
+    ///
+    /// # Errors
+    ///
+    /// Returns `Err(OutOfBounds)` if `characters` are larger than the capacity.
+    ///
+    /// # Precondition
+    ///
+    /// The iterator must end, as the type's documentation says.
     ///
     /// # In Rust
     ///
@@ -183,9 +208,12 @@ impl<const N: usize> ArrayString<N> {
         Ok(made)
     }
 
-    /// The characters up to the first that does not fit, also where a later shorter one would. It
-    /// needs no character after that one, and a test shows that it takes none. The iterator must
-    /// end, and allow `next` until it does.
+    /// Returns the characters up to the first that does not fit, even if a later shorter one would
+    /// fit.
+    ///
+    /// # Precondition
+    ///
+    /// The iterator must end, as the type's documentation says.
     ///
     /// # In Rust
     ///
@@ -209,7 +237,11 @@ impl<const N: usize> ArrayString<N> {
         made
     }
 
-    /// The characters. All of them must fit. The iterator must end, and allow `next` until it does.
+    /// Returns the characters.
+    ///
+    /// # Precondition
+    ///
+    /// All of `characters` must fit. The iterator must end, as the type's documentation says.
     ///
     /// # Safety
     ///
@@ -235,9 +267,15 @@ impl<const N: usize> ArrayString<N> {
         made
     }
 
-    /// The text whose UTF-8 is `given`. Refused with `Error::Utf8` where the whole slice is not
-    /// well-formed UTF-8 (the Unicode Standard, section 3.9), and else with `Error::OutOfBounds`
-    /// where it is larger than the capacity.
+    /// Returns the text whose UTF-8 is `given`.
+    ///
+    /// # Errors
+    ///
+    /// The first of these that holds decides:
+    ///
+    /// - `Err(Utf8)` if the whole slice is not well-formed UTF-8 (the Unicode Standard, section
+    ///   3.9);
+    /// - `Err(OutOfBounds)` if the text is larger than the capacity.
     ///
     /// # Contract
     ///
@@ -260,8 +298,11 @@ impl<const N: usize> ArrayString<N> {
         Ok(unsafe { Self::from_str_unchecked(text) })
     }
 
-    /// The longest leading run of whole characters that fits of the text whose UTF-8 is `given`.
-    /// Refused with `Utf8` where the whole slice is not well-formed UTF-8 (the Unicode Standard,
+    /// Returns the longest prefix of whole characters that fits of the text whose UTF-8 is `given`.
+    ///
+    /// # Errors
+    ///
+    /// Returns `Err(Utf8)` if the whole slice is not well-formed UTF-8 (the Unicode Standard,
     /// section 3.9), also by bytes past the capacity.
     ///
     /// # Contract
@@ -280,8 +321,12 @@ impl<const N: usize> ArrayString<N> {
         Ok(Self::from_str_truncate(string))
     }
 
-    /// The text whose UTF-8 is `given`. It must be well-formed UTF-8 (the Unicode Standard,
-    /// section 3.9), and all of it must fit.
+    /// Returns the text whose UTF-8 is `given`.
+    ///
+    /// # Precondition
+    ///
+    /// `given` must be well-formed UTF-8 (the Unicode Standard, section 3.9), and all of it must
+    /// fit.
     ///
     /// # Safety
     ///

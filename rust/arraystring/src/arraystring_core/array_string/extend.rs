@@ -6,9 +6,11 @@ use crate::arraystring_core::laws::text_fits;
 use crate::arraystring_base::error::OutOfBounds;
 
 impl<const N: usize> ArrayString<N> {
-    /// Adds the longest leading run of the characters that fits at the end. It needs no character
-    /// after the first that does not fit, and a test shows that it takes none. The iterator must
-    /// end, and allow `next` until it does.
+    /// Adds the longest prefix of the characters that fits at the end.
+    ///
+    /// # Precondition
+    ///
+    /// The iterator must end, as the type's documentation says.
     ///
     /// # In Rust
     ///
@@ -30,9 +32,11 @@ impl<const N: usize> ArrayString<N> {
         let _ = self.add_chars(characters);
     }
 
-    /// Adds the longest leading run of whole characters of the joined pieces that fits at the end.
-    /// It needs no piece after the first that does not fit, and a test shows that it takes none.
-    /// The iterator must end, and allow `next` until it does.
+    /// Adds the longest prefix of whole characters of the joined pieces that fits at the end.
+    ///
+    /// # Precondition
+    ///
+    /// The iterator must end, as the type's documentation says.
     ///
     /// # In Rust
     ///

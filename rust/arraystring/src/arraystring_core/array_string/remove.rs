@@ -8,8 +8,13 @@ use crate::arraystring_base::error::{Error, Utf8};
 use crate::arraystring_base::utils::Steps;
 
 impl<const N: usize> ArrayString<N> {
-    /// Keeps the part before the byte index `size`; one past the text changes nothing. Refused with
-    /// `Utf8` where `size` is inside a character. The text is then as it was.
+    /// Keeps the part before the byte index `size`; an index past the text changes nothing.
+    ///
+    /// # Errors
+    ///
+    /// Returns `Err(Utf8)` if `size` is inside a character. The text is then as it was.
+    ///
+    /// # Examples
     ///
     /// ```
     /// # use arraystring::ArrayString;
@@ -35,9 +40,14 @@ impl<const N: usize> ArrayString<N> {
         Ok(())
     }
 
-    /// Takes the character that begins at the byte index `index`. Refused with `OutOfBounds` where
-    /// the index is not below the length, then with `Utf8` where it is inside a character. The text
-    /// is then as it was.
+    /// Removes the character that begins at the byte index `index` and returns it.
+    ///
+    /// # Errors
+    ///
+    /// The first of these that holds decides, and the text is then as it was:
+    ///
+    /// - `Err(OutOfBounds)` if the index is not below the length;
+    /// - `Err(Utf8)` if the index is inside a character.
     ///
     /// # Contract
     ///
@@ -51,7 +61,15 @@ impl<const N: usize> ArrayString<N> {
 
     /// The same as `remove`. It moves no more bytes than the part after the character has, and at
     /// least as many as the shorter of the parts before and after it has. It moves none at index 0,
-    /// and none where it is refused. Both counts must be at most 2^63.
+    /// and none if it is refused.
+    ///
+    /// # Errors
+    ///
+    /// Those of `remove`, in the same order.
+    ///
+    /// # Precondition
+    ///
+    /// Both counts must be at most 2^63.
     ///
     /// # In Rust
     ///
@@ -84,9 +102,13 @@ impl<const N: usize> ArrayString<N> {
         Ok(ch)
     }
 
-    /// Calls `f` once with each character, in order, and keeps those for which it returns true. The
-    /// precondition is that `f` may be called with each of them, in each state that its earlier
-    /// calls leave.
+    /// Calls `f` once with each character, in order, and keeps those for which it returns true.
+    ///
+    /// # Precondition
+    ///
+    /// `f` must be callable with each character, in each state that its earlier calls leave.
+    ///
+    /// # Examples
     ///
     /// ```
     /// # use arraystring::ArrayString;
@@ -101,13 +123,13 @@ impl<const N: usize> ArrayString<N> {
     /// # Contract
     ///
     /// ```text
-    /// requires { MayBeAsked F.pre F.step f self.old.text }
+    /// requires { IsCallableInTurn F.pre F.step f self.old.text }
     /// ensures { IsFiltered F.step f self.old.text self.new.text }
     /// ```
     #[inline]
     pub fn retain<F: FnMut(char) -> bool>(&mut self, f: F) {
-        let (place, size) = (self.start as usize, self.size as usize);
-        retain_at(&mut self.array, &mut self.size, place, size, f);
+        let (offset, size) = (self.start as usize, self.size as usize);
+        retain_at(&mut self.array, &mut self.size, offset, size, f);
     }
 
     /// Empties the string.
@@ -123,8 +145,14 @@ impl<const N: usize> ArrayString<N> {
     }
 
     /// Returns the part from the byte index `at` on and keeps the part before it. `at` may be the
-    /// length. Refused with `OutOfBounds` where `at` is past the text, then with `Utf8` where it is
-    /// inside a character. The text is then as it was.
+    /// length.
+    ///
+    /// # Errors
+    ///
+    /// The first of these that holds decides, and the text is then as it was:
+    ///
+    /// - `Err(OutOfBounds)` if `at` is past the text;
+    /// - `Err(Utf8)` if `at` is inside a character.
     ///
     /// # Contract
     ///

@@ -19,9 +19,12 @@ impl<const N: usize> ArrayString<N> {
         self.trim_counted(&mut Steps::new());
     }
 
-    /// The same as `trim`. It moves no byte. It looks at each character that it drops at the end and
-    /// at the character before them: at each at least once, and at most four times. Both counts must
-    /// be at most 2^63.
+    /// The same as `trim`. It moves no byte. It looks at each character that it drops at the end
+    /// and at the character before them: at each at least once, and at most four times.
+    ///
+    /// # Precondition
+    ///
+    /// Both counts must be at most 2^63.
     ///
     /// # In Rust
     ///
@@ -64,9 +67,9 @@ impl<const N: usize> ArrayString<N> {
     /// # Contract
     ///
     /// ```text
-    /// requires asked { F.IsAlwaysCallable drops }
+    /// requires callable { F.IsAlwaysCallable drops }
     /// requires looks { steps.old.looked ≤ 2 ^ 63 }
-    /// ensures text { (passes : ℕ → Bool) → AnswersAs F.post drops passes → self.new.text ≡ without_trailing passes self.old.text }
+    /// ensures text { (passes : ℕ → Bool) → ReturnsAs F.post drops passes → self.new.text ≡ without_trailing passes self.old.text }
     /// ensures moved { steps.new.moved ≡ steps.old.moved }
     /// ensures looked { steps.new.looked ≤ steps.old.looked + 4 * (length self.old.text - length self.new.text + 1) }
     /// ensures least { steps.old.looked + min (length self.old.text) (length self.old.text - length self.new.text + 1) ≤ steps.new.looked }
@@ -89,8 +92,8 @@ impl<const N: usize> ArrayString<N> {
     /// # Contract
     ///
     /// ```text
-    /// requires asked { F.IsAlwaysCallable drops }
-    /// ensures { (passes : ℕ → Bool) → AnswersAs F.post drops passes → self.new.text ≡ without_leading passes self.old.text }
+    /// requires callable { F.IsAlwaysCallable drops }
+    /// ensures { (passes : ℕ → Bool) → ReturnsAs F.post drops passes → self.new.text ≡ without_leading passes self.old.text }
     /// ```
     #[inline]
     fn drop_leading<F: Fn(char) -> bool>(&mut self, drops: F) {

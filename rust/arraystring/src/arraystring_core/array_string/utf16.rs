@@ -8,8 +8,14 @@ use crate::arraystring_base::utf16::{Unit16, Units};
 use core::char;
 
 impl<const N: usize> ArrayString<N> {
-    /// The text whose UTF-16 `units` is. It is read item by item up to the first that ends it: a
-    /// lone surrogate is refused with `Utf16`, a character that does not fit with `OutOfBounds`.
+    /// Returns the text whose UTF-16 is `units`.
+    ///
+    /// # Errors
+    ///
+    /// The units are read item by item, and the first of these ends the reading:
+    ///
+    /// - `Err(Utf16)` if the item is a lone surrogate;
+    /// - `Err(OutOfBounds)` if the item is a character that does not fit.
     ///
     /// # Contract
     ///
@@ -20,16 +26,22 @@ impl<const N: usize> ArrayString<N> {
     pub fn try_from_utf16<B: AsRef<[u16]>>(units: B) -> Result<Self, Error> {
         let units = units.as_ref();
         let mut run = Self::new();
-        match leading_run(&mut run, units) {
+        match add_prefix(&mut run, units) {
             None => Ok(run),
             Some(Unit16::Lone(_)) => Err(Error::Utf16),
             Some(Unit16::Char(_)) => Err(Error::OutOfBounds),
         }
     }
 
-    /// The longest leading run of characters of `units` that fits. Refused with `Utf16` where a
-    /// lone surrogate comes right after that run, also if the string is full. What comes after a
-    /// character that does not fit is not looked at.
+    /// Returns the longest prefix of characters of `units` that fits. What comes after a character
+    /// that does not fit is not looked at.
+    ///
+    /// # Errors
+    ///
+    /// Returns `Err(Utf16)` if a lone surrogate comes right after that prefix, also if the string
+    /// is full.
+    ///
+    /// # Examples
     ///
     /// ```
     /// # use arraystring::ArrayString;
@@ -46,14 +58,14 @@ impl<const N: usize> ArrayString<N> {
     pub fn from_utf16<B: AsRef<[u16]>>(units: B) -> Result<Self, Utf16> {
         let units = units.as_ref();
         let mut run = Self::new();
-        match leading_run(&mut run, units) {
+        match add_prefix(&mut run, units) {
             Some(Unit16::Lone(_)) => Err(Utf16),
             _ => Ok(run),
         }
     }
 
-    /// The text of `units`, where each lone surrogate is read as U+FFFD, which takes three bytes.
-    /// The first character that does not fit ends it.
+    /// Returns the text of `units`, with each lone surrogate read as U+FFFD, which takes three
+    /// bytes. The first character that does not fit ends it.
     ///
     /// # Contract
     ///
@@ -75,8 +87,8 @@ impl<const N: usize> ArrayString<N> {
     }
 }
 
-/// Adds to an empty string the longest leading run of characters of `units` that fits, and returns
-/// the item right after it.
+/// Adds to an empty string the longest prefix of characters of `units` that fits, and returns the
+/// item right after it.
 ///
 /// # Contract
 ///
@@ -85,7 +97,7 @@ impl<const N: usize> ArrayString<N> {
 /// ensures { (items : List Unit16) → IsReading units.now items → first_stop items (cap N) ≡ stop_at result run.new.text }
 /// ```
 #[inline]
-fn leading_run<const N: usize>(run: &mut ArrayString<N>, units: &[u16]) -> Option<Unit16> {
+fn add_prefix<const N: usize>(run: &mut ArrayString<N>, units: &[u16]) -> Option<Unit16> {
     only_reading(units);
     for item in Units::new(units) {
         match item {
@@ -99,7 +111,7 @@ fn leading_run<const N: usize>(run: &mut ArrayString<N>, units: &[u16]) -> Optio
     None
 }
 
-/// An item as a character, where a lone surrogate is U+FFFD.
+/// An item as a character, with U+FFFD for a lone surrogate.
 ///
 /// # Contract
 ///

@@ -2,11 +2,12 @@
 //! How two drains are compared, hashed and printed: by what is left.
 
 use crate::arraystring_core::Drain;
+use crate::arraystring_core::order::order;
 use core::cmp::Ordering;
 use core::fmt;
 use core::hash::{Hash, Hasher};
 
-/// Two drains are equal where the same characters are left.
+/// Two drains are equal if and only if the same characters are left.
 ///
 /// # Contract
 ///
@@ -53,8 +54,8 @@ impl<const N: usize> PartialOrd for Drain<N> {
 /// ghost matches_eq = { λ s t. texts_ties s.left t.left };
 /// ```
 impl<const N: usize> Ord for Drain<N> {
-    /// The order of what is left, by the numbers of the characters. It is the order of the bytes of
-    /// UTF-8 too.
+    /// Returns the order of what is left, by the scalar values of the characters. The order of the
+    /// bytes of UTF-8 is the same.
     ///
     /// # Contract
     ///
@@ -65,7 +66,7 @@ impl<const N: usize> Ord for Drain<N> {
     /// ```
     #[inline]
     fn cmp(&self, other: &Self) -> Ordering {
-        self.as_str().cmp(other.as_str())
+        order(self.as_str(), other.as_str())
     }
 }
 
@@ -84,7 +85,7 @@ impl<const N: usize> Hash for Drain<N> {
     }
 }
 
-/// `Drain("bc")` where `bc` is left.
+/// `Drain("bc")` if `bc` is left.
 impl<const N: usize> fmt::Debug for Drain<N> {
     #[inline]
     fn fmt(&self, f: &mut fmt::Formatter<'_>) -> fmt::Result {

@@ -20,11 +20,11 @@ returns-then-unit-lt55296-clause-goes c =
 pub returns-in-Some-clause-steps : goal.returns-in-Some-clause-steps
 returns-in-Some-clause-steps c =
     let first = c.in_ok-first.first.now in
-    let told = c.in-Some.ensures.some in
+    let ensured = c.in-Some.ensures.some in
     let left = reading c.in-Some.rest.now in
-    let units = c.in_ok-first.ensures.cases.0 ∙ ap (λ l. first ∷ l) told.4 in
-    sym c.self.view_is ∙ ap reading units ∙ reading-pair first told.0 c.in-Some.rest.now told.1 told.2
-    ∙ ap (λ ch. Char ch ∷ left) (sym told.3)
+    let units = c.in_ok-first.ensures.cases.0 ∙ ap (λ l. first ∷ l) ensured.4 in
+    sym c.self.view_is ∙ ap reading units ∙ reading-pair first ensured.0 c.in-Some.rest.now ensured.1 ensured.2
+    ∙ ap (λ ch. Char ch ∷ left) (sym ensured.3)
 
 pub returns-in-Some-clause-goes : goal.returns-in-Some-clause-goes
 returns-in-Some-clause-goes c =

@@ -1,17 +1,17 @@
 use Rattle.std.proofs.Common.{sym, ◌∙◌, arith}
 use Rattle.arraystring_core.specs.GhostProofs.{stored-utf8}
-use Rattle.arraystring_core.proofs.StoredLaws.{lent-range, opened-bytes, opened-size, opened-text}
+use Rattle.arraystring_core.proofs.StoredLaws.{borrowed-range, opened-bytes, opened-size, opened-text}
 use Rattle.arraystring_core.proofs.array_string.ArrayString.as_str.Goals as goal
 
 pub from_utf8_unchecked-requires : goal.from_utf8_unchecked-requires
 from_utf8_unchecked-requires g c =
-    rw (lent-range g.row.N _ _ _ c.self.invariant) (stored-utf8 g.row.N _ _ _ c.self.invariant)
+    rw (borrowed-range g.row.N _ _ _ c.self.invariant) (stored-utf8 g.row.N _ _ _ c.self.invariant)
 
 pub returns : goal.returns
 returns g c =
-    let lent = rw (lent-range g.row.N _ _ _ c.self.invariant) at c.from_utf8_unchecked.ensures in
+    let borrowed = rw (borrowed-range g.row.N _ _ _ c.self.invariant) at c.from_utf8_unchecked.ensures in
     record {
-      bytes = lent ∙ sym (opened-bytes g.row.N _ _ _ c.self.invariant _ c.self.view_is);
+      bytes = borrowed ∙ sym (opened-bytes g.row.N _ _ _ c.self.invariant _ c.self.view_is);
       text = opened-text g.row.N _ _ _ c.self.invariant _ c.self.view_is;
       fits = omega (arith, opened-size g.row.N _ _ _ c.self.invariant _ c.self.view_is, c.self.invariant.0);
     }

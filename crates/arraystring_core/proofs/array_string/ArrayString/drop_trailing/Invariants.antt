@@ -1,12 +1,12 @@
 use Rattle.std.proofs.Common.{◌≡◌, ℕ, ◌+◌, ◌*◌, ◌≤◌, Bool, length}
 use Rattle.arraystring_base.specs.Text.{size}
-use Rattle.arraystring_core.specs.Retain.{AnswersAs}
+use Rattle.arraystring_core.specs.Retain.{ReturnsAs}
 use Rattle.arraystring_core.specs.Edits.{without_trailing}
 use Rattle.arraystring_core.proofs.array_string.ArrayString.drop_trailing.Given as goal
 
 abbrev pub invariant-loop-start : goal.invariant-loop-start
 invariant-loop-start g l = record {
-  same : (passes : ℕ → Bool) → AnswersAs (goal.F-post g) l.fn.drops passes
+  same : (passes : ℕ → Bool) → ReturnsAs (goal.F-post g) l.fn.drops passes
       → without_trailing passes l.self.text ≡ without_trailing passes l.initial.self.text;
   looked : l.steps.looked + 4 * size l.self.text ≤ l.initial.steps.looked + 4 * size l.initial.self.text;
   few : l.steps.looked + 4 * length l.self.text ≤ l.initial.steps.looked + 4 * length l.initial.self.text;

@@ -9,6 +9,6 @@ use Rattle.arraystring_core.proofs.array_string.ArrayString.extend_chars.Goals a
 pub returns-clause-whole : goal.returns-clause-whole
 returns-clause-whole g c = λ all gives.
     let old = c.args.self.now.text in
-    let told = c.add_chars.ensures in
-    let same = chars-cut g.I.IntoIterator.into_iter_gives g.I.IntoIter.Iterator.next_gives c.args.characters all gives told.0 (cap g.row.N - size old) told.1 in
-    makes (addition_of_cut old all (cap g.row.N)) old tt c.add_chars.new.self.text refl refl (behind old _ _ c.add_chars.new.self.text told.3 same)
+    let ensured = c.add_chars.ensures in
+    let same = chars-cut g.I.IntoIterator.into_iter_gives g.I.IntoIter.Iterator.next_gives c.args.characters all gives ensured.0 (cap g.row.N - size old) ensured.1 in
+    makes (addition_of_cut old all (cap g.row.N)) old tt c.add_chars.new.self.text refl refl (behind old _ _ c.add_chars.new.self.text ensured.3 same)

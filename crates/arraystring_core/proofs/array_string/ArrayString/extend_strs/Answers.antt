@@ -10,6 +10,6 @@ use Rattle.arraystring_core.proofs.array_string.ArrayString.extend_strs.Goals as
 pub returns-clause-whole : goal.returns-clause-whole
 returns-clause-whole g c = λ all gives.
     let old = c.args.self.now.text in
-    let told = c.add_strs.ensures in
-    let same = pieces-cut g.I.IntoIterator.into_iter_gives g.I.IntoIter.Iterator.next_gives c.args.pieces all gives told.0 (cap g.row.N - size old) told.1 in
-    makes (addition_of_cut old (joined all) (cap g.row.N)) old tt c.add_strs.new.self.text refl refl (behind old _ _ c.add_strs.new.self.text told.3 same)
+    let ensured = c.add_strs.ensures in
+    let same = pieces-cut g.I.IntoIterator.into_iter_gives g.I.IntoIter.Iterator.next_gives c.args.pieces all gives ensured.0 (cap g.row.N - size old) ensured.1 in
+    makes (addition_of_cut old (joined all) (cap g.row.N)) old tt c.add_strs.new.self.text refl refl (behind old _ _ c.add_strs.new.self.text ensured.3 same)

@@ -2,22 +2,22 @@ use Rattle.std.proofs.Common.{◌≡◌, ◌+◌, ◌≤◌, refl, length, take,
 use Rattle.std.proofs.lemmas.List.{length-replicate}
 use Rattle.std.proofs.Math.ListN.{replicate}
 use Rattle.arraystring_base.specs.Text.{cap}
-use Rattle.arraystring_base.proofs.TextLaws.{size-lent}
+use Rattle.arraystring_base.proofs.TextLaws.{size-borrowed}
 use Rattle.arraystring_core.proofs.GapLemmas.{written-length}
 use Rattle.arraystring_core.proofs.array_string.ArrayString.from_str_unchecked.Goals as goal
 
 pub write_by_call-requires : goal.write_by_call-requires
 write_by_call-requires g c =
-    (search rules, omega (arith, c.requires, size-lent c.utf8.string, ap length c.as_bytes.ensures.value))
+    (search rules, omega (arith, c.requires, size-borrowed c.utf8.string, ap length c.as_bytes.ensures.value))
 
 pub overflow_cast-result : goal.overflow_cast-result
-overflow_cast-result g c = omega (arith, c.requires, size-lent c.utf8.string)
+overflow_cast-result g c = omega (arith, c.requires, size-borrowed c.utf8.string)
 
 pub invariant_of-result : goal.invariant_of-result
 invariant_of-result g c =
     let given = c.args.string.now in
     let copied = rw c.as_bytes.ensures.value at c.write_by_call.ensures in
-    let fits : 0 + length given ≤ cap g.row.N = omega (arith, c.requires, size-lent c.utf8.string) in
+    let fits : 0 + length given ≤ cap g.row.N = omega (arith, c.requires, size-borrowed c.utf8.string) in
     let zeros : length (replicate g.row.N 0) ≡ g.row.N = length-replicate g.row.N 0 in
     let long = written-length (replicate g.row.N 0) c.write_by_call.new.array given 0 (omega (arith, fits, zeros)) copied ∙ zeros in
     (fits, long, rw (ap (take (length given)) copied ∙ take_at given _ (length given) refl) (∣ c.utf8.string ∣₁))

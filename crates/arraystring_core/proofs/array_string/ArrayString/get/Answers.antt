@@ -12,10 +12,10 @@ returns g c =
     let ends = c.plain_ends-start in
     let at = sym c.is_boundary.ensures ∙ c.if-not-is_boundary.false in
     let to = sym c.is_boundary-else-not-is_boundary.ensures ∙ c.if-not-is_boundary-2.false in
-    let lent = chars-bytes c.between.utf8 c.between.ensures in
+    let borrowed = chars-bytes c.between.utf8 c.between.ensures in
     let of = ends.ensures in
     let named = end_index of.end in
     let end : named (size t) ≡ ends.result.1 = ap named (sym c.len.ensures.value) ∙ sym {b = named c.len.result} of.holds.1 in
     let found = ap (λ i. part_in t i (named (size t))) (sym of.holds.0) ∙ ap (part_in t ends.result.0) end
-    ∙ part_in-some t ends.result.0 ends.result.1 c.if-start-end.false at to ∙ ap Some (sym lent) in
-    record { start = of.start; end = of.end; told = of.told; holds = found }
+    ∙ part_in-some t ends.result.0 ends.result.1 c.if-start-end.false at to ∙ ap Some (sym borrowed) in
+    record { start = of.start; end = of.end; returned = of.returned; holds = found }

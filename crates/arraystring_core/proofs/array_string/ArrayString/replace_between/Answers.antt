@@ -2,14 +2,14 @@ use Rattle.std.proofs.Common.{◌+◌, ◌-◌, ◌≤◌, ◌<◌, sym, arith, 
 use Rattle.std.proofs.lemmas.Bool.{le-ltb, lt-ltb}
 use Rattle.arraystring_base.specs.Text.{cap, size}
 use Rattle.arraystring_core.specs.Edits.{Room, Inside}
-use Rattle.arraystring_base.proofs.TextLaws.{size-lent}
+use Rattle.arraystring_base.proofs.TextLaws.{size-borrowed}
 use Rattle.arraystring_core.proofs.EditLaws.{inside-so, inside-not, refuses, makes}
 use Rattle.arraystring_core.proofs.array_string.ArrayString.replace_between.Goals as goal
 
 pub returns-then-kept-with-clause-edit : goal.returns-then-kept-with-clause-edit
 returns-then-kept-with-clause-edit g c =
     let t = c.args.self.now.text in
-    let long = size-lent c.utf8.with in
+    let long = size-borrowed c.utf8.with in
     let reached : c.args.end ≤ size t = omega arith in
     let over : cap g.row.N < size t - (c.args.end - c.args.start) + size (chars c.args.with.now) = omega arith in
     refuses _ _ Room (rw (le-ltb _ _ c.if-start-end.false, le-ltb _ _ reached, lt-ltb _ _ over))
@@ -17,7 +17,7 @@ returns-then-kept-with-clause-edit g c =
 pub returns-then-not-is_boundary-clause-edit : goal.returns-then-not-is_boundary-clause-edit
 returns-then-not-is_boundary-clause-edit g c =
     let t = c.args.self.now.text in
-    let long = size-lent c.utf8.with in
+    let long = size-borrowed c.utf8.with in
     let reached : c.args.end ≤ size t = omega arith in
     let fits : size t - (c.args.end - c.args.start) + size (chars c.args.with.now) ≤ cap g.row.N = omega arith in
     let within = inside-so t c.args.start (omega arith) (sym c.is_boundary.ensures ∙ c.if-not-is_boundary.true) in
@@ -26,7 +26,7 @@ returns-then-not-is_boundary-clause-edit g c =
 pub returns-then-not-is_boundary-2-clause-edit : goal.returns-then-not-is_boundary-2-clause-edit
 returns-then-not-is_boundary-2-clause-edit g c =
     let t = c.args.self.now.text in
-    let long = size-lent c.utf8.with in
+    let long = size-borrowed c.utf8.with in
     let reached : c.args.end ≤ size t = omega arith in
     let fits : size t - (c.args.end - c.args.start) + size (chars c.args.with.now) ≤ cap g.row.N = omega arith in
     let outside = inside-not t c.args.start (sym c.is_boundary.ensures ∙ c.if-not-is_boundary.false) in
@@ -36,7 +36,7 @@ returns-then-not-is_boundary-2-clause-edit g c =
 pub splice-requires : goal.splice-requires
 splice-requires g c =
     let t = c.args.self.now.text in
-    let long = size-lent c.utf8.with in
+    let long = size-borrowed c.utf8.with in
     let fits : size t - (c.args.end - c.args.start) + size (chars c.args.with.now) ≤ cap g.row.N = omega arith in
     let at = sym c.is_boundary.ensures ∙ c.if-not-is_boundary.false in
     let to = sym c.is_boundary-2.ensures ∙ c.if-not-is_boundary-2.false in
@@ -45,7 +45,7 @@ splice-requires g c =
 pub returns-clause-edit : goal.returns-clause-edit
 returns-clause-edit g c =
     let t = c.args.self.now.text in
-    let long = size-lent c.utf8.with in
+    let long = size-borrowed c.utf8.with in
     let reached : c.args.end ≤ size t = omega arith in
     let fits : size t - (c.args.end - c.args.start) + size (chars c.args.with.now) ≤ cap g.row.N = omega arith in
     let outside = inside-not t c.args.start (sym c.is_boundary.ensures ∙ c.if-not-is_boundary.false) in

@@ -1,6 +1,6 @@
 use Rattle.std.proofs.Common.{◌+◌, ◌-◌, ◌≤◌, ◌++◌, chars, length, arith, rules}
 use Rattle.arraystring_base.specs.Text.{size, cap, front, back}
-use Rattle.arraystring_base.proofs.TextLaws.{size-lent}
+use Rattle.arraystring_base.proofs.TextLaws.{size-borrowed}
 use Rattle.arraystring_core.proofs.StoredLaws.{opened-size}
 use Rattle.arraystring_core.proofs.SpanLemmas.{Lies, replaced-within, replaced-room, filled}
 use Rattle.arraystring_core.proofs.array_string.ArrayString.splice.Given as given
@@ -8,7 +8,7 @@ use Rattle.arraystring_core.proofs.array_string.ArrayString.splice.Goals as goal
 
 pub open_gap-requires : goal.open_gap-requires
 open_gap-requires g c =
-    let long = size-lent c.utf8.given in
+    let long = size-borrowed c.utf8.given in
     let fits : size c.args.self.now.text - (c.args.end - c.args.start) + length c.args.given.now ≤ cap g.row.N = omega (arith, c.requires.room, long) in
     let within = replaced-within g.row.N _ _ _ c.self.invariant _ c.self.view_is _ _ c.args.given.now c.requires.order c.requires.start c.requires.end fits in
     let room : c.self.inside.start + (c.args.start + (length c.args.given.now + (c.self.inside.size - c.args.end))) ≤ cap g.row.N = omega arith in
@@ -16,27 +16,27 @@ open_gap-requires g c =
 
 pub overflow_sub-tail : goal.overflow_sub-tail
 overflow_sub-tail g c =
-    let long = size-lent c.utf8.given in
+    let long = size-borrowed c.utf8.given in
     let fits : size c.args.self.now.text - (c.args.end - c.args.start) + length c.args.given.now ≤ cap g.row.N = omega (arith, c.requires.room, long) in
     replaced-within g.row.N _ _ _ c.self.invariant _ c.self.view_is _ _ c.args.given.now c.requires.order c.requires.start c.requires.end fits
 
 pub overflow_add-start : goal.overflow_add-start
 overflow_add-start g c =
-    let long = size-lent c.utf8.given in
+    let long = size-borrowed c.utf8.given in
     let fits : size c.args.self.now.text - (c.args.end - c.args.start) + length c.args.given.now ≤ cap g.row.N = omega (arith, c.requires.room, long) in
     let room = replaced-room g.row.N _ _ _ c.self.invariant _ c.self.view_is _ _ c.args.given.now c.requires.order c.requires.start c.requires.end fits in
     omega (arith, room)
 
 pub overflow_add-text : goal.overflow_add-text
 overflow_add-text g c =
-    let long = size-lent c.utf8.given in
+    let long = size-borrowed c.utf8.given in
     let fits : size c.args.self.now.text - (c.args.end - c.args.start) + length c.args.given.now ≤ cap g.row.N = omega (arith, c.requires.room, long) in
     let room = replaced-room g.row.N _ _ _ c.self.invariant _ c.self.view_is _ _ c.args.given.now c.requires.order c.requires.start c.requires.end fits in
     omega (arith, room)
 
 pub returns-then-text-start-clause-tail_alone : goal.returns-then-text-start-clause-tail_alone
 returns-then-text-start-clause-tail_alone g c small =
-    let long = size-lent c.utf8.given in
+    let long = size-borrowed c.utf8.given in
     let within = replaced-within g.row.N _ _ _ c.self.invariant _ c.self.view_is _ _ c.args.given.now c.requires.order c.requires.start c.requires.end
     (omega (arith, c.requires.room, long)) in
     omega (arith, small, long, within, c.self.invariant.0, c.requires.order)
@@ -49,7 +49,7 @@ written g c =
     let s = c.self.inside in
     let given = c.args.given.now in
     let gap = c.open_gap in
-    let fits : size c.args.self.now.text - (c.args.end - c.args.start) + length given ≤ cap g.row.N = omega (arith, c.requires.room, size-lent c.utf8.given) in
+    let fits : size c.args.self.now.text - (c.args.end - c.args.start) + length given ≤ cap g.row.N = omega (arith, c.requires.room, size-borrowed c.utf8.given) in
     let held : s.start + (c.args.start + (length given + (s.size - c.args.end))) ≤ cap g.row.N = omega arith in
     filled g.row.N _ _ _ c.self.invariant _ c.self.view_is _ _ given c.requires.order c.requires.start c.requires.end fits c.utf8.given
     gap.new.array c.write_over.new.array s.start gap.ensures.len held gap.ensures.front gap.ensures.tail (rw c.as_bytes.ensures.value at c.write_over.ensures)
@@ -69,5 +69,5 @@ returns-clause-most g c =
 
 pub returns-clause-least : goal.returns-clause-least
 returns-clause-least g c =
-    rw (opened-size g.row.N _ _ _ c.self.invariant _ c.self.view_is, size-lent c.utf8.given)
+    rw (opened-size g.row.N _ _ _ c.self.invariant _ c.self.view_is, size-borrowed c.utf8.given)
     (λ is_not. let more = c.open_gap.ensures.least is_not in omega (arith, more))

@@ -2,7 +2,7 @@ use Rattle.std.proofs.Common.{◌≡◌, ◌≤◌, length, drop, sym, arith, �
 use Rattle.std.proofs.lemmas.Bool.{le-ltb}
 use Rattle.arraystring_base.specs.Text.{cap, size, bytes, back}
 use Rattle.arraystring_core.specs.Edits.{Inside}
-use Rattle.arraystring_base.proofs.TextLaws.{size-is, size-lent, chars-bytes}
+use Rattle.arraystring_base.proofs.TextLaws.{size-is, size-borrowed, chars-bytes}
 use Rattle.arraystring_base.proofs.BoundaryLaws.{boundary-to_bytes, bytes-back}
 use Rattle.arraystring_core.proofs.EditLaws.{inside-so, inside-not, refuses, makes}
 use Rattle.arraystring_core.proofs.array_string.ArrayString.split_off.Goals as goal
@@ -23,8 +23,8 @@ from_str_unchecked-rest-requires g c =
     let long = size-is c.args.self.now.text in
     let whole = ap length c.as_str.ensures.bytes in
     let filled : size c.args.self.now.text ≤ cap g.row.N = rw (← c.len.ensures.value) c.len.ensures.fits in
-    let lent = size-lent c.range_from.utf8 in
-    (search rules, omega (arith, long, whole, filled, c.range_from.ensures.len, lent))
+    let borrowed = size-borrowed c.range_from.utf8 in
+    (search rules, omega (arith, long, whole, filled, c.range_from.ensures.len, borrowed))
 
 pub returns : goal.returns
 returns g c =

@@ -8,29 +8,29 @@ use Rattle.arraystring_core.proofs.array_string.ArrayString.try_from_iterator.Go
 
 pub returns-in_err-add_strs : goal.returns-in_err-add_strs
 returns-in_err-add_strs g c =
-    let told = c.in_err-add_strs.ensures in
+    let ensured = c.in_err-add_strs.ensures in
     let becomes = g.I.IntoIterator.into_iter_gives in
     let steps = g.I.IntoIter.Iterator.next_gives in
     let n = cap g.row.N in
-    let room = fresh-room c.new-made.result.text (joined_pieces told.0) n c.new-made.ensures in
-    let takes = subst (λ k. Takes becomes steps joined_pieces c.args.pieces k told.0) room told.1 in
-    let past : n < size (joined_pieces told.0) = omega (arith, told.2, room) in
-    let made = refused-made c.from_residual.result (joined_pieces told.0) n c.from_residual.ensures.0 past in
+    let room = fresh-room c.new-made.result.text (joined_pieces ensured.0) n c.new-made.ensures in
+    let takes = subst (λ k. Takes becomes steps joined_pieces c.args.pieces k ensured.0) room ensured.1 in
+    let past : n < size (joined_pieces ensured.0) = omega (arith, ensured.2, room) in
+    let made = refused-made c.from_residual.result (joined_pieces ensured.0) n c.from_residual.ensures.0 past in
     record {
-      taken = (told.0, takes, made);
-      whole = λ all gives. pieces-made becomes steps c.args.pieces all gives told.0 n takes (from_out_of_bounds c.from_residual.result) made;
+      taken = (ensured.0, takes, made);
+      whole = λ all gives. pieces-made becomes steps c.args.pieces all gives ensured.0 n takes (from_out_of_bounds c.from_residual.result) made;
     }
 
 pub returns : goal.returns
 returns g c =
-    let told = c.in_ok-add_strs.ensures in
+    let ensured = c.in_ok-add_strs.ensures in
     let becomes = g.I.IntoIterator.into_iter_gives in
     let steps = g.I.IntoIter.Iterator.next_gives in
     let n = cap g.row.N in
-    let room = fresh-room c.new-made.result.text (joined_pieces told.0) n c.new-made.ensures in
-    let takes = subst (λ k. Takes becomes steps joined_pieces c.args.pieces k told.0) room told.1 in
-    let made = fresh-whole c.new-made.result.text (joined_pieces told.0) n c.new-made.ensures c.add_strs.new.self.text told.2 told.3 in
+    let room = fresh-room c.new-made.result.text (joined_pieces ensured.0) n c.new-made.ensures in
+    let takes = subst (λ k. Takes becomes steps joined_pieces c.args.pieces k ensured.0) room ensured.1 in
+    let made = fresh-whole c.new-made.result.text (joined_pieces ensured.0) n c.new-made.ensures c.add_strs.new.self.text ensured.2 ensured.3 in
     record {
-      taken = (told.0, takes, made);
-      whole = λ all gives. pieces-made becomes steps c.args.pieces all gives told.0 n takes (Ok c.add_strs.new.self) made;
+      taken = (ensured.0, takes, made);
+      whole = λ all gives. pieces-made becomes steps c.args.pieces all gives ensured.0 n takes (Ok c.add_strs.new.self) made;
     }

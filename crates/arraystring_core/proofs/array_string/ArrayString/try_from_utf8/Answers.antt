@@ -1,6 +1,6 @@
 use Rattle.std.proofs.Common.{◌≡◌, ◌<◌, ◌≤◌, ◌∙◌, sym, ap, arith, rules, chars, length, refl}
 use Rattle.arraystring_base.specs.Text.{size, bytes, cap}
-use Rattle.arraystring_base.proofs.TextLaws.{well_formed-utf8, utf8-well_formed, chars-bytes, bytes-chars, text-chars, size-lent}
+use Rattle.arraystring_base.proofs.TextLaws.{well_formed-utf8, utf8-well_formed, chars-bytes, bytes-chars, text-chars, size-borrowed}
 use Rattle.arraystring_core.proofs.array_string.ArrayString.try_from_utf8.Goals as goal
 
 pub returns-in_default-clause-whole : goal.returns-in_default-clause-whole
@@ -15,7 +15,7 @@ returns-then-text-capacity-clause-whole g c = λ t is e.
     let read = c.in-Ok.ensures in
     let same : chars given ≡ t = chars-bytes read.1 (sym e) in
     let past : cap g.row.N < size t =
-    omega (arith, c.if-text-capacity.true, c.capacity.ensures, size-lent read.1, ap length read.0, ap size same) in
+    omega (arith, c.if-text-capacity.true, c.capacity.ensures, size-borrowed read.1, ap length read.0, ap size same) in
     (past, refl)
 
 pub from_str_unchecked-requires : goal.from_str_unchecked-requires
@@ -23,7 +23,7 @@ from_str_unchecked-requires g c =
     let given = c.args.given.now in
     let read = c.in-Ok.ensures in
     let fits : size (chars c.in-Ok.text.now) ≤ cap g.row.N =
-    omega (arith, c.if-text-capacity.false, c.capacity.ensures, size-lent read.1, ap length read.0, ap (λ l. size (chars l)) read.0) in
+    omega (arith, c.if-text-capacity.false, c.capacity.ensures, size-borrowed read.1, ap length read.0, ap (λ l. size (chars l)) read.0) in
     (search rules, fits)
 
 pub returns : goal.returns
@@ -36,7 +36,7 @@ returns g c =
       whole = λ t is e.
           let same : chars given ≡ t = chars-bytes read.1 (sym e) in
           let fits : size t ≤ cap g.row.N =
-          omega (arith, c.if-text-capacity.false, c.capacity.ensures, size-lent read.1, ap length read.0, ap size same) in
+          omega (arith, c.if-text-capacity.false, c.capacity.ensures, size-borrowed read.1, ap length read.0, ap size same) in
           (fits, text ∙ same);
       bytes = ap bytes text ∙ bytes-chars read.1;
       text = rw text (text-chars read.1);

@@ -5,12 +5,12 @@ use Rattle.arraystring_core.proofs.StoredLaws.{opened-size}
 use Rattle.arraystring_core.proofs.AsciiLemmas.{uppercase-change, changed-stored, changed-text}
 use Rattle.arraystring_core.proofs.array_string.ArrayString.uppercase_between.Goals as goal
 
-pub overflow_add-place : goal.overflow_add-place
-overflow_add-place g c =
+pub overflow_add-offset : goal.overflow_add-offset
+overflow_add-offset g c =
     omega (arith, opened-size g.row.N _ _ _ c.self.invariant _ c.self.view_is, boundary-within c.args.self.now.text c.args.start c.requires.start, c.self.invariant.0)
 
-pub overflow_add-place-2 : goal.overflow_add-place-2
-overflow_add-place-2 g c =
+pub overflow_add-offset-2 : goal.overflow_add-offset-2
+overflow_add-offset-2 g c =
     omega (arith, opened-size g.row.N _ _ _ c.self.invariant _ c.self.view_is, boundary-within c.args.self.now.text c.args.end c.requires.end, c.self.invariant.0)
 
 pub uppercase_bytes-requires : goal.uppercase_bytes-requires

@@ -2,7 +2,7 @@ use Rattle.std.proofs.Common.{◌≤◌, refl, ap, ◌∙◌, arith, subst}
 use Rattle.arraystring_base.specs.Text.{bytes, size, cap, IsText}
 use Rattle.arraystring_base.proofs.BoundaryLaws.{back-text}
 use Rattle.arraystring_core.proofs.StoredLaws.{opened-text}
-use Rattle.arraystring_core.proofs.DrainLemmas.{given-within, lent-utf8, lent-bytes, left-fits}
+use Rattle.arraystring_core.proofs.DrainLemmas.{given-within, borrowed-utf8, borrowed-bytes, left-fits}
 use Rattle.arraystring_core.proofs.drain.Drain.as_str.Goals as goal
 
 pub slice_bounds-from_utf8_unchecked-start : goal.slice_bounds-from_utf8_unchecked-start
@@ -14,11 +14,11 @@ slice_bounds-from_utf8_unchecked-count g c =
     omega (arith, given-within g.row.N _ _ _ _ c.self.invariant.0 c.self.invariant.1, c.self.invariant.0.0, c.self.told)
 
 pub from_utf8_unchecked-requires : goal.from_utf8_unchecked-requires
-from_utf8_unchecked-requires g c = lent-utf8 g.row.N _ _ _ _ c.self.invariant.0 c.self.invariant.1 _ _ (omega arith) (omega arith)
+from_utf8_unchecked-requires g c = borrowed-utf8 g.row.N _ _ _ _ c.self.invariant.0 c.self.invariant.1 _ _ (omega arith) (omega arith)
 
 pub returns-clause-bytes : goal.returns-clause-bytes
 returns-clause-bytes g c =
-    c.from_utf8_unchecked.ensures ∙ lent-bytes g.row.N _ _ _ _ c.self.invariant.0 c.self.invariant.1 _ _ (omega arith) (omega arith) ∙ ap (λ d. bytes d.left) c.self.view_is
+    c.from_utf8_unchecked.ensures ∙ borrowed-bytes g.row.N _ _ _ _ c.self.invariant.0 c.self.invariant.1 _ _ (omega arith) (omega arith) ∙ ap (λ d. bytes d.left) c.self.view_is
 
 pub returns-clause-text : goal.returns-clause-text
 returns-clause-text g c =

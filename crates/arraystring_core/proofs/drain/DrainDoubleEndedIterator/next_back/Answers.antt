@@ -73,10 +73,10 @@ returns-clause-steps g c =
     let s = c.self.inside in
     let ch = c.in_ok-kept.ch in
     let found = c.in_ok-kept.ensures.some in
-    let lent = sym (chars-bytes c.as_str.utf8 c.as_str.ensures.bytes) ∙ found.1 in
-    let ends = ap (λ d. d.left) c.self.view_is ∙ lent in
+    let borrowed = sym (chars-bytes c.as_str.utf8 c.as_str.ensures.bytes) ∙ found.1 in
+    let ends = ap (λ d. d.left) c.self.view_is ∙ borrowed in
     let rest = sym (back-rest g.row.N _ _ _ _ c.self.invariant.0 c.self.invariant.1 ch found.0 ends) ∙ ap (λ k. back (stored s.array s.start (s.front + k)).text s.front) found.2 in
-    lent ∙ ap (λ l. l ++ ch ∷ []) rest
+    borrowed ∙ ap (λ l. l ++ ch ∷ []) rest
 
 pub returns-clause-goes : goal.returns-clause-goes
 returns-clause-goes g c =

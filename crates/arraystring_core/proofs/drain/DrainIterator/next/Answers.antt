@@ -39,9 +39,9 @@ returns-then-first-lt128-clause-goes g c =
 pub returns-in_err-ch-clause-steps : goal.returns-in_err-ch-clause-steps
 returns-in_err-ch-clause-steps g c =
     let left = c.args.self.now.left in
-    let lent = chars-bytes c.as_str.utf8 c.as_str.ensures.bytes in
+    let borrowed = chars-bytes c.as_str.utf8 c.as_str.ensures.bytes in
     let over = nil_from_length c.chars-left.result.rest.now c.in_err-ch.ensures.steps.0.0 in
-    let none : left ≡ [] = sym lent ∙ ap chars (sym c.chars-left.ensures.rest ∙ over) ∙ chars-nil in
+    let none : left ≡ [] = sym borrowed ∙ ap chars (sym c.chars-left.ensures.rest ∙ over) ∙ chars-nil in
     rw c.from_residual.ensures (none, none)
 
 pub overflow_cast-self : goal.overflow_cast-self

@@ -13,7 +13,7 @@ returns-in_err-user-clause-old c =
     ∙ ap (option_map texts) c.in_err-user.ensures.value ∙ sym (get_users c.self.inside.users.entries c.args.username.now.text)
     ∙ ap (λ d. finite.get d c.args.username.now.text) c.self.view_is
 
--- the map once the role is written: the user stands under the name that was asked for
+-- the map once the role is written: the user stands under the name that was given
 written : (c : goal.After-self-2-1) → users_of (c.get_mut.follows.lender record { username = c.in_ok-user.user.now.username; role = c.replace.new.dest }).entries
     ≡ finite.insert (users_of c.self.inside.users.entries) c.args.username.now.text (c.args.username.now.text, c.args.role.text)
 written c =

@@ -1,0 +1,174 @@
+-- Where two lists first differ, found by blocks, and their order.
+use Rattle.std.proofs.Common.{◌≡◌, ◌≢◌, ℕ, min, Less, Equal, Greater, ◌+◌, ◌-◌, ◌/◌, ◌%◌, ◌^◌, ◌<◌, ◌≤◌, ◌++◌, Bool, true, false, not, cond, eqb, eqb-true, List, [], ◌∷◌, suc, zero, map, length, take, drop, get_or, take_all, length-take-le, length-drop, refl, sym, ap, ◌∙◌, arith, inl, inr, w8, w64, take-take}
+use Rattle.std.proofs.Math.Seq.{take-add}
+use Rattle.std.proofs.lemmas.Bool.{eq-eqb, cases_lt, both_ways}
+use Rattle.std.proofs.lemmas.List.{get_or-take, get_or-drop}
+use Rattle.std.proofs.lemmas.Simd.{tops_compared, mask_l-mod, bit_mask_l, length-zip2}
+use Rattle.std.proofs.lemmas.Nat.Bits.{bit_at-trailing_zeros}
+use Rattle.std.proofs.lemmas.Cmp.{nat_cmp_total, tied_itself}
+use Rattle.std.specs.Cmp.{nat_cmp_is}
+use Rattle.std.specs.Cmp.Lexicographic.{slice_cmp}
+use Rattle.std.specs.Int.{trailing_zeros}
+use Rattle.std.specs.Ordering.{nat_cmp}
+use Rattle.std.specs.Simd.Lanes.{zip2, mask_l}
+use lib.Lanes.{top}
+use Rattle.arraystring_core.proofs.EqualLemmas.{apart, none_apart}
+
+-- the first elements that differ decide
+other_decides : (x y : ℕ) → x ≢ y → (xs ys : List ℕ) → slice_cmp nat_cmp (x ∷ xs) (y ∷ ys) ≡ nat_cmp x y
+other_decides x y differ xs ys =
+    elim (cases_lt x y) [
+      | inl less ↦ rw (← nat_cmp_is x y Less less) refl
+      | inr more ↦
+          let greater : y < x = omega (arith, differ) in
+          rw (← nat_cmp_is x y Greater greater) refl
+    ]
+
+pub first_decides : (a b : List ℕ) (i : ℕ) → i < length a → i < length b → take i a ≡ take i b → get_or a i 0 ≢ get_or b i 0
+    → slice_cmp nat_cmp a b ≡ nat_cmp (get_or a i 0) (get_or b i 0)
+first_decides [] b i in_a in_b same differ = absurd (omega arith)
+first_decides (x ∷ a) [] i in_a in_b same differ = absurd (omega arith)
+first_decides (x ∷ a) (y ∷ b) zero in_a in_b same differ = other_decides x y differ a b
+first_decides (x ∷ a) (y ∷ b) (suc i) in_a in_b same differ =
+    let first : x ≡ y = cc in
+    let rest : take i a ≡ take i b = cc in
+    rw (first, tied_itself nat_cmp_total y) (first_decides a b i (omega arith) (omega arith) rest differ)
+
+suc_cmp : (m n : ℕ) → nat_cmp m n ≡ nat_cmp (suc m) (suc n)
+suc_cmp m n =
+    elim (cases_lt m n) [
+      | inl less ↦ sym (nat_cmp_is m n Less less) ∙ nat_cmp_is (suc m) (suc n) Less (omega arith)
+      | inr past ↦ elim (cases_lt n m) [
+        | inl more ↦ sym (nat_cmp_is m n Greater more) ∙ nat_cmp_is (suc m) (suc n) Greater (omega arith)
+        | inr within ↦
+            let same : m ≡ n = omega arith in
+            sym (nat_cmp_is m n Equal same) ∙ nat_cmp_is (suc m) (suc n) Equal (ap suc same)
+      ]
+    ]
+
+-- if one list begins the other, the lengths decide
+pub length_decides : (a b : List ℕ) → take (length b) a ≡ take (length a) b → slice_cmp nat_cmp a b ≡ nat_cmp (length a) (length b)
+length_decides [] [] same = refl
+length_decides [] (y ∷ b) same = nat_cmp_is 0 (length (y ∷ b)) Less (omega arith)
+length_decides (x ∷ a) [] same = nat_cmp_is (length (x ∷ a)) 0 Greater (omega arith)
+length_decides (x ∷ a) (y ∷ b) same =
+    let first : x ≡ y = cc in
+    let rest : take (length b) a ≡ take (length a) b = cc in
+    rw (first, tied_itself nat_cmp_total y) (length_decides a b rest ∙ suc_cmp (length a) (length b))
+
+not_apart : (x y : ℕ) → apart x y ≡ false → x ≡ y
+not_apart x y e = go (eqb x y) refl e
+  where
+    go : (t : Bool) → eqb x y ≡ t → not t ≡ false → x ≡ y
+    go true e none = eqb-true x y e
+    go false e none = absurd (cc)
+
+-- the first lane that is apart
+first_apart : (xs ys : List ℕ) (i : ℕ) → length xs ≡ length ys → get_or (zip2 apart xs ys) i false ≡ true
+    → ((j : ℕ) → j < i → get_or (zip2 apart xs ys) j false ≡ false)
+    → (i < length xs) × (take i xs ≡ take i ys) × (get_or xs i 0 ≢ get_or ys i 0)
+first_apart [] ys i long set before = absurd (cc)
+first_apart (x ∷ xs) [] i long set before = absurd (omega arith)
+first_apart (x ∷ xs) (y ∷ ys) zero long set before = (omega arith, refl, λ e. absurd (both_ways (apart x y) (ap not (eq-eqb x y e)) set))
+first_apart (x ∷ xs) (y ∷ ys) (suc i) long set before =
+    let rest = first_apart xs ys i (omega arith) set (λ j lt. before (suc j) (omega arith)) in
+    let same : x ≡ y = not_apart x y (before 0 (omega arith)) in
+    (omega (arith, rest.0), ap (λ l. x ∷ l) rest.1 ∙ ap (λ z. z ∷ take i ys) same, rest.2)
+
+one-is : (t : Bool) → ◌≡◌ {A = ℕ} (cond t 1 0) 1 → t ≡ true
+one-is true e = refl
+one-is false e = absurd (omega arith)
+
+none-is : (t : Bool) → ◌≡◌ {A = ℕ} (cond t 1 0) 0 → t ≡ false
+none-is true e = absurd (omega arith)
+none-is false e = refl
+
+-- the lowest bit of a mask of lanes
+first_bit : (xs ys : List ℕ) (m : ℕ) → length xs ≡ length ys → m ≡ mask_l (zip2 apart xs ys) → 0 < m → m < 2 ^ 64
+    → (trailing_zeros w64 m < length xs) × (take (trailing_zeros w64 m) xs ≡ take (trailing_zeros w64 m) ys)
+    × (get_or xs (trailing_zeros w64 m) 0 ≢ get_or ys (trailing_zeros w64 m) 0)
+first_bit xs ys m long is some small =
+    let lowest = bit_at-trailing_zeros w64 m some small in
+    let i = trailing_zeros w64 m in
+    let lanes = zip2 apart xs ys in
+    let bit : (j : ℕ) → m / 2 ^ j % 2 ≡ cond (get_or lanes j false) 1 0 = λ j. ap (λ n. n / 2 ^ j % 2) is ∙ bit_mask_l lanes j in
+    first_apart xs ys i long (one-is (get_or lanes i false) (sym (bit i) ∙ lowest.1))
+    (λ j lt. none-is (get_or lanes j false) (sym (bit j) ∙ lowest.2 j lt))
+
+-- the K bytes of both lists from `at` on, as their vectors are compared
+module _ (K : ℕ) (few : K ≤ 64) (a b : List ℕ) (at : ℕ) (in_a : at + K ≤ length a) (in_b : at + K ≤ length b) (before : take at a ≡ take at b) where
+  abbrev block : List ℕ → List ℕ
+  block l = take (at + K - at) (drop at l)
+
+  abbrev mask : ℕ
+  mask = mask_l (map (top 7) (zip2 (λ x y. cond (apart x y) 255 0) (take K (block a)) (take K (block b)))) % 2 ^ 64
+
+  wide : at + K - at ≡ K
+  wide = omega arith
+
+  block-is : (l : List ℕ) → block l ≡ take K (drop at l)
+  block-is l = ap (λ k. take k (drop at l)) wide
+
+  block-length : (l : List ℕ) → at + K ≤ length l → length (block l) ≡ K
+  block-length l within = ap length (block-is l) ∙ length-take-le K (drop at l) (omega (arith, length-drop at l))
+
+  long : length (block a) ≡ length (block b)
+  long = block-length a in_a ∙ sym (block-length b in_b)
+
+  mask-is : mask ≡ mask_l (zip2 apart (block a) (block b))
+  mask-is =
+      let tops = tops_compared w8 apart (block a) (block b) in
+      rw (take_all K (block a) (omega (arith, block-length a in_a)), take_all K (block b) (omega (arith, block-length b in_b)))
+      (mask_l-mod _ 64 (omega (arith, ap length tops, length-zip2 apart (block a) (block b) long, block-length a in_a, few)) ∙ ap mask_l tops)
+
+  -- none is apart
+  pub block_same : mask ≡ 0 → take (at + K) a ≡ take (at + K) b
+  block_same e =
+      let same : block a ≡ block b = none_apart (block a) (block b) long (sym mask-is ∙ e) in
+      take-add at K a ∙ ap (λ l. l ++ take K (drop at a)) before
+      ∙ ap (λ l. take at b ++ l) (sym (block-is a) ∙ same ∙ block-is b) ∙ sym (take-add at K b)
+
+  -- the first that is apart decides
+  abbrev first : ℕ
+  first = trailing_zeros w64 mask
+
+  module _ (some : 0 < mask) where
+    found : (first < length (block a)) × (take first (block a) ≡ take first (block b)) × (get_or (block a) first 0 ≢ get_or (block b) first 0)
+    found = first_bit (block a) (block b) mask long mask-is some (omega arith)
+
+    within : first < K
+    within = omega (arith, found.0, block-length a in_a)
+
+    taken : (l : List ℕ) → take first (block l) ≡ take first (drop at l)
+    taken l = ap (take first) (block-is l) ∙ take-take first K (drop at l) (omega (arith, within))
+
+    read : (l : List ℕ) → get_or (block l) first 0 ≡ get_or l (at + first) 0
+    read l = ap (λ xs. get_or xs first 0) (block-is l) ∙ get_or-take K (drop at l) first 0 within ∙ get_or-drop at l first 0
+
+    pub first-in_a : at + first < length a
+    first-in_a = omega (arith, within)
+
+    pub first-in_b : at + first < length b
+    first-in_b = omega (arith, within)
+
+    pub block_decides : slice_cmp nat_cmp a b ≡ nat_cmp (get_or a (at + first) 0) (get_or b (at + first) 0)
+    block_decides =
+        let same : take (at + first) a ≡ take (at + first) b =
+        take-add at first a ∙ ap (λ l. l ++ take first (drop at a)) before
+        ∙ ap (λ l. take at b ++ l) (sym (taken a) ∙ found.1 ∙ taken b) ∙ sym (take-add at first b) in
+        first_decides a b (at + first) first-in_a first-in_b same (λ e. found.2 (read a ∙ e ∙ sym (read b)))
+
+-- one list begins the other
+pub prefix_decides : (a b : List ℕ) (n : ℕ) → n ≡ min (length a) (length b) → take n a ≡ take n b
+    → slice_cmp nat_cmp a b ≡ nat_cmp (length a) (length b)
+prefix_decides a b n lesser same =
+    elim (cases_lt (length a) (length b)) [
+      | inl less ↦
+          let is : n ≡ length a = omega (arith, lesser) in
+          let front = sym (ap (λ k. take k a) is) ∙ same ∙ ap (λ k. take k b) is in
+          length_decides a b (take_all (length b) a (omega arith) ∙ sym (take_all (length a) a (omega arith)) ∙ front)
+      | inr past ↦
+          let is : n ≡ length b = omega (arith, lesser) in
+          let front = sym (ap (λ k. take k a) is) ∙ same ∙ ap (λ k. take k b) is in
+          length_decides a b (front ∙ take_all (length b) b (omega arith) ∙ sym (take_all (length a) b (omega arith)))
+    ]

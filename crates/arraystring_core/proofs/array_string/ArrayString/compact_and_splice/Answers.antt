@@ -1,0 +1,66 @@
+use Rattle.std.proofs.Common.{◌+◌, ◌-◌, ◌≤◌, ◌++◌, chars, length, arith, rules}
+use Rattle.arraystring_base.specs.Text.{size, cap, front, back}
+use Rattle.arraystring_base.proofs.TextLaws.{size-borrowed}
+use Rattle.arraystring_core.proofs.StoredLaws.{opened-size}
+use Rattle.arraystring_core.proofs.SpanLemmas.{Lies, replaced-within, replaced-room, moved_to_start}
+use Rattle.arraystring_core.proofs.array_string.ArrayString.compact_and_splice.Given as given
+use Rattle.arraystring_core.proofs.array_string.ArrayString.compact_and_splice.Goals as goal
+
+pub compact_and_open_gap-requires : goal.compact_and_open_gap-requires
+compact_and_open_gap-requires g c =
+    let long = size-borrowed c.utf8.given in
+    let fits : size c.args.self.now.text - (c.args.end - c.args.start) + length c.args.given.now ≤ cap g.row.N = omega (arith, c.requires.room, long) in
+    let within = replaced-within g.row.N _ _ _ c.self.invariant _ c.self.view_is _ _ c.args.given.now c.requires.order c.requires.start c.requires.end fits in
+    let room = replaced-room g.row.N _ _ _ c.self.invariant _ c.self.view_is _ _ c.args.given.now c.requires.order c.requires.start c.requires.end fits in
+    (search rules, (c.requires.order, (within, (c.self.invariant.0, (room, c.requires.countable)))))
+
+pub overflow_sub-self : goal.overflow_sub-self
+overflow_sub-self g c =
+    let long = size-borrowed c.utf8.given in
+    let fits : size c.args.self.now.text - (c.args.end - c.args.start) + length c.args.given.now ≤ cap g.row.N = omega (arith, c.requires.room, long) in
+    replaced-within g.row.N _ _ _ c.self.invariant _ c.self.view_is _ _ c.args.given.now c.requires.order c.requires.start c.requires.end fits
+
+pub overflow_add-self-2 : goal.overflow_add-self-2
+overflow_add-self-2 g c =
+    let long = size-borrowed c.utf8.given in
+    let fits : size c.args.self.now.text - (c.args.end - c.args.start) + length c.args.given.now ≤ cap g.row.N = omega (arith, c.requires.room, long) in
+    let room = replaced-room g.row.N _ _ _ c.self.invariant _ c.self.view_is _ _ c.args.given.now c.requires.order c.requires.start c.requires.end fits in
+    omega (arith, room)
+
+pub overflow_cast-self : goal.overflow_cast-self
+overflow_cast-self g c =
+    let long = size-borrowed c.utf8.given in
+    let fits : size c.args.self.now.text - (c.args.end - c.args.start) + length c.args.given.now ≤ cap g.row.N = omega (arith, c.requires.room, long) in
+    let room = replaced-room g.row.N _ _ _ c.self.invariant _ c.self.view_is _ _ c.args.given.now c.requires.order c.requires.start c.requires.end fits in
+    omega (arith, room)
+
+pub write_by_call-requires : goal.write_by_call-requires
+write_by_call-requires g c =
+    let long = size-borrowed c.utf8.given in
+    let fits : size c.args.self.now.text - (c.args.end - c.args.start) + length c.args.given.now ≤ cap g.row.N = omega (arith, c.requires.room, long) in
+    let room = replaced-room g.row.N _ _ _ c.self.invariant _ c.self.view_is _ _ c.args.given.now c.requires.order c.requires.start c.requires.end fits in
+    rw c.as_bytes.ensures.value (search rules, omega (arith, room))
+
+-- what is then in the array
+written : (g : given.Over) (c : goal.After-write_by_call g)
+    → Lies g.row.N c.write_by_call.new.array 0 (c.args.start + (length c.args.given.now + (c.self.inside.size - c.args.end)))
+    (front c.args.self.now.text c.args.start ++ (chars c.args.given.now ++ back c.args.self.now.text c.args.end))
+written g c =
+    let given = c.args.given.now in
+    let gap = c.compact_and_open_gap in
+    let fits : size c.args.self.now.text - (c.args.end - c.args.start) + length given ≤ cap g.row.N = omega (arith, c.requires.room, size-borrowed c.utf8.given) in
+    moved_to_start g.row.N _ _ _ c.self.invariant _ c.self.view_is _ _ given c.requires.order c.requires.start c.requires.end fits c.utf8.given
+    gap.new.array c.write_by_call.new.array gap.ensures.len gap.ensures.front gap.ensures.tail (rw c.as_bytes.ensures.value at c.write_by_call.ensures)
+
+pub invariant_of-self : goal.invariant_of-self
+invariant_of-self g c = (written g c).held
+
+pub returns-clause-text : goal.returns-clause-text
+returns-clause-text g c = (written g c).shown
+
+pub returns-clause-most : goal.returns-clause-most
+returns-clause-most g c = rw (opened-size g.row.N _ _ _ c.self.invariant _ c.self.view_is) c.compact_and_open_gap.ensures.most
+
+pub returns-clause-least : goal.returns-clause-least
+returns-clause-least g c =
+    rw (opened-size g.row.N _ _ _ c.self.invariant _ c.self.view_is, size-borrowed c.utf8.given) c.compact_and_open_gap.ensures.least

@@ -1,8 +1,0 @@
-use Rattle.std.proofs.Common.{◌≡◌, ◌≤◌, map, ◌++◌}
-use Rattle.arraystring_base.specs.declared.utf16.Unit16.TheVariants.{Char}
-use Rattle.arraystring_base.specs.Text.{cap, size}
-use Rattle.arraystring_core.proofs.array_string.utf16.leading_run.Given as goal
-
-abbrev pub invariant-loop-item : goal.invariant-loop-item
-invariant-loop-item g l =
-    (size l.run.text ≤ cap g.row.N) × (l.initial.item-iterator ≡ map Char l.run.text ++ l.item-iterator)
