@@ -1,19 +1,27 @@
 //! Makes the calls that `run` counts: those of the port and of the kit's arrayvec, through their static library, and
 //! those of the peers in Rust, with the same tests before them.
 //!
-//! Arguments: the capacity, `ascii` or `mixed`, `front` or `middle`, and how often each call is made. All sides have to
-//! give the same answer and to leave the same text.
+//! Arguments: the capacity, `ascii` or `mixed`, `front`, `middle`, `edges` or `clock`, and how often each call is made.
+//! All sides have to give the same answer and to leave the same text. `edges` prints the title of each edge, and `clock`
+//! what it timed.
 
 #[cfg(has_arrayvec)]
 mod arrayvec;
 mod cases;
+mod clock;
+mod edges;
 mod peers;
 mod string;
 
+use std::arch::global_asm;
 use std::hint::black_box;
 
 use cases::{CALLS, CALLS_OF_ARRAYVEC, Case};
+use edges::EDGES;
 use peers::Peer;
+
+// Moves the code of all sides by so many bytes. (The linker drops a section that nothing names, unless it is retained.)
+global_asm!(".section .text.place, \"axR\", @progbits", concat!(".skip ", env!("PLACE")), ".text");
 
 /// The calls of the static library at a capacity. A slice is a pointer and a length.
 type Linked = unsafe extern "C" fn(
@@ -48,7 +56,8 @@ macro_rules! linked {
     };
 }
 
-linked!(port_23 port_63 port_255 kit_23 kit_63 kit_255);
+linked!(port_2 port_23 port_63 port_255 kit_2 kit_23 kit_63 kit_255);
+linked!(port_timed_23 port_timed_63 port_timed_255);
 
 fn linked(at: Linked, call: u8, case: &Case) -> u64 {
     let (held, given, units) = (case.held.as_bytes(), case.given.as_bytes(), &case.units);
@@ -81,21 +90,55 @@ fn answers<const N: usize>(call: u8, case: &Case, port: Linked, kit: Linked) -> 
     answers
 }
 
+fn make(capacity: usize, call: u8, case: &Case, times: u32) {
+    for _ in 0..times {
+        let answers = match capacity {
+            2 => answers::<2>(call, case, port_2, kit_2),
+            23 => answers::<23>(call, case, port_23, kit_23),
+            63 => answers::<63>(call, case, port_63, kit_63),
+            255 => answers::<255>(call, case, port_255, kit_255),
+            _ => panic!("no calls at this capacity"),
+        };
+        assert!(answers.iter().all(|answer| *answer == answers[0]), "call {call} of {}: {answers:?}", case.held);
+    }
+}
+
+/// callgrind writes what it counted so far, and begins anew, before each call of this.
+#[inline(never)]
+fn next_edge(title: &str) {
+    println!("{title}");
+}
+
+fn make_edges(capacity: usize, times: u32) {
+    for edge in EDGES {
+        next_edge(black_box(edge.title));
+        if let Some(case) = black_box(edge.case(capacity)) {
+            make(capacity, edge.call, &case, times);
+        }
+    }
+}
+
+fn tell_clock(capacity: usize, rounds: u32) {
+    match capacity {
+        23 => clock::tell::<23>(port_timed_23, rounds),
+        63 => clock::tell::<63>(port_timed_63, rounds),
+        255 => clock::tell::<255>(port_timed_255, rounds),
+        _ => panic!("nothing is timed at this capacity"),
+    }
+}
+
 fn main() {
     let words: Vec<String> = std::env::args().skip(1).collect();
     let capacity: usize = words[0].parse().expect("a capacity");
+    let (mixed, place) = (words[1] == "mixed", words[2].as_str());
     let times: u32 = words[3].parse().expect("a number");
+    match place {
+        "edges" => return make_edges(capacity, times),
+        "clock" => return tell_clock(capacity, times),
+        _ => {}
+    }
     for &call in CALLS {
-        let case = Case::new(capacity, words[1] == "mixed", words[2] == "front").for_call(call, capacity);
-        let case = black_box(case);
-        for _ in 0..times {
-            let answers = match capacity {
-                23 => answers::<23>(call, &case, port_23, kit_23),
-                63 => answers::<63>(call, &case, port_63, kit_63),
-                255 => answers::<255>(call, &case, port_255, kit_255),
-                _ => panic!("no calls at this capacity"),
-            };
-            assert!(answers.iter().all(|answer| *answer == answers[0]), "call {call} of {}: {answers:?}", case.held);
-        }
+        let case = Case::new(capacity, mixed, place == "front").for_call(call, capacity);
+        make(capacity, call, &black_box(case), times);
     }
 }

@@ -48,6 +48,9 @@ pub trait Peer: Sized + Clone + Ord + Hash {
     fn try_insert_str(&mut self, _: usize, _: &str) -> bool {
         unimplemented!()
     }
+    fn insert_str(&mut self, _: usize, _: &str) -> bool {
+        unimplemented!()
+    }
     fn replace_range(&mut self, _: usize, _: usize, _: &str) -> bool {
         unimplemented!()
     }
@@ -133,7 +136,7 @@ fn counted_len<P: Peer>(text: &P) -> usize {
 }
 
 #[inline(never)]
-fn counted_cmp<P: Peer>(text: &P, other: &P) -> Ordering {
+pub fn counted_cmp<P: Peer>(text: &P, other: &P) -> Ordering {
     text.cmp(other)
 }
 
@@ -160,12 +163,12 @@ fn counted_try_push_str<P: Peer>(text: &mut P, given: &str) -> bool {
 }
 
 #[inline(never)]
-fn counted_try_push<P: Peer>(text: &mut P, ch: char) -> bool {
+pub fn counted_try_push<P: Peer>(text: &mut P, ch: char) -> bool {
     text.try_push(ch)
 }
 
 #[inline(never)]
-fn counted_push_str_cut<P: Peer>(text: &mut P, given: &str) {
+pub fn counted_push_str_cut<P: Peer>(text: &mut P, given: &str) {
     text.push_str_cut(given);
 }
 
@@ -177,6 +180,11 @@ fn counted_try_insert<P: Peer>(text: &mut P, index: u8, ch: char) -> bool {
 #[inline(never)]
 fn counted_try_insert_str<P: Peer>(text: &mut P, index: u8, given: &str) -> bool {
     text.try_insert_str(index as usize, given)
+}
+
+#[inline(never)]
+pub fn counted_insert_str<P: Peer>(text: &mut P, index: u8, given: &str) -> bool {
+    text.insert_str(index as usize, given)
 }
 
 #[inline(never)]
@@ -198,7 +206,7 @@ fn counted_pop<P: Peer>(text: &mut P) -> Option<char> {
 }
 
 #[inline(never)]
-fn counted_remove<P: Peer>(text: &mut P, index: u8) -> Option<char> {
+pub fn counted_remove<P: Peer>(text: &mut P, index: u8) -> Option<char> {
     text.remove(index as usize)
 }
 
@@ -213,7 +221,7 @@ fn counted_trim<P: Peer>(text: &mut P) {
 }
 
 #[inline(never)]
-fn counted_retain<P: Peer>(text: &mut P, dropped: char) {
+pub fn counted_retain<P: Peer>(text: &mut P, dropped: char) {
     text.retain(|ch| ch != dropped);
 }
 
@@ -228,7 +236,7 @@ fn counted_split_off<P: Peer>(text: &mut P, at: u8) -> Option<P> {
 }
 
 #[inline(never)]
-fn counted_drain<P: Peer>(text: &mut P, start: u8, end: u8) -> u32 {
+pub fn counted_drain<P: Peer>(text: &mut P, start: u8, end: u8) -> u32 {
     text.drain(start as usize, end as usize, false)
 }
 
@@ -288,6 +296,7 @@ pub fn answer<P: Peer>(call: u8, case: &Case) -> u64 {
         24 => counted_try_insert_str(&mut text, start, given) as u64,
         25 => counted_replace_range(&mut text, start, end, given) as u64,
         26 => counted_queue(&mut text) as u64,
+        27 => counted_insert_str(&mut text, start, given) as u64,
         30 => counted_pop(&mut text).map_or(0, |ch| ch as u64),
         31 => counted_remove(&mut text, start).map_or(0, |ch| ch as u64),
         32 => counted_truncate(&mut text, start) as u64,

@@ -1,4 +1,5 @@
-//! std's `String` with the same room reserved, which makes the tests that the port's calls make.
+//! std's `String` with the same room reserved, which makes the tests that the port's calls make. What is read for its bytes
+//! of code is always inlined, so that the tests are a part of it.
 
 use std::str;
 
@@ -25,6 +26,11 @@ impl<const N: usize> Limited<N> {
         Some(made)
     }
 
+    /// The longest leading run of whole characters for which there is room.
+    fn what_fits<'a>(&self, given: &'a str) -> &'a str {
+        &given[..given.floor_char_boundary(N - self.0.len())]
+    }
+
     fn is_range(&self, start: usize, end: usize) -> bool {
         start <= end && self.0.is_char_boundary(start) && self.0.is_char_boundary(end)
     }
@@ -45,6 +51,7 @@ impl<const N: usize> Peer for Limited<N> {
         self.0.len()
     }
 
+    #[inline(always)]
     fn try_push_str(&mut self, given: &str) -> bool {
         if self.0.len() + given.len() > N {
             return false;
@@ -53,6 +60,7 @@ impl<const N: usize> Peer for Limited<N> {
         true
     }
 
+    #[inline(always)]
     fn try_push(&mut self, ch: char) -> bool {
         if self.0.len() + ch.len_utf8() > N {
             return false;
@@ -90,6 +98,7 @@ impl<const N: usize> Peer for Limited<N> {
         Some(Self::with(given))
     }
 
+    #[inline(always)]
     fn from_str_truncate(given: &str) -> Self {
         Self::with(&given[..given.floor_char_boundary(N)])
     }
@@ -122,8 +131,7 @@ impl<const N: usize> Peer for Limited<N> {
     }
 
     fn push_str_cut(&mut self, given: &str) {
-        let room = N - self.0.len();
-        self.0.push_str(&given[..given.floor_char_boundary(room)]);
+        self.0.push_str(self.what_fits(given));
     }
 
     fn try_insert(&mut self, index: usize, ch: char) -> bool {
@@ -141,6 +149,15 @@ impl<const N: usize> Peer for Limited<N> {
             return false;
         }
         self.0.insert_str(index, given);
+        true
+    }
+
+    #[inline(always)]
+    fn insert_str(&mut self, index: usize, given: &str) -> bool {
+        if !self.0.is_char_boundary(index) {
+            return false;
+        }
+        self.0.insert_str(index, self.what_fits(given));
         true
     }
 
@@ -172,6 +189,7 @@ impl<const N: usize> Peer for Limited<N> {
         Some(Limited(self.0.split_off(at)))
     }
 
+    #[inline(always)]
     fn drain(&mut self, start: usize, end: usize, from_back: bool) -> u32 {
         if !self.is_range(start, end) {
             return 0;

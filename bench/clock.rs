@@ -1,0 +1,115 @@
+//! Times calls of the port and of its peers in Rust, in turn in one process.
+//!
+//! A round makes a call on each of 64 strings that hold the same, and a second time none. What is told is the least of
+//! the rounds with the call, without the least of those that make none.
+
+use std::hint::black_box;
+use std::time::Instant;
+
+use crate::cases::Case;
+use crate::edges::EDGES;
+use crate::peers::{self, Peer};
+use crate::string::Limited;
+use crate::{Linked, linked};
+
+const STRINGS: usize = 64;
+const NO_CALL: u8 = 255;
+
+/// What is timed: a title, a call and its case.
+fn operations(capacity: usize) -> Vec<(&'static str, u8, Case)> {
+    let usual = [
+        ("`drain` in the middle, walked", 37),
+        ("`cmp` of equal texts", 13),
+        ("`try_push` where there is room", 21),
+        ("`remove` in the middle", 31),
+    ];
+    let usual = usual.map(|(title, call)| (title, call, Case::new(capacity, false, false).for_call(call, capacity)));
+    let edges = EDGES.iter().filter(|edge| edge.timed);
+    let edges = edges.filter_map(|edge| Some((edge.title, edge.call, edge.case(capacity)?)));
+    usual.into_iter().chain(edges).collect()
+}
+
+fn sum<P>(texts: &mut [P], call: impl FnMut(&mut P) -> u64) -> u64 {
+    texts.iter_mut().map(call).fold(0, u64::wrapping_add)
+}
+
+fn on_each<P: Peer>(call: u8, texts: &mut [P], other: &P, case: &Case) -> u64 {
+    let (given, ch, start, end) = (case.given.as_str(), case.ch, case.start, case.end);
+    match call {
+        13 => sum(texts, |text| (peers::counted_cmp(text, other) as i8 + 2) as u64),
+        21 => sum(texts, |text| peers::counted_try_push(text, ch) as u64),
+        22 => sum(texts, |text| {
+            peers::counted_push_str_cut(text, given);
+            0
+        }),
+        27 => sum(texts, |text| peers::counted_insert_str(text, start, given) as u64),
+        31 => sum(texts, |text| peers::counted_remove(text, start).is_some() as u64),
+        34 => sum(texts, |text| {
+            peers::counted_retain(text, ch);
+            0
+        }),
+        37 => sum(texts, |text| peers::counted_drain(text, start, end) as u64),
+        _ => 0,
+    }
+}
+
+/// A round of a peer. The strings keep their memory from round to round.
+#[inline(never)]
+fn round<P: Peer>(call: u8, texts: &mut [P], case: &Case) -> u64 {
+    for text in texts.iter_mut() {
+        text.truncate(0);
+        text.try_push_str(&case.held);
+    }
+    let mut other = P::new();
+    other.try_push_str(&case.given);
+    let answer = on_each(call, texts, &other, case);
+    texts.iter().fold(answer, |sum, text| sum.wrapping_mul(31).wrapping_add(text.len() as u64))
+}
+
+/// The least of the rounds of one side, with the call and without.
+#[derive(Clone, Copy)]
+struct Least([u64; 2]);
+
+impl Least {
+    fn time(&mut self, call: u8, mut round: impl FnMut(u8) -> u64) -> u64 {
+        let mut answer = 0;
+        for (least, call) in self.0.iter_mut().zip([call, NO_CALL]) {
+            let begun = Instant::now();
+            let told = black_box(round(black_box(call)));
+            *least = (*least).min(begun.elapsed().as_nanos() as u64);
+            answer = if call == NO_CALL { answer } else { told };
+        }
+        answer
+    }
+
+    /// The nanoseconds of a call, or a dash where the side was never called.
+    fn told(self) -> String {
+        let [with, without] = self.0;
+        if with == u64::MAX {
+            return "-".to_string();
+        }
+        format!("{:.2}", (with as f64 - without as f64) / STRINGS as f64)
+    }
+}
+
+/// Prints a line for each operation: its title, and the nanoseconds of the port, of `String` and of arrayvec.
+pub fn tell<const N: usize>(port: Linked, rounds: u32) {
+    let operations = black_box(operations(N));
+    let mut leasts = vec![[Least([u64::MAX; 2]); 3]; operations.len()];
+    let mut strings: Vec<Limited<N>> = (0..STRINGS).map(|_| Peer::new()).collect();
+    #[cfg(has_arrayvec)]
+    let mut arrays: Vec<arrayvec::ArrayString<N>> = (0..STRINGS).map(|_| Peer::new()).collect();
+    for _ in 0..rounds {
+        for ((title, call, case), [first, second, _third]) in operations.iter().zip(&mut leasts) {
+            let answer = first.time(*call, |call| linked(port, call, case));
+            assert_eq!(answer, second.time(*call, |call| round(call, &mut strings, case)), "{title}");
+            #[cfg(has_arrayvec)]
+            if arrayvec::ArrayString::<N>::HAS.contains(call) {
+                assert_eq!(answer, _third.time(*call, |call| round(call, &mut arrays, case)), "{title}");
+            }
+        }
+    }
+    for ((title, ..), sides) in operations.iter().zip(leasts) {
+        println!("{title}\t{}", sides.map(Least::told).join("\t"));
+    }
+}
