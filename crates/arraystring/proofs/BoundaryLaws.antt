@@ -89,6 +89,14 @@ back-text = law.back-text
 pub part-all : (t : List ℕ) → part t 0 (size t) ≡ t
 part-all t = ap (λ l. back l 0) (law.front-end t) ∙ law.back-start t
 
+-- the part from the start to an index is what is before it
+pub part-start : (t : List ℕ) (i : ℕ) → part t 0 i ≡ front t i
+part-start t i = law.back-start (front t i)
+
+-- and the part from an index to the end what is from it on
+pub part-end : (t : List ℕ) (i : ℕ) → part t i (size t) ≡ back t i
+part-end t i = ap (λ l. back l i) (law.front-end t)
+
 -- the part between two boundaries
 module _ (t : List ℕ) (start end : ℕ) (order : start ≤ end) where
   -- what is before a part, the part and what is after it are the text
