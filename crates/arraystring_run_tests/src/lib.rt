@@ -1,6 +1,7 @@
 //! Tests of `arraystring_run`: what no contract says of commands, runs and scripts, on values worked out
 //! by hand. A module is named as the module that it tests. `capacities`, `devices` and `memory` play
-//! scripts at each capacity, on devices that fail, and with refused memory.
+//! scripts at each capacity, on devices that fail, and with refused memory. `printing` prints for who
+//! writes code.
 #![tactic(auto)]
 
 #[cfg(test)]
@@ -13,6 +14,8 @@ mod line;
 mod memory;
 #[cfg(test)]
 mod player;
+#[cfg(test)]
+mod printing;
 #[cfg(test)]
 mod runs;
 #[cfg(test)]

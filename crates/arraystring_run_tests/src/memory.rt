@@ -11,7 +11,8 @@ use std::process::Abort;
 use std::test::Fail;
 use test_support::memory::{ScarceMemory, TIMES};
 
-/// With ever more memory, from none up, `serve` reports each growth that is refused.
+/// With ever more memory, from none up, `serve` reports each growth that is refused, one after the
+/// other; which one it is, `each_refused_growth_is_reported` tells.
 #[test]
 fn want_of_memory_is_served(rt: HostRuntime) -> Result<(), Fail> {
     let mut output = Vec::with_capacity(rt.alloc(), 1000)?;
@@ -35,15 +36,15 @@ fn want_of_memory_is_served(rt: HostRuntime) -> Result<(), Fail> {
         errors.clear();
     }
     drop(scarce);
-    // the script, the commands and the replies
-    assert!(rt; refused >= 3);
+    assert!(rt; refused >= 1);
     assert_eq!(rt; status, 0);
     assert_eq!(rt; output.as_slice(), EXAMPLE_OUTPUT.as_bytes());
     assert_eq!(rt; errors.len(), 0);
     Ok(())
 }
 
-/// With ever more memory, from none up, `play` reports each growth that is refused.
+/// With ever more memory, from none up, `play` reports each growth that is refused, one after the
+/// other; which one it is, `each_refused_growth_is_reported` tells.
 #[test]
 fn want_of_memory_is_reported(rt: HostRuntime) -> Result<(), Fail> {
     let mut output = Vec::with_capacity(rt.alloc(), 1000)?;
@@ -63,8 +64,7 @@ fn want_of_memory_is_reported(rt: HostRuntime) -> Result<(), Fail> {
         assert_eq!(rt; output.len(), 0);
     }
     drop(scarce);
-    // the script, the commands and the replies
-    assert!(rt; refused >= 3);
+    assert!(rt; refused >= 1);
     assert_eq!(rt; played, Ok(()));
     assert_eq!(rt; output.as_slice(), EXAMPLE_OUTPUT.as_bytes());
     Ok(())

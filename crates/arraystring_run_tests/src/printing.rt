@@ -1,0 +1,111 @@
+//! How replies and faults are printed for debugging: as Rust's derived forms print the same fields.
+use super::runs::text_of;
+use super::table::agree;
+use arraystring::error::Error;
+use arraystring_run::{PlayFault, Reply};
+use std::fmt;
+use std::fmt::Debug;
+use std::process::Abort;
+
+/// Types whose derived forms are those of replies and faults.
+mod derived {
+    use super::Alone;
+
+    #[derive(Debug, Drop)]
+    pub(super) struct ArrayString<'a> {
+        pub(super) array: &'a str,
+        pub(super) size: usize,
+    }
+
+    #[derive(Debug, Drop)]
+    pub(super) enum Reply<'a> {
+        Done,
+        Char(char),
+        NoChar,
+        Text(ArrayString<'a>),
+        NoText,
+        Number(u8),
+        Refused(Alone<'a>),
+    }
+
+    #[derive(Debug, Drop)]
+    pub(super) enum PlayFault {
+        BadLine(usize),
+        Memory,
+        Read,
+        Write,
+    }
+}
+
+/// A text that is printed alone, as an error is.
+#[derive(Drop)]
+struct Alone<'a>(&'a str);
+
+impl Debug for Alone<'_> {
+    fn fmt<W: fmt::Write>(&self, f: &mut fmt::Formatter<W>) -> fmt::Result {
+        f.write_str(self.0)
+    }
+}
+
+/// How a value is printed for debugging in each form that could pad, cut or break it.
+fn forms<T: Debug>(rt: &(impl Abort + AllocGlobal), value: &T, width: usize) -> String {
+    let printed = format!(in rt.alloc();
+        "{value:?}|{value:#?}|{value:width$?}|{value:<width$?}|{value:>width$?}|{value:*^width$?}|\
+        {value:0width$?}|{value:#width$?}|{value:.width$?}|{value:>width$.1?}|{value:*^#width$.1?}"
+    );
+    printed.expect(rt, "memory for what is printed")
+}
+
+/// Asserts that one value is printed for debugging as the other, in each form, at each width.
+fn debugs_as<T: Debug, W: Debug>(rt: &(impl Abort + AllocGlobal), value: &T, wanted: &W) {
+    for width in 0..30usize {
+        agree(
+            rt,
+            "each width",
+            forms(rt, value, width),
+            forms(rt, wanted, width),
+        );
+    }
+}
+
+/// Each form of a reply.
+#[test]
+fn replies_are_printed_as_derived(rt: HostRuntime) {
+    debugs_as(&rt, &Reply::<5>::Done, &derived::Reply::Done);
+    debugs_as(&rt, &Reply::<5>::NoChar, &derived::Reply::NoChar);
+    debugs_as(&rt, &Reply::<5>::NoText, &derived::Reply::NoText);
+    for ch in ['a', 'é', '🤔', '\n', '\'', '"', '\\', '\0'] {
+        debugs_as(&rt, &Reply::<5>::Char(ch), &derived::Reply::Char(ch));
+    }
+    for number in [0, 7, 10, 255u8] {
+        let wanted = derived::Reply::Number(number);
+        debugs_as(&rt, &Reply::<5>::Number(number), &wanted);
+    }
+    for text in ["", "ab", "é🤔", "a\n\"b\""] {
+        let wanted = derived::Reply::Text(derived::ArrayString {
+            array: text,
+            size: text.len(),
+        });
+        debugs_as(&rt, &Reply::<6>::Text(text_of(text)), &wanted);
+    }
+    for (refusal, name) in [
+        (Error::Utf8, "Error::Utf8"),
+        (Error::Utf16, "Error::Utf16"),
+        (Error::OutOfBounds, "Error::OutOfBounds"),
+    ] {
+        let wanted = derived::Reply::Refused(Alone(name));
+        debugs_as(&rt, &Reply::<5>::Refused(refusal), &wanted);
+    }
+}
+
+/// Each form of a fault.
+#[test]
+fn faults_are_printed_as_derived(rt: HostRuntime) {
+    for line in [0, 1, 30, usize::MAX] {
+        let wanted = derived::PlayFault::BadLine(line);
+        debugs_as(&rt, &PlayFault::BadLine(line), &wanted);
+    }
+    debugs_as(&rt, &PlayFault::Memory, &derived::PlayFault::Memory);
+    debugs_as(&rt, &PlayFault::Read, &derived::PlayFault::Read);
+    debugs_as(&rt, &PlayFault::Write, &derived::PlayFault::Write);
+}

@@ -1,0 +1,111 @@
+//! How a directory and its walks are printed for debugging: as std prints its own set and its own list
+//! of the same users, whose forms are derived.
+use super::users::{agree, user};
+use bounded_records::Directory;
+use std::collections::BTreeSet;
+use std::fmt::Debug;
+use std::process::Abort;
+
+/// Types whose derived forms are those of a user.
+mod derived {
+    #[derive(Clone, Copy, PartialEq, Eq, PartialOrd, Ord, Debug)]
+    pub(super) struct ArrayString<'a> {
+        pub(super) array: &'a str,
+        pub(super) size: usize,
+    }
+
+    #[derive(Clone, Copy, PartialEq, Eq, PartialOrd, Ord, Debug)]
+    pub(super) struct User<'a> {
+        pub(super) username: ArrayString<'a>,
+        pub(super) role: ArrayString<'a>,
+    }
+}
+
+/// Usernames and roles, in the order of the usernames; some need an escape, and some are beyond ASCII.
+const TEXTS: [(&str, &str); 4] = [
+    ("", ""),
+    ("a\n\"b\"", "x"),
+    ("abcdefghijabcdefghij", "admin"),
+    ("é🤔", "\\"),
+];
+
+/// How a text of a user is to be printed.
+fn text_form(text: &str) -> derived::ArrayString {
+    derived::ArrayString {
+        array: text,
+        size: text.len(),
+    }
+}
+
+/// How a user of these texts is to be printed.
+fn user_form<'a>(texts: &(&'a str, &'a str)) -> derived::User<'a> {
+    derived::User {
+        username: text_form(texts.0),
+        role: text_form(texts.1),
+    }
+}
+
+/// How a value is printed for debugging in each form that could pad, cut or break it.
+fn forms<T: Debug>(rt: &(impl Abort + AllocGlobal), value: &T, width: usize) -> String {
+    let printed = format!(in rt.alloc();
+        "{value:?}|{value:#?}|{value:width$?}|{value:<width$?}|{value:>width$?}|{value:*^width$?}|\
+        {value:0width$?}|{value:#width$?}|{value:.width$?}|{value:>width$.1?}|{value:*^#width$.1?}"
+    );
+    printed.expect(rt, "memory for what is printed")
+}
+
+/// Asserts that one value is printed for debugging as the other, in each form, at each width.
+fn debugs_as<T: Debug, W: Debug>(rt: &(impl Abort + AllocGlobal), value: &T, wanted: &W) {
+    for width in 0..30usize {
+        agree(rt, forms(rt, value, width), forms(rt, wanted, width));
+    }
+}
+
+/// A directory of the first users, which are put in from the last on.
+fn of_first(rt: &(impl Abort + AllocGlobal), texts: &[(&str, &str)]) -> Directory {
+    let mut users = Directory::new(rt.alloc());
+    for texts in texts.iter().rev() {
+        agree(rt, users.insert(user(texts.0, texts.1)), Ok(None));
+    }
+    users
+}
+
+#[test]
+fn a_directory_is_printed_as_a_set(rt: HostRuntime) {
+    for count in 0..=TEXTS.len() {
+        let texts = TEXTS.get(..count).unwrap_or_default();
+        let mut wanted = BTreeSet::new(rt.alloc());
+        for texts in texts {
+            wanted.insert(user_form(texts)).expect(&rt, "memory");
+        }
+        debugs_as(&rt, &of_first(&rt, texts), &wanted);
+    }
+}
+
+/// From the first step to the last, by either end.
+#[test]
+fn a_walk_is_printed_as_the_list_of_those_left(rt: HostRuntime) {
+    let directory = of_first(&rt, &TEXTS);
+    for front in 0..=TEXTS.len() {
+        for back in front..=TEXTS.len() {
+            let (mut names, mut users) = (directory.names(), directory.users());
+            for _ in 0..front {
+                agree(&rt, names.next().is_some(), users.next().is_some());
+            }
+            for _ in back..TEXTS.len() {
+                agree(
+                    &rt,
+                    names.next_back().is_some(),
+                    users.next_back().is_some(),
+                );
+            }
+            let (mut usernames, mut wanted) = (Vec::new(rt.alloc()), Vec::new(rt.alloc()));
+            for texts in TEXTS.get(front..back).unwrap_or_default() {
+                usernames.push(text_form(texts.0)).expect(&rt, "memory");
+                wanted.push(user_form(texts)).expect(&rt, "memory");
+            }
+            debugs_as(&rt, &names, &usernames);
+            debugs_as(&rt, &users, &wanted);
+        }
+    }
+}
