@@ -1,11 +1,16 @@
-//! Arguments of an environment of the test's own, and words that are served.
-use crate::{given_word, serve_buffered};
+//! Arguments of an environment of the test's own, words that are served, and writers that fail behind
+//! the buffer.
+use crate::buffered::Buffered;
+use crate::{BUFFER, given_word, serve_buffered};
 use arraystring::MaxString;
 use std::alloc::Global;
 use std::env::{Env, FillError};
+use std::fmt::Write as _;
+use std::io::{ErrorKind, Write as _};
 use std::process::Abort;
 use std::test::Fail;
 use test_support::memory::ScarceMemory;
+use test_support::writer::FakeWriter;
 
 /// An environment that has arguments, the program's name the first, and nothing else.
 #[derive(Drop)]
@@ -136,5 +141,165 @@ fn words_are_judged_without_memory(rt: HostRuntime) -> Result<(), Fail> {
     assert_eq!(rt; output.len(), 0);
     let reported = b"usage: arraystring_run small or cache or max\nout of memory\n".as_slice();
     assert_eq!(rt; errors.as_slice(), reported);
+    Ok(())
+}
+
+const WORDS: [&str; 3] = ["small", "cache", "max"];
+
+/// How many replies the scripts have. The replies of the last are longer than the buffer.
+const COUNTS: [usize; 7] = [0, 1, 5, 6, 7, 100, MANY];
+
+const MANY: usize = 600;
+
+const LETTERS: &str = "abcdefghijklmnopqrstuvw";
+
+/// A script of so many replies, and what is printed of it. The lines that stand next to each other
+/// differ, so that none can be lost or come twice.
+fn script_of(rt: &(impl Abort + AllocGlobal), count: usize) -> (String, String) {
+    let mut script = String::new(rt.alloc());
+    let mut wanted = String::new(rt.alloc());
+    for at in 0..count {
+        if at == 0 {
+            writeln!(script, "push_str {LETTERS}").expect(rt, "memory for a line");
+            writeln!(wanted, "done").expect(rt, "memory for a reply");
+        } else {
+            let end = at % 24;
+            let text = LETTERS.get(..end).unwrap_or("none");
+            writeln!(script, "get 0 {end}").expect(rt, "memory for a line");
+            writeln!(wanted, "text {text}").expect(rt, "memory for a reply");
+        }
+    }
+    let last = if count == 0 { "" } else { LETTERS };
+    writeln!(wanted, "final {last}").expect(rt, "memory for the text");
+    (script, wanted)
+}
+
+/// Serves a script with a writer behind the buffer, and compares the status, what the writer took,
+/// and the line on `errors`, which only a failed write has.
+fn writes(
+    rt: &impl Abort,
+    alloc: Global,
+    word: &str,
+    script: &str,
+    output: FakeWriter,
+    status: u8,
+    wanted: &[u8],
+) {
+    let mut input = script.as_bytes();
+    let mut errors = Vec::new(alloc);
+    let (served, output) = serve_buffered(alloc, Some(word), &mut input, output, &mut errors);
+    let reported: &[u8] = if status == 4 { b"write failed\n" } else { b"" };
+    assert_eq!(rt; served, status, "the status at {word}");
+    assert_eq!(rt; output.taken.as_slice(), wanted, "the output at {word}");
+    assert_eq!(rt; errors.as_slice(), reported, "the errors at {word}");
+}
+
+/// The writer takes little at a time, and is interrupted before each write. Of the longest output it
+/// takes more, since what waits is moved after each write.
+#[test]
+fn short_and_interrupted_writes_are_gone_on_with(rt: HostRuntime) {
+    for count in COUNTS {
+        let (script, wanted) = script_of(&rt, count);
+        let most = if count == MANY { 100 } else { 1 };
+        for step in 1..=8usize {
+            for faults in [0u8, 1, 2, 3, 10] {
+                for word in WORDS {
+                    let mut output = FakeWriter::new(rt.alloc(), 0, Some(ErrorKind::Interrupted));
+                    output.step = step * most;
+                    output.faults = faults;
+                    output.again = faults;
+                    writes(&rt, rt.alloc(), word, &script, output, 0, wanted.as_bytes());
+                }
+            }
+        }
+    }
+}
+
+/// The replies of the last script do not fit into the buffer, those of the others do.
+#[test]
+fn only_the_last_script_fills_the_buffer(rt: HostRuntime) {
+    for count in COUNTS {
+        let (_, wanted) = script_of(&rt, count);
+        assert_eq!(rt; wanted.len() > BUFFER, count == MANY);
+    }
+}
+
+/// All is written, but the flush of the writer fails.
+#[test]
+fn a_failed_flush_is_reported(rt: HostRuntime) {
+    for count in COUNTS {
+        let (script, wanted) = script_of(&rt, count);
+        for word in WORDS {
+            for step in 1..=20usize {
+                let mut output = FakeWriter::new(rt.alloc(), usize::MAX, None);
+                output.step = step;
+                output.flushes = false;
+                writes(&rt, rt.alloc(), word, &script, output, 4, wanted.as_bytes());
+            }
+        }
+    }
+}
+
+/// Serves a script with a writer that fails after each number of bytes, and after all. Of the two
+/// longest outputs, these are every 17th number and every 601st.
+fn fails_after_each(rt: &(impl Abort + AllocGlobal), word: &str, kind: Option<ErrorKind>) {
+    for count in COUNTS {
+        let (script, wanted) = script_of(rt, count);
+        let whole = wanted.as_bytes();
+        let stride = 1 + count * count / 600;
+        for room in 0..=whole.len() {
+            if room % stride != 0 && room < whole.len() {
+                continue;
+            }
+            let output = FakeWriter::new(rt.alloc(), room, kind);
+            let status = if room < whole.len() { 4 } else { 0 };
+            writes(
+                rt,
+                rt.alloc(),
+                word,
+                &script,
+                output,
+                status,
+                &whole[..room],
+            );
+        }
+    }
+}
+
+/// What the writer took before it failed is all that it had room for.
+#[test]
+fn a_failed_write_is_reported(rt: HostRuntime) {
+    for word in WORDS {
+        fails_after_each(&rt, word, Some(ErrorKind::Other));
+    }
+}
+
+/// A writer that takes nothing fails too.
+#[test]
+fn a_write_of_nothing_is_reported(rt: HostRuntime) {
+    for word in WORDS {
+        fails_after_each(&rt, word, None);
+    }
+}
+
+/// What a failed write leaves waits, and the next flush writes it.
+#[test]
+fn what_is_not_written_waits(rt: HostRuntime) -> Result<(), Fail> {
+    let (_, wanted) = script_of(&rt, 100);
+    let whole = wanted.as_bytes();
+    for room in 0..whole.len() {
+        for kind in [Some(ErrorKind::Other), None] {
+            let waiting = Vec::with_capacity(rt.alloc(), BUFFER)?;
+            let output = FakeWriter::new(rt.alloc(), room, kind);
+            let mut buffered = Buffered { output, waiting };
+            buffered.write_all(whole)?;
+            assert_eq!(rt; buffered.output.taken.len(), 0);
+            assert!(rt; buffered.flush().is_err());
+            assert_eq!(rt; buffered.output.taken.as_slice(), &whole[..room]);
+            buffered.flush()?;
+            assert_eq!(rt; buffered.output.taken.as_slice(), whole);
+            assert_eq!(rt; buffered.waiting.len(), 0);
+        }
+    }
     Ok(())
 }

@@ -4,8 +4,9 @@ use super::table::agree;
 use arraystring_run::{PlayFault, play, serve};
 use std::alloc::Global;
 use std::io;
-use std::io::{ErrorKind, Read, Write};
+use std::io::{ErrorKind, Read};
 use std::process::Abort;
+use test_support::writer::FakeWriter;
 
 /// Gives at most `step` bytes a read. After the first `reads` reads, as many as `faults` says fail
 /// with `kind`; after each later one, as many as `again` says.
@@ -31,62 +32,6 @@ impl Read for FakeReader<'_> {
         buf[..count].copy_from_slice(&self.bytes[..count]);
         self.bytes = &self.bytes[count..];
         Ok(count)
-    }
-}
-
-/// Takes at most `step` bytes a write. After the first `room` bytes, as many writes as `faults`
-/// says fail with `kind`, or take nothing if there is no `kind`; after each later one, as many as
-/// `again` says.
-#[derive(Drop)]
-struct FakeWriter {
-    taken: Vec<u8>,
-    step: usize,
-    room: usize,
-    faults: u8,
-    again: u8,
-    kind: Option<ErrorKind>,
-    flushes: bool,
-}
-
-impl FakeWriter {
-    fn new(alloc: Global, room: usize, kind: Option<ErrorKind>) -> FakeWriter {
-        FakeWriter {
-            taken: Vec::new(alloc),
-            step: usize::MAX,
-            room,
-            faults: 1,
-            again: 0,
-            kind,
-            flushes: true,
-        }
-    }
-}
-
-impl Write for FakeWriter {
-    fn write(&mut self, buf: &[u8]) -> io::Result<usize> {
-        let room = self.room.saturating_sub(self.taken.len());
-        let mut count = self.step.min(buf.len());
-        if self.faults > 0 {
-            if room == 0 {
-                self.faults -= 1;
-                return match self.kind {
-                    Some(kind) => Err(kind.into()),
-                    None => Ok(0),
-                };
-            }
-            count = count.min(room);
-        }
-        self.faults = self.faults.max(self.again);
-        self.taken.extend_from_slice(&buf[..count])?;
-        Ok(count)
-    }
-
-    fn flush(&mut self) -> io::Result<()> {
-        if self.flushes {
-            Ok(())
-        } else {
-            Err(ErrorKind::Other.into())
-        }
     }
 }
 
