@@ -200,12 +200,12 @@ fn writes(
 fn short_and_interrupted_writes_are_gone_on_with(rt: HostRuntime) {
     for count in COUNTS {
         let (script, wanted) = script_of(&rt, count);
-        let most = if count == MANY { 100 } else { 1 };
+        let most = if count == MANY { 100usize } else { 1 };
         for step in 1..=8usize {
             for faults in [0u8, 1, 2, 3, 10] {
                 for word in WORDS {
                     let mut output = FakeWriter::new(rt.alloc(), 0, Some(ErrorKind::Interrupted));
-                    output.step = step * most;
+                    output.step = step.saturating_mul(most);
                     output.faults = faults;
                     output.again = faults;
                     writes(&rt, rt.alloc(), word, &script, output, 0, wanted.as_bytes());
@@ -246,7 +246,13 @@ fn fails_after_each(rt: &(impl Abort + AllocGlobal), word: &str, kind: Option<Er
     for count in COUNTS {
         let (script, wanted) = script_of(rt, count);
         let whole = wanted.as_bytes();
-        let stride = 1 + count * count / 600;
+        let stride = if count == MANY {
+            601usize
+        } else if count == 100 {
+            17
+        } else {
+            1
+        };
         for room in 0..=whole.len() {
             if room % stride != 0 && room < whole.len() {
                 continue;
