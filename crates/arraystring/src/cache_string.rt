@@ -8,7 +8,7 @@ ghost use Rattle.arraystring_base.specs.declared.utf16.Unit16.{Unit16};
 ghost use Rattle.arraystring_base.specs.Text.{size, bytes, cut, IsText, IsWellFormed};
 ghost use Rattle.arraystring_base.specs.Utf16.{IsReading, first_stop, lossy_text};
 ghost use Rattle.arraystring_core.specs.Edits.{Makes, from_out_of_bounds, with_text, addition, addition_of_cut, split};
-ghost use Rattle.arraystring_core.specs.FromUtf16.{GivesWhole, GivesRun};
+ghost use Rattle.arraystring_core.specs.FromUtf16.{GivesWhole, GivesPrefix};
 ghost use Rattle.arraystring_core.specs.Construct.{IsWholeOrRefused};
 ghost use Rattle.arraystring_core.specs.Taken.{Takes, TakesAll, Fits, Gives, joined, joined_pieces, piece_text};
 ghost use Rattle.arraystring.specs.Cached.{held};
@@ -74,11 +74,11 @@ impl CacheString {
     ///
     /// # Errors
     ///
-    /// Returns `Err(OutOfBounds)` if `pieces` are larger than the capacity.
+    /// Returns `Err(OutOfBounds)` if not all of `pieces` fit.
     ///
     /// # Precondition
     ///
-    /// The iterator must end, as `ArrayString` says.
+    /// See `ArrayString` for iterators.
     pub fn try_from_iterator<'a, I: IntoIterator<Item = &'a str> + Drop>(
         pieces: I,
     ) -> Result<Self, OutOfBounds>
@@ -95,7 +95,7 @@ impl CacheString {
     ///
     /// # Precondition
     ///
-    /// The iterator must end, as `ArrayString` says.
+    /// See `ArrayString` for iterators.
     pub fn from_iterator<'a, I: IntoIterator<Item = &'a str> + Drop>(pieces: I) -> Self
         requires { IsFiniteIterable I.into_iter_gives I.IntoIter.can_next I.IntoIter.remaining pieces }
         ensures taken { (taken : List (Bor (List ℕ))) × Takes I.into_iter_gives I.IntoIter.next_gives joined_pieces pieces 63 taken
@@ -110,7 +110,7 @@ impl CacheString {
     ///
     /// # Precondition
     ///
-    /// All of `pieces` must fit. The iterator must end, as `ArrayString` says.
+    /// All of `pieces` must fit. See `ArrayString` for iterators.
     pub fn from_iterator_unchecked<'a, I: IntoIterator<Item = &'a str> + Drop>(pieces: I) -> Self
         requires ends { IsFiniteIterable I.into_iter_gives I.IntoIter.can_next I.IntoIter.remaining pieces }
         requires fits { Fits I.into_iter_gives I.IntoIter.next_gives joined_pieces pieces 63 }
@@ -126,11 +126,11 @@ impl CacheString {
     ///
     /// # Errors
     ///
-    /// Returns `Err(OutOfBounds)` if `characters` are larger than the capacity.
+    /// Returns `Err(OutOfBounds)` if not all of `characters` fit.
     ///
     /// # Precondition
     ///
-    /// The iterator must end, as `ArrayString` says.
+    /// See `ArrayString` for iterators.
     pub fn try_from_chars<I: IntoIterator<Item = char> + Drop>(
         characters: I,
     ) -> Result<Self, OutOfBounds>
@@ -143,12 +143,12 @@ impl CacheString {
         Ok(CacheString(ArrayString::try_from_chars(characters)?))
     }
 
-    /// Returns the characters up to the first that does not fit, even if a later shorter one would
-    /// fit.
+    /// Returns the longest prefix of the characters that fits. A shorter character after the first
+    /// that does not fit is not taken.
     ///
     /// # Precondition
     ///
-    /// The iterator must end, as `ArrayString` says.
+    /// See `ArrayString` for iterators.
     pub fn from_chars<I: IntoIterator<Item = char> + Drop>(characters: I) -> Self
         requires { IsFiniteIterable I.into_iter_gives I.IntoIter.can_next I.IntoIter.remaining characters }
         ensures taken { (taken : List ℕ) × Takes I.into_iter_gives I.IntoIter.next_gives (λ cs. cs) characters 63 taken
@@ -163,7 +163,7 @@ impl CacheString {
     ///
     /// # Precondition
     ///
-    /// All of `characters` must fit. The iterator must end, as `ArrayString` says.
+    /// All of `characters` must fit. See `ArrayString` for iterators.
     pub fn from_chars_unchecked<I: IntoIterator<Item = char> + Drop>(characters: I) -> Self
         requires ends { IsFiniteIterable I.into_iter_gives I.IntoIter.can_next I.IntoIter.remaining characters }
         requires fits { Fits I.into_iter_gives I.IntoIter.next_gives (λ cs. cs) characters 63 }
@@ -181,8 +181,7 @@ impl CacheString {
     ///
     /// The first of these that holds decides:
     ///
-    /// - `Err(Utf8)` if the whole slice is not well-formed UTF-8 (the Unicode Standard, section
-    ///   3.9);
+    /// - `Err(Utf8)` if `given` is not well-formed UTF-8 (the Unicode Standard, section 3.9);
     /// - `Err(OutOfBounds)` if the text is larger than the capacity.
     pub fn try_from_utf8(given: &[u8]) -> Result<Self, Error>
         ensures malformed { ¬ (IsWellFormed given.now) → held result ≡ Err error.Utf8 }
@@ -197,8 +196,8 @@ impl CacheString {
     ///
     /// # Errors
     ///
-    /// Returns `Err(Utf8)` if the whole slice is not well-formed UTF-8 (the Unicode Standard,
-    /// section 3.9), also by bytes past the capacity.
+    /// Returns `Err(Utf8)` if `given` is not well-formed UTF-8 (the Unicode Standard, section 3.9),
+    /// even if only bytes past the capacity are not.
     pub fn from_utf8(given: &[u8]) -> Result<Self, Utf8>
         ensures well_formed { IsOk result ↔ IsWellFormed given.now }
         ensures cut { (t : List ℕ) → IsText t → bytes t ≡ given.now → IfOk result (λ made. made.0.text ≡ cut t 63) }
@@ -222,7 +221,7 @@ impl CacheString {
         CacheString(ArrayString::from_utf8_unchecked(given))
     }
 
-    /// Returns the text whose UTF-16 `units` is.
+    /// Returns the text whose UTF-16 is `units`.
     ///
     /// # Errors
     ///
@@ -244,13 +243,13 @@ impl CacheString {
     /// Returns `Err(Utf16)` if a lone surrogate comes right after that prefix, also if the string
     /// is full.
     pub fn from_utf16(units: &[u16]) -> Result<Self, Utf16>
-        ensures { (items : List Unit16) → IsReading units.now items → GivesRun (first_stop items 63) (held result) }
+        ensures { (items : List Unit16) → IsReading units.now items → GivesPrefix (first_stop items 63) (held result) }
     {
         Ok(CacheString(ArrayString::from_utf16(units)?))
     }
 
-    /// Returns the text of `units`, with each lone surrogate read as U+FFFD, which takes three
-    /// bytes. The first character that does not fit ends it.
+    /// Returns the longest prefix of the characters of `units` that fits, with each lone surrogate
+    /// read as U+FFFD, which takes three bytes.
     pub fn from_utf16_lossy(units: &[u16]) -> Self
         ensures { (items : List Unit16) → IsReading units.now items → result.0.text ≡ cut (lossy_text items) 63 }
     {
@@ -265,7 +264,7 @@ impl CacheString {
     /// The first of these that holds decides, and the text is then as it was:
     ///
     /// - `Err(OutOfBounds)` if `at` is past the text;
-    /// - `Err(Utf8)` if it is inside a character.
+    /// - `Err(Utf8)` if `at` is inside a character.
     pub fn split_off(&mut self, at: u8) -> Result<Self, Error>
         ensures { Makes (split self.old.0.text at) self.old.0.text (with_text (held result)) self.new.0.text }
     {
@@ -297,6 +296,11 @@ impl FromStr for CacheString {
 
     ghost from_str_gives = { λ string result. IsWholeOrRefused (chars string) 63 (from_out_of_bounds (held result)) };
 
+    /// Returns the text `string`.
+    ///
+    /// # Errors
+    ///
+    /// Returns `Err(OutOfBounds)` if `string` is larger than the capacity.
     fn from_str(string: &str) -> Result<Self, OutOfBounds> {
         Self::try_from_str(string)
     }
@@ -313,8 +317,7 @@ impl fmt::Display for CacheString {
     }
 }
 
-/// The string with the given text added at its end: its longest prefix of whole characters that
-/// fits.
+/// The string with the longest prefix of whole characters of `given` that fits added at its end.
 impl<'a> Add<&'a str> for CacheString {
     type Output = Self;
 

@@ -25,7 +25,7 @@ impl CacheString {
     }
 
     /// Returns the longest prefix of whole characters of a JSON text that fits. A text that does
-    /// not fit is cut with no word of it; `try_from_value` refuses it.
+    /// not fit is cut without an error; `try_from_value` refuses it.
     ///
     /// # Errors
     ///

@@ -56,19 +56,19 @@ pub data Stop : Type 0 where
   Fault : List ℕ → Stop
   Full : List ℕ → Stop
 
--- the items stop so at n bytes: the run leads them and fits, and a character after it would no longer fit
+-- the items stop so at n bytes: they begin with the prefix, which fits, and a character after it would no longer fit
 abbrev pub StopsAt : List Unit16 → ℕ → Stop → Type 0
-StopsAt items n (End run) = (items ≡ map Char run) × (size run ≤ n)
-StopsAt items n (Fault run) =
-    (unit : ℕ) × (rest : List Unit16) × (items ≡ map Char run ++ Lone unit ∷ rest) × (size run ≤ n)
-StopsAt items n (Full run) =
-    (c : ℕ) × (rest : List Unit16) × (items ≡ map Char run ++ Char c ∷ rest) × (size run ≤ n) × (n < size run + width c)
+StopsAt items n (End prefix) = (items ≡ map Char prefix) × (size prefix ≤ n)
+StopsAt items n (Fault prefix) =
+    (unit : ℕ) × (rest : List Unit16) × (items ≡ map Char prefix ++ Lone unit ∷ rest) × (size prefix ≤ n)
+StopsAt items n (Full prefix) =
+    (c : ℕ) × (rest : List Unit16) × (items ≡ map Char prefix ++ Char c ∷ rest) × (size prefix ≤ n) × (n < size prefix + width c)
 
--- the same stop, with a character before the run
+-- the same stop, with a character before the prefix
 abbrev pub stop_behind : ℕ → Stop → Stop
-stop_behind c (End run) = End (c ∷ run)
-stop_behind c (Fault run) = Fault (c ∷ run)
-stop_behind c (Full run) = Full (c ∷ run)
+stop_behind c (End prefix) = End (c ∷ prefix)
+stop_behind c (Fault prefix) = Fault (c ∷ prefix)
+stop_behind c (Full prefix) = Full (c ∷ prefix)
 
 -- the first stop of the items at n bytes
 abbrev pub first_stop : List Unit16 → ℕ → Stop

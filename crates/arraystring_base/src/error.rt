@@ -20,7 +20,8 @@ pub enum Error {
     Utf8,
     /// A lone surrogate in UTF-16 (the Unicode Standard, section 3.9).
     Utf16,
-    /// An index or a range outside the text, or a result larger than the capacity.
+    /// An index or a range outside the text, a range that ends before it starts, or a result larger
+    /// than the capacity.
     OutOfBounds,
 }
 
@@ -124,7 +125,8 @@ impl fmt::Debug for Utf16 {
 
 impl StdError for Utf16 {}
 
-/// An index or a range outside the text, or a result larger than the capacity.
+/// An index or a range outside the text, a range that ends before it starts, or a result larger
+/// than the capacity.
 #[derive(Clone, Copy, Default, PartialEq, Eq)]
 pub struct OutOfBounds;
 

@@ -3,7 +3,8 @@ ghost use Rattle.std.specs.Prelude.{◌≡◌, ◌+◌, ◌-◌, ◌^◌, ◌<�
 
 use std::marker::Model;
 
-/// How many bytes were looked at, and how many were moved.
+/// Counts of looks and of moves. A look is one call of `look`, and a move is one byte that `shift`
+/// takes to another offset. What calls read otherwise is not counted.
 #[derive(Clone, Copy)]
 pub struct Steps {
     looked: u64,
@@ -22,7 +23,7 @@ impl Model for Steps {
 }
 
 impl Steps {
-    /// Returns a fresh counter: no byte was looked at, and none was moved.
+    /// Returns a fresh counter: no looks and no moves.
     pub const fn new() -> Self
         ensures looked { result.looked ≡ 0 }
         ensures moved { result.moved ≡ 0 }
@@ -33,14 +34,14 @@ impl Steps {
         }
     }
 
-    /// Returns how many bytes were looked at.
+    /// Returns how many looks were counted.
     pub const fn looked(&self) -> u64
         ensures { result ≡ self.now.looked }
     {
         self.looked
     }
 
-    /// Returns how many bytes were moved.
+    /// Returns how many moves were counted.
     pub const fn moved(&self) -> u64
         ensures { result ≡ self.now.moved }
     {
@@ -61,7 +62,7 @@ impl Steps {
 ///
 /// # Precondition
 ///
-/// The index must be below the length, and the count of looks must be below 2^64 - 1.
+/// The index must be below the length, and the count of looks of `steps` must be below 2^64 - 1.
 pub fn look(bytes: &[u8], at: usize, steps: &mut Steps) -> u8
     requires in_bounds { at < length bytes.now }
     requires countable { steps.old.looked < 2 ^ 64 - 1 }

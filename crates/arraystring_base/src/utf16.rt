@@ -51,7 +51,7 @@ impl<'a> Iterator for Units<'a> {
 
     ghost remaining = { item_count (λ items. items) };
 
-    /// Returns the next item of the reading, or `None` if none is left, and from then on.
+    /// Returns the next item of the reading. If none is left it returns `None`, and does so ever after.
     fn next(&mut self) -> Option<Unit16> {
         let (first, rest) = self.rest.split_first()?;
         let unit = *first;

@@ -43,7 +43,7 @@ pub fn truncate_str(text: &str, size: u8) -> &str
 ///
 /// # Precondition
 ///
-/// The count of looks must be at most 2^63.
+/// The count of looks of `steps` must be at most 2^63.
 pub fn truncate_str_counted<'a>(text: &'a str, size: u8, steps: &mut Steps) -> &'a str
     requires { steps.old.looked ≤ 2 ^ 63 }
     ensures value { result.now ≡ bytes (cut (chars text.now) size) }

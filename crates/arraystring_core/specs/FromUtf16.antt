@@ -10,18 +10,18 @@ use Rattle.arraystring_core.specs.Stored.{Stored}
 
 -- the whole text, or why there is none: a fault, or a character that does not fit, whichever comes first
 abbrev pub GivesWhole : Stop → Result Stored Error → Type 0
-GivesWhole (End run) result = IsOkAnd result (λ string. string.text ≡ run)
-GivesWhole (Fault run) result = IsErrAnd result (λ e. e ≡ error.Utf16)
-GivesWhole (Full run) result = IsErrAnd result (λ e. e ≡ error.OutOfBounds)
+GivesWhole (End prefix) result = IsOkAnd result (λ string. string.text ≡ prefix)
+GivesWhole (Fault prefix) result = IsErrAnd result (λ e. e ≡ error.Utf16)
+GivesWhole (Full prefix) result = IsErrAnd result (λ e. e ≡ error.OutOfBounds)
 
--- the run that fits, unless a fault comes after it
-abbrev pub GivesRun : Stop → Result Stored Utf16 → Type 0
-GivesRun (End run) result = IsOkAnd result (λ string. string.text ≡ run)
-GivesRun (Fault run) result = IsErr result
-GivesRun (Full run) result = IsOkAnd result (λ string. string.text ≡ run)
+-- the prefix that fits, unless a fault comes after it
+abbrev pub GivesPrefix : Stop → Result Stored Utf16 → Type 0
+GivesPrefix (End prefix) result = IsOkAnd result (λ string. string.text ≡ prefix)
+GivesPrefix (Fault prefix) result = IsErr result
+GivesPrefix (Full prefix) result = IsOkAnd result (λ string. string.text ≡ prefix)
 
--- the stop of a run, by the item after it
+-- the stop of a prefix, by the item after it
 abbrev pub stop_at : Option Unit16 → List ℕ → Stop
-stop_at None run = End run
-stop_at (Some (Lone unit)) run = Fault run
-stop_at (Some (Char c)) run = Full run
+stop_at None prefix = End prefix
+stop_at (Some (Lone unit)) prefix = Fault prefix
+stop_at (Some (Char c)) prefix = Full prefix

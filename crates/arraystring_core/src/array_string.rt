@@ -1,5 +1,5 @@
 //! `ArrayString`: the type, what it shows, and what is added and taken at its end. The modules below
-//! have its other calls, and `edit` the private ones that reach its array.
+//! have its other calls, and `edit` the private ones that put bytes into its array or take them out.
 ghost use Rattle.std.specs.Prelude.{◌≡◌, ◌≢◌, ◌+◌, ◌-◌, ◌^◌, ◌<◌, ◌≤◌, ◌↔◌, min, IfSome, Ok, [], ◌∷◌, ◌++◌, IsTrue, chars, length, nat_eq};
 ghost use Rattle.std.specs.Cmp.{on_equiv, on_per, partial_equiv_from_equiv};
 ghost use Rattle.std.specs.Cmp.Lexicographic.{pointwise, nat_list_eq_equiv};
@@ -27,8 +27,12 @@ mod utf16;
 /// A string of at most `N` bytes of UTF-8, and at most 255, that lies in the value itself. In all
 /// its calls sizes, indices and capacity count bytes of UTF-8.
 ///
-/// An iterator that is passed in must end, and allow `next` until it does. A call that cuts or can
-/// refuse needs no item after the first that does not fit, and a test shows that it takes none.
+/// An iterator that is passed in must end, and until it does the precondition of its `next` must
+/// hold. A call that cuts or can refuse needs no item after the first that does not fit, and a test
+/// shows that it takes none.
+///
+/// A range that is passed in may be any `RangeBounds<u8>`. Each range of Rust has bounds
+/// (`has_bounds`), except an inclusive one that was iterated to its end.
 ///
 /// Contracts name its text, the list of its characters, and no byte of the array.
 #[derive(Clone, Copy)]
@@ -226,7 +230,7 @@ impl<const N: usize> ArrayString<N> {
     ///
     /// # Precondition
     ///
-    /// Both counts must be at most 2^63.
+    /// Both counts of `steps` must be at most 2^63.
     pub fn pop_counted(&mut self, steps: &mut Steps) -> Option<char>
         requires looks { steps.old.looked ≤ 2 ^ 63 }
         requires moves { steps.old.moved ≤ 2 ^ 63 }

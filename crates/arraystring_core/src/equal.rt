@@ -1,11 +1,12 @@
 //! Whether two texts are equal, by blocks: the first and the last ones, which may overlap. From 16
-//! bytes on no branch depends on what the bytes are.
+//! to 256 bytes no branch depends on what the bytes are.
 ghost use Rattle.std.specs.Prelude.{◌≡◌, ◌+◌, ◌≤◌, ◌↔◌, length, IsTrue, nat_eq};
 ghost use Rattle.std.specs.Cmp.Lexicographic.{pointwise};
 
 use std::simd::Simd;
 
-/// Whether the texts are equal. Few bytes are left to std, and so are more than strings have.
+/// Whether the texts are equal. Fewer than 16 bytes are left to std, and so are
+/// more than 256, which no string has.
 #[inline(always)]
 pub(crate) fn equal(text: &str, other: &str) -> bool
     ensures { result ≡ pointwise nat_eq text.now other.now }

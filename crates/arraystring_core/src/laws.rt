@@ -12,7 +12,7 @@ ghost use Rattle.arraystring_base.specs.declared.utf16.Unit16.{Unit16};
 ghost use Rattle.arraystring_base.specs.Utf16.{IsReading, first_stop, lossy_text, text_units};
 ghost use Rattle.arraystring_core.specs.Drained.{End, walked};
 ghost use Rattle.arraystring_core.specs.Edits.{first_cause, first_of, last_of, part, popping, replacement, split, trimming, is_white_space};
-ghost use Rattle.arraystring_core.specs.FromUtf16.{GivesWhole, GivesRun};
+ghost use Rattle.arraystring_core.specs.FromUtf16.{GivesWhole, GivesPrefix};
 ghost use Rattle.arraystring_core.specs.Json.{json_text, text_within, whole_text};
 ghost use Rattle.arraystring_core.specs.Stored.{Stored};
 ghost use Rattle.arraystring_core.specs.Taken.{joined};
@@ -56,19 +56,19 @@ pub fn pieces_make_one_text(whole: &str)
 pub fn units_read_back()
     ensures reading { (t : List ℕ) → IsText t → (items : List Unit16) × IsReading (text_units t) items }
     ensures whole { (t : List ℕ) (n : ℕ) (items : List Unit16) (result : Result Stored Error) → IsText t → size t ≤ n → IsReading (text_units t) items → GivesWhole (first_stop items n) result → IsOkAnd result (λ string. string.text ≡ t) }
-    ensures run { (t : List ℕ) (n : ℕ) (items : List Unit16) (result : Result Stored Utf16) → IsText t → size t ≤ n → IsReading (text_units t) items → GivesRun (first_stop items n) result → IsOkAnd result (λ string. string.text ≡ t) }
+    ensures prefix { (t : List ℕ) (n : ℕ) (items : List Unit16) (result : Result Stored Utf16) → IsText t → size t ≤ n → IsReading (text_units t) items → GivesPrefix (first_stop items n) result → IsOkAnd result (λ string. string.text ≡ t) }
     ensures lossy { (t : List ℕ) (n : ℕ) (items : List Unit16) → IsText t → size t ≤ n → IsReading (text_units t) items → cut (lossy_text items) n ≡ t }
 {}
 
 /// What a pop leaves, followed by the character that it returns, is the text before. Of the empty
-/// text it returns none, and leaves it.
+/// text it returns `None`, and the text stays empty.
 pub fn popped()
     ensures last { (front : List ℕ) (ch : ℕ) → ((popping (front ++ ch ∷ [])).result ≡ Some ch) × ((popping (front ++ ch ∷ [])).after ≡ front) }
     ensures empty { ((popping []).result ≡ None) × ((popping []).after ≡ []) }
 {}
 
-/// A text is characters that pass, then what a trim of those leaves of it, then characters that
-/// pass; and what it leaves neither begins nor ends with one that passes.
+/// A text is some characters that pass, then what is left by the trim of all that pass at its ends,
+/// then some characters that pass. What is left neither begins nor ends with one that passes.
 pub fn trimmed()
     ensures dropped { (passes : ℕ → Bool) (t : List ℕ) → (before behind : List ℕ) × All (λ c. IsTrue (passes c)) before × All (λ c. IsTrue (passes c)) behind × (t ≡ before ++ ((trimming passes t).after ++ behind)) }
     ensures bare { (passes : ℕ → Bool) (t : List ℕ) → IfSome (first_of (trimming passes t).after) (λ c. passes c ≡ false) × IfSome (last_of (trimming passes t).after) (λ c. passes c ≡ false) }
@@ -99,8 +99,8 @@ pub fn replaced_back()
 
 /// A walk from both ends in any mix gives each character at most once: what came from the front,
 /// then what is left, then what came from the back in reversed order, joined, are the characters
-/// that were walked. Each end takes one while one is left, so with as many ends as characters
-/// nothing is left, and if nothing is left nothing is given.
+/// that were walked. Each step, from either end, takes one while one is left. So after as many steps
+/// as there are characters nothing is left, and a step then gives nothing.
 pub fn walks()
     ensures whole { (ends : List End) (t : List ℕ) → (walked ends t).fronts ++ ((walked ends t).left ++ reverse (walked ends t).backs) ≡ t }
     ensures each { (ends : List End) (t : List ℕ) → length (walked ends t).left ≡ length t - length ends }

@@ -10,7 +10,7 @@ use arraystring_base::utils::is_boundary;
 ///
 /// # Errors
 ///
-/// Returns `Err(Utf8)` if `idx` is not a boundary. An index past the length is none.
+/// Returns `Err(Utf8)` if `idx` is not a boundary. An index past the length is not a boundary.
 pub fn is_char_boundary<const N: usize>(s: &ArrayString<N>, idx: u8) -> Result<(), Utf8>
     ensures { IsOk result ↔ IsTrue (boundary s.now.text idx) }
 {

@@ -48,7 +48,7 @@ impl<'a> Iterator for Names<'a> {
 
     ghost remaining = { item_count (λ names. names) };
 
-    /// Returns the first username that is left, or `None` if none is, and from then on.
+    /// Returns the first username that is left. If none is left it returns `None`, and does so ever after.
     fn next(&mut self) -> Option<&'a ArrayString<20>> {
         self.keys.next()
     }
@@ -62,7 +62,7 @@ impl<'a> Iterator for Names<'a> {
 impl<'a> DoubleEndedIterator for Names<'a> {
     ghost next_back_gives = { YieldsLastBy name_text (λ names. names) };
 
-    /// Returns the last username that is left, or `None` if none is, and from then on.
+    /// Returns the last username that is left. If none is left it returns `None`, and does so ever after.
     fn next_back(&mut self) -> Option<&'a ArrayString<20>> {
         self.keys.next_back()
     }
@@ -122,7 +122,7 @@ impl<'a> Iterator for Users<'a> {
 
     ghost remaining = { item_count (λ users. users) };
 
-    /// Returns the first user that is left, or `None` if none is, and from then on.
+    /// Returns the first user that is left. If none is left it returns `None`, and does so ever after.
     fn next(&mut self) -> Option<&'a User> {
         self.values.next()
     }
@@ -136,7 +136,7 @@ impl<'a> Iterator for Users<'a> {
 impl<'a> DoubleEndedIterator for Users<'a> {
     ghost next_back_gives = { YieldsLastBy user_texts (λ users. users) };
 
-    /// Returns the last user that is left, or `None` if none is, and from then on.
+    /// Returns the last user that is left. If none is left it returns `None`, and does so ever after.
     fn next_back(&mut self) -> Option<&'a User> {
         self.values.next_back()
     }

@@ -96,11 +96,11 @@ impl CacheString {
     ///
     /// # Errors
     ///
-    /// Returns `Err(OutOfBounds)` if `pieces` are larger than the capacity.
+    /// Returns `Err(OutOfBounds)` if not all of `pieces` fit.
     ///
     /// # Precondition
     ///
-    /// The iterator must end, as `ArrayString` says.
+    /// See `ArrayString` for iterators.
     ///
     /// # In Rust
     ///
@@ -128,7 +128,7 @@ impl CacheString {
     ///
     /// # Precondition
     ///
-    /// The iterator must end, as `ArrayString` says.
+    /// See `ArrayString` for iterators.
     ///
     /// # In Rust
     ///
@@ -154,7 +154,7 @@ impl CacheString {
     ///
     /// # Precondition
     ///
-    /// All of `pieces` must fit. The iterator must end, as `ArrayString` says.
+    /// All of `pieces` must fit. See `ArrayString` for iterators.
     ///
     /// # Safety
     ///
@@ -180,11 +180,11 @@ impl CacheString {
     ///
     /// # Errors
     ///
-    /// Returns `Err(OutOfBounds)` if `characters` are larger than the capacity.
+    /// Returns `Err(OutOfBounds)` if not all of `characters` fit.
     ///
     /// # Precondition
     ///
-    /// The iterator must end, as `ArrayString` says.
+    /// See `ArrayString` for iterators.
     ///
     /// # In Rust
     ///
@@ -208,12 +208,12 @@ impl CacheString {
         Ok(CacheString(ArrayString::try_from_chars(characters)?))
     }
 
-    /// Returns the characters up to the first that does not fit, even if a later shorter one would
-    /// fit.
+    /// Returns the longest prefix of the characters that fits. A shorter character after the first
+    /// that does not fit is not taken.
     ///
     /// # Precondition
     ///
-    /// The iterator must end, as `ArrayString` says.
+    /// See `ArrayString` for iterators.
     ///
     /// # In Rust
     ///
@@ -239,7 +239,7 @@ impl CacheString {
     ///
     /// # Precondition
     ///
-    /// All of `characters` must fit. The iterator must end, as `ArrayString` says.
+    /// All of `characters` must fit. See `ArrayString` for iterators.
     ///
     /// # Safety
     ///
@@ -267,8 +267,7 @@ impl CacheString {
     ///
     /// The first of these that holds decides:
     ///
-    /// - `Err(Utf8)` if the whole slice is not well-formed UTF-8 (the Unicode Standard, section
-    ///   3.9);
+    /// - `Err(Utf8)` if `given` is not well-formed UTF-8 (the Unicode Standard, section 3.9);
     /// - `Err(OutOfBounds)` if the text is larger than the capacity.
     ///
     /// # Contract
@@ -289,8 +288,8 @@ impl CacheString {
     ///
     /// # Errors
     ///
-    /// Returns `Err(Utf8)` if the whole slice is not well-formed UTF-8 (the Unicode Standard,
-    /// section 3.9), also by bytes past the capacity.
+    /// Returns `Err(Utf8)` if `given` is not well-formed UTF-8 (the Unicode Standard, section 3.9),
+    /// even if only bytes past the capacity are not.
     ///
     /// # Contract
     ///
@@ -331,7 +330,7 @@ impl CacheString {
         CacheString(unsafe { ArrayString::from_utf8_unchecked(given) })
     }
 
-    /// Returns the text whose UTF-16 `units` is.
+    /// Returns the text whose UTF-16 is `units`.
     ///
     /// # Errors
     ///
@@ -362,7 +361,7 @@ impl CacheString {
     /// # Contract
     ///
     /// ```text
-    /// ensures { (items : List Unit16) → IsReading units.now items → GivesRun (first_stop items 63) (held result) }
+    /// ensures { (items : List Unit16) → IsReading units.now items → GivesPrefix (first_stop items 63) (held result) }
     /// ```
     #[inline]
     pub fn from_utf16<B: AsRef<[u16]>>(units: B) -> Result<Self, Utf16> {
@@ -370,8 +369,8 @@ impl CacheString {
         Ok(CacheString(ArrayString::from_utf16(units)?))
     }
 
-    /// Returns the text of `units`, with each lone surrogate read as U+FFFD, which takes three
-    /// bytes. The first character that does not fit ends it.
+    /// Returns the longest prefix of the characters of `units` that fits, with each lone surrogate
+    /// read as U+FFFD, which takes three bytes.
     ///
     /// # Contract
     ///
@@ -392,7 +391,7 @@ impl CacheString {
     /// The first of these that holds decides, and the text is then as it was:
     ///
     /// - `Err(OutOfBounds)` if `at` is past the text;
-    /// - `Err(Utf8)` if it is inside a character.
+    /// - `Err(Utf8)` if `at` is inside a character.
     ///
     /// # Contract
     ///
@@ -443,6 +442,11 @@ impl From<ArrayString<63>> for CacheString {
 impl FromStr for CacheString {
     type Err = OutOfBounds;
 
+    /// Returns the text `string`.
+    ///
+    /// # Errors
+    ///
+    /// Returns `Err(OutOfBounds)` if `string` is larger than the capacity.
     #[inline]
     fn from_str(string: &str) -> Result<Self, OutOfBounds> {
         Self::try_from_str(string)
@@ -464,8 +468,7 @@ impl fmt::Display for CacheString {
     }
 }
 
-/// The string with the given text added at its end: its longest prefix of whole characters that
-/// fits.
+/// The string with the longest prefix of whole characters of `given` that fits added at its end.
 ///
 /// # Contract
 ///

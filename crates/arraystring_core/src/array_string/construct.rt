@@ -69,11 +69,11 @@ impl<const N: usize> ArrayString<N> {
     ///
     /// # Errors
     ///
-    /// Returns `Err(OutOfBounds)` if `pieces` are larger than the capacity.
+    /// Returns `Err(OutOfBounds)` if not all of `pieces` fit.
     ///
     /// # Precondition
     ///
-    /// The iterator must end, as the type's documentation says.
+    /// See `ArrayString` for iterators.
     pub fn try_from_iterator<'a, I: IntoIterator<Item = &'a str> + Drop>(
         pieces: I,
     ) -> Result<Self, OutOfBounds>
@@ -92,7 +92,7 @@ impl<const N: usize> ArrayString<N> {
     ///
     /// # Precondition
     ///
-    /// The iterator must end, as the type's documentation says.
+    /// See `ArrayString` for iterators.
     pub fn from_iterator<'a, I: IntoIterator<Item = &'a str> + Drop>(pieces: I) -> Self
         requires { IsFiniteIterable I.into_iter_gives I.IntoIter.can_next I.IntoIter.remaining pieces }
         ensures taken { (taken : List (Bor (List ℕ))) × Takes I.into_iter_gives I.IntoIter.next_gives joined_pieces pieces (cap N) taken
@@ -109,7 +109,7 @@ impl<const N: usize> ArrayString<N> {
     ///
     /// # Precondition
     ///
-    /// All of `pieces` must fit. The iterator must end, as the type's documentation says.
+    /// All of `pieces` must fit. See `ArrayString` for iterators.
     pub fn from_iterator_unchecked<'a, I: IntoIterator<Item = &'a str> + Drop>(pieces: I) -> Self
         requires ends { IsFiniteIterable I.into_iter_gives I.IntoIter.can_next I.IntoIter.remaining pieces }
         requires fits { Fits I.into_iter_gives I.IntoIter.next_gives joined_pieces pieces (cap N) }
@@ -129,11 +129,11 @@ impl<const N: usize> ArrayString<N> {
     ///
     /// # Errors
     ///
-    /// Returns `Err(OutOfBounds)` if `characters` are larger than the capacity.
+    /// Returns `Err(OutOfBounds)` if not all of `characters` fit.
     ///
     /// # Precondition
     ///
-    /// The iterator must end, as the type's documentation says.
+    /// See `ArrayString` for iterators.
     pub fn try_from_chars<I: IntoIterator<Item = char> + Drop>(
         characters: I,
     ) -> Result<Self, OutOfBounds>
@@ -148,12 +148,12 @@ impl<const N: usize> ArrayString<N> {
         Ok(made)
     }
 
-    /// Returns the characters up to the first that does not fit, even if a later shorter one would
-    /// fit.
+    /// Returns the longest prefix of the characters that fits. A shorter character after the first
+    /// that does not fit is not taken.
     ///
     /// # Precondition
     ///
-    /// The iterator must end, as the type's documentation says.
+    /// See `ArrayString` for iterators.
     pub fn from_chars<I: IntoIterator<Item = char> + Drop>(characters: I) -> Self
         requires { IsFiniteIterable I.into_iter_gives I.IntoIter.can_next I.IntoIter.remaining characters }
         ensures taken { (taken : List ℕ) × Takes I.into_iter_gives I.IntoIter.next_gives (λ cs. cs) characters (cap N) taken
@@ -170,7 +170,7 @@ impl<const N: usize> ArrayString<N> {
     ///
     /// # Precondition
     ///
-    /// All of `characters` must fit. The iterator must end, as the type's documentation says.
+    /// All of `characters` must fit. See `ArrayString` for iterators.
     pub fn from_chars_unchecked<I: IntoIterator<Item = char> + Drop>(characters: I) -> Self
         requires ends { IsFiniteIterable I.into_iter_gives I.IntoIter.can_next I.IntoIter.remaining characters }
         requires fits { Fits I.into_iter_gives I.IntoIter.next_gives (λ cs. cs) characters (cap N) }
@@ -192,8 +192,7 @@ impl<const N: usize> ArrayString<N> {
     ///
     /// The first of these that holds decides:
     ///
-    /// - `Err(Utf8)` if the whole slice is not well-formed UTF-8 (the Unicode Standard, section
-    ///   3.9);
+    /// - `Err(Utf8)` if `given` is not well-formed UTF-8 (the Unicode Standard, section 3.9);
     /// - `Err(OutOfBounds)` if the text is larger than the capacity.
     pub fn try_from_utf8(given: &[u8]) -> Result<Self, Error>
         ensures malformed { ¬ (IsWellFormed given.now) → result ≡ Err Error.Utf8 }
@@ -214,8 +213,8 @@ impl<const N: usize> ArrayString<N> {
     ///
     /// # Errors
     ///
-    /// Returns `Err(Utf8)` if the whole slice is not well-formed UTF-8 (the Unicode Standard,
-    /// section 3.9), also by bytes past the capacity.
+    /// Returns `Err(Utf8)` if `given` is not well-formed UTF-8 (the Unicode Standard, section 3.9),
+    /// even if only bytes past the capacity are not.
     pub fn from_utf8(given: &[u8]) -> Result<Self, Utf8>
         ensures well_formed { IsOk result ↔ IsWellFormed given.now }
         ensures cut { (t : List ℕ) → IsText t → bytes t ≡ given.now → IfOk result (λ made. made.text ≡ cut t (cap N)) }
@@ -259,6 +258,11 @@ impl<const N: usize> FromStr for ArrayString<N> {
 
     ghost from_str_gives = { λ string result. IsWholeOrRefused (chars string) (cap N) (from_out_of_bounds result) };
 
+    /// Returns the text `string`.
+    ///
+    /// # Errors
+    ///
+    /// Returns `Err(OutOfBounds)` if `string` is larger than the capacity.
     fn from_str(string: &str) -> Result<Self, OutOfBounds> {
         Self::try_from_str(string)
     }

@@ -1,4 +1,4 @@
-//! What is added from an iterator that is handed in.
+//! What is added from an iterator that is passed in.
 ghost use Rattle.std.specs.Prelude.{◌≡◌, ℕ, ◌-◌, ◌<◌, ◌≤◌, ◌++◌, List, Ok, MatchResult};
 ghost use Rattle.std.specs.Borrow.{Bor};
 ghost use Rattle.std.specs.Iterator.{IsFiniteIterable};
@@ -15,7 +15,7 @@ impl<const N: usize> ArrayString<N> {
     ///
     /// # Precondition
     ///
-    /// The iterator must end, as the type's documentation says.
+    /// See `ArrayString` for iterators.
     pub fn extend_chars<I: IntoIterator<Item = char> + Drop>(&mut self, characters: I)
         requires { IsFiniteIterable I.into_iter_gives I.IntoIter.can_next I.IntoIter.remaining characters }
         ensures taken { (taken : List ℕ) × Takes I.into_iter_gives I.IntoIter.next_gives (λ cs. cs) characters (cap N - size self.old.text) taken
@@ -30,7 +30,7 @@ impl<const N: usize> ArrayString<N> {
     ///
     /// # Precondition
     ///
-    /// The iterator must end, as the type's documentation says.
+    /// See `ArrayString` for iterators.
     pub fn extend_strs<'a, I: IntoIterator<Item = &'a str> + Drop>(&mut self, pieces: I)
         requires { IsFiniteIterable I.into_iter_gives I.IntoIter.can_next I.IntoIter.remaining pieces }
         ensures taken { (taken : List (Bor (List ℕ))) × Takes I.into_iter_gives I.IntoIter.next_gives joined_pieces pieces (cap N - size self.old.text) taken
@@ -41,7 +41,7 @@ impl<const N: usize> ArrayString<N> {
         let _ = self.add_strs(pieces);
     }
 
-    /// Adds the characters up to the first that does not fit, and says whether one did not.
+    /// Adds the characters before the first that does not fit, and says whether one did not.
     pub(super) fn add_chars<I: IntoIterator<Item = char> + Drop>(
         &mut self,
         characters: I,
@@ -60,8 +60,8 @@ impl<const N: usize> ArrayString<N> {
         Ok(())
     }
 
-    /// Adds the pieces up to the first that does not fit, of that what fits, and says whether one
-    /// did not.
+    /// Adds the pieces before the first that does not fit, and of that one what fits, and says whether
+    /// one did not.
     pub(super) fn add_strs<'a, I: IntoIterator<Item = &'a str> + Drop>(
         &mut self,
         pieces: I,

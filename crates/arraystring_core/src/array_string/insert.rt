@@ -71,7 +71,7 @@ impl<const N: usize> ArrayString<N> {
     ///
     /// # Precondition
     ///
-    /// Both counts must be at most 2^63.
+    /// Both counts of `steps` must be at most 2^63.
     pub fn try_insert_str_counted(
         &mut self,
         index: u8,

@@ -17,16 +17,16 @@ use arraystring_base::utils::Steps;
 use std::ops::RangeBounds;
 
 impl<const N: usize> ArrayString<N> {
-    /// Returns the part in the range, borrowed without a copy. The ends are plain numbers, so
-    /// `..=255` ends at 256.
+    /// Returns the part in the range, borrowed without a copy. The ends are not limited to
+    /// 255: `..=255` ends at 256, which is past every text.
     ///
     /// # Precondition
     ///
-    /// - The range must have its bounds (`has_bounds`).
+    /// - The range must have bounds (`has_bounds`).
     /// - It must not end before it starts.
     /// - Both ends must be boundaries.
     ///
-    /// For a range that has its bounds, a `get` that returned `Some` proves the rest.
+    /// For a range that has bounds, a `get` that returned `Some` proves the rest.
     pub fn slice<R: RangeBounds<u8> + Drop>(&self, range: R) -> &str
         requires known { R.has_bounds range }
         requires order { start_index (R.start_bound range) ≤ end_index (R.end_bound range) (size self.now.text) }
@@ -40,8 +40,8 @@ impl<const N: usize> ArrayString<N> {
     }
 
     /// Returns the part in the range, borrowed without a copy. Returns `None` if the range ends
-    /// before it starts, or if an end is not a boundary. The ends are plain numbers, so `..=255`
-    /// ends at 256.
+    /// before it starts, or if its start or its end is not a boundary. The ends are not limited to
+    /// 255: `..=255` ends at 256, which is past every text.
     ///
     /// # Examples
     ///
@@ -63,7 +63,7 @@ impl<const N: usize> ArrayString<N> {
     }
 
     /// Removes the part in the range, at once, and returns its characters as a `Drain`. An excluded
-    /// start and an included end add 1, and stop at 255.
+    /// start and an included end count as one more, but as no more than 255: `..=255` ends at 255.
     ///
     /// # Errors
     ///
@@ -104,7 +104,7 @@ impl<const N: usize> ArrayString<N> {
     ///
     /// # Precondition
     ///
-    /// Both counts must be at most 2^63.
+    /// Both counts of `steps` must be at most 2^63.
     #[inline(always)]
     pub fn drain_counted<R: RangeBounds<u8> + Drop>(
         &mut self,
@@ -131,8 +131,8 @@ impl<const N: usize> ArrayString<N> {
         Ok(removed)
     }
 
-    /// Replaces the part in the range by `with`. An excluded start and an included end add 1, and
-    /// stop at 255.
+    /// Replaces the part in the range by `with`. An excluded start and an included end count as
+    /// one more, but as no more than 255: `..=255` ends at 255.
     ///
     /// # Errors
     ///
@@ -173,7 +173,7 @@ impl<const N: usize> ArrayString<N> {
     ///
     /// # Precondition
     ///
-    /// Both counts must be at most 2^63.
+    /// Both counts of `steps` must be at most 2^63.
     pub fn replace_range_counted<R: RangeBounds<u8> + Drop>(
         &mut self,
         range: R,
@@ -201,7 +201,7 @@ impl<const N: usize> ArrayString<N> {
     ///
     /// # Precondition
     ///
-    /// - The range must have its bounds (`has_bounds`).
+    /// - The range must have bounds (`has_bounds`).
     /// - It must not end before it starts.
     /// - Both ends, read as in `slice`, must be boundaries.
     pub fn make_ascii_uppercase_in<R: RangeBounds<u8> + Drop>(&mut self, range: R)
@@ -220,7 +220,7 @@ impl<const N: usize> ArrayString<N> {
     ///
     /// # Precondition
     ///
-    /// - The range must have its bounds (`has_bounds`).
+    /// - The range must have bounds (`has_bounds`).
     /// - It must not end before it starts.
     /// - Both ends, read as in `slice`, must be boundaries.
     pub fn make_ascii_lowercase_in<R: RangeBounds<u8> + Drop>(&mut self, range: R)

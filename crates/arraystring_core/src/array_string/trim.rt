@@ -1,4 +1,4 @@
-//! The ends of a string are trimmed.
+//! Trimming at both ends.
 ghost use Rattle.std.specs.Prelude.{◌≡◌, ◌+◌, ◌-◌, ◌*◌, ◌^◌, ◌≤◌, ℕ, Bool, min, Ok, length};
 ghost use Rattle.arraystring_core.specs.Retain.{ReturnsAs};
 ghost use Rattle.arraystring_core.specs.Edits.{Makes, trimming, is_space, is_white_space, without_leading, without_trailing};
@@ -8,8 +8,9 @@ use crate::laws::text_fits;
 use arraystring_base::utils::{Steps, last_char};
 
 impl<const N: usize> ArrayString<N> {
-    /// Drops all white space at both ends, and nothing else: the characters for which
-    /// `char::is_whitespace` is true, which is the property White_Space of the Unicode Standard.
+    /// Drops all white space at both ends, and nothing else. White space is each character for which
+    /// `char::is_whitespace` returns true, that is, which has the property White_Space of the Unicode
+    /// Standard.
     pub fn trim(&mut self)
         ensures { Makes (trimming is_white_space self.old.text) self.old.text (Ok result) self.new.text }
     {
@@ -21,7 +22,7 @@ impl<const N: usize> ArrayString<N> {
     ///
     /// # Precondition
     ///
-    /// Both counts must be at most 2^63.
+    /// Both counts of `steps` must be at most 2^63.
     pub fn trim_counted(&mut self, steps: &mut Steps)
         requires looks { steps.old.looked ≤ 2 ^ 63 }
         requires moves { steps.old.moved ≤ 2 ^ 63 }

@@ -3,7 +3,7 @@ ghost use Rattle.std.specs.Prelude.{◌≡◌, [], List};
 ghost use Rattle.arraystring_base.specs.declared.utf16.Unit16.{Unit16};
 ghost use Rattle.arraystring_base.specs.Text.{cap, cut};
 ghost use Rattle.arraystring_base.specs.Utf16.{IsReading, first_stop, shown, lossy_text};
-ghost use Rattle.arraystring_core.specs.FromUtf16.{GivesWhole, GivesRun, stop_at};
+ghost use Rattle.arraystring_core.specs.FromUtf16.{GivesWhole, GivesPrefix, stop_at};
 
 use super::ArrayString;
 use arraystring_base::error::{Error, Utf16};
@@ -23,9 +23,9 @@ impl<const N: usize> ArrayString<N> {
     pub fn try_from_utf16(units: &[u16]) -> Result<Self, Error>
         ensures { (items : List Unit16) → IsReading units.now items → GivesWhole (first_stop items (cap N)) result }
     {
-        let mut run = Self::new();
-        match add_prefix(&mut run, units) {
-            None => Ok(run),
+        let mut prefix = Self::new();
+        match add_prefix(&mut prefix, units) {
+            None => Ok(prefix),
             Some(Unit16::Lone(_)) => Err(Error::Utf16),
             Some(Unit16::Char(_)) => Err(Error::OutOfBounds),
         }
@@ -46,17 +46,17 @@ impl<const N: usize> ArrayString<N> {
     /// let lone = ArrayString::<4>::from_utf16(&[0x61, 0xD83E]); // Err(Utf16)
     /// ```
     pub fn from_utf16(units: &[u16]) -> Result<Self, Utf16>
-        ensures { (items : List Unit16) → IsReading units.now items → GivesRun (first_stop items (cap N)) result }
+        ensures { (items : List Unit16) → IsReading units.now items → GivesPrefix (first_stop items (cap N)) result }
     {
-        let mut run = Self::new();
-        match add_prefix(&mut run, units) {
+        let mut prefix = Self::new();
+        match add_prefix(&mut prefix, units) {
             Some(Unit16::Lone(_)) => Err(Utf16),
-            _ => Ok(run),
+            _ => Ok(prefix),
         }
     }
 
-    /// Returns the text of `units`, with each lone surrogate read as U+FFFD, which takes three
-    /// bytes. The first character that does not fit ends it.
+    /// Returns the longest prefix of the characters of `units` that fits, with each lone surrogate
+    /// read as U+FFFD, which takes three bytes.
     pub fn from_utf16_lossy(units: &[u16]) -> Self
         ensures { (items : List Unit16) → IsReading units.now items → result.text ≡ cut (lossy_text items) (cap N) }
     {
@@ -74,14 +74,14 @@ impl<const N: usize> ArrayString<N> {
 
 /// Adds to an empty string the longest prefix of characters of `units` that fits, and returns the
 /// item right after it.
-fn add_prefix<const N: usize>(run: &mut ArrayString<N>, units: &[u16]) -> Option<Unit16>
-    requires { run.old.text ≡ [] }
-    ensures { (items : List Unit16) → IsReading units.now items → first_stop items (cap N) ≡ stop_at result run.new.text }
+fn add_prefix<const N: usize>(prefix: &mut ArrayString<N>, units: &[u16]) -> Option<Unit16>
+    requires { prefix.old.text ≡ [] }
+    ensures { (items : List Unit16) → IsReading units.now items → first_stop items (cap N) ≡ stop_at result prefix.new.text }
 {
     only_reading(units);
     for item in Units::new(units) {
         match item {
-            Unit16::Char(ch) => match run.try_push(ch) {
+            Unit16::Char(ch) => match prefix.try_push(ch) {
                 Ok(()) => {}
                 Err(_) => return Some(item),
             },

@@ -1,7 +1,8 @@
 // Made from crates/arraystring_base/src/steps.rt by rust/erase. A change goes there.
 //! Counting what a call does to bytes.
 
-/// How many bytes were looked at, and how many were moved.
+/// Counts of looks and of moves. A look is one call of `look`, and a move is one byte that `shift`
+/// takes to another offset. What calls read otherwise is not counted.
 ///
 /// # Model
 ///
@@ -17,7 +18,7 @@ pub struct Steps {
 }
 
 impl Steps {
-    /// Returns a fresh counter: no byte was looked at, and none was moved.
+    /// Returns a fresh counter: no looks and no moves.
     ///
     /// # Contract
     ///
@@ -33,7 +34,7 @@ impl Steps {
         }
     }
 
-    /// Returns how many bytes were looked at.
+    /// Returns how many looks were counted.
     ///
     /// # Contract
     ///
@@ -45,7 +46,7 @@ impl Steps {
         self.looked
     }
 
-    /// Returns how many bytes were moved.
+    /// Returns how many moves were counted.
     ///
     /// # Contract
     ///
@@ -76,7 +77,7 @@ impl Steps {
 ///
 /// # Precondition
 ///
-/// The index must be below the length, and the count of looks must be below 2^64 - 1.
+/// The index must be below the length, and the count of looks of `steps` must be below 2^64 - 1.
 ///
 /// # Panics
 ///

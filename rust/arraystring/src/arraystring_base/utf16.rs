@@ -50,7 +50,7 @@ impl<'a> Units<'a> {
 impl<'a> Iterator for Units<'a> {
     type Item = Unit16;
 
-    /// Returns the next item of the reading, or `None` if none is left, and from then on.
+    /// Returns the next item of the reading. If none is left it returns `None`, and does so ever after.
     #[inline]
     fn next(&mut self) -> Option<Unit16> {
         let (first, rest) = self.rest.split_first()?;

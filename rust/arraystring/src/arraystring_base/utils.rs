@@ -58,7 +58,7 @@ pub fn truncate_str(text: &str, size: u8) -> &str {
 ///
 /// # Precondition
 ///
-/// The count of looks must be at most 2^63.
+/// The count of looks of `steps` must be at most 2^63.
 ///
 /// # In Rust
 ///

@@ -1,6 +1,6 @@
 // Made from crates/arraystring_core/src/array_string.rt by rust/erase. A change goes there.
 //! `ArrayString`: the type, what it shows, and what is added and taken at its end. The modules below
-//! have its other calls, and `edit` the private ones that reach its array.
+//! have its other calls, and `edit` the private ones that put bytes into its array or take them out.
 
 use crate::arraystring_core::equal::equal;
 use crate::arraystring_core::gap::write_by_call;
@@ -22,8 +22,12 @@ mod utf16;
 /// A string of at most `N` bytes of UTF-8, and at most 255, that lies in the value itself. In all
 /// its calls sizes, indices and capacity count bytes of UTF-8.
 ///
-/// An iterator that is passed in must end, and allow `next` until it does. A call that cuts or can
-/// refuse needs no item after the first that does not fit, and a test shows that it takes none.
+/// An iterator that is passed in must end, and until it does the precondition of its `next` must
+/// hold. A call that cuts or can refuse needs no item after the first that does not fit, and a test
+/// shows that it takes none.
+///
+/// A range that is passed in may be any `RangeBounds<u8>`. Each range of Rust has bounds
+/// (`has_bounds`), except an inclusive one that was iterated to its end.
 ///
 /// Contracts name its text, the list of its characters, and no byte of the array.
 ///
@@ -281,7 +285,7 @@ impl<const N: usize> ArrayString<N> {
     ///
     /// # Precondition
     ///
-    /// Both counts must be at most 2^63.
+    /// Both counts of `steps` must be at most 2^63.
     ///
     /// # In Rust
     ///

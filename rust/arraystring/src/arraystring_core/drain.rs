@@ -11,8 +11,8 @@ mod compare;
 /// back, each once; what is not given stays in its order.
 ///
 /// Contracts name the list of the characters that are left. A drain keeps a copy of the string's
-/// array, where in it the removed text is, without what was given from the back, and an index into
-/// that text. It takes no memory.
+/// array, the offset and the size of the removed text without what was given from the back, and the
+/// index at which what is left begins. It takes no memory.
 ///
 /// # Model
 ///
@@ -31,8 +31,9 @@ mod compare;
 /// ```
 #[derive(Clone, Copy)]
 pub struct Drain<const N: usize> {
-    // The index at which what is left begins, and the offset and the size of the removed text. They
-    // lie before the array, so that a read of it is known to be no read of them.
+    // The index at which what is left begins, and the offset and the size of the removed text
+    // without what was given from the back. They lie before the array, so that a read of it is known
+    // to be no read of them.
     front: u8,
     start: u8,
     size: u8,
@@ -72,7 +73,7 @@ impl<const N: usize> Drain<N> {
         let all = &self.array[..];
         let start = self.start as usize;
         let (front, end) = (start + self.front as usize, start + self.size as usize);
-        // SAFETY: the type's `invariant`: the removed text is UTF-8, and `front` is a boundary of it.
+        // SAFETY: the type's `invariant`: the removed text is UTF-8, with a boundary at `self.front`.
         unsafe { str::from_utf8_unchecked(&all[front..end]) }
     }
 }
@@ -102,7 +103,8 @@ impl<const N: usize> Default for Drain<N> {
 impl<const N: usize> Iterator for Drain<N> {
     type Item = char;
 
-    /// Returns the first character that is left, or `None` if none is, and from then on.
+    /// Returns the first character that is left. If none is left it returns `None`, and does so ever
+    /// after.
     #[inline(always)]
     fn next(&mut self) -> Option<char> {
         if self.front == self.size {
@@ -129,7 +131,8 @@ impl<const N: usize> Iterator for Drain<N> {
 /// ghost next_back_gives = { YieldsLast (λ d. d.left) };
 /// ```
 impl<const N: usize> DoubleEndedIterator for Drain<N> {
-    /// Returns the last character that is left, or `None` if none is, and from then on.
+    /// Returns the last character that is left. If none is left it returns `None`, and does so ever
+    /// after.
     #[inline(always)]
     fn next_back(&mut self) -> Option<char> {
         if self.size == self.front {

@@ -1,10 +1,11 @@
 // Made from crates/arraystring_core/src/equal.rt by rust/erase. A change goes there.
 //! Whether two texts are equal, by blocks: the first and the last ones, which may overlap. From 16
-//! bytes on no branch depends on what the bytes are.
+//! to 256 bytes no branch depends on what the bytes are.
 
 use crate::by_hand::simd::Simd;
 
-/// Whether the texts are equal. Few bytes are left to std, and so are more than strings have.
+/// Whether the texts are equal. Fewer than 16 bytes are left to std, and so are
+/// more than 256, which no string has.
 ///
 /// # Contract
 ///

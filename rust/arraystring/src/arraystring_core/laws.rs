@@ -61,13 +61,13 @@ pub fn pieces_make_one_text(whole: &str) {}
 /// ```text
 /// ensures reading { (t : List ℕ) → IsText t → (items : List Unit16) × IsReading (text_units t) items }
 /// ensures whole { (t : List ℕ) (n : ℕ) (items : List Unit16) (result : Result Stored Error) → IsText t → size t ≤ n → IsReading (text_units t) items → GivesWhole (first_stop items n) result → IsOkAnd result (λ string. string.text ≡ t) }
-/// ensures run { (t : List ℕ) (n : ℕ) (items : List Unit16) (result : Result Stored Utf16) → IsText t → size t ≤ n → IsReading (text_units t) items → GivesRun (first_stop items n) result → IsOkAnd result (λ string. string.text ≡ t) }
+/// ensures prefix { (t : List ℕ) (n : ℕ) (items : List Unit16) (result : Result Stored Utf16) → IsText t → size t ≤ n → IsReading (text_units t) items → GivesPrefix (first_stop items n) result → IsOkAnd result (λ string. string.text ≡ t) }
 /// ensures lossy { (t : List ℕ) (n : ℕ) (items : List Unit16) → IsText t → size t ≤ n → IsReading (text_units t) items → cut (lossy_text items) n ≡ t }
 /// ```
 pub fn units_read_back() {}
 
 /// What a pop leaves, followed by the character that it returns, is the text before. Of the empty
-/// text it returns none, and leaves it.
+/// text it returns `None`, and the text stays empty.
 ///
 /// # Contract
 ///
@@ -77,8 +77,8 @@ pub fn units_read_back() {}
 /// ```
 pub fn popped() {}
 
-/// A text is characters that pass, then what a trim of those leaves of it, then characters that
-/// pass; and what it leaves neither begins nor ends with one that passes.
+/// A text is some characters that pass, then what is left by the trim of all that pass at its ends,
+/// then some characters that pass. What is left neither begins nor ends with one that passes.
 ///
 /// # Contract
 ///
@@ -124,8 +124,8 @@ pub fn replaced_back() {}
 
 /// A walk from both ends in any mix gives each character at most once: what came from the front,
 /// then what is left, then what came from the back in reversed order, joined, are the characters
-/// that were walked. Each end takes one while one is left, so with as many ends as characters
-/// nothing is left, and if nothing is left nothing is given.
+/// that were walked. Each step, from either end, takes one while one is left. So after as many steps
+/// as there are characters nothing is left, and a step then gives nothing.
 ///
 /// # Contract
 ///

@@ -9,7 +9,7 @@ use crate::arraystring_base::utils::is_boundary;
 ///
 /// # Errors
 ///
-/// Returns `Err(Utf8)` if `idx` is not a boundary. An index past the length is none.
+/// Returns `Err(Utf8)` if `idx` is not a boundary. An index past the length is not a boundary.
 ///
 /// # Contract
 ///

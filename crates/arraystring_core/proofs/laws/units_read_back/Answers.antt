@@ -5,7 +5,7 @@ use Rattle.arraystring_base.proofs.CutLaws.{cut-all}
 use Rattle.arraystring_base.specs.Utf16.{End, lossy_text}
 use Rattle.arraystring_base.proofs.ReadingLaws.{text-reading}
 use Rattle.arraystring_base.proofs.Utf16Laws.{stop-is, lossy_text-characters}
-use Rattle.arraystring_core.specs.FromUtf16.{GivesWhole, GivesRun}
+use Rattle.arraystring_core.specs.FromUtf16.{GivesWhole, GivesPrefix}
 use Rattle.arraystring_core.proofs.laws.units_read_back.Goals as goal
 
 pub returns-clause-reading : goal.returns-clause-reading
@@ -16,10 +16,10 @@ returns-clause-whole c = λ t n items result is fits reads gives.
     let same = (text-reading t items is).0 reads in
     subst (λ stop. GivesWhole stop result) (stop-is items n (End t) (same, fits)) gives
 
-pub returns-clause-run : goal.returns-clause-run
-returns-clause-run c = λ t n items result is fits reads gives.
+pub returns-clause-prefix : goal.returns-clause-prefix
+returns-clause-prefix c = λ t n items result is fits reads gives.
     let same = (text-reading t items is).0 reads in
-    subst (λ stop. GivesRun stop result) (stop-is items n (End t) (same, fits)) gives
+    subst (λ stop. GivesPrefix stop result) (stop-is items n (End t) (same, fits)) gives
 
 pub returns-clause-lossy : goal.returns-clause-lossy
 returns-clause-lossy c = λ t n items is fits reads.

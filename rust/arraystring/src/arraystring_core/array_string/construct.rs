@@ -85,11 +85,11 @@ impl<const N: usize> ArrayString<N> {
     ///
     /// # Errors
     ///
-    /// Returns `Err(OutOfBounds)` if `pieces` are larger than the capacity.
+    /// Returns `Err(OutOfBounds)` if not all of `pieces` fit.
     ///
     /// # Precondition
     ///
-    /// The iterator must end, as the type's documentation says.
+    /// See `ArrayString` for iterators.
     ///
     /// # In Rust
     ///
@@ -119,7 +119,7 @@ impl<const N: usize> ArrayString<N> {
     ///
     /// # Precondition
     ///
-    /// The iterator must end, as the type's documentation says.
+    /// See `ArrayString` for iterators.
     ///
     /// # In Rust
     ///
@@ -147,7 +147,7 @@ impl<const N: usize> ArrayString<N> {
     ///
     /// # Precondition
     ///
-    /// All of `pieces` must fit. The iterator must end, as the type's documentation says.
+    /// All of `pieces` must fit. See `ArrayString` for iterators.
     ///
     /// # Safety
     ///
@@ -178,11 +178,11 @@ impl<const N: usize> ArrayString<N> {
     ///
     /// # Errors
     ///
-    /// Returns `Err(OutOfBounds)` if `characters` are larger than the capacity.
+    /// Returns `Err(OutOfBounds)` if not all of `characters` fit.
     ///
     /// # Precondition
     ///
-    /// The iterator must end, as the type's documentation says.
+    /// See `ArrayString` for iterators.
     ///
     /// # In Rust
     ///
@@ -208,12 +208,12 @@ impl<const N: usize> ArrayString<N> {
         Ok(made)
     }
 
-    /// Returns the characters up to the first that does not fit, even if a later shorter one would
-    /// fit.
+    /// Returns the longest prefix of the characters that fits. A shorter character after the first
+    /// that does not fit is not taken.
     ///
     /// # Precondition
     ///
-    /// The iterator must end, as the type's documentation says.
+    /// See `ArrayString` for iterators.
     ///
     /// # In Rust
     ///
@@ -241,7 +241,7 @@ impl<const N: usize> ArrayString<N> {
     ///
     /// # Precondition
     ///
-    /// All of `characters` must fit. The iterator must end, as the type's documentation says.
+    /// All of `characters` must fit. See `ArrayString` for iterators.
     ///
     /// # Safety
     ///
@@ -273,8 +273,7 @@ impl<const N: usize> ArrayString<N> {
     ///
     /// The first of these that holds decides:
     ///
-    /// - `Err(Utf8)` if the whole slice is not well-formed UTF-8 (the Unicode Standard, section
-    ///   3.9);
+    /// - `Err(Utf8)` if `given` is not well-formed UTF-8 (the Unicode Standard, section 3.9);
     /// - `Err(OutOfBounds)` if the text is larger than the capacity.
     ///
     /// # Contract
@@ -302,8 +301,8 @@ impl<const N: usize> ArrayString<N> {
     ///
     /// # Errors
     ///
-    /// Returns `Err(Utf8)` if the whole slice is not well-formed UTF-8 (the Unicode Standard,
-    /// section 3.9), also by bytes past the capacity.
+    /// Returns `Err(Utf8)` if `given` is not well-formed UTF-8 (the Unicode Standard, section 3.9),
+    /// even if only bytes past the capacity are not.
     ///
     /// # Contract
     ///
@@ -373,6 +372,11 @@ impl<'a, const N: usize> From<&'a str> for ArrayString<N> {
 impl<const N: usize> FromStr for ArrayString<N> {
     type Err = OutOfBounds;
 
+    /// Returns the text `string`.
+    ///
+    /// # Errors
+    ///
+    /// Returns `Err(OutOfBounds)` if `string` is larger than the capacity.
     #[inline]
     fn from_str(string: &str) -> Result<Self, OutOfBounds> {
         Self::try_from_str(string)

@@ -1,5 +1,5 @@
 // Made from crates/arraystring_core/src/array_string/extend.rt by rust/erase. A change goes there.
-//! What is added from an iterator that is handed in.
+//! What is added from an iterator that is passed in.
 
 use super::ArrayString;
 use crate::arraystring_core::laws::text_fits;
@@ -10,7 +10,7 @@ impl<const N: usize> ArrayString<N> {
     ///
     /// # Precondition
     ///
-    /// The iterator must end, as the type's documentation says.
+    /// See `ArrayString` for iterators.
     ///
     /// # In Rust
     ///
@@ -36,7 +36,7 @@ impl<const N: usize> ArrayString<N> {
     ///
     /// # Precondition
     ///
-    /// The iterator must end, as the type's documentation says.
+    /// See `ArrayString` for iterators.
     ///
     /// # In Rust
     ///
@@ -58,7 +58,7 @@ impl<const N: usize> ArrayString<N> {
         let _ = self.add_strs(pieces);
     }
 
-    /// Adds the characters up to the first that does not fit, and says whether one did not.
+    /// Adds the characters before the first that does not fit, and says whether one did not.
     ///
     /// # Contract
     ///
@@ -82,8 +82,8 @@ impl<const N: usize> ArrayString<N> {
         Ok(())
     }
 
-    /// Adds the pieces up to the first that does not fit, of that what fits, and says whether one
-    /// did not.
+    /// Adds the pieces before the first that does not fit, and of that one what fits, and says whether
+    /// one did not.
     ///
     /// # Contract
     ///

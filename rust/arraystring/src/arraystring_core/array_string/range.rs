@@ -11,16 +11,16 @@ use crate::arraystring_base::utils::Steps;
 use core::ops::RangeBounds;
 
 impl<const N: usize> ArrayString<N> {
-    /// Returns the part in the range, borrowed without a copy. The ends are plain numbers, so
-    /// `..=255` ends at 256.
+    /// Returns the part in the range, borrowed without a copy. The ends are not limited to
+    /// 255: `..=255` ends at 256, which is past every text.
     ///
     /// # Precondition
     ///
-    /// - The range must have its bounds (`has_bounds`).
+    /// - The range must have bounds (`has_bounds`).
     /// - It must not end before it starts.
     /// - Both ends must be boundaries.
     ///
-    /// For a range that has its bounds, a `get` that returned `Some` proves the rest.
+    /// For a range that has bounds, a `get` that returned `Some` proves the rest.
     ///
     /// # Panics
     ///
@@ -44,8 +44,8 @@ impl<const N: usize> ArrayString<N> {
     }
 
     /// Returns the part in the range, borrowed without a copy. Returns `None` if the range ends
-    /// before it starts, or if an end is not a boundary. The ends are plain numbers, so `..=255`
-    /// ends at 256.
+    /// before it starts, or if its start or its end is not a boundary. The ends are not limited to
+    /// 255: `..=255` ends at 256, which is past every text.
     ///
     /// # Examples
     ///
@@ -73,7 +73,7 @@ impl<const N: usize> ArrayString<N> {
     }
 
     /// Removes the part in the range, at once, and returns its characters as a `Drain`. An excluded
-    /// start and an included end add 1, and stop at 255.
+    /// start and an included end count as one more, but as no more than 255: `..=255` ends at 255.
     ///
     /// # Errors
     ///
@@ -119,7 +119,7 @@ impl<const N: usize> ArrayString<N> {
     ///
     /// # Precondition
     ///
-    /// Both counts must be at most 2^63.
+    /// Both counts of `steps` must be at most 2^63.
     ///
     /// # In Rust
     ///
@@ -154,8 +154,8 @@ impl<const N: usize> ArrayString<N> {
         Ok(removed)
     }
 
-    /// Replaces the part in the range by `with`. An excluded start and an included end add 1, and
-    /// stop at 255.
+    /// Replaces the part in the range by `with`. An excluded start and an included end count as
+    /// one more, but as no more than 255: `..=255` ends at 255.
     ///
     /// # Errors
     ///
@@ -203,7 +203,7 @@ impl<const N: usize> ArrayString<N> {
     ///
     /// # Precondition
     ///
-    /// Both counts must be at most 2^63.
+    /// Both counts of `steps` must be at most 2^63.
     ///
     /// # In Rust
     ///
@@ -240,7 +240,7 @@ impl<const N: usize> ArrayString<N> {
     ///
     /// # Precondition
     ///
-    /// - The range must have its bounds (`has_bounds`).
+    /// - The range must have bounds (`has_bounds`).
     /// - It must not end before it starts.
     /// - Both ends, read as in `slice`, must be boundaries.
     ///
@@ -270,7 +270,7 @@ impl<const N: usize> ArrayString<N> {
     ///
     /// # Precondition
     ///
-    /// - The range must have its bounds (`has_bounds`).
+    /// - The range must have bounds (`has_bounds`).
     /// - It must not end before it starts.
     /// - Both ends, read as in `slice`, must be boundaries.
     ///

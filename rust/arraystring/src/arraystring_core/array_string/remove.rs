@@ -69,7 +69,7 @@ impl<const N: usize> ArrayString<N> {
     ///
     /// # Precondition
     ///
-    /// Both counts must be at most 2^63.
+    /// Both counts of `steps` must be at most 2^63.
     ///
     /// # In Rust
     ///

@@ -1,13 +1,14 @@
 // Made from crates/arraystring_core/src/array_string/trim.rt by rust/erase. A change goes there.
-//! The ends of a string are trimmed.
+//! Trimming at both ends.
 
 use crate::arraystring_core::ArrayString;
 use crate::arraystring_core::laws::text_fits;
 use crate::arraystring_base::utils::{Steps, last_char};
 
 impl<const N: usize> ArrayString<N> {
-    /// Drops all white space at both ends, and nothing else: the characters for which
-    /// `char::is_whitespace` is true, which is the property White_Space of the Unicode Standard.
+    /// Drops all white space at both ends, and nothing else. White space is each character for which
+    /// `char::is_whitespace` returns true, that is, which has the property White_Space of the Unicode
+    /// Standard.
     ///
     /// # Contract
     ///
@@ -24,7 +25,7 @@ impl<const N: usize> ArrayString<N> {
     ///
     /// # Precondition
     ///
-    /// Both counts must be at most 2^63.
+    /// Both counts of `steps` must be at most 2^63.
     ///
     /// # In Rust
     ///

@@ -25,9 +25,9 @@ impl<const N: usize> ArrayString<N> {
     #[inline]
     pub fn try_from_utf16<B: AsRef<[u16]>>(units: B) -> Result<Self, Error> {
         let units = units.as_ref();
-        let mut run = Self::new();
-        match add_prefix(&mut run, units) {
-            None => Ok(run),
+        let mut prefix = Self::new();
+        match add_prefix(&mut prefix, units) {
+            None => Ok(prefix),
             Some(Unit16::Lone(_)) => Err(Error::Utf16),
             Some(Unit16::Char(_)) => Err(Error::OutOfBounds),
         }
@@ -52,20 +52,20 @@ impl<const N: usize> ArrayString<N> {
     /// # Contract
     ///
     /// ```text
-    /// ensures { (items : List Unit16) → IsReading units.now items → GivesRun (first_stop items (cap N)) result }
+    /// ensures { (items : List Unit16) → IsReading units.now items → GivesPrefix (first_stop items (cap N)) result }
     /// ```
     #[inline]
     pub fn from_utf16<B: AsRef<[u16]>>(units: B) -> Result<Self, Utf16> {
         let units = units.as_ref();
-        let mut run = Self::new();
-        match add_prefix(&mut run, units) {
+        let mut prefix = Self::new();
+        match add_prefix(&mut prefix, units) {
             Some(Unit16::Lone(_)) => Err(Utf16),
-            _ => Ok(run),
+            _ => Ok(prefix),
         }
     }
 
-    /// Returns the text of `units`, with each lone surrogate read as U+FFFD, which takes three
-    /// bytes. The first character that does not fit ends it.
+    /// Returns the longest prefix of the characters of `units` that fits, with each lone surrogate
+    /// read as U+FFFD, which takes three bytes.
     ///
     /// # Contract
     ///
@@ -93,15 +93,15 @@ impl<const N: usize> ArrayString<N> {
 /// # Contract
 ///
 /// ```text
-/// requires { run.old.text ≡ [] }
-/// ensures { (items : List Unit16) → IsReading units.now items → first_stop items (cap N) ≡ stop_at result run.new.text }
+/// requires { prefix.old.text ≡ [] }
+/// ensures { (items : List Unit16) → IsReading units.now items → first_stop items (cap N) ≡ stop_at result prefix.new.text }
 /// ```
 #[inline]
-fn add_prefix<const N: usize>(run: &mut ArrayString<N>, units: &[u16]) -> Option<Unit16> {
+fn add_prefix<const N: usize>(prefix: &mut ArrayString<N>, units: &[u16]) -> Option<Unit16> {
     only_reading(units);
     for item in Units::new(units) {
         match item {
-            Unit16::Char(ch) => match run.try_push(ch) {
+            Unit16::Char(ch) => match prefix.try_push(ch) {
                 Ok(()) => {}
                 Err(_) => return Some(item),
             },

@@ -12,49 +12,49 @@ use Rattle.arraystring_core.proofs.array_string.utf16.add_prefix.Goals as goal
 pub loop-item-preserved : goal.loop-item-preserved
 loop-item-preserved g c =
     let inv = c.loop-item.invariant in
-    let run = c.loop-item.run.text in
+    let prefix = c.loop-item.prefix.text in
     let ch = c.in-Char.ch in
     let left = c.next.new.self in
     let added = addition-made (ch ∷ []) (cap g.row.N) c.in-Ok.ensures in
     let first = c.in-Some.ensures.steps ∙ ap (λ item. item ∷ left) c.in-Char.is in
-    let longer = map-append Char run (ch ∷ []) in
-    let fits : size (run ++ ch ∷ []) ≤ cap g.row.N = omega (arith, added.0, size-append run (ch ∷ [])) in (
+    let longer = map-append Char prefix (ch ∷ []) in
+    let fits : size (prefix ++ ch ∷ []) ≤ cap g.row.N = omega (arith, added.0, size-append prefix (ch ∷ [])) in (
       rw added.1 fits,
-      inv.1 ∙ ap (λ l. map Char run ++ l) first ∙ sym (append_assoc (map Char run) (Char ch ∷ []) left)
+      inv.1 ∙ ap (λ l. map Char prefix ++ l) first ∙ sym (append_assoc (map Char prefix) (Char ch ∷ []) left)
           ∙ ap (λ l. l ++ left) (sym longer) ∙ ap (λ l. map Char l ++ left) (sym added.1),
     )
 
 pub returns-in-Err : goal.returns-in-Err
 returns-in-Err g c = λ items is.
     let inv = c.loop-item.invariant in
-    let run = c.loop-item.run.text in
+    let prefix = c.loop-item.prefix.text in
     let ch = c.in-Char.ch in
     let left = c.next.new.self in
     let refused = addition-refused (ch ∷ []) (cap g.row.N) c.in-Err.ensures in
-    let past : cap g.row.N < size run + width ch = omega (arith, refused.0) in
+    let past : cap g.row.N < size prefix + width ch = omega (arith, refused.0) in
     let same = c.only_reading.ensures.only items _ is c.new-item-items.ensures
     ∙ sym c.into_iter-item-iterator.ensures.into_iter_gives ∙ inv.1 in
     let first = c.in-Some.ensures.steps ∙ ap (λ item. item ∷ left) c.in-Char.is in
-    stop-is items (cap g.row.N) (Full run) (ch, left, same ∙ ap (λ l. map Char run ++ l) first, inv.0, past)
+    stop-is items (cap g.row.N) (Full prefix) (ch, left, same ∙ ap (λ l. map Char prefix ++ l) first, inv.0, past)
     ∙ ap Full (sym refused.2)
 
 pub returns-in-Lone : goal.returns-in-Lone
 returns-in-Lone g c = λ items is.
     let inv = c.loop-item.invariant in
-    let run = c.loop-item.run.text in
+    let prefix = c.loop-item.prefix.text in
     let unit = c.in-Lone.field-0 in
     let left = c.next.new.self in
     let same = c.only_reading.ensures.only items _ is c.new-item-items.ensures
     ∙ sym c.into_iter-item-iterator.ensures.into_iter_gives ∙ inv.1 in
     let first = c.in-Some.ensures.steps ∙ ap (λ item. item ∷ left) c.in-Lone.is in
-    stop-is items (cap g.row.N) (Fault run) (unit, left, same ∙ ap (λ l. map Char run ++ l) first, inv.0)
-    ∙ ap (λ item. stop_at (Some item) run) (sym c.in-Lone.is)
+    stop-is items (cap g.row.N) (Fault prefix) (unit, left, same ∙ ap (λ l. map Char prefix ++ l) first, inv.0)
+    ∙ ap (λ item. stop_at (Some item) prefix) (sym c.in-Lone.is)
 
 pub returns : goal.returns
 returns g c = λ items is.
     let inv = c.loop-item.invariant in
-    let run = c.loop-item.run.text in
+    let prefix = c.loop-item.prefix.text in
     let same = c.only_reading.ensures.only items _ is c.new-item-items.ensures
     ∙ sym c.into_iter-item-iterator.ensures.into_iter_gives ∙ inv.1 in
-    let whole = ap (λ l. map Char run ++ l) c.in-None.ensures.steps.0 ∙ append-nil (map Char run) in
-    stop-is items (cap g.row.N) (End run) (same ∙ whole, inv.0)
+    let whole = ap (λ l. map Char prefix ++ l) c.in-None.ensures.steps.0 ∙ append-nil (map Char prefix) in
+    stop-is items (cap g.row.N) (End prefix) (same ∙ whole, inv.0)

@@ -5,4 +5,4 @@ use Rattle.arraystring_core.proofs.array_string.utf16.add_prefix.Given as goal
 
 abbrev pub invariant-loop-item : goal.invariant-loop-item
 invariant-loop-item g l =
-    (size l.run.text ≤ cap g.row.N) × (l.initial.item-iterator ≡ map Char l.run.text ++ l.item-iterator)
+    (size l.prefix.text ≤ cap g.row.N) × (l.initial.item-iterator ≡ map Char l.prefix.text ++ l.item-iterator)
