@@ -1,6 +1,6 @@
 -- Laws of boundaries, and of the parts of a text before one, from one on and between two.
-use Rattle.std.proofs.Common.{◌≡◌, ℕ, ◌+◌, ◌-◌, ◌≤◌, ◌↔◌, List, [], ◌∷◌, ◌++◌, take, drop, true, false, Bool, Some, None, append_assoc, arith, if◌then◌else◌, ap, sym, ◌∙◌, refl}
-use Rattle.std.proofs.lemmas.Bool.{le-leb, leb-true, and_parts}
+use Rattle.std.proofs.Common.{◌≡◌, ℕ, ◌+◌, ◌-◌, ◌≤◌, ◌↔◌, List, [], ◌∷◌, ◌++◌, take, drop, true, false, Bool, Some, None, arith, if◌then◌else◌, ap, ◌∙◌, refl}
+use Rattle.std.proofs.lemmas.Bool.{leb-true, and_parts}
 use Rattle.std.specs.Prelude.{nat_le, ◌&&◌}
 use Rattle.arraystring_base.specs.Text.{IsText, IsPrefix, width, size, bytes, front, back, boundary}
 use Rattle.arraystring_base.proofs.TextLaws.{size-append}
