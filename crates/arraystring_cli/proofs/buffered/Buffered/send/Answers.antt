@@ -29,9 +29,7 @@ loop-preserved g c =
           let count = w.in-Ok.count in
           let taken = subst (λ l. Appends old new (take count l)) c.deref.ensures.value w.in-Ok.ensures.bytes in
           let sent = subst (λ l. Keeps (append_known old items) (append_known new l)) (sym w.drop_front.ensures) (keeps-sent old new items count taken) in
-          subst (λ b. Keeps first (append_known (known b.output) b.waiting.items)) (sym w.self-is)
-          (keeps-on first (append_known old items) (append_known new w.drop_front.new.bytes.items) c.loop.invariant sent)
+          rw w.self-is (keeps-on first (append_known old items) (append_known new w.drop_front.new.bytes.items) c.loop.invariant sent)
       | in-Err+else-ne w ↦
-          subst (λ b. Keeps first (append_known (known b.output) b.waiting.items)) (sym w.self-is)
-          (keeps-on first (append_known old items) (append_known new items) c.loop.invariant (keeps-waiting old new items w.in-Err.ensures.bytes))
+          rw w.self-is (keeps-on first (append_known old items) (append_known new items) c.loop.invariant (keeps-waiting old new items w.in-Err.ensures.bytes))
     ]
