@@ -41,11 +41,14 @@ const LARGEST: usize = usize::MAX / 4;
 ///
 /// The first fault that is met decides:
 ///
-/// - `Err(Read)` if a read fails, or `Err(Memory)` if there is no memory for the input;
-/// - `Err(BadLine)` if a line is no command, or `Err(Memory)` if there is no memory for the commands;
-/// - `Err(Memory)` if there is no memory for the run, or if an array of `N` bytes fits into none;
-/// - `Err(Write)` if a write or the last flush fails. Then a prefix of the output has gone out, which
-///   may be none or all of it.
+/// - `Err(PlayFault::Read)` if a read fails, or `Err(PlayFault::Memory)` if there is no memory for
+///   the input;
+/// - `Err(PlayFault::BadLine)` if a line is no command, or `Err(PlayFault::Memory)` if there is no
+///   memory for the commands;
+/// - `Err(PlayFault::Memory)` if there is no memory for the run, or if an array of `N` bytes fits
+///   into none;
+/// - `Err(PlayFault::Write)` if a write or the last flush fails. Then a prefix of the output has
+///   gone out, which may be none or all of it.
 pub fn play<const N: usize, I: Read, O: Write>(
     alloc: Global,
     input: &mut I,
