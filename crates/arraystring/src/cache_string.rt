@@ -181,8 +181,9 @@ impl CacheString {
     ///
     /// The first of these that holds decides:
     ///
-    /// - `Err(Utf8)` if `given` is not well-formed UTF-8 (the Unicode Standard, section 3.9);
-    /// - `Err(OutOfBounds)` if the text is larger than the capacity.
+    /// - `Err(Error::Utf8)` if `given` is not well-formed UTF-8 (the Unicode Standard, section
+    ///   3.9);
+    /// - `Err(Error::OutOfBounds)` if the text is larger than the capacity.
     pub fn try_from_utf8(given: &[u8]) -> Result<Self, Error>
         ensures malformed { ¬ (IsWellFormed given.now) → held result ≡ Err error.Utf8 }
         ensures whole { (t : List ℕ) → IsText t → bytes t ≡ given.now → IsWholeOrRefused t 63 (held result) }
@@ -227,8 +228,8 @@ impl CacheString {
     ///
     /// The units are read item by item, and the first of these ends the reading:
     ///
-    /// - `Err(Utf16)` if the item is a lone surrogate;
-    /// - `Err(OutOfBounds)` if the item is a character that does not fit.
+    /// - `Err(Error::Utf16)` if the item is a lone surrogate;
+    /// - `Err(Error::OutOfBounds)` if the item is a character that does not fit.
     pub fn try_from_utf16(units: &[u16]) -> Result<Self, Error>
         ensures { (items : List Unit16) → IsReading units.now items → GivesWhole (first_stop items 63) (held result) }
     {
@@ -263,8 +264,8 @@ impl CacheString {
     ///
     /// The first of these that holds decides, and the text is then as it was:
     ///
-    /// - `Err(OutOfBounds)` if `at` is past the text;
-    /// - `Err(Utf8)` if `at` is inside a character.
+    /// - `Err(Error::OutOfBounds)` if `at` is past the text;
+    /// - `Err(Error::Utf8)` if `at` is inside a character.
     pub fn split_off(&mut self, at: u8) -> Result<Self, Error>
         ensures { Makes (split self.old.0.text at) self.old.0.text (with_text (held result)) self.new.0.text }
     {

@@ -43,8 +43,9 @@ impl CacheString {
     ///
     /// The first of these that holds decides:
     ///
-    /// - `Err(NotText)` if the value is null, a truth value, a number, an array or an object;
-    /// - `Err(OutOfBounds)` if the text is larger than 63 bytes.
+    /// - `Err(ValueError::NotText)` if `value` is no JSON string: null, a boolean, a number, an
+    ///   array or an object;
+    /// - `Err(ValueError::OutOfBounds)` if the text is larger than 63 bytes.
     pub fn try_from_value(value: &Value) -> Result<Self, ValueError>
         ensures text { IfOk result (λ string. whole_text (view value.now) ≡ Some string.0.text) }
         ensures refusal { IfErr result (λ error. IsWhyRefused (whole_text (view value.now)) 63 error) }

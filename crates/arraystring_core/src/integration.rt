@@ -125,8 +125,9 @@ impl<const N: usize> ArrayString<N> {
     ///
     /// The first of these that holds decides:
     ///
-    /// - `Err(NotText)` if the value is null, a truth value, a number, an array or an object;
-    /// - `Err(OutOfBounds)` if the text is larger than the capacity.
+    /// - `Err(ValueError::NotText)` if `value` is no JSON string: null, a boolean, a number, an
+    ///   array or an object;
+    /// - `Err(ValueError::OutOfBounds)` if the text is larger than the capacity.
     pub fn try_from_value(value: &Value) -> Result<Self, ValueError>
         ensures text { IfOk result (λ string. whole_text (view value.now) ≡ Some string.text) }
         ensures refusal { IfErr result (λ error. IsWhyRefused (whole_text (view value.now)) (cap N) error) }

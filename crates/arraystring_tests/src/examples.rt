@@ -14,7 +14,7 @@ fn push_str(rt: HostRuntime) {
 fn insert_str(rt: HostRuntime) {
     let mut line = ArrayString::<4>::from_str_truncate("abc");
     let cut = line.insert_str(1, "xyz"); // Ok(()), and the text is "axbc"
-    let past = line.insert_str(9, "z"); // Err(OutOfBounds)
+    let past = line.insert_str(9, "z"); // Err(Error::OutOfBounds)
     let refused = Err(Error::OutOfBounds);
     agree(&rt, "both", (cut, past), (Ok(()), refused));
     agree(&rt, "the text", line.as_str(), "axbc");
@@ -41,7 +41,7 @@ fn get(rt: HostRuntime) {
 fn drain(rt: HostRuntime) {
     let mut line = ArrayString::<5>::from_str_truncate("abcde");
     let drained = line.drain(1..=2); // Ok of 'b' and 'c', and the text is "ade"
-    let past = line.drain(2..9); // Err(OutOfBounds)
+    let past = line.drain(2..9); // Err(Error::OutOfBounds)
     let drained = drained.unwrap_or_default();
     agree(&rt, "drained", drained.as_str(), "bc");
     agree(&rt, "past", past, Err(Error::OutOfBounds));
@@ -52,7 +52,7 @@ fn drain(rt: HostRuntime) {
 fn replace_range(rt: HostRuntime) {
     let mut line = ArrayString::<4>::from_str_truncate("abcd");
     let replaced = line.replace_range(1..3, "é"); // Ok(()), and the text is "aéd"
-    let large = line.replace_range(.., "abcde"); // Err(OutOfBounds)
+    let large = line.replace_range(.., "abcde"); // Err(Error::OutOfBounds)
     let refused = Err(Error::OutOfBounds);
     agree(&rt, "both", (replaced, large), (Ok(()), refused));
     agree(&rt, "the text", line.as_str(), "aéd");

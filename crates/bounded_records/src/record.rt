@@ -81,10 +81,10 @@ pub fn encode(user: &User) -> [u8; RECORD_SIZE]
 ///
 /// The first of these that holds decides:
 ///
-/// - `Err(Length)` if there are not 27 bytes;
-/// - `Err(Count)` if a count is above the capacity of its text;
-/// - `Err(Utf8)` if counted bytes are not well-formed UTF-8;
-/// - `Err(Padding)` if a byte after them is not zero.
+/// - `Err(RecordFault::Length)` if there are not 27 bytes;
+/// - `Err(RecordFault::Count)` if a count is above the capacity of its text;
+/// - `Err(RecordFault::Utf8)` if counted bytes are not well-formed UTF-8;
+/// - `Err(RecordFault::Padding)` if a byte after them is not zero.
 pub fn decode(given: &[u8]) -> Result<User, RecordFault>
     ensures user { (username role : List ℕ) → IsOkAnd result (λ user. texts user ≡ (username, role)) ↔ IsRecord given.now username role }
     ensures only { (username role other_username other_role : List ℕ) → IsRecord given.now username role → IsRecord given.now other_username other_role
@@ -137,8 +137,8 @@ fn counts_fit(username: &[u8], role: &[u8]) -> bool
     username[0] <= 20 && role[0] <= 5
 }
 
-/// The text of a field whose count fits, or `Err(Utf8)` if its counted bytes are not well-formed
-/// UTF-8.
+/// The text of a field whose count fits, or `Err(RecordFault::Utf8)` if its counted bytes are not
+/// well-formed UTF-8.
 fn text_of<const N: usize>(field: &[u8]) -> Result<ArrayString<N>, RecordFault>
     requires long { length field.now ≡ 1 + N }
     requires fits { count field.now ≤ N }

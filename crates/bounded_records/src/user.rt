@@ -28,8 +28,8 @@ impl User {
     ///
     /// The first of these that holds decides:
     ///
-    /// - `Err(Username)` if the username is larger than 20 bytes;
-    /// - `Err(Role)` if the role is larger than 5 bytes.
+    /// - `Err(UserFault::Username)` if the username is larger than 20 bytes;
+    /// - `Err(UserFault::Role)` if the role is larger than 5 bytes.
     pub fn new(username: &str, role: &str) -> Result<Self, UserFault>
         ensures user { IfOk result (λ user. texts user ≡ (chars username.now, chars role.now)) }
         ensures fits { OnOk result ((size (chars username.now) ≤ 20) × (size (chars role.now) ≤ 5)) }

@@ -192,8 +192,9 @@ impl<const N: usize> ArrayString<N> {
     ///
     /// The first of these that holds decides:
     ///
-    /// - `Err(Utf8)` if `given` is not well-formed UTF-8 (the Unicode Standard, section 3.9);
-    /// - `Err(OutOfBounds)` if the text is larger than the capacity.
+    /// - `Err(Error::Utf8)` if `given` is not well-formed UTF-8 (the Unicode Standard, section
+    ///   3.9);
+    /// - `Err(Error::OutOfBounds)` if the text is larger than the capacity.
     pub fn try_from_utf8(given: &[u8]) -> Result<Self, Error>
         ensures malformed { ¬ (IsWellFormed given.now) → result ≡ Err Error.Utf8 }
         ensures whole { (t : List ℕ) → IsText t → bytes t ≡ given.now → IsWholeOrRefused t (cap N) result }

@@ -14,9 +14,9 @@ impl<const N: usize> ArrayString<N> {
     ///
     /// The first of these that holds decides, and the text is then as it was:
     ///
-    /// - `Err(OutOfBounds)` if the index is past the text;
-    /// - `Err(OutOfBounds)` if `ch` does not fit;
-    /// - `Err(Utf8)` if the index is inside a character.
+    /// - `Err(Error::OutOfBounds)` if the index is past the text;
+    /// - `Err(Error::OutOfBounds)` if `ch` does not fit;
+    /// - `Err(Error::Utf8)` if the index is inside a character.
     pub fn try_insert(&mut self, index: u8, ch: char) -> Result<(), Error>
         ensures { Makes (insertion self.old.text index (ch ∷ []) (cap N)) self.old.text result self.new.text }
     {
@@ -52,9 +52,9 @@ impl<const N: usize> ArrayString<N> {
     ///
     /// The first of these that holds decides, and the text is then as it was:
     ///
-    /// - `Err(OutOfBounds)` if the index is past the text;
-    /// - `Err(OutOfBounds)` if not all of `string` fits;
-    /// - `Err(Utf8)` if the index is inside a character.
+    /// - `Err(Error::OutOfBounds)` if the index is past the text;
+    /// - `Err(Error::OutOfBounds)` if not all of `string` fits;
+    /// - `Err(Error::Utf8)` if the index is inside a character.
     pub fn try_insert_str(&mut self, index: u8, string: &str) -> Result<(), Error>
         ensures { Makes (insertion self.old.text index (chars string.now) (cap N)) self.old.text result self.new.text }
     {
@@ -108,15 +108,15 @@ impl<const N: usize> ArrayString<N> {
     ///
     /// The first of these that holds decides, and the text is then as it was:
     ///
-    /// - `Err(OutOfBounds)` if the index is past the text;
-    /// - `Err(Utf8)` if the index is inside a character.
+    /// - `Err(Error::OutOfBounds)` if the index is past the text;
+    /// - `Err(Error::Utf8)` if the index is inside a character.
     ///
     /// # Examples
     ///
     /// ```
     /// let mut line = ArrayString::<4>::from_str_truncate("abc");
     /// let cut = line.insert_str(1, "xyz"); // Ok(()), and the text is "axbc"
-    /// let past = line.insert_str(9, "z"); // Err(OutOfBounds)
+    /// let past = line.insert_str(9, "z"); // Err(Error::OutOfBounds)
     /// ```
     pub fn insert_str(&mut self, index: u8, string: &str) -> Result<(), Error>
         ensures { Makes (insertion_of_cut self.old.text index (chars string.now) (cap N)) self.old.text result self.new.text }

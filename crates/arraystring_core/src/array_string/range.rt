@@ -69,17 +69,17 @@ impl<const N: usize> ArrayString<N> {
     ///
     /// The first of these that holds decides, and the text is then as it was:
     ///
-    /// - `Err(OutOfBounds)` if the range ends before it starts;
-    /// - `Err(OutOfBounds)` if it ends past the text;
-    /// - `Err(Utf8)` if its start is inside a character;
-    /// - `Err(Utf8)` if its end is inside a character.
+    /// - `Err(Error::OutOfBounds)` if the range ends before it starts;
+    /// - `Err(Error::OutOfBounds)` if it ends past the text;
+    /// - `Err(Error::Utf8)` if its start is inside a character;
+    /// - `Err(Error::Utf8)` if its end is inside a character.
     ///
     /// # Examples
     ///
     /// ```
     /// let mut line = ArrayString::<5>::from_str_truncate("abcde");
     /// let drained = line.drain(1..=2); // Ok of 'b' and 'c', and the text is "ade"
-    /// let past = line.drain(2..9); // Err(OutOfBounds)
+    /// let past = line.drain(2..9); // Err(Error::OutOfBounds)
     /// ```
     #[inline(always)]
     pub fn drain<R: RangeBounds<u8> + Drop>(&mut self, range: R) -> Result<Drain<N>, Error>
@@ -138,18 +138,18 @@ impl<const N: usize> ArrayString<N> {
     ///
     /// The first of these that holds decides, and the text is then as it was:
     ///
-    /// - `Err(OutOfBounds)` if the range ends before it starts;
-    /// - `Err(OutOfBounds)` if it ends past the text;
-    /// - `Err(OutOfBounds)` if the result does not fit;
-    /// - `Err(Utf8)` if its start is inside a character;
-    /// - `Err(Utf8)` if its end is inside a character.
+    /// - `Err(Error::OutOfBounds)` if the range ends before it starts;
+    /// - `Err(Error::OutOfBounds)` if it ends past the text;
+    /// - `Err(Error::OutOfBounds)` if the result does not fit;
+    /// - `Err(Error::Utf8)` if its start is inside a character;
+    /// - `Err(Error::Utf8)` if its end is inside a character.
     ///
     /// # Examples
     ///
     /// ```
     /// let mut line = ArrayString::<4>::from_str_truncate("abcd");
     /// let replaced = line.replace_range(1..3, "é"); // Ok(()), and the text is "aéd"
-    /// let large = line.replace_range(.., "abcde"); // Err(OutOfBounds)
+    /// let large = line.replace_range(.., "abcde"); // Err(Error::OutOfBounds)
     /// ```
     pub fn replace_range<R: RangeBounds<u8> + Drop>(
         &mut self,

@@ -44,8 +44,8 @@ impl<const N: usize> ArrayString<N> {
     ///
     /// The first of these that holds decides, and the text is then as it was:
     ///
-    /// - `Err(OutOfBounds)` if the index is not below the length;
-    /// - `Err(Utf8)` if the index is inside a character.
+    /// - `Err(Error::OutOfBounds)` if the index is not below the length;
+    /// - `Err(Error::Utf8)` if the index is inside a character.
     pub fn remove(&mut self, index: u8) -> Result<char, Error>
         ensures { Makes (removal self.old.text index) self.old.text result self.new.text }
     {
@@ -120,8 +120,8 @@ impl<const N: usize> ArrayString<N> {
     ///
     /// The first of these that holds decides, and the text is then as it was:
     ///
-    /// - `Err(OutOfBounds)` if `at` is past the text;
-    /// - `Err(Utf8)` if `at` is inside a character.
+    /// - `Err(Error::OutOfBounds)` if `at` is past the text;
+    /// - `Err(Error::Utf8)` if `at` is inside a character.
     pub fn split_off(&mut self, at: u8) -> Result<Self, Error>
         ensures { Makes (split self.old.text at) self.old.text (with_text result) self.new.text }
     {

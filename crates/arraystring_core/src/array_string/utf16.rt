@@ -18,8 +18,8 @@ impl<const N: usize> ArrayString<N> {
     ///
     /// The units are read item by item, and the first of these ends the reading:
     ///
-    /// - `Err(Utf16)` if the item is a lone surrogate;
-    /// - `Err(OutOfBounds)` if the item is a character that does not fit.
+    /// - `Err(Error::Utf16)` if the item is a lone surrogate;
+    /// - `Err(Error::OutOfBounds)` if the item is a character that does not fit.
     pub fn try_from_utf16(units: &[u16]) -> Result<Self, Error>
         ensures { (items : List Unit16) → IsReading units.now items → GivesWhole (first_stop items (cap N)) result }
     {
