@@ -1,5 +1,5 @@
-//! `CacheString`: a string of 63 bytes under a name of its own. Each call is that of the string
-//! inside.
+//! `CacheString`: a string of at most 63 bytes under a name of its own. Each call is that of the
+//! string inside.
 ghost use Rattle.std.specs.Prelude.{◌≡◌, ℕ, ◌≤◌, ◌↔◌, ◌++◌, [], List, Ok, Err, Some, IsOk, IfOk, chars, length};
 ghost use Rattle.std.specs.Borrow.{Bor};
 ghost use Rattle.std.specs.Iterator.{IsFiniteIterable};
@@ -21,26 +21,27 @@ use std::str::FromStr;
 
 mod compare;
 
-/// A string of at most 63 bytes of UTF-8. What it has no call for is called on the string inside.
+/// A string of at most 63 bytes of UTF-8. Calls that it lacks are made on the `ArrayString<63>` in
+/// its field `0`.
 #[derive(Clone, Copy, Debug)]
 pub struct CacheString(pub ArrayString<63>);
 
 impl CacheString {
-    /// Returns the empty string.
+    /// Returns an empty string.
     pub const fn new() -> Self
         ensures { result.0.text ≡ [] }
     {
         CacheString(ArrayString::new())
     }
 
-    /// Returns how many bytes fit: 63.
+    /// Returns the capacity in bytes: 63.
     pub const fn capacity() -> u8
         ensures { result ≡ 63 }
     {
         ArrayString::<63>::capacity()
     }
 
-    /// Returns the text `string`.
+    /// Creates a string from `string`.
     ///
     /// # Errors
     ///
@@ -51,14 +52,14 @@ impl CacheString {
         Ok(CacheString(ArrayString::try_from_str(string)?))
     }
 
-    /// Returns the longest prefix of whole characters of `string` that fits.
+    /// Creates a string from the longest prefix of whole characters of `string` that fits.
     pub fn from_str_truncate(string: &str) -> Self
         ensures { result.0.text ≡ cut (chars string.now) 63 }
     {
         CacheString(ArrayString::from_str_truncate(string))
     }
 
-    /// Returns the text `string`.
+    /// Creates a string from `string`.
     ///
     /// # Precondition
     ///
@@ -70,11 +71,11 @@ impl CacheString {
         CacheString(ArrayString::from_str_unchecked(string))
     }
 
-    /// Returns the pieces joined.
+    /// Creates a string from all pieces, joined.
     ///
     /// # Errors
     ///
-    /// Returns `Err(OutOfBounds)` if not all of `pieces` fit.
+    /// Returns `Err(OutOfBounds)` if not all of the pieces fit.
     ///
     /// # Precondition
     ///
@@ -91,7 +92,8 @@ impl CacheString {
         Ok(CacheString(ArrayString::try_from_iterator(pieces)?))
     }
 
-    /// Returns the longest prefix of whole characters of the joined pieces that fits.
+    /// Creates a string from the longest prefix of whole characters of the joined pieces that
+    /// fits.
     ///
     /// # Precondition
     ///
@@ -106,11 +108,11 @@ impl CacheString {
         CacheString(ArrayString::from_iterator(pieces))
     }
 
-    /// Returns the pieces joined.
+    /// Creates a string from all pieces, joined.
     ///
     /// # Precondition
     ///
-    /// All of `pieces` must fit. See `ArrayString` for iterators.
+    /// All of the pieces must fit. See `ArrayString` for iterators.
     pub fn from_iterator_unchecked<'a, I: IntoIterator<Item = &'a str> + Drop>(pieces: I) -> Self
         requires ends { IsFiniteIterable I.into_iter_gives I.IntoIter.can_next I.IntoIter.remaining pieces }
         requires fits { Fits I.into_iter_gives I.IntoIter.next_gives joined_pieces pieces 63 }
@@ -122,11 +124,11 @@ impl CacheString {
         CacheString(ArrayString::from_iterator_unchecked(pieces))
     }
 
-    /// Returns the characters.
+    /// Creates a string from all characters.
     ///
     /// # Errors
     ///
-    /// Returns `Err(OutOfBounds)` if not all of `characters` fit.
+    /// Returns `Err(OutOfBounds)` if not all of the characters fit.
     ///
     /// # Precondition
     ///
@@ -143,8 +145,8 @@ impl CacheString {
         Ok(CacheString(ArrayString::try_from_chars(characters)?))
     }
 
-    /// Returns the longest prefix of the characters that fits. A shorter character after the first
-    /// that does not fit is not taken.
+    /// Creates a string from the longest prefix of the characters that fits. It ends before the
+    /// first character that does not fit, even if a later one takes fewer bytes and would fit.
     ///
     /// # Precondition
     ///
@@ -159,11 +161,11 @@ impl CacheString {
         CacheString(ArrayString::from_chars(characters))
     }
 
-    /// Returns the characters.
+    /// Creates a string from all characters.
     ///
     /// # Precondition
     ///
-    /// All of `characters` must fit. See `ArrayString` for iterators.
+    /// All of the characters must fit. See `ArrayString` for iterators.
     pub fn from_chars_unchecked<I: IntoIterator<Item = char> + Drop>(characters: I) -> Self
         requires ends { IsFiniteIterable I.into_iter_gives I.IntoIter.can_next I.IntoIter.remaining characters }
         requires fits { Fits I.into_iter_gives I.IntoIter.next_gives (λ cs. cs) characters 63 }
@@ -175,11 +177,11 @@ impl CacheString {
         CacheString(ArrayString::from_chars_unchecked(characters))
     }
 
-    /// Returns the text whose UTF-8 is `given`.
+    /// Creates a string from the UTF-8 in `given`.
     ///
     /// # Errors
     ///
-    /// The first of these that holds decides:
+    /// The first of these whose condition holds is returned:
     ///
     /// - `Err(Error::Utf8)` if `given` is not well-formed UTF-8 (the Unicode Standard, section
     ///   3.9);
@@ -193,12 +195,13 @@ impl CacheString {
         Ok(CacheString(ArrayString::try_from_utf8(given)?))
     }
 
-    /// Returns the longest prefix of whole characters that fits of the text whose UTF-8 is `given`.
+    /// Creates a string from the UTF-8 in `given`, cut to the longest prefix of whole characters
+    /// that fits.
     ///
     /// # Errors
     ///
-    /// Returns `Err(Utf8)` if `given` is not well-formed UTF-8 (the Unicode Standard, section 3.9),
-    /// even if only bytes past the capacity are not.
+    /// Returns `Err(Utf8)` if `given` is not well-formed UTF-8 (the Unicode Standard, section
+    /// 3.9), even if only bytes that would be cut off are malformed.
     pub fn from_utf8(given: &[u8]) -> Result<Self, Utf8>
         ensures well_formed { IsOk result ↔ IsWellFormed given.now }
         ensures cut { (t : List ℕ) → IsText t → bytes t ≡ given.now → IfOk result (λ made. made.0.text ≡ cut t 63) }
@@ -207,7 +210,7 @@ impl CacheString {
         Ok(CacheString(ArrayString::from_utf8(given)?))
     }
 
-    /// Returns the text whose UTF-8 is `given`.
+    /// Creates a string from the UTF-8 in `given`.
     ///
     /// # Precondition
     ///
@@ -222,26 +225,27 @@ impl CacheString {
         CacheString(ArrayString::from_utf8_unchecked(given))
     }
 
-    /// Returns the text whose UTF-16 is `units`.
+    /// Creates a string from the UTF-16 in `units`.
     ///
     /// # Errors
     ///
-    /// The units are read item by item, and the first of these ends the reading:
+    /// The units are read in order, as characters and lone surrogates. The first that cannot be
+    /// appended decides:
     ///
-    /// - `Err(Error::Utf16)` if the item is a lone surrogate;
-    /// - `Err(Error::OutOfBounds)` if the item is a character that does not fit.
+    /// - `Err(Error::Utf16)` if it is a lone surrogate;
+    /// - `Err(Error::OutOfBounds)` if it is a character that does not fit.
     pub fn try_from_utf16(units: &[u16]) -> Result<Self, Error>
         ensures { (items : List Unit16) → IsReading units.now items → GivesWhole (first_stop items 63) (held result) }
     {
         Ok(CacheString(ArrayString::try_from_utf16(units)?))
     }
 
-    /// Returns the longest prefix of characters of `units` that fits. What comes after a character
-    /// that does not fit is not looked at.
+    /// Creates a string from the longest prefix of characters of `units` that fits. What comes
+    /// after a character that does not fit has no effect.
     ///
     /// # Errors
     ///
-    /// Returns `Err(Utf16)` if a lone surrogate comes right after that prefix, also if the string
+    /// Returns `Err(Utf16)` if a lone surrogate comes right after that prefix, even if the string
     /// is full.
     pub fn from_utf16(units: &[u16]) -> Result<Self, Utf16>
         ensures { (items : List Unit16) → IsReading units.now items → GivesPrefix (first_stop items 63) (held result) }
@@ -249,20 +253,20 @@ impl CacheString {
         Ok(CacheString(ArrayString::from_utf16(units)?))
     }
 
-    /// Returns the longest prefix of the characters of `units` that fits, with each lone surrogate
-    /// read as U+FFFD, which takes three bytes.
+    /// Creates a string from the longest prefix of the characters of `units` that fits. Each lone
+    /// surrogate is read as U+FFFD, which takes three bytes.
     pub fn from_utf16_lossy(units: &[u16]) -> Self
         ensures { (items : List Unit16) → IsReading units.now items → result.0.text ≡ cut (lossy_text items) 63 }
     {
         CacheString(ArrayString::from_utf16_lossy(units))
     }
 
-    /// Returns the part from the byte index `at` on and keeps the part before it. `at` may be the
-    /// length.
+    /// Splits the text at the byte index `at`, which may be the length. Keeps the part before it
+    /// and returns the part from it on.
     ///
     /// # Errors
     ///
-    /// The first of these that holds decides, and the text is then as it was:
+    /// The first of these whose condition holds is returned, and the text is then unchanged:
     ///
     /// - `Err(Error::OutOfBounds)` if `at` is past the text;
     /// - `Err(Error::Utf8)` if `at` is inside a character.
@@ -273,7 +277,7 @@ impl CacheString {
     }
 }
 
-/// The empty string.
+/// An empty string.
 impl Default for CacheString {
     ghost is_default = { λ s. s.0.text ≡ [] };
 
@@ -282,7 +286,7 @@ impl Default for CacheString {
     }
 }
 
-/// The same text.
+/// A `CacheString` of the same text.
 impl From<ArrayString<63>> for CacheString {
     ghost from_gives = { λ string made. made.0.text ≡ string.text };
 
@@ -291,13 +295,13 @@ impl From<ArrayString<63>> for CacheString {
     }
 }
 
-/// As `try_from_str`.
+/// The same as `try_from_str`.
 impl FromStr for CacheString {
     type Err = OutOfBounds;
 
     ghost from_str_gives = { λ string result. IsWholeOrRefused (chars string) 63 (from_out_of_bounds (held result)) };
 
-    /// Returns the text `string`.
+    /// Creates a string from `string`.
     ///
     /// # Errors
     ///
@@ -307,7 +311,7 @@ impl FromStr for CacheString {
     }
 }
 
-/// The text. A width in the format is ignored: nothing is padded.
+/// Writes the text. A width in the format is ignored: nothing is padded.
 impl fmt::Display for CacheString {
     ghost output = { λ s. Some (bytes s.0.text) };
 
@@ -318,7 +322,7 @@ impl fmt::Display for CacheString {
     }
 }
 
-/// The string with the longest prefix of whole characters of `given` that fits added at its end.
+/// Appends the longest prefix of whole characters of the `&str` that fits.
 impl<'a> Add<&'a str> for CacheString {
     type Output = Self;
 
@@ -332,12 +336,12 @@ impl<'a> Add<&'a str> for CacheString {
 impl fmt::Write for CacheString {
     ghost write_str_gives = { λ s given t. bytes t.0.text ≡ bytes s.0.text ++ given };
 
-    /// Adds `string` at the end.
+    /// Appends `string`.
     ///
     /// # Errors
     ///
-    /// Returns `Err(fmt::Error)` if not all of `string` fits. The text is then as it was. A `write!`
-    /// of several pieces leaves those before the one that is refused.
+    /// Returns `Err(fmt::Error)` if not all of `string` fits. The text is then unchanged. A
+    /// `write!` of several pieces keeps those before the one that is refused.
     fn write_str(&mut self, string: &str) -> fmt::Result
         ensures ok { IsOk result → bytes self.new.0.text ≡ bytes self.old.0.text ++ string.now }
         ensures made { Makes (addition self.old.0.text (chars string.now) 63) self.old.0.text (from_out_of_bounds result) self.new.0.text }

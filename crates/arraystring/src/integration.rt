@@ -10,8 +10,8 @@ use serde_json::Value;
 use std::alloc::{AllocError, Global};
 
 impl CacheString {
-    /// Returns the JSON text with the characters of the string. Read back it is the string. It
-    /// takes memory from `alloc`.
+    /// Returns the text as a JSON string, which takes memory from `alloc`. `from_value` returns
+    /// the text again.
     ///
     /// # Errors
     ///
@@ -24,12 +24,13 @@ impl CacheString {
         self.0.to_value(alloc)
     }
 
-    /// Returns the longest prefix of whole characters of a JSON text that fits. A text that does
-    /// not fit is cut without an error; `try_from_value` refuses it.
+    /// Creates a string from the longest prefix of whole characters of a JSON string that fits.
+    /// One that does not fit is cut without an error; `try_from_value` refuses it.
     ///
     /// # Errors
     ///
-    /// Returns `Err(NotText)` if the value is null, a truth value, a number, an array or an object.
+    /// Returns `Err(NotText)` if `value` is no JSON string: null, a boolean, a number, an array or
+    /// an object.
     pub fn from_value(value: &Value) -> Result<Self, NotText>
         ensures { MatchResult result (λ string. text_within (view value.now) 63 ≡ Some string.0.text)
             (λ _. text_within (view value.now) 63 ≡ None) }
@@ -37,15 +38,15 @@ impl CacheString {
         Ok(CacheString(ArrayString::from_value(value)?))
     }
 
-    /// Returns the whole JSON text.
+    /// Creates a string from all of a JSON string.
     ///
     /// # Errors
     ///
-    /// The first of these that holds decides:
+    /// The first of these whose condition holds is returned:
     ///
     /// - `Err(ValueError::NotText)` if `value` is no JSON string: null, a boolean, a number, an
     ///   array or an object;
-    /// - `Err(ValueError::OutOfBounds)` if the text is larger than 63 bytes.
+    /// - `Err(ValueError::OutOfBounds)` if the JSON string is larger than 63 bytes.
     pub fn try_from_value(value: &Value) -> Result<Self, ValueError>
         ensures text { IfOk result (λ string. whole_text (view value.now) ≡ Some string.0.text) }
         ensures refusal { IfErr result (λ error. IsWhyRefused (whole_text (view value.now)) 63 error) }

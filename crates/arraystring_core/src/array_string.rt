@@ -1,5 +1,6 @@
-//! `ArrayString`: the type, what it shows, and what is added and taken at its end. The modules below
-//! have its other calls, and `edit` the private ones that put bytes into its array or take them out.
+//! `ArrayString`: the type, the calls that read it, and those that push to its end or pop from it.
+//! The modules below have its other calls, and `edit` the private ones that put bytes into its
+//! array or take them out.
 ghost use Rattle.std.specs.Prelude.{◌≡◌, ◌≢◌, ◌+◌, ◌-◌, ◌^◌, ◌<◌, ◌≤◌, ◌↔◌, min, IfSome, Ok, [], ◌∷◌, ◌++◌, IsTrue, chars, length, nat_eq};
 ghost use Rattle.std.specs.Cmp.{on_equiv, on_per, partial_equiv_from_equiv};
 ghost use Rattle.std.specs.Cmp.Lexicographic.{pointwise, nat_list_eq_equiv};
@@ -24,17 +25,26 @@ mod remove;
 mod trim;
 mod utf16;
 
-/// A string of at most `N` bytes of UTF-8, and at most 255, that lies in the value itself. In all
-/// its calls sizes, indices and capacity count bytes of UTF-8.
+/// A string of at most `N` bytes of UTF-8, and at most 255, stored inline. Sizes, indices and the
+/// capacity count bytes of UTF-8.
+///
+/// A *boundary* is an index at which a character begins or the text ends. An index is *past* the
+/// text if it is greater than the length, and *inside* a character if it is less and no boundary.
+/// What is put in *fits* if the text with it is not larger than the capacity.
+///
+/// Contracts name the text, the list of its characters, and no byte of the array.
+///
+/// # Iterators
 ///
 /// An iterator that is passed in must end, and until it does the precondition of its `next` must
-/// hold. A call that cuts or can refuse needs no item after the first that does not fit, and a test
-/// shows that it takes none.
+/// hold. All calls but the unchecked ones stop at the first item that does not fit: their
+/// contracts say that no item after it matters, and a test shows that they take none.
 ///
-/// A range that is passed in may be any `RangeBounds<u8>`. Each range of Rust has bounds
-/// (`has_bounds`), except an inclusive one that was iterated to its end.
+/// # Ranges
 ///
-/// Contracts name its text, the list of its characters, and no byte of the array.
+/// A range that is passed in may be any `RangeBounds<u8>`. Contracts know its bounds if
+/// `has_bounds` holds of it. It holds of each range of std, except a `RangeInclusive` that was
+/// iterated to its end.
 #[derive(Clone, Copy)]
 pub struct ArrayString<const N: usize> {
     array: [u8; N],
@@ -63,7 +73,7 @@ impl<const N: usize> Model for ArrayString<N> {
 }
 
 impl<const N: usize> ArrayString<N> {
-    /// Returns the empty string.
+    /// Returns an empty string.
     #[inline(always)]
     pub const fn new() -> Self
         ensures { result.text ≡ [] }
@@ -75,7 +85,7 @@ impl<const N: usize> ArrayString<N> {
         }
     }
 
-    /// Returns how many bytes fit: the lesser of `N` and 255.
+    /// Returns the capacity in bytes: the lesser of `N` and 255.
     #[inline]
     pub const fn capacity() -> u8
         ensures { result ≡ cap N }
@@ -83,7 +93,7 @@ impl<const N: usize> ArrayString<N> {
         if N < 255 { N as u8 } else { 255 }
     }
 
-    /// Returns how many bytes the text takes, which is never more than the capacity.
+    /// Returns the length of the text in bytes, which is at most the capacity.
     #[inline]
     pub const fn len(&self) -> u8
         ensures value { result ≡ size self.now.text }
@@ -100,7 +110,8 @@ impl<const N: usize> ArrayString<N> {
         self.size == 0
     }
 
-    /// Returns the text, borrowed without a copy. Each of its characters is a Unicode scalar value.
+    /// Returns the text as a `&str`, borrowed without a copy. The contract adds that each
+    /// character is a Unicode scalar value and that the text is not larger than the capacity.
     #[inline]
     pub fn as_str(&self) -> &str
         ensures bytes { result.now ≡ bytes self.now.text }
@@ -113,8 +124,8 @@ impl<const N: usize> ArrayString<N> {
         unsafe { str::from_utf8_unchecked(&all[start..start + self.size as usize]) }
     }
 
-    /// Returns the UTF-8 of the text, borrowed without a copy: as many bytes as `len` says. Each
-    /// character of the text is a Unicode scalar value.
+    /// Returns the bytes of the text, borrowed without a copy. There are as many as `len` returns.
+    /// The contract adds the same as that of `as_str`.
     #[inline]
     pub fn as_bytes(&self) -> &[u8]
         ensures bytes { result.now ≡ bytes self.now.text }
@@ -127,11 +138,11 @@ impl<const N: usize> ArrayString<N> {
         &all[start..start + self.size as usize]
     }
 
-    /// Adds `ch` at the end.
+    /// Appends `ch`.
     ///
     /// # Errors
     ///
-    /// Returns `Err(OutOfBounds)` if `ch` does not fit. The text is then as it was.
+    /// Returns `Err(OutOfBounds)` if `ch` does not fit. The text is then unchanged.
     #[inline(always)]
     pub fn try_push(&mut self, ch: char) -> Result<(), OutOfBounds>
         ensures { Makes (addition self.old.text (ch ∷ []) (cap N)) self.old.text (from_out_of_bounds result) self.new.text }
@@ -144,7 +155,7 @@ impl<const N: usize> ArrayString<N> {
         self.try_push_near_end(ch)
     }
 
-    /// Adds `ch` at the end.
+    /// Appends `ch`.
     ///
     /// # Precondition
     ///
@@ -162,11 +173,11 @@ impl<const N: usize> ArrayString<N> {
         self.size = (self.size as usize + len) as u8;
     }
 
-    /// Adds `string` at the end.
+    /// Appends `string`.
     ///
     /// # Errors
     ///
-    /// Returns `Err(OutOfBounds)` if not all of `string` fits. The text is then as it was.
+    /// Returns `Err(OutOfBounds)` if not all of `string` fits. The text is then unchanged.
     #[inline]
     pub fn try_push_str(&mut self, string: &str) -> Result<(), OutOfBounds>
         ensures { Makes (addition self.old.text (chars string.now) (cap N)) self.old.text (from_out_of_bounds result) self.new.text }
@@ -185,7 +196,7 @@ impl<const N: usize> ArrayString<N> {
         Ok(())
     }
 
-    /// Adds the longest prefix of whole characters of `string` that fits at the end.
+    /// Appends the longest prefix of whole characters of `string` that fits.
     ///
     /// # Examples
     ///
@@ -200,7 +211,7 @@ impl<const N: usize> ArrayString<N> {
         self.push_str_unchecked(truncate_str(string, room));
     }
 
-    /// Adds `string` at the end.
+    /// Appends `string`.
     ///
     /// # Precondition
     ///
@@ -225,8 +236,8 @@ impl<const N: usize> ArrayString<N> {
         self.pop_counted(&mut Steps::new())
     }
 
-    /// The same as `pop`. It looks at no more than four bytes, and at one at least if there is a
-    /// character. It moves none.
+    /// The same as `pop`, counted in `steps`: at most four looks, at least one if there is a
+    /// character, and no moves.
     ///
     /// # Precondition
     ///
@@ -246,7 +257,7 @@ impl<const N: usize> ArrayString<N> {
     }
 }
 
-/// The empty string.
+/// An empty string.
 impl<const N: usize> Default for ArrayString<N> {
     ghost is_default = { λ s. s.text ≡ [] };
 

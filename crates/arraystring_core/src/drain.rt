@@ -1,4 +1,4 @@
-//! `Drain`: what was taken out of a string, given from both ends.
+//! `Drain`: the characters that were removed from a string, from both ends.
 ghost use Rattle.std.specs.Prelude.{◌≡◌, ◌≤◌, []};
 ghost use Rattle.std.specs.Iterator.{YieldsFirst, YieldsLast, item_count};
 ghost use Rattle.arraystring_base.specs.Text.{bytes, cap, size, IsText};
@@ -11,12 +11,11 @@ use std::str;
 
 mod compare;
 
-/// The characters that `drain` took out of a string. They are given from the front and from the
-/// back, each once; what is not given stays in its order.
+/// An iterator over the characters that `drain` removed from a string. It returns each of them
+/// once, from the front or from the back, and borrows nothing.
 ///
-/// Contracts name the list of the characters that are left. A drain keeps a copy of the string's
-/// array, the offset and the size of the removed text without what was given from the back, and the
-/// index at which what is left begins. It takes no memory.
+/// Contracts name the list of the characters that are left. A drain has a copy of the string's
+/// array, and takes no memory.
 #[derive(Clone, Copy)]
 pub struct Drain<const N: usize> {
     // The index at which what is left begins, and the offset and the size of the removed text
@@ -66,7 +65,7 @@ impl<const N: usize> Drain<N> {
         }
     }
 
-    /// Returns what is left, borrowed without a copy.
+    /// Returns the characters that are left as a `&str`, borrowed without a copy.
     #[inline]
     pub fn as_str(&self) -> &str
         ensures bytes { result.now ≡ bytes self.now.left }
@@ -81,7 +80,7 @@ impl<const N: usize> Drain<N> {
     }
 }
 
-/// Nothing is left.
+/// An empty drain: nothing is left.
 impl<const N: usize> Default for Drain<N> {
     ghost is_default = { λ d. d.left ≡ [] };
 
@@ -90,7 +89,7 @@ impl<const N: usize> Default for Drain<N> {
     }
 }
 
-/// A walk from the front.
+/// The characters that are left, from the front.
 impl<const N: usize> Iterator for Drain<N> {
     type Item = char;
 
@@ -98,8 +97,8 @@ impl<const N: usize> Iterator for Drain<N> {
 
     ghost remaining = { item_count (λ d. d.left) };
 
-    /// Returns the first character that is left. If none is left it returns `None`, and does so ever
-    /// after.
+    /// Returns the first character that is left. Returns `None` if none is left, and at each call
+    /// after that.
     #[inline(always)]
     fn next(&mut self) -> Option<char> {
         if self.front == self.size {
@@ -118,12 +117,12 @@ impl<const N: usize> Iterator for Drain<N> {
     }
 }
 
-/// A walk from the back, over the same characters.
+/// The characters that are left, from the back.
 impl<const N: usize> DoubleEndedIterator for Drain<N> {
     ghost next_back_gives = { YieldsLast (λ d. d.left) };
 
-    /// Returns the last character that is left. If none is left it returns `None`, and does so ever
-    /// after.
+    /// Returns the last character that is left. Returns `None` if none is left, and at each call
+    /// after that.
     #[inline(always)]
     fn next_back(&mut self) -> Option<char> {
         if self.size == self.front {

@@ -12,7 +12,7 @@ use std::alloc::{AllocError, Global};
 use std::error::Error;
 use std::fmt;
 
-/// A JSON value that is not a text. No printed form is padded to a width in the format.
+/// A JSON value that is no string. No printed form is padded to a width in the format.
 #[derive(Clone, Copy, PartialEq, Eq)]
 pub struct NotText;
 
@@ -38,12 +38,12 @@ impl fmt::Debug for NotText {
 
 impl Error for NotText {}
 
-/// Why a JSON value is not taken whole.
+/// Why `try_from_value` refuses a JSON value.
 #[derive(Clone, Copy, PartialEq, Eq, Debug)]
 pub enum ValueError {
-    /// The value is null, a truth value, a number, an array or an object.
+    /// The value is no JSON string: null, a boolean, a number, an array or an object.
     NotText,
-    /// The text is larger than the capacity.
+    /// The JSON string is larger than the capacity.
     OutOfBounds,
 }
 
@@ -91,8 +91,8 @@ impl From<OutOfBounds> for ValueError {
 }
 
 impl<const N: usize> ArrayString<N> {
-    /// Returns the JSON text with the characters of the string. Read back at the same capacity it
-    /// is the string. It takes memory from `alloc`.
+    /// Returns the text as a JSON string, which takes memory from `alloc`. `from_value` at the
+    /// same capacity returns the text again.
     ///
     /// # Errors
     ///
@@ -105,12 +105,13 @@ impl<const N: usize> ArrayString<N> {
         Ok(Value::String(String::from_str(alloc, self.as_str())?))
     }
 
-    /// Returns the longest prefix of whole characters of a JSON text that fits. A text that does
-    /// not fit is cut without an error; `try_from_value` refuses it.
+    /// Creates a string from the longest prefix of whole characters of a JSON string that fits.
+    /// One that does not fit is cut without an error; `try_from_value` refuses it.
     ///
     /// # Errors
     ///
-    /// Returns `Err(NotText)` if the value is null, a truth value, a number, an array or an object.
+    /// Returns `Err(NotText)` if `value` is no JSON string: null, a boolean, a number, an array or
+    /// an object.
     pub fn from_value(value: &Value) -> Result<Self, NotText>
         ensures { MatchResult result (λ string. text_within (view value.now) (cap N) ≡ Some string.text)
             (λ _. text_within (view value.now) (cap N) ≡ None) }
@@ -119,15 +120,15 @@ impl<const N: usize> ArrayString<N> {
         Ok(Self::from_str_truncate(text))
     }
 
-    /// Returns the whole JSON text.
+    /// Creates a string from all of a JSON string.
     ///
     /// # Errors
     ///
-    /// The first of these that holds decides:
+    /// The first of these whose condition holds is returned:
     ///
     /// - `Err(ValueError::NotText)` if `value` is no JSON string: null, a boolean, a number, an
     ///   array or an object;
-    /// - `Err(ValueError::OutOfBounds)` if the text is larger than the capacity.
+    /// - `Err(ValueError::OutOfBounds)` if the JSON string is larger than the capacity.
     pub fn try_from_value(value: &Value) -> Result<Self, ValueError>
         ensures text { IfOk result (λ string. whole_text (view value.now) ≡ Some string.text) }
         ensures refusal { IfErr result (λ error. IsWhyRefused (whole_text (view value.now)) (cap N) error) }

@@ -13,7 +13,7 @@
 //! bytes `pop_counted` looked at, and how many bytes any other call that counts moved.
 //!
 //! A range is written as in Rust, or as two bounds in brackets: `(` and `)` exclude an index, `[`
-//! and `]` include it. With `~` before them, it is of a type that does not tell its bounds, and
+//! and `]` include it. With `~` before them, it is of a type that does not say its bounds, and
 //! `walked` is an inclusive range that was iterated to its end. `slice` has no row with `..=`.
 ghost use Rattle.std.specs.Prelude.{◌≤◌};
 
@@ -439,7 +439,7 @@ fn of_range<R: Abort + AllocGlobal, B: RangeBounds<u8> + Drop, const N: usize>(
     true
 }
 
-/// A range type that does not tell contracts which bounds it has.
+/// A range type for which no contract says which bounds it has.
 #[derive(Drop)]
 struct Untold {
     first: Bound<u8>,

@@ -53,7 +53,7 @@ impl<'a> Iterator for Names<'a> {
         self.keys.next()
     }
 
-    /// Returns how many are left, twice.
+    /// Returns how many are left, as both bounds.
     fn size_hint(&self) -> (usize, Option<usize>) {
         self.keys.size_hint()
     }
@@ -127,7 +127,7 @@ impl<'a> Iterator for Users<'a> {
         self.values.next()
     }
 
-    /// Returns how many are left, twice.
+    /// Returns how many are left, as both bounds.
     fn size_hint(&self) -> (usize, Option<usize>) {
         self.values.size_hint()
     }

@@ -1,6 +1,6 @@
 // Made from crates/arraystring/src/cache_string.rt by rust/erase. A change goes there.
-//! `CacheString`: a string of 63 bytes under a name of its own. Each call is that of the string
-//! inside.
+//! `CacheString`: a string of at most 63 bytes under a name of its own. Each call is that of the
+//! string inside.
 
 use crate::error::{Error, OutOfBounds, Utf8, Utf16};
 use crate::arraystring_core::ArrayString;
@@ -10,12 +10,13 @@ use core::str::FromStr;
 
 mod compare;
 
-/// A string of at most 63 bytes of UTF-8. What it has no call for is called on the string inside.
+/// A string of at most 63 bytes of UTF-8. Calls that it lacks are made on the `ArrayString<63>` in
+/// its field `0`.
 #[derive(Clone, Copy, Debug)]
 pub struct CacheString(pub ArrayString<63>);
 
 impl CacheString {
-    /// Returns the empty string.
+    /// Returns an empty string.
     ///
     /// # Contract
     ///
@@ -27,7 +28,7 @@ impl CacheString {
         CacheString(ArrayString::new())
     }
 
-    /// Returns how many bytes fit: 63.
+    /// Returns the capacity in bytes: 63.
     ///
     /// # Contract
     ///
@@ -39,7 +40,7 @@ impl CacheString {
         ArrayString::<63>::capacity()
     }
 
-    /// Returns the text `string`.
+    /// Creates a string from `string`.
     ///
     /// # Errors
     ///
@@ -56,7 +57,7 @@ impl CacheString {
         Ok(CacheString(ArrayString::try_from_str(string)?))
     }
 
-    /// Returns the longest prefix of whole characters of `string` that fits.
+    /// Creates a string from the longest prefix of whole characters of `string` that fits.
     ///
     /// # Contract
     ///
@@ -69,7 +70,7 @@ impl CacheString {
         CacheString(ArrayString::from_str_truncate(string))
     }
 
-    /// Returns the text `string`.
+    /// Creates a string from `string`.
     ///
     /// # Precondition
     ///
@@ -92,11 +93,11 @@ impl CacheString {
         CacheString(unsafe { ArrayString::from_str_unchecked(string) })
     }
 
-    /// Returns the pieces joined.
+    /// Creates a string from all pieces, joined.
     ///
     /// # Errors
     ///
-    /// Returns `Err(OutOfBounds)` if not all of `pieces` fit.
+    /// Returns `Err(OutOfBounds)` if not all of the pieces fit.
     ///
     /// # Precondition
     ///
@@ -124,7 +125,8 @@ impl CacheString {
         Ok(CacheString(ArrayString::try_from_iterator(pieces)?))
     }
 
-    /// Returns the longest prefix of whole characters of the joined pieces that fits.
+    /// Creates a string from the longest prefix of whole characters of the joined pieces that
+    /// fits.
     ///
     /// # Precondition
     ///
@@ -150,11 +152,11 @@ impl CacheString {
         CacheString(ArrayString::from_iterator(pieces))
     }
 
-    /// Returns the pieces joined.
+    /// Creates a string from all pieces, joined.
     ///
     /// # Precondition
     ///
-    /// All of `pieces` must fit. See `ArrayString` for iterators.
+    /// All of the pieces must fit. See `ArrayString` for iterators.
     ///
     /// # Safety
     ///
@@ -176,11 +178,11 @@ impl CacheString {
         CacheString(unsafe { ArrayString::from_iterator_unchecked(pieces) })
     }
 
-    /// Returns the characters.
+    /// Creates a string from all characters.
     ///
     /// # Errors
     ///
-    /// Returns `Err(OutOfBounds)` if not all of `characters` fit.
+    /// Returns `Err(OutOfBounds)` if not all of the characters fit.
     ///
     /// # Precondition
     ///
@@ -208,8 +210,8 @@ impl CacheString {
         Ok(CacheString(ArrayString::try_from_chars(characters)?))
     }
 
-    /// Returns the longest prefix of the characters that fits. A shorter character after the first
-    /// that does not fit is not taken.
+    /// Creates a string from the longest prefix of the characters that fits. It ends before the
+    /// first character that does not fit, even if a later one takes fewer bytes and would fit.
     ///
     /// # Precondition
     ///
@@ -235,11 +237,11 @@ impl CacheString {
         CacheString(ArrayString::from_chars(characters))
     }
 
-    /// Returns the characters.
+    /// Creates a string from all characters.
     ///
     /// # Precondition
     ///
-    /// All of `characters` must fit. See `ArrayString` for iterators.
+    /// All of the characters must fit. See `ArrayString` for iterators.
     ///
     /// # Safety
     ///
@@ -261,14 +263,15 @@ impl CacheString {
         CacheString(unsafe { ArrayString::from_chars_unchecked(characters) })
     }
 
-    /// Returns the text whose UTF-8 is `given`.
+    /// Creates a string from the UTF-8 in `given`.
     ///
     /// # Errors
     ///
-    /// The first of these that holds decides:
+    /// The first of these whose condition holds is returned:
     ///
-    /// - `Err(Utf8)` if `given` is not well-formed UTF-8 (the Unicode Standard, section 3.9);
-    /// - `Err(OutOfBounds)` if the text is larger than the capacity.
+    /// - `Err(Error::Utf8)` if `given` is not well-formed UTF-8 (the Unicode Standard, section
+    ///   3.9);
+    /// - `Err(Error::OutOfBounds)` if the text is larger than the capacity.
     ///
     /// # Contract
     ///
@@ -284,12 +287,13 @@ impl CacheString {
         Ok(CacheString(ArrayString::try_from_utf8(given)?))
     }
 
-    /// Returns the longest prefix of whole characters that fits of the text whose UTF-8 is `given`.
+    /// Creates a string from the UTF-8 in `given`, cut to the longest prefix of whole characters
+    /// that fits.
     ///
     /// # Errors
     ///
-    /// Returns `Err(Utf8)` if `given` is not well-formed UTF-8 (the Unicode Standard, section 3.9),
-    /// even if only bytes past the capacity are not.
+    /// Returns `Err(Utf8)` if `given` is not well-formed UTF-8 (the Unicode Standard, section
+    /// 3.9), even if only bytes that would be cut off are malformed.
     ///
     /// # Contract
     ///
@@ -304,7 +308,7 @@ impl CacheString {
         Ok(CacheString(ArrayString::from_utf8(given)?))
     }
 
-    /// Returns the text whose UTF-8 is `given`.
+    /// Creates a string from the UTF-8 in `given`.
     ///
     /// # Precondition
     ///
@@ -330,14 +334,15 @@ impl CacheString {
         CacheString(unsafe { ArrayString::from_utf8_unchecked(given) })
     }
 
-    /// Returns the text whose UTF-16 is `units`.
+    /// Creates a string from the UTF-16 in `units`.
     ///
     /// # Errors
     ///
-    /// The units are read item by item, and the first of these ends the reading:
+    /// The units are read in order, as characters and lone surrogates. The first that cannot be
+    /// appended decides:
     ///
-    /// - `Err(Utf16)` if the item is a lone surrogate;
-    /// - `Err(OutOfBounds)` if the item is a character that does not fit.
+    /// - `Err(Error::Utf16)` if it is a lone surrogate;
+    /// - `Err(Error::OutOfBounds)` if it is a character that does not fit.
     ///
     /// # Contract
     ///
@@ -350,12 +355,12 @@ impl CacheString {
         Ok(CacheString(ArrayString::try_from_utf16(units)?))
     }
 
-    /// Returns the longest prefix of characters of `units` that fits. What comes after a character
-    /// that does not fit is not looked at.
+    /// Creates a string from the longest prefix of characters of `units` that fits. What comes
+    /// after a character that does not fit has no effect.
     ///
     /// # Errors
     ///
-    /// Returns `Err(Utf16)` if a lone surrogate comes right after that prefix, also if the string
+    /// Returns `Err(Utf16)` if a lone surrogate comes right after that prefix, even if the string
     /// is full.
     ///
     /// # Contract
@@ -369,8 +374,8 @@ impl CacheString {
         Ok(CacheString(ArrayString::from_utf16(units)?))
     }
 
-    /// Returns the longest prefix of the characters of `units` that fits, with each lone surrogate
-    /// read as U+FFFD, which takes three bytes.
+    /// Creates a string from the longest prefix of the characters of `units` that fits. Each lone
+    /// surrogate is read as U+FFFD, which takes three bytes.
     ///
     /// # Contract
     ///
@@ -383,15 +388,15 @@ impl CacheString {
         CacheString(ArrayString::from_utf16_lossy(units))
     }
 
-    /// Returns the part from the byte index `at` on and keeps the part before it. `at` may be the
-    /// length.
+    /// Splits the text at the byte index `at`, which may be the length. Keeps the part before it
+    /// and returns the part from it on.
     ///
     /// # Errors
     ///
-    /// The first of these that holds decides, and the text is then as it was:
+    /// The first of these whose condition holds is returned, and the text is then unchanged:
     ///
-    /// - `Err(OutOfBounds)` if `at` is past the text;
-    /// - `Err(Utf8)` if `at` is inside a character.
+    /// - `Err(Error::OutOfBounds)` if `at` is past the text;
+    /// - `Err(Error::Utf8)` if `at` is inside a character.
     ///
     /// # Contract
     ///
@@ -404,7 +409,7 @@ impl CacheString {
     }
 }
 
-/// The empty string.
+/// An empty string.
 ///
 /// # Contract
 ///
@@ -418,7 +423,7 @@ impl Default for CacheString {
     }
 }
 
-/// The same text.
+/// A `CacheString` of the same text.
 ///
 /// # Contract
 ///
@@ -432,7 +437,7 @@ impl From<ArrayString<63>> for CacheString {
     }
 }
 
-/// As `try_from_str`.
+/// The same as `try_from_str`.
 ///
 /// # Contract
 ///
@@ -442,7 +447,7 @@ impl From<ArrayString<63>> for CacheString {
 impl FromStr for CacheString {
     type Err = OutOfBounds;
 
-    /// Returns the text `string`.
+    /// Creates a string from `string`.
     ///
     /// # Errors
     ///
@@ -453,7 +458,7 @@ impl FromStr for CacheString {
     }
 }
 
-/// The text. A width in the format is ignored: nothing is padded.
+/// Writes the text. A width in the format is ignored: nothing is padded.
 ///
 /// # Contract
 ///
@@ -468,7 +473,7 @@ impl fmt::Display for CacheString {
     }
 }
 
-/// The string with the longest prefix of whole characters of `given` that fits added at its end.
+/// Appends the longest prefix of whole characters of the `&str` that fits.
 ///
 /// # Contract
 ///
@@ -490,12 +495,12 @@ impl<'a> Add<&'a str> for CacheString {
 /// ghost write_str_gives = { λ s given t. bytes t.0.text ≡ bytes s.0.text ++ given };
 /// ```
 impl fmt::Write for CacheString {
-    /// Adds `string` at the end.
+    /// Appends `string`.
     ///
     /// # Errors
     ///
-    /// Returns `Err(fmt::Error)` if not all of `string` fits. The text is then as it was. A `write!`
-    /// of several pieces leaves those before the one that is refused.
+    /// Returns `Err(fmt::Error)` if not all of `string` fits. The text is then unchanged. A
+    /// `write!` of several pieces keeps those before the one that is refused.
     ///
     /// # Contract
     ///

@@ -1,4 +1,4 @@
-//! The ASCII letters of a string in the other case.
+//! The ASCII letters of a string, made upper or lower case.
 ghost use Rattle.std.specs.Prelude.{◌≡◌, ◌-◌, ◌≤◌, ◌++◌, Ok, IsTrue, length, take, drop, map};
 ghost use Rattle.std.specs.Char.{to_ascii_uppercase, to_ascii_lowercase};
 ghost use Rattle.arraystring_base.specs.Text.{front, back, boundary};
@@ -7,14 +7,14 @@ ghost use Rattle.arraystring_core.specs.Edits.{Makes, uppercase, lowercase, part
 use crate::ArrayString;
 
 impl<const N: usize> ArrayString<N> {
-    /// Changes a..z to A..Z. All other characters stay.
+    /// Changes a..z to A..Z. All other characters stay as they are.
     pub fn make_ascii_uppercase(&mut self)
         ensures { Makes (uppercase self.old.text) self.old.text (Ok result) self.new.text }
     {
         self.uppercase_between(0, self.len() as usize);
     }
 
-    /// Changes A..Z to a..z. All other characters stay.
+    /// Changes A..Z to a..z. All other characters stay as they are.
     pub fn make_ascii_lowercase(&mut self)
         ensures { Makes (lowercase self.old.text) self.old.text (Ok result) self.new.text }
     {

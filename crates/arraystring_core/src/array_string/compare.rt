@@ -1,4 +1,4 @@
-//! How strings are ordered, hashed and printed, and how texts are added by `+` and `write!`.
+//! How strings are ordered, hashed and printed, and how `+` and `write!` append to them.
 ghost use Rattle.std.specs.Prelude.{◌≡◌, ◌++◌, IsOk, Ok, Some, refl, chars};
 ghost use Rattle.std.specs.Cmp.{on_total, on_po};
 ghost use Rattle.std.specs.Cmp.Lexicographic.{slice_cmp, nat_list_cmp_total, texts_po, texts_ties, bytes_decides};
@@ -34,8 +34,8 @@ impl<const N: usize> Ord for ArrayString<N> {
 
     ghost matches_eq = { λ s t. texts_ties s.text t.text };
 
-    /// Returns the order of the texts, by the scalar values of their characters. A text that begins
-    /// another is less than it. The order of the bytes of UTF-8 is the same.
+    /// Compares the texts lexicographically, by the scalar values of their characters. A prefix of
+    /// a longer text is less than it. The order of the bytes of UTF-8 is the same.
     fn cmp(&self, other: &Self) -> Ordering
         ensures order { result ≡ slice_cmp nat_cmp self.now.text other.now.text }
         ensures of_bytes { result ≡ slice_cmp nat_cmp (bytes self.now.text) (bytes other.now.text) }
@@ -45,7 +45,7 @@ impl<const N: usize> Ord for ArrayString<N> {
     }
 }
 
-/// Writes to the hasher what the text writes.
+/// Hashes as the `&str` of the text does.
 impl<const N: usize> Hash for ArrayString<N> {
     ghost hash_input = { λ s. fed.str (bytes s.text) };
 
@@ -56,7 +56,7 @@ impl<const N: usize> Hash for ArrayString<N> {
     }
 }
 
-/// The text. A width in the format is ignored: nothing is padded.
+/// Writes the text. A width in the format is ignored: nothing is padded.
 impl<const N: usize> fmt::Display for ArrayString<N> {
     ghost output = { λ s. Some (bytes s.text) };
 
@@ -67,7 +67,7 @@ impl<const N: usize> fmt::Display for ArrayString<N> {
     }
 }
 
-/// The string, with the longest prefix of whole characters of `given` that fits added at its end.
+/// Appends the longest prefix of whole characters of the `&str` that fits.
 impl<'a, const N: usize> Add<&'a str> for ArrayString<N> {
     type Output = Self;
 
@@ -82,12 +82,12 @@ impl<'a, const N: usize> Add<&'a str> for ArrayString<N> {
 impl<const N: usize> fmt::Write for ArrayString<N> {
     ghost write_str_gives = { λ s given t. bytes t.text ≡ bytes s.text ++ given };
 
-    /// Adds `string` at the end.
+    /// Appends `string`.
     ///
     /// # Errors
     ///
-    /// Returns `Err(fmt::Error)` if not all of `string` fits. The text is then as it was. A `write!`
-    /// of several pieces leaves those before the one that is refused.
+    /// Returns `Err(fmt::Error)` if not all of `string` fits. The text is then unchanged. A
+    /// `write!` of several pieces keeps those before the one that is refused.
     fn write_str(&mut self, string: &str) -> fmt::Result
         ensures ok { IsOk result → bytes self.new.text ≡ bytes self.old.text ++ string.now }
         ensures made { Makes (addition self.old.text (chars string.now) (cap N)) self.old.text (from_out_of_bounds result) self.new.text }

@@ -1,4 +1,4 @@
-//! The constructors: from a text, from pieces, from characters and from bytes of UTF-8.
+//! The constructors: from a `&str`, from pieces, from characters and from bytes of UTF-8.
 ghost use Rattle.std.specs.Prelude.{◌≡◌, ℕ, ◌≤◌, ◌↔◌, List, Ok, Err, IsOk, IfOk, chars, length};
 ghost use Rattle.std.specs.Borrow.{Bor};
 ghost use Rattle.std.specs.Iterator.{IsFiniteIterable};
@@ -15,7 +15,7 @@ use arraystring_base::utils::truncate_str;
 use std::str::{self, FromStr};
 
 impl<const N: usize> ArrayString<N> {
-    /// Returns the text `string`.
+    /// Creates a string from `string`.
     ///
     /// # Errors
     ///
@@ -39,14 +39,14 @@ impl<const N: usize> ArrayString<N> {
         result
     }
 
-    /// Returns the longest prefix of whole characters of `string` that fits.
+    /// Creates a string from the longest prefix of whole characters of `string` that fits.
     pub fn from_str_truncate(string: &str) -> Self
         ensures { result.text ≡ cut (chars string.now) (cap N) }
     {
         Self::from_str_unchecked(truncate_str(string, Self::capacity()))
     }
 
-    /// Returns the text `string`.
+    /// Creates a string from `string`.
     ///
     /// # Precondition
     ///
@@ -65,11 +65,11 @@ impl<const N: usize> ArrayString<N> {
         }
     }
 
-    /// Returns the pieces joined.
+    /// Creates a string from all pieces, joined.
     ///
     /// # Errors
     ///
-    /// Returns `Err(OutOfBounds)` if not all of `pieces` fit.
+    /// Returns `Err(OutOfBounds)` if not all of the pieces fit.
     ///
     /// # Precondition
     ///
@@ -88,7 +88,8 @@ impl<const N: usize> ArrayString<N> {
         Ok(made)
     }
 
-    /// Returns the longest prefix of whole characters of the joined pieces that fits.
+    /// Creates a string from the longest prefix of whole characters of the joined pieces that
+    /// fits.
     ///
     /// # Precondition
     ///
@@ -105,11 +106,11 @@ impl<const N: usize> ArrayString<N> {
         made
     }
 
-    /// Returns the pieces joined.
+    /// Creates a string from all pieces, joined.
     ///
     /// # Precondition
     ///
-    /// All of `pieces` must fit. See `ArrayString` for iterators.
+    /// All of the pieces must fit. See `ArrayString` for iterators.
     pub fn from_iterator_unchecked<'a, I: IntoIterator<Item = &'a str> + Drop>(pieces: I) -> Self
         requires ends { IsFiniteIterable I.into_iter_gives I.IntoIter.can_next I.IntoIter.remaining pieces }
         requires fits { Fits I.into_iter_gives I.IntoIter.next_gives joined_pieces pieces (cap N) }
@@ -125,11 +126,11 @@ impl<const N: usize> ArrayString<N> {
         made
     }
 
-    /// Returns the characters.
+    /// Creates a string from all characters.
     ///
     /// # Errors
     ///
-    /// Returns `Err(OutOfBounds)` if not all of `characters` fit.
+    /// Returns `Err(OutOfBounds)` if not all of the characters fit.
     ///
     /// # Precondition
     ///
@@ -148,8 +149,8 @@ impl<const N: usize> ArrayString<N> {
         Ok(made)
     }
 
-    /// Returns the longest prefix of the characters that fits. A shorter character after the first
-    /// that does not fit is not taken.
+    /// Creates a string from the longest prefix of the characters that fits. It ends before the
+    /// first character that does not fit, even if a later one takes fewer bytes and would fit.
     ///
     /// # Precondition
     ///
@@ -166,11 +167,11 @@ impl<const N: usize> ArrayString<N> {
         made
     }
 
-    /// Returns the characters.
+    /// Creates a string from all characters.
     ///
     /// # Precondition
     ///
-    /// All of `characters` must fit. See `ArrayString` for iterators.
+    /// All of the characters must fit. See `ArrayString` for iterators.
     pub fn from_chars_unchecked<I: IntoIterator<Item = char> + Drop>(characters: I) -> Self
         requires ends { IsFiniteIterable I.into_iter_gives I.IntoIter.can_next I.IntoIter.remaining characters }
         requires fits { Fits I.into_iter_gives I.IntoIter.next_gives (λ cs. cs) characters (cap N) }
@@ -186,11 +187,11 @@ impl<const N: usize> ArrayString<N> {
         made
     }
 
-    /// Returns the text whose UTF-8 is `given`.
+    /// Creates a string from the UTF-8 in `given`.
     ///
     /// # Errors
     ///
-    /// The first of these that holds decides:
+    /// The first of these whose condition holds is returned:
     ///
     /// - `Err(Error::Utf8)` if `given` is not well-formed UTF-8 (the Unicode Standard, section
     ///   3.9);
@@ -210,12 +211,13 @@ impl<const N: usize> ArrayString<N> {
         Ok(Self::from_str_unchecked(text))
     }
 
-    /// Returns the longest prefix of whole characters that fits of the text whose UTF-8 is `given`.
+    /// Creates a string from the UTF-8 in `given`, cut to the longest prefix of whole characters
+    /// that fits.
     ///
     /// # Errors
     ///
-    /// Returns `Err(Utf8)` if `given` is not well-formed UTF-8 (the Unicode Standard, section 3.9),
-    /// even if only bytes past the capacity are not.
+    /// Returns `Err(Utf8)` if `given` is not well-formed UTF-8 (the Unicode Standard, section
+    /// 3.9), even if only bytes that would be cut off are malformed.
     pub fn from_utf8(given: &[u8]) -> Result<Self, Utf8>
         ensures well_formed { IsOk result ↔ IsWellFormed given.now }
         ensures cut { (t : List ℕ) → IsText t → bytes t ≡ given.now → IfOk result (λ made. made.text ≡ cut t (cap N)) }
@@ -227,7 +229,7 @@ impl<const N: usize> ArrayString<N> {
         Ok(Self::from_str_truncate(string))
     }
 
-    /// Returns the text whose UTF-8 is `given`.
+    /// Creates a string from the UTF-8 in `given`.
     ///
     /// # Precondition
     ///
@@ -244,7 +246,7 @@ impl<const N: usize> ArrayString<N> {
     }
 }
 
-/// As `from_str_truncate`.
+/// The same as `from_str_truncate`.
 impl<'a, const N: usize> From<&'a str> for ArrayString<N> {
     ghost from_gives = { λ string made. made.text ≡ cut (chars string.now) (cap N) };
 
@@ -253,13 +255,13 @@ impl<'a, const N: usize> From<&'a str> for ArrayString<N> {
     }
 }
 
-/// As `try_from_str`.
+/// The same as `try_from_str`.
 impl<const N: usize> FromStr for ArrayString<N> {
     type Err = OutOfBounds;
 
     ghost from_str_gives = { λ string result. IsWholeOrRefused (chars string) (cap N) (from_out_of_bounds result) };
 
-    /// Returns the text `string`.
+    /// Creates a string from `string`.
     ///
     /// # Errors
     ///

@@ -1,4 +1,4 @@
-//! What is added from an iterator that is passed in.
+//! What is appended from an iterator that is passed in.
 ghost use Rattle.std.specs.Prelude.{◌≡◌, ℕ, ◌-◌, ◌<◌, ◌≤◌, ◌++◌, List, Ok, MatchResult};
 ghost use Rattle.std.specs.Borrow.{Bor};
 ghost use Rattle.std.specs.Iterator.{IsFiniteIterable};
@@ -11,7 +11,7 @@ use crate::laws::text_fits;
 use arraystring_base::error::OutOfBounds;
 
 impl<const N: usize> ArrayString<N> {
-    /// Adds the longest prefix of the characters that fits at the end.
+    /// Appends the longest prefix of the characters that fits.
     ///
     /// # Precondition
     ///
@@ -26,7 +26,7 @@ impl<const N: usize> ArrayString<N> {
         let _ = self.add_chars(characters);
     }
 
-    /// Adds the longest prefix of whole characters of the joined pieces that fits at the end.
+    /// Appends the longest prefix of whole characters of the joined pieces that fits.
     ///
     /// # Precondition
     ///
@@ -41,7 +41,7 @@ impl<const N: usize> ArrayString<N> {
         let _ = self.add_strs(pieces);
     }
 
-    /// Adds the characters before the first that does not fit, and says whether one did not.
+    /// Appends the characters before the first that does not fit. Refuses if there is such a one.
     pub(super) fn add_chars<I: IntoIterator<Item = char> + Drop>(
         &mut self,
         characters: I,
@@ -60,8 +60,8 @@ impl<const N: usize> ArrayString<N> {
         Ok(())
     }
 
-    /// Adds the pieces before the first that does not fit, and of that one what fits, and says whether
-    /// one did not.
+    /// Appends the pieces before the first that does not fit, and of that one what fits. Refuses
+    /// if there is such a one.
     pub(super) fn add_strs<'a, I: IntoIterator<Item = &'a str> + Drop>(
         &mut self,
         pieces: I,

@@ -12,7 +12,7 @@ impl<const N: usize> ArrayString<N> {
     ///
     /// # Errors
     ///
-    /// The first of these that holds decides, and the text is then as it was:
+    /// The first of these whose condition holds is returned, and the text is then unchanged:
     ///
     /// - `Err(Error::OutOfBounds)` if the index is past the text;
     /// - `Err(Error::OutOfBounds)` if `ch` does not fit;
@@ -50,7 +50,7 @@ impl<const N: usize> ArrayString<N> {
     ///
     /// # Errors
     ///
-    /// The first of these that holds decides, and the text is then as it was:
+    /// The first of these whose condition holds is returned, and the text is then unchanged:
     ///
     /// - `Err(Error::OutOfBounds)` if the index is past the text;
     /// - `Err(Error::OutOfBounds)` if not all of `string` fits;
@@ -61,9 +61,9 @@ impl<const N: usize> ArrayString<N> {
         self.try_insert_str_counted(index, string, &mut Steps::new())
     }
 
-    /// The same as `try_insert_str`. It moves no more bytes than the text had. An insertion of at
-    /// least one character moves at least as many bytes as the shorter of the parts before and
-    /// after the index has. A refused one moves none.
+    /// The same as `try_insert_str`, with the bytes that it moves counted in `steps`. They are no
+    /// more than the text had. An insertion of at least one character moves at least as many as
+    /// the shorter of the parts before and after the index has. A refused one moves none.
     ///
     /// # Errors
     ///
@@ -101,12 +101,12 @@ impl<const N: usize> ArrayString<N> {
         Ok(())
     }
 
-    /// Inserts the longest prefix of whole characters of `string` that fits, at the byte index
+    /// Inserts the longest prefix of whole characters of `string` that fits at the byte index
     /// `index`.
     ///
     /// # Errors
     ///
-    /// The first of these that holds decides, and the text is then as it was:
+    /// The first of these whose condition holds is returned, and the text is then unchanged:
     ///
     /// - `Err(Error::OutOfBounds)` if the index is past the text;
     /// - `Err(Error::Utf8)` if the index is inside a character.

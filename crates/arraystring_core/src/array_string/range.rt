@@ -1,7 +1,6 @@
-//! Parts of a string by a range of bytes. Any `RangeBounds<u8>` is accepted. The contracts speak of
-//! the bounds that the range's methods return. If the range has bounds (`has_bounds`), they are its
-//! own. Each range of Rust has them, except an inclusive one that was iterated to its end. For
-//! other ranges no contract says which bounds they are.
+//! Parts of a string by a range of bytes. The contracts speak of the bounds that the range's
+//! methods return. If `has_bounds` holds of the range, they are its own; else no contract says
+//! which they are.
 ghost use Rattle.std.specs.Prelude.{◌≡◌, ◌≢◌, ◌+◌, ◌-◌, ◌^◌, ◌≤◌, ◌++◌, min, IsTrue, MatchOption, OnOk, OnErr, Some, None, chars, map};
 ghost use Rattle.std.specs.Char.{to_ascii_uppercase, to_ascii_lowercase};
 ghost use Rattle.std.specs.Range.Bound.{start_index, end_index};
@@ -17,16 +16,17 @@ use arraystring_base::utils::Steps;
 use std::ops::RangeBounds;
 
 impl<const N: usize> ArrayString<N> {
-    /// Returns the part in the range, borrowed without a copy. The ends are not limited to
-    /// 255: `..=255` ends at 256, which is past every text.
+    /// Returns the part of the text in the range, borrowed without a copy. An excluded start and
+    /// an included end count as one more, also past 255: `..=255` ends at 256, which is past every
+    /// text.
     ///
     /// # Precondition
     ///
-    /// - The range must have bounds (`has_bounds`).
-    /// - It must not end before it starts.
+    /// - `has_bounds` must hold of the range.
+    /// - The range must not end before it starts.
     /// - Both ends must be boundaries.
     ///
-    /// For a range that has bounds, a `get` that returned `Some` proves the rest.
+    /// If `has_bounds` holds, a `get` of the range that returned `Some` proves the rest.
     pub fn slice<R: RangeBounds<u8> + Drop>(&self, range: R) -> &str
         requires known { R.has_bounds range }
         requires order { start_index (R.start_bound range) ≤ end_index (R.end_bound range) (size self.now.text) }
@@ -39,9 +39,9 @@ impl<const N: usize> ArrayString<N> {
         self.between(start, end)
     }
 
-    /// Returns the part in the range, borrowed without a copy. Returns `None` if the range ends
-    /// before it starts, or if its start or its end is not a boundary. The ends are not limited to
-    /// 255: `..=255` ends at 256, which is past every text.
+    /// Returns the part of the text in the range, borrowed without a copy. Returns `None` if the
+    /// range ends before it starts, or if its start or its end is not a boundary. The ends are
+    /// read as in `slice`.
     ///
     /// # Examples
     ///
@@ -62,17 +62,18 @@ impl<const N: usize> ArrayString<N> {
         Some(self.between(start, end))
     }
 
-    /// Removes the part in the range, at once, and returns its characters as a `Drain`. An excluded
-    /// start and an included end count as one more, but as no more than 255: `..=255` ends at 255.
+    /// Removes the part in the range and returns its characters as a `Drain`. The part is removed
+    /// at once, whether or not the `Drain` is used. An excluded start and an included end count as
+    /// one more, but as no more than 255: `..=255` ends at 255.
     ///
     /// # Errors
     ///
-    /// The first of these that holds decides, and the text is then as it was:
+    /// The first of these whose condition holds is returned, and the text is then unchanged:
     ///
     /// - `Err(Error::OutOfBounds)` if the range ends before it starts;
-    /// - `Err(Error::OutOfBounds)` if it ends past the text;
-    /// - `Err(Error::Utf8)` if its start is inside a character;
-    /// - `Err(Error::Utf8)` if its end is inside a character.
+    /// - `Err(Error::OutOfBounds)` if the range ends past the text;
+    /// - `Err(Error::Utf8)` if the start of the range is inside a character;
+    /// - `Err(Error::Utf8)` if the end of the range is inside a character.
     ///
     /// # Examples
     ///
@@ -94,9 +95,10 @@ impl<const N: usize> ArrayString<N> {
         Ok(removed)
     }
 
-    /// The same as `drain`. It moves no more bytes than the part after the range has. If the range
-    /// is not empty, it moves at least as many as the shorter of the parts before and after it has.
-    /// It moves none if the range begins at index 0, and none if it is refused.
+    /// The same as `drain`, with the bytes that it moves counted in `steps`. They are no more than
+    /// the part after the range has. If the range is not empty, they are at least as many as the
+    /// shorter of the parts before and after it has. It moves none if the range begins at index 0,
+    /// and none if it is refused.
     ///
     /// # Errors
     ///
@@ -131,18 +133,17 @@ impl<const N: usize> ArrayString<N> {
         Ok(removed)
     }
 
-    /// Replaces the part in the range by `with`. An excluded start and an included end count as
-    /// one more, but as no more than 255: `..=255` ends at 255.
+    /// Replaces the part in the range with `with`. The ends are read as in `drain`.
     ///
     /// # Errors
     ///
-    /// The first of these that holds decides, and the text is then as it was:
+    /// The first of these whose condition holds is returned, and the text is then unchanged:
     ///
     /// - `Err(Error::OutOfBounds)` if the range ends before it starts;
-    /// - `Err(Error::OutOfBounds)` if it ends past the text;
-    /// - `Err(Error::OutOfBounds)` if the result does not fit;
-    /// - `Err(Error::Utf8)` if its start is inside a character;
-    /// - `Err(Error::Utf8)` if its end is inside a character.
+    /// - `Err(Error::OutOfBounds)` if the range ends past the text;
+    /// - `Err(Error::OutOfBounds)` if the text with `with` in it does not fit;
+    /// - `Err(Error::Utf8)` if the start of the range is inside a character;
+    /// - `Err(Error::Utf8)` if the end of the range is inside a character.
     ///
     /// # Examples
     ///
@@ -162,10 +163,10 @@ impl<const N: usize> ArrayString<N> {
         self.replace_range_counted(range, with, &mut Steps::new())
     }
 
-    /// The same as `replace_range`. It moves no more bytes than the text had. If `with` is no
-    /// larger than the range, it moves no more than the part after the range has. A replacement
-    /// that changes the length moves at least as many bytes as the shorter of the parts before and
-    /// after the range has. A refused one moves none.
+    /// The same as `replace_range`, with the bytes that it moves counted in `steps`. They are no
+    /// more than the text had, and no more than the part after the range has if `with` is not
+    /// larger than the range. A replacement that changes the length moves at least as many as the
+    /// shorter of the parts before and after the range has. A refused one moves none.
     ///
     /// # Errors
     ///
@@ -197,12 +198,12 @@ impl<const N: usize> ArrayString<N> {
         self.replace_between(start, end, with, steps)
     }
 
-    /// Changes a..z to A..Z in the range. All other characters stay.
+    /// Changes a..z to A..Z in the range. All other characters stay as they are.
     ///
     /// # Precondition
     ///
-    /// - The range must have bounds (`has_bounds`).
-    /// - It must not end before it starts.
+    /// - `has_bounds` must hold of the range.
+    /// - The range must not end before it starts.
     /// - Both ends, read as in `slice`, must be boundaries.
     pub fn make_ascii_uppercase_in<R: RangeBounds<u8> + Drop>(&mut self, range: R)
         requires known { R.has_bounds range }
@@ -216,12 +217,12 @@ impl<const N: usize> ArrayString<N> {
         self.uppercase_between(start, end);
     }
 
-    /// Changes A..Z to a..z in the range. All other characters stay.
+    /// Changes A..Z to a..z in the range. All other characters stay as they are.
     ///
     /// # Precondition
     ///
-    /// - The range must have bounds (`has_bounds`).
-    /// - It must not end before it starts.
+    /// - `has_bounds` must hold of the range.
+    /// - The range must not end before it starts.
     /// - Both ends, read as in `slice`, must be boundaries.
     pub fn make_ascii_lowercase_in<R: RangeBounds<u8> + Drop>(&mut self, range: R)
         requires known { R.has_bounds range }

@@ -1,4 +1,4 @@
-//! What is taken out of a string.
+//! What is removed from a string.
 ghost use Rattle.std.specs.Prelude.{◌≡◌, ◌+◌, ◌-◌, ◌^◌, ◌<◌, ◌≤◌, min, Ok, IsTrue, IfOk, OnErr, chars, slice_index, drop};
 ghost use Rattle.std.specs.List.Retain.{IsFiltered};
 ghost use Rattle.arraystring_base.specs.Text.{size, width, back, boundary};
@@ -12,11 +12,11 @@ use arraystring_base::error::{Error, Utf8};
 use arraystring_base::utils::Steps;
 
 impl<const N: usize> ArrayString<N> {
-    /// Keeps the part before the byte index `size`; an index past the text changes nothing.
+    /// Shortens the text to its first `size` bytes. Nothing changes if it has no more.
     ///
     /// # Errors
     ///
-    /// Returns `Err(Utf8)` if `size` is inside a character. The text is then as it was.
+    /// Returns `Err(Utf8)` if the index `size` is inside a character. The text is then unchanged.
     ///
     /// # Examples
     ///
@@ -42,7 +42,7 @@ impl<const N: usize> ArrayString<N> {
     ///
     /// # Errors
     ///
-    /// The first of these that holds decides, and the text is then as it was:
+    /// The first of these whose condition holds is returned, and the text is then unchanged:
     ///
     /// - `Err(Error::OutOfBounds)` if the index is not below the length;
     /// - `Err(Error::Utf8)` if the index is inside a character.
@@ -52,9 +52,9 @@ impl<const N: usize> ArrayString<N> {
         self.remove_counted(index, &mut Steps::new())
     }
 
-    /// The same as `remove`. It moves no more bytes than the part after the character has, and at
-    /// least as many as the shorter of the parts before and after it has. It moves none at index 0,
-    /// and none if it is refused.
+    /// The same as `remove`, with the bytes that it moves counted in `steps`. They are no more
+    /// than the part after the character has, and at least as many as the shorter of the parts
+    /// before and after it has. It moves none at index 0, and none if it is refused.
     ///
     /// # Errors
     ///
@@ -86,7 +86,8 @@ impl<const N: usize> ArrayString<N> {
         Ok(ch)
     }
 
-    /// Calls `f` once with each character, in order, and keeps those for which it returns true.
+    /// Keeps the characters for which `f` returns true and removes all others. `f` is called once
+    /// with each character, in order.
     ///
     /// # Precondition
     ///
@@ -106,19 +107,19 @@ impl<const N: usize> ArrayString<N> {
         self.size = retain_at(&mut self.array, offset, size, f) as u8;
     }
 
-    /// Empties the string.
+    /// Removes all characters.
     pub fn clear(&mut self)
         ensures { Makes clearing self.old.text (Ok result) self.new.text }
     {
         self.keep(0);
     }
 
-    /// Returns the part from the byte index `at` on and keeps the part before it. `at` may be the
-    /// length.
+    /// Splits the text at the byte index `at`, which may be the length. Keeps the part before it
+    /// and returns the part from it on.
     ///
     /// # Errors
     ///
-    /// The first of these that holds decides, and the text is then as it was:
+    /// The first of these whose condition holds is returned, and the text is then unchanged:
     ///
     /// - `Err(Error::OutOfBounds)` if `at` is past the text;
     /// - `Err(Error::Utf8)` if `at` is inside a character.

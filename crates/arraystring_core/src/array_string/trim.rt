@@ -8,17 +8,18 @@ use crate::laws::text_fits;
 use arraystring_base::utils::{Steps, last_char};
 
 impl<const N: usize> ArrayString<N> {
-    /// Drops all white space at both ends, and nothing else. White space is each character for which
-    /// `char::is_whitespace` returns true, that is, which has the property White_Space of the Unicode
-    /// Standard.
+    /// Removes all white space at both ends, and nothing else. As in `str::trim`, white space is
+    /// what has the property White_Space of the Unicode Standard: the characters for which
+    /// `char::is_whitespace` returns true.
     pub fn trim(&mut self)
         ensures { Makes (trimming is_white_space self.old.text) self.old.text (Ok result) self.new.text }
     {
         self.trim_counted(&mut Steps::new());
     }
 
-    /// The same as `trim`. It moves no byte. It looks at each character that it drops at the end
-    /// and at the character before them: at each at least once, and at most four times.
+    /// The same as `trim`, with its looks counted in `steps`. It looks at each character that it
+    /// removes at the end and at the one before them: at each at least once, and at most four
+    /// times. It moves no byte.
     ///
     /// # Precondition
     ///
@@ -36,7 +37,7 @@ impl<const N: usize> ArrayString<N> {
         self.drop_leading(is_white_space);
     }
 
-    /// Drops all spaces (U+0020) at both ends, and nothing else.
+    /// Removes all spaces (U+0020) at both ends, and nothing else.
     pub fn trim_spaces(&mut self)
         ensures { Makes (trimming is_space self.old.text) self.old.text (Ok result) self.new.text }
     {

@@ -12,14 +12,15 @@ use arraystring_base::utf16::{Unit16, Units};
 use std::char;
 
 impl<const N: usize> ArrayString<N> {
-    /// Returns the text whose UTF-16 is `units`.
+    /// Creates a string from the UTF-16 in `units`.
     ///
     /// # Errors
     ///
-    /// The units are read item by item, and the first of these ends the reading:
+    /// The units are read in order, as characters and lone surrogates. The first that cannot be
+    /// appended decides:
     ///
-    /// - `Err(Error::Utf16)` if the item is a lone surrogate;
-    /// - `Err(Error::OutOfBounds)` if the item is a character that does not fit.
+    /// - `Err(Error::Utf16)` if it is a lone surrogate;
+    /// - `Err(Error::OutOfBounds)` if it is a character that does not fit.
     pub fn try_from_utf16(units: &[u16]) -> Result<Self, Error>
         ensures { (items : List Unit16) → IsReading units.now items → GivesWhole (first_stop items (cap N)) result }
     {
@@ -31,12 +32,12 @@ impl<const N: usize> ArrayString<N> {
         }
     }
 
-    /// Returns the longest prefix of characters of `units` that fits. What comes after a character
-    /// that does not fit is not looked at.
+    /// Creates a string from the longest prefix of characters of `units` that fits. What comes
+    /// after a character that does not fit has no effect.
     ///
     /// # Errors
     ///
-    /// Returns `Err(Utf16)` if a lone surrogate comes right after that prefix, also if the string
+    /// Returns `Err(Utf16)` if a lone surrogate comes right after that prefix, even if the string
     /// is full.
     ///
     /// # Examples
@@ -55,8 +56,8 @@ impl<const N: usize> ArrayString<N> {
         }
     }
 
-    /// Returns the longest prefix of the characters of `units` that fits, with each lone surrogate
-    /// read as U+FFFD, which takes three bytes.
+    /// Creates a string from the longest prefix of the characters of `units` that fits. Each lone
+    /// surrogate is read as U+FFFD, which takes three bytes.
     pub fn from_utf16_lossy(units: &[u16]) -> Self
         ensures { (items : List Unit16) → IsReading units.now items → result.text ≡ cut (lossy_text items) (cap N) }
     {

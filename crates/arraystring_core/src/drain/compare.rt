@@ -47,8 +47,8 @@ impl<const N: usize> Ord for Drain<N> {
 
     ghost matches_eq = { λ s t. texts_ties s.left t.left };
 
-    /// Returns the order of what is left, by the scalar values of the characters. The order of the
-    /// bytes of UTF-8 is the same.
+    /// Compares what is left lexicographically, by the scalar values of the characters. The order
+    /// of the bytes of UTF-8 is the same.
     fn cmp(&self, other: &Self) -> Ordering
         ensures order { result ≡ slice_cmp nat_cmp self.now.left other.now.left }
         ensures of_bytes { result ≡ slice_cmp nat_cmp (bytes self.now.left) (bytes other.now.left) }
@@ -58,7 +58,7 @@ impl<const N: usize> Ord for Drain<N> {
     }
 }
 
-/// Writes to the hasher what the text of the characters that are left writes.
+/// Hashes as the `&str` of what is left does.
 impl<const N: usize> Hash for Drain<N> {
     ghost hash_input = { λ s. fed.str (bytes s.left) };
 

@@ -1,6 +1,7 @@
 // Made from crates/arraystring_core/src/array_string.rt by rust/erase. A change goes there.
-//! `ArrayString`: the type, what it shows, and what is added and taken at its end. The modules below
-//! have its other calls, and `edit` the private ones that put bytes into its array or take them out.
+//! `ArrayString`: the type, the calls that read it, and those that push to its end or pop from it.
+//! The modules below have its other calls, and `edit` the private ones that put bytes into its
+//! array or take them out.
 
 use crate::arraystring_core::equal::equal;
 use crate::arraystring_core::gap::write_by_call;
@@ -19,17 +20,26 @@ mod remove;
 mod trim;
 mod utf16;
 
-/// A string of at most `N` bytes of UTF-8, and at most 255, that lies in the value itself. In all
-/// its calls sizes, indices and capacity count bytes of UTF-8.
+/// A string of at most `N` bytes of UTF-8, and at most 255, stored inline. Sizes, indices and the
+/// capacity count bytes of UTF-8.
+///
+/// A *boundary* is an index at which a character begins or the text ends. An index is *past* the
+/// text if it is greater than the length, and *inside* a character if it is less and no boundary.
+/// What is put in *fits* if the text with it is not larger than the capacity.
+///
+/// Contracts name the text, the list of its characters, and no byte of the array.
+///
+/// # Iterators
 ///
 /// An iterator that is passed in must end, and until it does the precondition of its `next` must
-/// hold. A call that cuts or can refuse needs no item after the first that does not fit, and a test
-/// shows that it takes none.
+/// hold. All calls but the unchecked ones stop at the first item that does not fit: their
+/// contracts say that no item after it matters, and a test shows that they take none.
 ///
-/// A range that is passed in may be any `RangeBounds<u8>`. Each range of Rust has bounds
-/// (`has_bounds`), except an inclusive one that was iterated to its end.
+/// # Ranges
 ///
-/// Contracts name its text, the list of its characters, and no byte of the array.
+/// A range that is passed in may be any `RangeBounds<u8>`. Contracts know its bounds if
+/// `has_bounds` holds of it. It holds of each range of std, except a `RangeInclusive` that was
+/// iterated to its end.
 ///
 /// # Model
 ///
@@ -52,7 +62,7 @@ pub struct ArrayString<const N: usize> {
 }
 
 impl<const N: usize> ArrayString<N> {
-    /// Returns the empty string.
+    /// Returns an empty string.
     ///
     /// # Contract
     ///
@@ -68,7 +78,7 @@ impl<const N: usize> ArrayString<N> {
         }
     }
 
-    /// Returns how many bytes fit: the lesser of `N` and 255.
+    /// Returns the capacity in bytes: the lesser of `N` and 255.
     ///
     /// # Contract
     ///
@@ -80,7 +90,7 @@ impl<const N: usize> ArrayString<N> {
         if N < 255 { N as u8 } else { 255 }
     }
 
-    /// Returns how many bytes the text takes, which is never more than the capacity.
+    /// Returns the length of the text in bytes, which is at most the capacity.
     ///
     /// # Contract
     ///
@@ -105,7 +115,8 @@ impl<const N: usize> ArrayString<N> {
         self.size == 0
     }
 
-    /// Returns the text, borrowed without a copy. Each of its characters is a Unicode scalar value.
+    /// Returns the text as a `&str`, borrowed without a copy. The contract adds that each
+    /// character is a Unicode scalar value and that the text is not larger than the capacity.
     ///
     /// # Contract
     ///
@@ -122,8 +133,8 @@ impl<const N: usize> ArrayString<N> {
         unsafe { str::from_utf8_unchecked(&all[start..start + self.size as usize]) }
     }
 
-    /// Returns the UTF-8 of the text, borrowed without a copy: as many bytes as `len` says. Each
-    /// character of the text is a Unicode scalar value.
+    /// Returns the bytes of the text, borrowed without a copy. There are as many as `len` returns.
+    /// The contract adds the same as that of `as_str`.
     ///
     /// # Contract
     ///
@@ -140,11 +151,11 @@ impl<const N: usize> ArrayString<N> {
         &all[start..start + self.size as usize]
     }
 
-    /// Adds `ch` at the end.
+    /// Appends `ch`.
     ///
     /// # Errors
     ///
-    /// Returns `Err(OutOfBounds)` if `ch` does not fit. The text is then as it was.
+    /// Returns `Err(OutOfBounds)` if `ch` does not fit. The text is then unchanged.
     ///
     /// # Contract
     ///
@@ -162,7 +173,7 @@ impl<const N: usize> ArrayString<N> {
         self.try_push_near_end(ch)
     }
 
-    /// Adds `ch` at the end.
+    /// Appends `ch`.
     ///
     /// # Precondition
     ///
@@ -189,11 +200,11 @@ impl<const N: usize> ArrayString<N> {
         self.size = (self.size as usize + len) as u8;
     }
 
-    /// Adds `string` at the end.
+    /// Appends `string`.
     ///
     /// # Errors
     ///
-    /// Returns `Err(OutOfBounds)` if not all of `string` fits. The text is then as it was.
+    /// Returns `Err(OutOfBounds)` if not all of `string` fits. The text is then unchanged.
     ///
     /// # Contract
     ///
@@ -218,7 +229,7 @@ impl<const N: usize> ArrayString<N> {
         Ok(())
     }
 
-    /// Adds the longest prefix of whole characters of `string` that fits at the end.
+    /// Appends the longest prefix of whole characters of `string` that fits.
     ///
     /// # Examples
     ///
@@ -241,7 +252,7 @@ impl<const N: usize> ArrayString<N> {
         unsafe { self.push_str_unchecked(truncate_str(string, room)) };
     }
 
-    /// Adds `string` at the end.
+    /// Appends `string`.
     ///
     /// # Precondition
     ///
@@ -280,8 +291,8 @@ impl<const N: usize> ArrayString<N> {
         self.pop_counted(&mut Steps::new())
     }
 
-    /// The same as `pop`. It looks at no more than four bytes, and at one at least if there is a
-    /// character. It moves none.
+    /// The same as `pop`, counted in `steps`: at most four looks, at least one if there is a
+    /// character, and no moves.
     ///
     /// # Precondition
     ///
@@ -310,7 +321,7 @@ impl<const N: usize> ArrayString<N> {
     }
 }
 
-/// The empty string.
+/// An empty string.
 ///
 /// # Contract
 ///

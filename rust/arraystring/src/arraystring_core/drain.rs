@@ -1,5 +1,5 @@
 // Made from crates/arraystring_core/src/drain.rt by rust/erase. A change goes there.
-//! `Drain`: what was taken out of a string, given from both ends.
+//! `Drain`: the characters that were removed from a string, from both ends.
 
 use crate::arraystring_base::utils::{Steps, last_char};
 use core::iter::FusedIterator;
@@ -7,12 +7,11 @@ use core::str;
 
 mod compare;
 
-/// The characters that `drain` took out of a string. They are given from the front and from the
-/// back, each once; what is not given stays in its order.
+/// An iterator over the characters that `drain` removed from a string. It returns each of them
+/// once, from the front or from the back, and borrows nothing.
 ///
-/// Contracts name the list of the characters that are left. A drain keeps a copy of the string's
-/// array, the offset and the size of the removed text without what was given from the back, and the
-/// index at which what is left begins. It takes no memory.
+/// Contracts name the list of the characters that are left. A drain has a copy of the string's
+/// array, and takes no memory.
 ///
 /// # Model
 ///
@@ -59,7 +58,7 @@ impl<const N: usize> Drain<N> {
         }
     }
 
-    /// Returns what is left, borrowed without a copy.
+    /// Returns the characters that are left as a `&str`, borrowed without a copy.
     ///
     /// # Contract
     ///
@@ -78,7 +77,7 @@ impl<const N: usize> Drain<N> {
     }
 }
 
-/// Nothing is left.
+/// An empty drain: nothing is left.
 ///
 /// # Contract
 ///
@@ -92,7 +91,7 @@ impl<const N: usize> Default for Drain<N> {
     }
 }
 
-/// A walk from the front.
+/// The characters that are left, from the front.
 ///
 /// # Contract
 ///
@@ -103,8 +102,8 @@ impl<const N: usize> Default for Drain<N> {
 impl<const N: usize> Iterator for Drain<N> {
     type Item = char;
 
-    /// Returns the first character that is left. If none is left it returns `None`, and does so ever
-    /// after.
+    /// Returns the first character that is left. Returns `None` if none is left, and at each call
+    /// after that.
     #[inline(always)]
     fn next(&mut self) -> Option<char> {
         if self.front == self.size {
@@ -123,7 +122,7 @@ impl<const N: usize> Iterator for Drain<N> {
     }
 }
 
-/// A walk from the back, over the same characters.
+/// The characters that are left, from the back.
 ///
 /// # Contract
 ///
@@ -131,8 +130,8 @@ impl<const N: usize> Iterator for Drain<N> {
 /// ghost next_back_gives = { YieldsLast (λ d. d.left) };
 /// ```
 impl<const N: usize> DoubleEndedIterator for Drain<N> {
-    /// Returns the last character that is left. If none is left it returns `None`, and does so ever
-    /// after.
+    /// Returns the last character that is left. Returns `None` if none is left, and at each call
+    /// after that.
     #[inline(always)]
     fn next_back(&mut self) -> Option<char> {
         if self.size == self.front {

@@ -1,10 +1,10 @@
 // Made from crates/arraystring_core/src/array_string/ascii.rt by rust/erase. A change goes there.
-//! The ASCII letters of a string in the other case.
+//! The ASCII letters of a string, made upper or lower case.
 
 use crate::arraystring_core::ArrayString;
 
 impl<const N: usize> ArrayString<N> {
-    /// Changes a..z to A..Z. All other characters stay.
+    /// Changes a..z to A..Z. All other characters stay as they are.
     ///
     /// # Contract
     ///
@@ -16,7 +16,7 @@ impl<const N: usize> ArrayString<N> {
         self.uppercase_between(0, self.len() as usize);
     }
 
-    /// Changes A..Z to a..z. All other characters stay.
+    /// Changes A..Z to a..z. All other characters stay as they are.
     ///
     /// # Contract
     ///

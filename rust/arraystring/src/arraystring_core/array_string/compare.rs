@@ -1,5 +1,5 @@
 // Made from crates/arraystring_core/src/array_string/compare.rt by rust/erase. A change goes there.
-//! How strings are ordered, hashed and printed, and how texts are added by `+` and `write!`.
+//! How strings are ordered, hashed and printed, and how `+` and `write!` append to them.
 
 use crate::arraystring_core::ArrayString;
 use crate::arraystring_core::order::order;
@@ -32,8 +32,8 @@ impl<const N: usize> PartialOrd for ArrayString<N> {
 /// ghost matches_eq = { λ s t. texts_ties s.text t.text };
 /// ```
 impl<const N: usize> Ord for ArrayString<N> {
-    /// Returns the order of the texts, by the scalar values of their characters. A text that begins
-    /// another is less than it. The order of the bytes of UTF-8 is the same.
+    /// Compares the texts lexicographically, by the scalar values of their characters. A prefix of
+    /// a longer text is less than it. The order of the bytes of UTF-8 is the same.
     ///
     /// # Contract
     ///
@@ -48,7 +48,7 @@ impl<const N: usize> Ord for ArrayString<N> {
     }
 }
 
-/// Writes to the hasher what the text writes.
+/// Hashes as the `&str` of the text does.
 ///
 /// # Contract
 ///
@@ -63,7 +63,7 @@ impl<const N: usize> Hash for ArrayString<N> {
     }
 }
 
-/// The text. A width in the format is ignored: nothing is padded.
+/// Writes the text. A width in the format is ignored: nothing is padded.
 ///
 /// # Contract
 ///
@@ -78,7 +78,7 @@ impl<const N: usize> fmt::Display for ArrayString<N> {
     }
 }
 
-/// The string, with the longest prefix of whole characters of `given` that fits added at its end.
+/// Appends the longest prefix of whole characters of the `&str` that fits.
 ///
 /// # Contract
 ///
@@ -101,12 +101,12 @@ impl<'a, const N: usize> Add<&'a str> for ArrayString<N> {
 /// ghost write_str_gives = { λ s given t. bytes t.text ≡ bytes s.text ++ given };
 /// ```
 impl<const N: usize> fmt::Write for ArrayString<N> {
-    /// Adds `string` at the end.
+    /// Appends `string`.
     ///
     /// # Errors
     ///
-    /// Returns `Err(fmt::Error)` if not all of `string` fits. The text is then as it was. A `write!`
-    /// of several pieces leaves those before the one that is refused.
+    /// Returns `Err(fmt::Error)` if not all of `string` fits. The text is then unchanged. A
+    /// `write!` of several pieces keeps those before the one that is refused.
     ///
     /// # Contract
     ///

@@ -1,5 +1,5 @@
 // Made from crates/arraystring_core/src/array_string/construct.rt by rust/erase. A change goes there.
-//! The constructors: from a text, from pieces, from characters and from bytes of UTF-8.
+//! The constructors: from a `&str`, from pieces, from characters and from bytes of UTF-8.
 
 use super::ArrayString;
 use crate::arraystring_core::gap::write_by_call;
@@ -9,7 +9,7 @@ use crate::arraystring_base::utils::truncate_str;
 use core::str::{self, FromStr};
 
 impl<const N: usize> ArrayString<N> {
-    /// Returns the text `string`.
+    /// Creates a string from `string`.
     ///
     /// # Errors
     ///
@@ -39,7 +39,7 @@ impl<const N: usize> ArrayString<N> {
         result
     }
 
-    /// Returns the longest prefix of whole characters of `string` that fits.
+    /// Creates a string from the longest prefix of whole characters of `string` that fits.
     ///
     /// # Contract
     ///
@@ -53,7 +53,7 @@ impl<const N: usize> ArrayString<N> {
         unsafe { Self::from_str_unchecked(truncate_str(string, Self::capacity())) }
     }
 
-    /// Returns the text `string`.
+    /// Creates a string from `string`.
     ///
     /// # Precondition
     ///
@@ -81,11 +81,11 @@ impl<const N: usize> ArrayString<N> {
         }
     }
 
-    /// Returns the pieces joined.
+    /// Creates a string from all pieces, joined.
     ///
     /// # Errors
     ///
-    /// Returns `Err(OutOfBounds)` if not all of `pieces` fit.
+    /// Returns `Err(OutOfBounds)` if not all of the pieces fit.
     ///
     /// # Precondition
     ///
@@ -115,7 +115,8 @@ impl<const N: usize> ArrayString<N> {
         Ok(made)
     }
 
-    /// Returns the longest prefix of whole characters of the joined pieces that fits.
+    /// Creates a string from the longest prefix of whole characters of the joined pieces that
+    /// fits.
     ///
     /// # Precondition
     ///
@@ -143,11 +144,11 @@ impl<const N: usize> ArrayString<N> {
         made
     }
 
-    /// Returns the pieces joined.
+    /// Creates a string from all pieces, joined.
     ///
     /// # Precondition
     ///
-    /// All of `pieces` must fit. See `ArrayString` for iterators.
+    /// All of the pieces must fit. See `ArrayString` for iterators.
     ///
     /// # Safety
     ///
@@ -174,11 +175,11 @@ impl<const N: usize> ArrayString<N> {
         made
     }
 
-    /// Returns the characters.
+    /// Creates a string from all characters.
     ///
     /// # Errors
     ///
-    /// Returns `Err(OutOfBounds)` if not all of `characters` fit.
+    /// Returns `Err(OutOfBounds)` if not all of the characters fit.
     ///
     /// # Precondition
     ///
@@ -208,8 +209,8 @@ impl<const N: usize> ArrayString<N> {
         Ok(made)
     }
 
-    /// Returns the longest prefix of the characters that fits. A shorter character after the first
-    /// that does not fit is not taken.
+    /// Creates a string from the longest prefix of the characters that fits. It ends before the
+    /// first character that does not fit, even if a later one takes fewer bytes and would fit.
     ///
     /// # Precondition
     ///
@@ -237,11 +238,11 @@ impl<const N: usize> ArrayString<N> {
         made
     }
 
-    /// Returns the characters.
+    /// Creates a string from all characters.
     ///
     /// # Precondition
     ///
-    /// All of `characters` must fit. See `ArrayString` for iterators.
+    /// All of the characters must fit. See `ArrayString` for iterators.
     ///
     /// # Safety
     ///
@@ -267,14 +268,15 @@ impl<const N: usize> ArrayString<N> {
         made
     }
 
-    /// Returns the text whose UTF-8 is `given`.
+    /// Creates a string from the UTF-8 in `given`.
     ///
     /// # Errors
     ///
-    /// The first of these that holds decides:
+    /// The first of these whose condition holds is returned:
     ///
-    /// - `Err(Utf8)` if `given` is not well-formed UTF-8 (the Unicode Standard, section 3.9);
-    /// - `Err(OutOfBounds)` if the text is larger than the capacity.
+    /// - `Err(Error::Utf8)` if `given` is not well-formed UTF-8 (the Unicode Standard, section
+    ///   3.9);
+    /// - `Err(Error::OutOfBounds)` if the text is larger than the capacity.
     ///
     /// # Contract
     ///
@@ -297,12 +299,13 @@ impl<const N: usize> ArrayString<N> {
         Ok(unsafe { Self::from_str_unchecked(text) })
     }
 
-    /// Returns the longest prefix of whole characters that fits of the text whose UTF-8 is `given`.
+    /// Creates a string from the UTF-8 in `given`, cut to the longest prefix of whole characters
+    /// that fits.
     ///
     /// # Errors
     ///
-    /// Returns `Err(Utf8)` if `given` is not well-formed UTF-8 (the Unicode Standard, section 3.9),
-    /// even if only bytes past the capacity are not.
+    /// Returns `Err(Utf8)` if `given` is not well-formed UTF-8 (the Unicode Standard, section
+    /// 3.9), even if only bytes that would be cut off are malformed.
     ///
     /// # Contract
     ///
@@ -320,7 +323,7 @@ impl<const N: usize> ArrayString<N> {
         Ok(Self::from_str_truncate(string))
     }
 
-    /// Returns the text whose UTF-8 is `given`.
+    /// Creates a string from the UTF-8 in `given`.
     ///
     /// # Precondition
     ///
@@ -348,7 +351,7 @@ impl<const N: usize> ArrayString<N> {
     }
 }
 
-/// As `from_str_truncate`.
+/// The same as `from_str_truncate`.
 ///
 /// # Contract
 ///
@@ -362,7 +365,7 @@ impl<'a, const N: usize> From<&'a str> for ArrayString<N> {
     }
 }
 
-/// As `try_from_str`.
+/// The same as `try_from_str`.
 ///
 /// # Contract
 ///
@@ -372,7 +375,7 @@ impl<'a, const N: usize> From<&'a str> for ArrayString<N> {
 impl<const N: usize> FromStr for ArrayString<N> {
     type Err = OutOfBounds;
 
-    /// Returns the text `string`.
+    /// Creates a string from `string`.
     ///
     /// # Errors
     ///

@@ -1,12 +1,12 @@
 // Made from crates/arraystring_core/src/array_string/extend.rt by rust/erase. A change goes there.
-//! What is added from an iterator that is passed in.
+//! What is appended from an iterator that is passed in.
 
 use super::ArrayString;
 use crate::arraystring_core::laws::text_fits;
 use crate::arraystring_base::error::OutOfBounds;
 
 impl<const N: usize> ArrayString<N> {
-    /// Adds the longest prefix of the characters that fits at the end.
+    /// Appends the longest prefix of the characters that fits.
     ///
     /// # Precondition
     ///
@@ -32,7 +32,7 @@ impl<const N: usize> ArrayString<N> {
         let _ = self.add_chars(characters);
     }
 
-    /// Adds the longest prefix of whole characters of the joined pieces that fits at the end.
+    /// Appends the longest prefix of whole characters of the joined pieces that fits.
     ///
     /// # Precondition
     ///
@@ -58,7 +58,7 @@ impl<const N: usize> ArrayString<N> {
         let _ = self.add_strs(pieces);
     }
 
-    /// Adds the characters before the first that does not fit, and says whether one did not.
+    /// Appends the characters before the first that does not fit. Refuses if there is such a one.
     ///
     /// # Contract
     ///
@@ -82,8 +82,8 @@ impl<const N: usize> ArrayString<N> {
         Ok(())
     }
 
-    /// Adds the pieces before the first that does not fit, and of that one what fits, and says whether
-    /// one did not.
+    /// Appends the pieces before the first that does not fit, and of that one what fits. Refuses
+    /// if there is such a one.
     ///
     /// # Contract
     ///

@@ -1,8 +1,7 @@
 // Made from crates/arraystring_core/src/array_string/range.rt by rust/erase. A change goes there.
-//! Parts of a string by a range of bytes. Any `RangeBounds<u8>` is accepted. The contracts speak of
-//! the bounds that the range's methods return. If the range has bounds (`has_bounds`), they are its
-//! own. Each range of Rust has them, except an inclusive one that was iterated to its end. For
-//! other ranges no contract says which bounds they are.
+//! Parts of a string by a range of bytes. The contracts speak of the bounds that the range's
+//! methods return. If `has_bounds` holds of the range, they are its own; else no contract says
+//! which they are.
 
 use crate::arraystring_core::range_ends::{plain_ends, saturating_ends};
 use crate::arraystring_core::{ArrayString, Drain};
@@ -11,16 +10,17 @@ use crate::arraystring_base::utils::Steps;
 use core::ops::RangeBounds;
 
 impl<const N: usize> ArrayString<N> {
-    /// Returns the part in the range, borrowed without a copy. The ends are not limited to
-    /// 255: `..=255` ends at 256, which is past every text.
+    /// Returns the part of the text in the range, borrowed without a copy. An excluded start and
+    /// an included end count as one more, also past 255: `..=255` ends at 256, which is past every
+    /// text.
     ///
     /// # Precondition
     ///
-    /// - The range must have bounds (`has_bounds`).
-    /// - It must not end before it starts.
+    /// - `has_bounds` must hold of the range.
+    /// - The range must not end before it starts.
     /// - Both ends must be boundaries.
     ///
-    /// For a range that has bounds, a `get` that returned `Some` proves the rest.
+    /// If `has_bounds` holds, a `get` of the range that returned `Some` proves the rest.
     ///
     /// # Panics
     ///
@@ -43,9 +43,9 @@ impl<const N: usize> ArrayString<N> {
         self.between(start, end)
     }
 
-    /// Returns the part in the range, borrowed without a copy. Returns `None` if the range ends
-    /// before it starts, or if its start or its end is not a boundary. The ends are not limited to
-    /// 255: `..=255` ends at 256, which is past every text.
+    /// Returns the part of the text in the range, borrowed without a copy. Returns `None` if the
+    /// range ends before it starts, or if its start or its end is not a boundary. The ends are
+    /// read as in `slice`.
     ///
     /// # Examples
     ///
@@ -72,17 +72,18 @@ impl<const N: usize> ArrayString<N> {
         Some(self.between(start, end))
     }
 
-    /// Removes the part in the range, at once, and returns its characters as a `Drain`. An excluded
-    /// start and an included end count as one more, but as no more than 255: `..=255` ends at 255.
+    /// Removes the part in the range and returns its characters as a `Drain`. The part is removed
+    /// at once, whether or not the `Drain` is used. An excluded start and an included end count as
+    /// one more, but as no more than 255: `..=255` ends at 255.
     ///
     /// # Errors
     ///
-    /// The first of these that holds decides, and the text is then as it was:
+    /// The first of these whose condition holds is returned, and the text is then unchanged:
     ///
-    /// - `Err(OutOfBounds)` if the range ends before it starts;
-    /// - `Err(OutOfBounds)` if it ends past the text;
-    /// - `Err(Utf8)` if its start is inside a character;
-    /// - `Err(Utf8)` if its end is inside a character.
+    /// - `Err(Error::OutOfBounds)` if the range ends before it starts;
+    /// - `Err(Error::OutOfBounds)` if the range ends past the text;
+    /// - `Err(Error::Utf8)` if the start of the range is inside a character;
+    /// - `Err(Error::Utf8)` if the end of the range is inside a character.
     ///
     /// # Examples
     ///
@@ -90,7 +91,7 @@ impl<const N: usize> ArrayString<N> {
     /// # use arraystring::ArrayString;
     /// let mut line = ArrayString::<5>::from_str_truncate("abcde");
     /// let drained = line.drain(1..=2); // Ok of 'b' and 'c', and the text is "ade"
-    /// let past = line.drain(2..9); // Err(OutOfBounds)
+    /// let past = line.drain(2..9); // Err(Error::OutOfBounds)
     /// ```
     ///
     /// # Contract
@@ -109,9 +110,10 @@ impl<const N: usize> ArrayString<N> {
         Ok(removed)
     }
 
-    /// The same as `drain`. It moves no more bytes than the part after the range has. If the range
-    /// is not empty, it moves at least as many as the shorter of the parts before and after it has.
-    /// It moves none if the range begins at index 0, and none if it is refused.
+    /// The same as `drain`, with the bytes that it moves counted in `steps`. They are no more than
+    /// the part after the range has. If the range is not empty, they are at least as many as the
+    /// shorter of the parts before and after it has. It moves none if the range begins at index 0,
+    /// and none if it is refused.
     ///
     /// # Errors
     ///
@@ -154,18 +156,17 @@ impl<const N: usize> ArrayString<N> {
         Ok(removed)
     }
 
-    /// Replaces the part in the range by `with`. An excluded start and an included end count as
-    /// one more, but as no more than 255: `..=255` ends at 255.
+    /// Replaces the part in the range with `with`. The ends are read as in `drain`.
     ///
     /// # Errors
     ///
-    /// The first of these that holds decides, and the text is then as it was:
+    /// The first of these whose condition holds is returned, and the text is then unchanged:
     ///
-    /// - `Err(OutOfBounds)` if the range ends before it starts;
-    /// - `Err(OutOfBounds)` if it ends past the text;
-    /// - `Err(OutOfBounds)` if the result does not fit;
-    /// - `Err(Utf8)` if its start is inside a character;
-    /// - `Err(Utf8)` if its end is inside a character.
+    /// - `Err(Error::OutOfBounds)` if the range ends before it starts;
+    /// - `Err(Error::OutOfBounds)` if the range ends past the text;
+    /// - `Err(Error::OutOfBounds)` if the text with `with` in it does not fit;
+    /// - `Err(Error::Utf8)` if the start of the range is inside a character;
+    /// - `Err(Error::Utf8)` if the end of the range is inside a character.
     ///
     /// # Examples
     ///
@@ -173,7 +174,7 @@ impl<const N: usize> ArrayString<N> {
     /// # use arraystring::ArrayString;
     /// let mut line = ArrayString::<4>::from_str_truncate("abcd");
     /// let replaced = line.replace_range(1..3, "é"); // Ok(()), and the text is "aéd"
-    /// let large = line.replace_range(.., "abcde"); // Err(OutOfBounds)
+    /// let large = line.replace_range(.., "abcde"); // Err(Error::OutOfBounds)
     /// ```
     ///
     /// # Contract
@@ -192,10 +193,10 @@ impl<const N: usize> ArrayString<N> {
         self.replace_range_counted(range, with, &mut Steps::new())
     }
 
-    /// The same as `replace_range`. It moves no more bytes than the text had. If `with` is no
-    /// larger than the range, it moves no more than the part after the range has. A replacement
-    /// that changes the length moves at least as many bytes as the shorter of the parts before and
-    /// after the range has. A refused one moves none.
+    /// The same as `replace_range`, with the bytes that it moves counted in `steps`. They are no
+    /// more than the text had, and no more than the part after the range has if `with` is not
+    /// larger than the range. A replacement that changes the length moves at least as many as the
+    /// shorter of the parts before and after the range has. A refused one moves none.
     ///
     /// # Errors
     ///
@@ -236,12 +237,12 @@ impl<const N: usize> ArrayString<N> {
         self.replace_between(start, end, with, steps)
     }
 
-    /// Changes a..z to A..Z in the range. All other characters stay.
+    /// Changes a..z to A..Z in the range. All other characters stay as they are.
     ///
     /// # Precondition
     ///
-    /// - The range must have bounds (`has_bounds`).
-    /// - It must not end before it starts.
+    /// - `has_bounds` must hold of the range.
+    /// - The range must not end before it starts.
     /// - Both ends, read as in `slice`, must be boundaries.
     ///
     /// # Panics
@@ -266,12 +267,12 @@ impl<const N: usize> ArrayString<N> {
         self.uppercase_between(start, end);
     }
 
-    /// Changes A..Z to a..z in the range. All other characters stay.
+    /// Changes A..Z to a..z in the range. All other characters stay as they are.
     ///
     /// # Precondition
     ///
-    /// - The range must have bounds (`has_bounds`).
-    /// - It must not end before it starts.
+    /// - `has_bounds` must hold of the range.
+    /// - The range must not end before it starts.
     /// - Both ends, read as in `slice`, must be boundaries.
     ///
     /// # Panics

@@ -1,5 +1,5 @@
 // Made from crates/arraystring_core/src/array_string/remove.rt by rust/erase. A change goes there.
-//! What is taken out of a string.
+//! What is removed from a string.
 
 use crate::arraystring_core::ArrayString;
 use crate::arraystring_core::decode::first_char;
@@ -8,11 +8,11 @@ use crate::arraystring_base::error::{Error, Utf8};
 use crate::arraystring_base::utils::Steps;
 
 impl<const N: usize> ArrayString<N> {
-    /// Keeps the part before the byte index `size`; an index past the text changes nothing.
+    /// Shortens the text to its first `size` bytes. Nothing changes if it has no more.
     ///
     /// # Errors
     ///
-    /// Returns `Err(Utf8)` if `size` is inside a character. The text is then as it was.
+    /// Returns `Err(Utf8)` if the index `size` is inside a character. The text is then unchanged.
     ///
     /// # Examples
     ///
@@ -44,10 +44,10 @@ impl<const N: usize> ArrayString<N> {
     ///
     /// # Errors
     ///
-    /// The first of these that holds decides, and the text is then as it was:
+    /// The first of these whose condition holds is returned, and the text is then unchanged:
     ///
-    /// - `Err(OutOfBounds)` if the index is not below the length;
-    /// - `Err(Utf8)` if the index is inside a character.
+    /// - `Err(Error::OutOfBounds)` if the index is not below the length;
+    /// - `Err(Error::Utf8)` if the index is inside a character.
     ///
     /// # Contract
     ///
@@ -59,9 +59,9 @@ impl<const N: usize> ArrayString<N> {
         self.remove_counted(index, &mut Steps::new())
     }
 
-    /// The same as `remove`. It moves no more bytes than the part after the character has, and at
-    /// least as many as the shorter of the parts before and after it has. It moves none at index 0,
-    /// and none if it is refused.
+    /// The same as `remove`, with the bytes that it moves counted in `steps`. They are no more
+    /// than the part after the character has, and at least as many as the shorter of the parts
+    /// before and after it has. It moves none at index 0, and none if it is refused.
     ///
     /// # Errors
     ///
@@ -102,7 +102,8 @@ impl<const N: usize> ArrayString<N> {
         Ok(ch)
     }
 
-    /// Calls `f` once with each character, in order, and keeps those for which it returns true.
+    /// Keeps the characters for which `f` returns true and removes all others. `f` is called once
+    /// with each character, in order.
     ///
     /// # Precondition
     ///
@@ -132,7 +133,7 @@ impl<const N: usize> ArrayString<N> {
         retain_at(&mut self.array, &mut self.size, offset, size, f);
     }
 
-    /// Empties the string.
+    /// Removes all characters.
     ///
     /// # Contract
     ///
@@ -144,15 +145,15 @@ impl<const N: usize> ArrayString<N> {
         self.keep(0);
     }
 
-    /// Returns the part from the byte index `at` on and keeps the part before it. `at` may be the
-    /// length.
+    /// Splits the text at the byte index `at`, which may be the length. Keeps the part before it
+    /// and returns the part from it on.
     ///
     /// # Errors
     ///
-    /// The first of these that holds decides, and the text is then as it was:
+    /// The first of these whose condition holds is returned, and the text is then unchanged:
     ///
-    /// - `Err(OutOfBounds)` if `at` is past the text;
-    /// - `Err(Utf8)` if `at` is inside a character.
+    /// - `Err(Error::OutOfBounds)` if `at` is past the text;
+    /// - `Err(Error::Utf8)` if `at` is inside a character.
     ///
     /// # Contract
     ///

@@ -8,14 +8,15 @@ use crate::arraystring_base::utf16::{Unit16, Units};
 use core::char;
 
 impl<const N: usize> ArrayString<N> {
-    /// Returns the text whose UTF-16 is `units`.
+    /// Creates a string from the UTF-16 in `units`.
     ///
     /// # Errors
     ///
-    /// The units are read item by item, and the first of these ends the reading:
+    /// The units are read in order, as characters and lone surrogates. The first that cannot be
+    /// appended decides:
     ///
-    /// - `Err(Utf16)` if the item is a lone surrogate;
-    /// - `Err(OutOfBounds)` if the item is a character that does not fit.
+    /// - `Err(Error::Utf16)` if it is a lone surrogate;
+    /// - `Err(Error::OutOfBounds)` if it is a character that does not fit.
     ///
     /// # Contract
     ///
@@ -33,12 +34,12 @@ impl<const N: usize> ArrayString<N> {
         }
     }
 
-    /// Returns the longest prefix of characters of `units` that fits. What comes after a character
-    /// that does not fit is not looked at.
+    /// Creates a string from the longest prefix of characters of `units` that fits. What comes
+    /// after a character that does not fit has no effect.
     ///
     /// # Errors
     ///
-    /// Returns `Err(Utf16)` if a lone surrogate comes right after that prefix, also if the string
+    /// Returns `Err(Utf16)` if a lone surrogate comes right after that prefix, even if the string
     /// is full.
     ///
     /// # Examples
@@ -64,8 +65,8 @@ impl<const N: usize> ArrayString<N> {
         }
     }
 
-    /// Returns the longest prefix of the characters of `units` that fits, with each lone surrogate
-    /// read as U+FFFD, which takes three bytes.
+    /// Creates a string from the longest prefix of the characters of `units` that fits. Each lone
+    /// surrogate is read as U+FFFD, which takes three bytes.
     ///
     /// # Contract
     ///

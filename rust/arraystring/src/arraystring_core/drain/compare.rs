@@ -54,8 +54,8 @@ impl<const N: usize> PartialOrd for Drain<N> {
 /// ghost matches_eq = { λ s t. texts_ties s.left t.left };
 /// ```
 impl<const N: usize> Ord for Drain<N> {
-    /// Returns the order of what is left, by the scalar values of the characters. The order of the
-    /// bytes of UTF-8 is the same.
+    /// Compares what is left lexicographically, by the scalar values of the characters. The order
+    /// of the bytes of UTF-8 is the same.
     ///
     /// # Contract
     ///
@@ -70,7 +70,7 @@ impl<const N: usize> Ord for Drain<N> {
     }
 }
 
-/// Writes to the hasher what the text of the characters that are left writes.
+/// Hashes as the `&str` of what is left does.
 ///
 /// # Contract
 ///
