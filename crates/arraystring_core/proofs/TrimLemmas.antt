@@ -9,11 +9,11 @@ use Rattle.arraystring_core.specs.Edits.{first_of, last_of, without_leading, wit
 use Rattle.arraystring_core.proofs.EditLaws.{last_of-push}
 
 -- the characters that pass, and those from the first that does not
-leading-parts : (p : ℕ → Bool) (t : List ℕ) → take_while p t ++ without_leading p t ≡ t
-leading-parts p [] = refl
-leading-parts p (c ∷ cs) =
+split-leading : (p : ℕ → Bool) (t : List ℕ) → take_while p t ++ without_leading p t ≡ t
+split-leading p [] = refl
+split-leading p (c ∷ cs) =
     elim (cases_Bool (p c)) [
-      | inl passes ↦ rw (take_while-cons p c cs, passes) (ap (λ l. c ∷ l) (leading-parts p cs))
+      | inl passes ↦ rw (take_while-cons p c cs, passes) (ap (λ l. c ∷ l) (split-leading p cs))
       | inr stops ↦ rw (take_while-cons p c cs, stops) refl
     ]
 
@@ -81,12 +81,12 @@ module _ (p : ℕ → Bool) (t : List ℕ) where
 
   trailing-parts : t ≡ kept ++ reverse (take_while p (reverse t))
   trailing-parts =
-      sym (reverse-reverse t) ∙ ap reverse (sym (leading-parts p (reverse t)))
+      sym (reverse-reverse t) ∙ ap reverse (sym (split-leading p (reverse t)))
       ∙ reverse-append (take_while p (reverse t)) (without_leading p (reverse t))
 
   pub trimmed-parts : t ≡ take_while p kept ++ (without_leading p kept ++ reverse (take_while p (reverse t)))
   trimmed-parts =
-      trailing-parts ∙ ap (λ l. l ++ reverse (take_while p (reverse t))) (sym (leading-parts p kept))
+      trailing-parts ∙ ap (λ l. l ++ reverse (take_while p (reverse t))) (sym (split-leading p kept))
       ∙ append_assoc (take_while p kept) (without_leading p kept) (reverse (take_while p (reverse t)))
 
   pub trailing-pass : (P : ℕ → Type 0) → ((c : ℕ) → p c ≡ true → P c) → All P (reverse (take_while p (reverse t)))
@@ -95,5 +95,5 @@ module _ (p : ℕ → Bool) (t : List ℕ) where
   pub trailing-bare : (P : ℕ → Type 0) → ((c : ℕ) → p c ≡ false → P c) → IfSome (last_of (without_leading p kept)) P
   trailing-bare P of_false =
       last-bare P (take_while p kept) (without_leading p kept)
-      (subst (λ l. IfSome (last_of l) P) (sym (leading-parts p kept))
+      (subst (λ l. IfSome (last_of l) P) (sym (split-leading p kept))
       (subst (λ o. IfSome o P) (sym (last_of-reverse (without_leading p (reverse t)))) (leading-bare P p of_false (reverse t))))

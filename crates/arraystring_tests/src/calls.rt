@@ -332,7 +332,7 @@ fn in_range<R: Abort + AllocGlobal, const N: usize>(
     if sign == '~' || sign == '(' || sign == '[' {
         let (first, last) = (bound(rt, start), bound(rt, end));
         if sign == '~' {
-            return of_range(rt, text, call, row, Untold { first, last });
+            return of_range(rt, text, call, row, Opaque { first, last });
         }
         if order != 0 {
             return of_range(rt, text, call, row, (first, last));
@@ -441,12 +441,12 @@ fn of_range<R: Abort + AllocGlobal, B: RangeBounds<u8> + Drop, const N: usize>(
 
 /// A range type for which no contract says which bounds it has.
 #[derive(Drop)]
-struct Untold {
+struct Opaque {
     first: Bound<u8>,
     last: Bound<u8>,
 }
 
-impl RangeBounds<u8> for Untold {
+impl RangeBounds<u8> for Opaque {
     fn start_bound(&self) -> Bound<&u8> {
         self.first.as_ref()
     }

@@ -138,7 +138,7 @@ fn ranges(rt: HostRuntime) {
             | make_ascii_lowercase_in | 0..=0 |   | None        |
             | drain                   | ..    |   |             |
             | drain                   | ..=0  |   | OutOfBounds |
-        # 23 | bounds that a range does not tell
+        # 23 | bounds that no contract knows
         ABCD🤔 | get                   | ~[1..3)       |    | BC          | ABCD🤔
               | drain                 | ~[1..3)       |    | BC          | AD🤔
         ABCD🤔 | replace_range         | ~[1..3)       | x  | ok          | AxD🤔
