@@ -20,8 +20,8 @@ impl<const N: usize> ArrayString<N> {
         is_boundary(self.as_str(), at)
     }
 
-    /// Whether there is room for `ch` after `len` bytes. If there is room for four more, its width
-    /// is not tested.
+    /// Whether there is room for `ch` after `len` bytes. ASCII has a test of its own, which the
+    /// compiler joins with that of `encode`. The width of others is not tested if four more fit.
     ///
     /// # Contract
     ///
@@ -32,6 +32,9 @@ impl<const N: usize> ArrayString<N> {
     #[inline(always)]
     pub(super) fn has_room(len: usize, ch: char) -> bool {
         let capacity = Self::capacity() as usize;
+        if (ch as u32) < 0x80 {
+            return len < capacity;
+        }
         len + 4 <= capacity || len + ch.len_utf8() <= capacity
     }
 
