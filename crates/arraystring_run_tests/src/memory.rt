@@ -11,8 +11,35 @@ use std::process::Abort;
 use std::test::Fail;
 use test_support::memory::{ScarceMemory, TIMES};
 
+/// The example with a bad line before it, which is met once there is memory for the input.
+const BAD_FIRST: &str = "Len\npush_str ABCD🤔\ntry_insert 1 A\ntry_insert_str 2 B\ndrain_back 4 10\n\
+    get 0 9\nremove 9\nas_str\n";
+
+/// The example with a bad line behind it, which is met once there is memory for the commands too.
+const BAD_LAST: &str = "push_str ABCD🤔\ntry_insert 1 A\ntry_insert_str 2 B\ndrain_back 4 10\n\
+    get 0 9\nremove 9\nas_str\nLen\n";
+
+/// Serves a script with a bad line, and returns 1 if memory ran out before that line was met.
+fn served_without_memory(
+    rt: &impl Abort,
+    alloc: Global,
+    errors: &mut Vec<u8>,
+    script: &str,
+    bad: &str,
+) -> u32 {
+    let mut input = script.as_bytes();
+    let mut none = io::sink();
+    let status = serve(alloc, Some("small"), &mut input, &mut none, errors);
+    let wants = status == 3;
+    let reported = if wants { "out of memory\n" } else { bad };
+    agree(rt, "the status", status, if wants { 3 } else { 2 });
+    agree(rt, "the errors", errors.as_slice(), reported.as_bytes());
+    errors.clear();
+    if wants { 1 } else { 0 }
+}
+
 /// With ever more memory, from none up, `serve` reports each growth that is refused, one after the
-/// other; which one it is, `each_refused_growth_is_reported` tells.
+/// other: that of the input, those of the commands, that of the replies. The bad lines tell which.
 #[test]
 fn want_of_memory_is_served(rt: HostRuntime) -> Result<(), Fail> {
     let mut output = Vec::with_capacity(rt.alloc(), 1000)?;
@@ -21,9 +48,15 @@ fn want_of_memory_is_served(rt: HostRuntime) -> Result<(), Fail> {
         return Ok(());
     };
     let mut refused = 0u32;
+    let mut refused_input = 0u32;
+    let mut refused_commands = 0u32;
     let mut status = 3;
     for _ in 0..TIMES {
         scarce.leave_more(rt.alloc())?;
+        let first = served_without_memory(&rt, rt.alloc(), &mut errors, BAD_FIRST, "bad line 1\n");
+        refused_input = refused_input.saturating_add(first);
+        let last = served_without_memory(&rt, rt.alloc(), &mut errors, BAD_LAST, "bad line 8\n");
+        refused_commands = refused_commands.saturating_add(last);
         let mut input = EXAMPLE.as_bytes();
         let word = Some("small");
         status = serve(rt.alloc(), word, &mut input, &mut output, &mut errors);
@@ -36,15 +69,34 @@ fn want_of_memory_is_served(rt: HostRuntime) -> Result<(), Fail> {
         errors.clear();
     }
     drop(scarce);
-    assert!(rt; refused >= 1);
+    assert!(rt;
+        1 <= refused_input && refused_input < refused_commands && refused_commands < refused
+    );
     assert_eq!(rt; status, 0);
     assert_eq!(rt; output.as_slice(), EXAMPLE_OUTPUT.as_bytes());
     assert_eq!(rt; errors.len(), 0);
     Ok(())
 }
 
-/// With ever more memory, from none up, `play` reports each growth that is refused, one after the
-/// other; which one it is, `each_refused_growth_is_reported` tells.
+/// Plays a script with a bad line, and returns 1 if memory ran out before that line was met.
+fn played_without_memory(
+    rt: &impl Abort,
+    alloc: Global,
+    output: &mut Vec<u8>,
+    script: &str,
+    bad: usize,
+) -> u32 {
+    let mut input = script.as_bytes();
+    let played = play::<23, &[u8], Vec<u8>>(alloc, &mut input, output);
+    agree(rt, "the output", output.len(), 0);
+    if played == Err(PlayFault::Memory) {
+        return 1;
+    }
+    agree(rt, "what is returned", played, Err(PlayFault::BadLine(bad)));
+    0
+}
+
+/// The same of `play`.
 #[test]
 fn want_of_memory_is_reported(rt: HostRuntime) -> Result<(), Fail> {
     let mut output = Vec::with_capacity(rt.alloc(), 1000)?;
@@ -52,9 +104,15 @@ fn want_of_memory_is_reported(rt: HostRuntime) -> Result<(), Fail> {
         return Ok(());
     };
     let mut refused = 0u32;
+    let mut refused_input = 0u32;
+    let mut refused_commands = 0u32;
     let mut played = Err(PlayFault::Memory);
     for _ in 0..TIMES {
         scarce.leave_more(rt.alloc())?;
+        let first = played_without_memory(&rt, rt.alloc(), &mut output, BAD_FIRST, 1);
+        refused_input = refused_input.saturating_add(first);
+        let last = played_without_memory(&rt, rt.alloc(), &mut output, BAD_LAST, 8);
+        refused_commands = refused_commands.saturating_add(last);
         let mut input = EXAMPLE.as_bytes();
         played = play::<23, &[u8], Vec<u8>>(rt.alloc(), &mut input, &mut output);
         if played != Err(PlayFault::Memory) {
@@ -64,7 +122,9 @@ fn want_of_memory_is_reported(rt: HostRuntime) -> Result<(), Fail> {
         assert_eq!(rt; output.len(), 0);
     }
     drop(scarce);
-    assert!(rt; refused >= 1);
+    assert!(rt;
+        1 <= refused_input && refused_input < refused_commands && refused_commands < refused
+    );
     assert_eq!(rt; played, Ok(()));
     assert_eq!(rt; output.as_slice(), EXAMPLE_OUTPUT.as_bytes());
     Ok(())
