@@ -125,8 +125,9 @@ fn shows_cached(rt: &(impl Abort + AllocGlobal), text: &str) {
 }
 
 #[test]
-fn texts_of_each_size_are_printed(rt: HostRuntime) {
-    for size in 0..256usize {
+fn texts_of_many_sizes_are_printed(rt: HostRuntime) {
+    for count in 0..52usize {
+        let size = count * 5;
         let text = MANY_LETTERS.get(..size).unwrap_or_default();
         match size {
             0..4 => shows::<3>(&rt, text),
