@@ -18,7 +18,7 @@ fn push_str() {
 fn insert_str() {
     let mut line = ArrayString::<4>::from_str_truncate("abc");
     let cut = line.insert_str(1, "xyz"); // Ok(()), and the text is "axbc"
-    let past = line.insert_str(9, "z"); // Err(OutOfBounds)
+    let past = line.insert_str(9, "z"); // Err(Error::OutOfBounds)
     assert_eq!((cut, past, line.as_str()), (Ok(()), Err(Error::OutOfBounds), "axbc"));
 }
 
@@ -42,7 +42,7 @@ fn get() {
 fn drain() {
     let mut line = ArrayString::<5>::from_str_truncate("abcde");
     let drained = line.drain(1..=2); // Ok of 'b' and 'c', and the text is "ade"
-    let past = line.drain(2..9); // Err(OutOfBounds)
+    let past = line.drain(2..9); // Err(Error::OutOfBounds)
     assert_eq!(drained.map(|drained| drained.collect::<Vec<_>>()), Ok(vec!['b', 'c']));
     assert_eq!((past, line.as_str()), (Err(Error::OutOfBounds), "ade"));
 }
@@ -51,7 +51,7 @@ fn drain() {
 fn replace_range() {
     let mut line = ArrayString::<4>::from_str_truncate("abcd");
     let replaced = line.replace_range(1..3, "é"); // Ok(()), and the text is "aéd"
-    let large = line.replace_range(.., "abcde"); // Err(OutOfBounds)
+    let large = line.replace_range(.., "abcde"); // Err(Error::OutOfBounds)
     assert_eq!((replaced, large, line.as_str()), (Ok(()), Err(Error::OutOfBounds), "aéd"));
 }
 
