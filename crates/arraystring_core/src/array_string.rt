@@ -1,6 +1,12 @@
 //! `ArrayString`: the type, the calls that read it, and those that push to its end or pop from it.
 //! The modules below have its other calls, and `edit` the private ones that put bytes into its
 //! array or take them out.
+//!
+//! # Iterators
+//!
+//! An iterator that is passed in must end, and until it does the precondition of its `next` must
+//! hold. All calls but the unchecked ones stop at the first item that does not fit: their
+//! contracts say that no item after it matters, and a test shows that they take none.
 ghost use Rattle.std.specs.Prelude.{◌≡◌, ◌≢◌, ◌+◌, ◌-◌, ◌^◌, ◌<◌, ◌≤◌, ◌↔◌, min, IfSome, Ok, [], ◌∷◌, ◌++◌, IsTrue, chars, length, nat_eq};
 ghost use Rattle.std.specs.Cmp.{on_equiv, on_per, partial_equiv_from_equiv};
 ghost use Rattle.std.specs.Cmp.Lexicographic.{pointwise, nat_list_eq_equiv};
@@ -33,12 +39,6 @@ mod utf16;
 /// What is put in *fits* if the text with it is not larger than the capacity.
 ///
 /// Contracts name the text, the list of its characters, and no byte of the array.
-///
-/// # Iterators
-///
-/// An iterator that is passed in must end, and until it does the precondition of its `next` must
-/// hold. All calls but the unchecked ones stop at the first item that does not fit: their
-/// contracts say that no item after it matters, and a test shows that they take none.
 ///
 /// # Ranges
 ///

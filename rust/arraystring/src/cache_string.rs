@@ -101,7 +101,7 @@ impl CacheString {
     ///
     /// # Precondition
     ///
-    /// See `ArrayString` for iterators.
+    /// See the module `array_string` for iterators.
     ///
     /// # In Rust
     ///
@@ -130,7 +130,7 @@ impl CacheString {
     ///
     /// # Precondition
     ///
-    /// See `ArrayString` for iterators.
+    /// See the module `array_string` for iterators.
     ///
     /// # In Rust
     ///
@@ -156,7 +156,7 @@ impl CacheString {
     ///
     /// # Precondition
     ///
-    /// All of the pieces must fit. See `ArrayString` for iterators.
+    /// All of the pieces must fit. See the module `array_string` for iterators.
     ///
     /// # Safety
     ///
@@ -186,7 +186,7 @@ impl CacheString {
     ///
     /// # Precondition
     ///
-    /// See `ArrayString` for iterators.
+    /// See the module `array_string` for iterators.
     ///
     /// # In Rust
     ///
@@ -215,7 +215,7 @@ impl CacheString {
     ///
     /// # Precondition
     ///
-    /// See `ArrayString` for iterators.
+    /// See the module `array_string` for iterators.
     ///
     /// # In Rust
     ///
@@ -241,7 +241,7 @@ impl CacheString {
     ///
     /// # Precondition
     ///
-    /// All of the characters must fit. See `ArrayString` for iterators.
+    /// All of the characters must fit. See the module `array_string` for iterators.
     ///
     /// # Safety
     ///

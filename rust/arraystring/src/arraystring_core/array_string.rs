@@ -2,6 +2,12 @@
 //! `ArrayString`: the type, the calls that read it, and those that push to its end or pop from it.
 //! The modules below have its other calls, and `edit` the private ones that put bytes into its
 //! array or take them out.
+//!
+//! # Iterators
+//!
+//! An iterator that is passed in must end, and until it does the precondition of its `next` must
+//! hold. All calls but the unchecked ones stop at the first item that does not fit: their
+//! contracts say that no item after it matters, and a test shows that they take none.
 
 use crate::arraystring_core::equal::equal;
 use crate::arraystring_core::gap::write_by_call;
@@ -28,12 +34,6 @@ mod utf16;
 /// What is put in *fits* if the text with it is not larger than the capacity.
 ///
 /// Contracts name the text, the list of its characters, and no byte of the array.
-///
-/// # Iterators
-///
-/// An iterator that is passed in must end, and until it does the precondition of its `next` must
-/// hold. All calls but the unchecked ones stop at the first item that does not fit: their
-/// contracts say that no item after it matters, and a test shows that they take none.
 ///
 /// # Ranges
 ///

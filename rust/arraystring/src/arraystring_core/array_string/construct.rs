@@ -89,7 +89,7 @@ impl<const N: usize> ArrayString<N> {
     ///
     /// # Precondition
     ///
-    /// See `ArrayString` for iterators.
+    /// See the module `array_string` for iterators.
     ///
     /// # In Rust
     ///
@@ -120,7 +120,7 @@ impl<const N: usize> ArrayString<N> {
     ///
     /// # Precondition
     ///
-    /// See `ArrayString` for iterators.
+    /// See the module `array_string` for iterators.
     ///
     /// # In Rust
     ///
@@ -148,7 +148,7 @@ impl<const N: usize> ArrayString<N> {
     ///
     /// # Precondition
     ///
-    /// All of the pieces must fit. See `ArrayString` for iterators.
+    /// All of the pieces must fit. See the module `array_string` for iterators.
     ///
     /// # Safety
     ///
@@ -183,7 +183,7 @@ impl<const N: usize> ArrayString<N> {
     ///
     /// # Precondition
     ///
-    /// See `ArrayString` for iterators.
+    /// See the module `array_string` for iterators.
     ///
     /// # In Rust
     ///
@@ -214,7 +214,7 @@ impl<const N: usize> ArrayString<N> {
     ///
     /// # Precondition
     ///
-    /// See `ArrayString` for iterators.
+    /// See the module `array_string` for iterators.
     ///
     /// # In Rust
     ///
@@ -242,7 +242,7 @@ impl<const N: usize> ArrayString<N> {
     ///
     /// # Precondition
     ///
-    /// All of the characters must fit. See `ArrayString` for iterators.
+    /// All of the characters must fit. See the module `array_string` for iterators.
     ///
     /// # Safety
     ///

@@ -10,7 +10,7 @@ impl<const N: usize> ArrayString<N> {
     ///
     /// # Precondition
     ///
-    /// See `ArrayString` for iterators.
+    /// See the module `array_string` for iterators.
     ///
     /// # In Rust
     ///
@@ -36,7 +36,7 @@ impl<const N: usize> ArrayString<N> {
     ///
     /// # Precondition
     ///
-    /// See `ArrayString` for iterators.
+    /// See the module `array_string` for iterators.
     ///
     /// # In Rust
     ///
