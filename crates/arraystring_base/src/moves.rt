@@ -6,56 +6,61 @@ ghost use Rattle.std.specs.Prelude.{◌≡◌, ◌+◌, ◌-◌, ◌≤◌, ◌<
 
 use std::simd::Simd;
 
-/// Takes the `len` bytes from `from` on to `to`, overlapping or not. It makes no call, so a function
-/// that makes no other has no register to save.
+/// Moves `len` bytes of the array from the offset `from` to the offset `to`; the two runs may overlap.
+/// No byte outside the target changes, and nothing is counted. Up to 256 bytes cost no call.
+///
+/// # Precondition
+///
+/// Both runs must lie in the array.
 #[inline(always)]
-pub(crate) fn move_run<const N: usize>(array: &mut [u8; N], from: usize, to: usize, len: usize)
+pub fn move_run<const N: usize>(array: &mut [u8; N], from: usize, to: usize, len: usize)
     requires source { from + len ≤ N }
     requires target { to + len ≤ N }
     ensures { array.new ≡ take to array.old ++ (take len (drop from array.old) ++ drop (to + len) array.old) }
 {
-    if len > 4 {
+    if N > 64 && len > 64 {
+        move_much(array, from, to, len);
+    } else if len >= 16 {
         move_long_run(array, from, to, len);
     } else {
         move_short_run(array, from, to, len);
     }
 }
 
-/// The same for at most four bytes.
+/// The same for fewer than 16 bytes.
 #[inline(always)]
 fn move_short_run<const N: usize>(array: &mut [u8; N], from: usize, to: usize, len: usize)
     requires source { from + len ≤ N }
     requires target { to + len ≤ N }
-    requires short { len ≤ 4 }
+    requires short { len < 16 }
     ensures { array.new ≡ take to array.old ++ (take len (drop from array.old) ++ drop (to + len) array.old) }
 {
-    if len >= 2 {
+    if len >= 4 {
+        if len >= 8 {
+            move_ends::<N, 8>(array, from, to, len);
+        } else {
+            move_ends::<N, 4>(array, from, to, len);
+        }
+    } else if len >= 2 {
         move_ends::<N, 2>(array, from, to, len);
     } else if len == 1 {
         move_ends::<N, 1>(array, from, to, len);
     }
 }
 
-/// The same for more than four bytes. What an array of `N` bytes can't have is not tested.
+/// The same for 16 to 64 bytes. What an array of `N` bytes can't have is not tested.
 #[inline(always)]
 fn move_long_run<const N: usize>(array: &mut [u8; N], from: usize, to: usize, len: usize)
     requires source { from + len ≤ N }
     requires target { to + len ≤ N }
-    requires long { 4 < len }
+    requires least { 16 ≤ len }
+    requires most { len ≤ 64 }
     ensures { array.new ≡ take to array.old ++ (take len (drop from array.old) ++ drop (to + len) array.old) }
 {
-    if len > 16 {
-        if N > 64 && len > 64 {
-            move_much(array, from, to, len);
-        } else if N > 32 && len > 32 {
-            move_ends::<N, 32>(array, from, to, len);
-        } else {
-            move_ends::<N, 16>(array, from, to, len);
-        }
-    } else if len > 8 {
-        move_ends::<N, 8>(array, from, to, len);
+    if N > 32 && len > 32 {
+        move_ends::<N, 32>(array, from, to, len);
     } else {
-        move_ends::<N, 4>(array, from, to, len);
+        move_ends::<N, 16>(array, from, to, len);
     }
 }
 
@@ -133,7 +138,7 @@ fn move_pairs<const N: usize, const K: usize>(
 }
 
 /// Writes `given` over the bytes of the array from the offset `at` on. No other byte changes. Up to
-/// 16 bytes cost no call, so that a function that makes no other has no register to save.
+/// 64 bytes cost no call.
 ///
 /// # Precondition
 ///
@@ -143,19 +148,59 @@ pub fn write_over<const N: usize>(array: &mut [u8; N], at: usize, given: &[u8])
     requires { at + length given.now ≤ N }
     ensures { array.new ≡ take at array.old ++ (given.now ++ drop (at + length given.now) array.old) }
 {
+    if given.len() >= 16 {
+        write_long_run(array, at, given);
+    } else {
+        write_short_run(array, at, given);
+    }
+}
+
+/// The same for fewer than 16 bytes.
+#[inline(always)]
+fn write_short_run<const N: usize>(array: &mut [u8; N], at: usize, given: &[u8])
+    requires room { at + length given.now ≤ N }
+    requires short { length given.now < 16 }
+    ensures { array.new ≡ take at array.old ++ (given.now ++ drop (at + length given.now) array.old) }
+{
     let len = given.len();
-    if len > 16 {
-        let all = &mut array[..];
-        all[at..at + len].copy_from_slice(given);
-    } else if len >= 8 {
-        copy_ends::<N, 8>(array, at, given);
-    } else if len >= 4 {
-        copy_ends::<N, 4>(array, at, given);
+    if len >= 4 {
+        if len >= 8 {
+            copy_ends::<N, 8>(array, at, given);
+        } else {
+            copy_ends::<N, 4>(array, at, given);
+        }
     } else if len >= 2 {
         copy_ends::<N, 2>(array, at, given);
     } else if len == 1 {
         copy_ends::<N, 1>(array, at, given);
     }
+}
+
+/// The same for at least 16 bytes. What an array of `N` bytes can't have is not tested.
+#[inline(always)]
+fn write_long_run<const N: usize>(array: &mut [u8; N], at: usize, given: &[u8])
+    requires room { at + length given.now ≤ N }
+    requires least { 16 ≤ length given.now }
+    ensures { array.new ≡ take at array.old ++ (given.now ++ drop (at + length given.now) array.old) }
+{
+    let len = given.len();
+    if N > 64 && len > 64 {
+        write_any_run(array, at, given);
+    } else if N > 32 && len > 32 {
+        copy_ends::<N, 32>(array, at, given);
+    } else {
+        copy_ends::<N, 16>(array, at, given);
+    }
+}
+
+/// The same for any number of bytes, as a call: a copy takes much code where it is inlined.
+#[inline(never)]
+fn write_any_run<const N: usize>(array: &mut [u8; N], at: usize, given: &[u8])
+    requires { at + length given.now ≤ N }
+    ensures { array.new ≡ take at array.old ++ (given.now ++ drop (at + length given.now) array.old) }
+{
+    let all = &mut array[..];
+    all[at..at + given.len()].copy_from_slice(given);
 }
 
 /// The same for `K` to `2 * K` bytes.

@@ -3,8 +3,7 @@ ghost use Rattle.std.specs.Prelude.{◌≡◌, ◌+◌, ◌-◌, ◌^◌, ◌==�
 ghost use Rattle.arraystring_base.specs.Text.{bytes, cut, utf8, width, size, boundary};
 
 use crate::error::OutOfBounds;
-use crate::moves::move_run;
-pub use crate::moves::write_over;
+pub use crate::moves::{move_run, write_over};
 pub use crate::steps::{Steps, look};
 use std::char;
 

@@ -149,6 +149,33 @@ module _ (array_size : ℕ) (array : List ℕ) (p n : ℕ) (is : IsStored array_
         ∙ ap (λ l. v.text ++ (chars given ++ l)) (back-end v.text) ∙ ap (λ l. v.text ++ l) (append-nil (chars given));
   }
 
+-- the text was moved to offset 0, and `given` was written after it
+module _ (array_size : ℕ) (array : List ℕ) (p n : ℕ) (is : IsStored array_size array p n) (v : Stored) (e : stored array p n ≡ v)
+    (given : List ℕ) (u : IsUtf8 given) (room : n + length given ≤ cap array_size) (compact after : List ℕ)
+    (moved : compact ≡ take 0 array ++ (take n (drop p array) ++ drop (0 + n) array))
+    (written : after ≡ take n compact ++ (given ++ drop (n + length given) compact)) where
+  compact-source : p + n ≤ length array
+  compact-source = omega (arith, is.0, is.1)
+
+  compact-target : 0 + n ≤ length array
+  compact-target = omega (arith, is.0, is.1)
+
+  compact-bytes : take n (drop 0 compact) ≡ take n (drop p array)
+  compact-bytes = shift-moved array compact p 0 n compact-source compact-target moved
+
+  compact-stored : IsStored array_size compact 0 n
+  compact-stored = (
+    omega (arith, is.0),
+    shift-length array compact p 0 n compact-source compact-target moved ∙ is.1,
+    ∣ rw compact-bytes (stored-utf8 array_size array p n is) ∣₁,
+  )
+
+  pub appended_at_start : Lies array_size after 0 (n + length given) (v.text ++ chars given)
+  appended_at_start =
+      let text : (stored compact 0 n).text ≡ v.text = ap chars compact-bytes ∙ ap (λ w. w.text) e in
+      rw text at
+      (appended array_size compact 0 n compact-stored (stored compact 0 n) refl given u (omega (arith, room)) after (written-from-zero compact after given n written))
+
 -- the bytes from the boundary `end` on were moved to the boundary `start`
 module _ (array_size : ℕ) (array : List ℕ) (p n : ℕ) (is : IsStored array_size array p n) (v : Stored) (e : stored array p n ≡ v)
     (start end : ℕ) (order : start ≤ end) (b : boundary v.text start ≡ true) (d : boundary v.text end ≡ true) (after : List ℕ)

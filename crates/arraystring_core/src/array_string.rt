@@ -14,9 +14,8 @@ ghost use Rattle.arraystring_base.specs.Text.{size, width, bytes, cap, front, ba
 ghost use Rattle.arraystring_core.specs.Edits.{Makes, from_out_of_bounds, addition, addition_of_cut, popping};
 
 use crate::equal::equal;
-use crate::gap::write_by_call;
 use arraystring_base::error::OutOfBounds;
-use arraystring_base::utils::{Steps, encode, last_char, truncate_str};
+use arraystring_base::utils::{Steps, encode, last_char, truncate_str, write_over};
 use std::marker::Model;
 use std::{fmt, str};
 
@@ -226,7 +225,7 @@ impl<const N: usize> ArrayString<N> {
             return self.compact_and_push_str(string);
         }
         self.size = (self.size as usize + string.len()) as u8;
-        write_by_call(&mut self.array, end, string.as_bytes());
+        write_over(&mut self.array, end, string.as_bytes());
     }
 
     /// Removes the last character and returns it. Returns `None` if the text is empty.

@@ -1,8 +1,8 @@
-//! Gaps in an array, into which a text is put, and what is written into them.
+//! Gaps in an array, into which a text is put, and how a new array is filled.
 ghost use Rattle.std.specs.Prelude.{◌≡◌, ◌≢◌, ◌+◌, ◌-◌, ◌^◌, ◌≤◌, ◌++◌, min, length, take, drop};
 ghost use Rattle.arraystring_base.specs.Text.{cap};
 
-use arraystring_base::utils::{Steps, shift};
+use arraystring_base::utils::{Steps, shift, write_over};
 
 /// Where a text lies in its array: the `size` bytes from the offset `offset` on.
 #[derive(Clone, Copy)]
@@ -73,9 +73,22 @@ pub(crate) fn compact_and_open_gap<const N: usize>(
     shift(array, text.offset + end, start + len, tail, steps);
 }
 
-/// Writes `given` over the bytes from `at` on, by one call whatever its length. It is for texts
-/// that may be long and for functions that make a call anyway; `write_over` is for those that make
-/// no other, and takes more code at each call site.
+/// Writes `given` at the start of a new array. In a large one it is written by one call whatever its
+/// length, and the compiler then makes fewer copies of the array on its way out.
+#[inline(always)]
+pub(crate) fn fill<const N: usize>(array: &mut [u8; N], given: &[u8])
+    requires { length given.now ≤ N }
+    ensures { array.new ≡ take 0 array.old ++ (given.now ++ drop (0 + length given.now) array.old) }
+{
+    if N > 64 {
+        write_by_call(array, 0, given);
+    } else {
+        write_over(array, 0, given);
+    }
+}
+
+/// Writes `given` over the bytes from `at` on, as `write_over` does, by one call whatever its length.
+#[inline(always)]
 pub(crate) fn write_by_call<const N: usize>(array: &mut [u8; N], at: usize, given: &[u8])
     requires { at + length given.now ≤ N }
     ensures { array.new ≡ take at array.old ++ (given.now ++ drop (at + length given.now) array.old) }

@@ -1,4 +1,6 @@
 //! The calls of `utils`, on values worked out by hand.
+ghost use Rattle.std.specs.Prelude.{◌≤◌};
+
 use super::table::{agree, number};
 use arraystring::ArrayString;
 use arraystring::error::{OutOfBounds, Utf8};
@@ -6,7 +8,8 @@ use arraystring::utils::{
     Steps, encode, is_boundary, is_char_boundary, is_inside_boundary, look, shift, truncate_str,
     truncate_str_counted,
 };
-use arraystring_base::utils::{last_char, write_over};
+use arraystring_base::utils::{last_char, move_run, write_over};
+use std::process::Abort;
 use test_support::table::{column, rows};
 
 #[test]
@@ -131,4 +134,41 @@ fn bytes_are_written_over(rt: HostRuntime) {
         }
         agree(&rt, row, array.as_slice(), row.as_bytes());
     }
+}
+
+/// Writes letters of each size over dots, from offset 1 on, and then moves them to offset 0.
+fn write_and_move_each_size<const N: usize>(rt: &impl Abort)
+    requires { N ≤ 300 }
+{
+    let mut alphabet = [b'a'; N];
+    for (at, letter) in alphabet.iter_mut().enumerate() {
+        *letter = b'a' + (at % 26) as u8;
+    }
+    let letters = &alphabet[..];
+    for len in 0..N {
+        let given = &letters[..len];
+        let mut array = [b'.'; N];
+        write_over(&mut array, 1, given);
+        let all = &array[..];
+        agree(rt, "before", all[0], b'.');
+        agree(rt, "written", &all[1..1 + len], given);
+        agree(rt, "after", are_dots(&all[1 + len..]), true);
+        move_run(&mut array, 1, 0, len);
+        let all = &array[..];
+        agree(rt, "moved", &all[..len], given);
+        agree(rt, "still after", are_dots(&all[1 + len..]), true);
+    }
+}
+
+fn are_dots(bytes: &[u8]) -> bool {
+    bytes.iter().all(|byte| *byte == b'.')
+}
+
+#[test]
+fn each_size_is_written_and_moved(rt: HostRuntime) {
+    write_and_move_each_size::<24>(&rt);
+    write_and_move_each_size::<64>(&rt);
+    write_and_move_each_size::<65>(&rt);
+    write_and_move_each_size::<256>(&rt);
+    write_and_move_each_size::<300>(&rt);
 }

@@ -74,6 +74,7 @@ pub const FATES: &[(&str, Fate)] = &[
     ("CacheString::from_utf8_unchecked", Unsafe(MUST_BE_TEXT)),
     ("utils::encode", Unsafe(MUST_LIE_IN_ARRAY)),
     ("moves::write_over", Unsafe(MUST_LIE_IN_ARRAY)),
+    ("moves::move_run", Unsafe("Both runs must lie in the array.")),
     ("utils::shift", Unsafe("Both runs must lie in the array.")),
     ("steps::look", Panics("Where the index is not below the length.", None)),
     ("ArrayString::slice", Panics(LIKE_STR, None)),

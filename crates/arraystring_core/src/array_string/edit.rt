@@ -5,9 +5,9 @@ ghost use Rattle.arraystring_base.specs.Text.{size, width, cap, front, back, bou
 ghost use Rattle.arraystring_core.specs.Edits.{Makes, from_out_of_bounds, addition};
 
 use crate::ArrayString;
-use crate::gap::{Span, compact_and_open_gap, open_gap, write_by_call};
+use crate::gap::{Span, compact_and_open_gap, open_gap};
 use arraystring_base::error::OutOfBounds;
-use arraystring_base::utils::{Steps, encode, is_boundary, shift, write_over};
+use arraystring_base::utils::{Steps, encode, is_boundary, move_run, shift, write_over};
 
 impl<const N: usize> ArrayString<N> {
     /// Whether a character begins at `at`, or the text ends there.
@@ -36,9 +36,7 @@ impl<const N: usize> ArrayString<N> {
     pub(super) fn try_push_near_end(&mut self, ch: char) -> Result<(), OutOfBounds>
         ensures { Makes (addition self.old.text (ch ∷ []) (cap N)) self.old.text (from_out_of_bounds result) self.new.text }
     {
-        let len = ch.len_utf8();
-        let size = self.len() as usize;
-        if size + len > Self::capacity() as usize {
+        if !Self::has_room(self.size as usize, ch) {
             return Err(OutOfBounds);
         }
         self.compact_and_push(ch);
@@ -52,8 +50,11 @@ impl<const N: usize> ArrayString<N> {
         requires { size self.old.text + width ch ≤ cap N }
         ensures { self.new.text ≡ self.old.text ++ ch ∷ [] }
     {
-        let len = self.len() as usize;
-        self.compact_and_put_char(len, ch);
+        let (start, size) = (self.start as usize, self.size as usize);
+        self.start = 0;
+        move_run(&mut self.array, start, 0, size);
+        let len = encode(ch, &mut self.array, size);
+        self.size = (size + len) as u8;
     }
 
     /// Adds `string` at the end of a text that has to move to the start of the array for it.
@@ -125,7 +126,7 @@ impl<const N: usize> ArrayString<N> {
         self.start = 0;
         self.size = (start + (len + (text.size - end))) as u8;
         compact_and_open_gap(&mut self.array, text, start, end, len, steps);
-        write_by_call(&mut self.array, start, given.as_bytes());
+        write_over(&mut self.array, start, given.as_bytes());
     }
 
     /// Puts `ch` at a boundary. There must be room for it.
@@ -148,20 +149,10 @@ impl<const N: usize> ArrayString<N> {
         encode(ch, &mut self.array, text.offset + at);
     }
 
-    /// The same for a text that has to move to the start of the array for it, as a call.
+    /// The same for a text that has to move to the start of the array for it.
     #[cold]
     #[inline(never)]
     pub(super) fn compact_and_insert(&mut self, at: usize, ch: char)
-        requires boundary { IsTrue (boundary self.old.text at) }
-        requires room { size self.old.text + width ch ≤ cap N }
-        ensures { self.new.text ≡ front self.old.text at ++ (ch ∷ back self.old.text at) }
-    {
-        self.compact_and_put_char(at, ch);
-    }
-
-    /// The same without a call.
-    #[inline(always)]
-    pub(super) fn compact_and_put_char(&mut self, at: usize, ch: char)
         requires boundary { IsTrue (boundary self.old.text at) }
         requires room { size self.old.text + width ch ≤ cap N }
         ensures { self.new.text ≡ front self.old.text at ++ (ch ∷ back self.old.text at) }

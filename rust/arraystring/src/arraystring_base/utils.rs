@@ -2,8 +2,7 @@
 //! Boundaries, cuts and moves of bytes. Sizes and indices count bytes of UTF-8.
 
 use crate::arraystring_base::error::OutOfBounds;
-use crate::arraystring_base::moves::move_run;
-pub use crate::arraystring_base::moves::write_over;
+pub use crate::arraystring_base::moves::{move_run, write_over};
 pub use crate::arraystring_base::steps::{Steps, look};
 use core::char;
 
@@ -193,7 +192,8 @@ pub unsafe fn shift<const N: usize>(
     steps: &mut Steps,
 ) {
     if from != to {
-        move_run(array, from, to, len);
+        // SAFETY: the proof of this body shows what `move_run` requires.
+        unsafe { move_run(array, from, to, len) };
         steps.count_moves(len);
     }
 }

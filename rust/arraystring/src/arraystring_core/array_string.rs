@@ -10,9 +10,8 @@
 //! contracts say that no item after it matters, and a test shows that they take none.
 
 use crate::arraystring_core::equal::equal;
-use crate::arraystring_core::gap::write_by_call;
 use crate::arraystring_base::error::OutOfBounds;
-use crate::arraystring_base::utils::{Steps, encode, last_char, truncate_str};
+use crate::arraystring_base::utils::{Steps, encode, last_char, truncate_str, write_over};
 use core::{fmt, str};
 
 mod ascii;
@@ -276,7 +275,8 @@ impl<const N: usize> ArrayString<N> {
             return self.compact_and_push_str(string);
         }
         self.size = (self.size as usize + string.len()) as u8;
-        write_by_call(&mut self.array, end, string.as_bytes());
+        // SAFETY: the proof of this body shows what `write_over` requires.
+        unsafe { write_over(&mut self.array, end, string.as_bytes()) };
     }
 
     /// Removes the last character and returns it. Returns `None` if the text is empty.

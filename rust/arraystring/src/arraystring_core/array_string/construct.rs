@@ -2,7 +2,7 @@
 //! The constructors: from a `&str`, from pieces, from characters and from bytes of UTF-8.
 
 use super::ArrayString;
-use crate::arraystring_core::gap::write_by_call;
+use crate::arraystring_core::gap::{fill, write_by_call};
 use crate::arraystring_core::well_formed::read_utf8;
 use crate::arraystring_base::error::{Error, OutOfBounds, Utf8};
 use crate::arraystring_base::utils::truncate_str;
@@ -73,7 +73,7 @@ impl<const N: usize> ArrayString<N> {
     pub unsafe fn from_str_unchecked<S: AsRef<str>>(string: S) -> Self {
         let string = string.as_ref();
         let mut array = [0; N];
-        write_by_call(&mut array, 0, string.as_bytes());
+        fill(&mut array, string.as_bytes());
         ArrayString {
             array,
             start: 0,

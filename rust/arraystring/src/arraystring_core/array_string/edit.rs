@@ -3,9 +3,9 @@
 //! something out, or move the text to the start of the array for it.
 
 use crate::arraystring_core::ArrayString;
-use crate::arraystring_core::gap::{Span, compact_and_open_gap, open_gap, write_by_call};
+use crate::arraystring_core::gap::{Span, compact_and_open_gap, open_gap};
 use crate::arraystring_base::error::OutOfBounds;
-use crate::arraystring_base::utils::{Steps, encode, is_boundary, shift, write_over};
+use crate::arraystring_base::utils::{Steps, encode, is_boundary, move_run, shift, write_over};
 
 impl<const N: usize> ArrayString<N> {
     /// Whether a character begins at `at`, or the text ends there.
@@ -47,9 +47,7 @@ impl<const N: usize> ArrayString<N> {
     /// ```
     #[inline(always)]
     pub(super) fn try_push_near_end(&mut self, ch: char) -> Result<(), OutOfBounds> {
-        let len = ch.len_utf8();
-        let size = self.len() as usize;
-        if size + len > Self::capacity() as usize {
+        if !Self::has_room(self.size as usize, ch) {
             return Err(OutOfBounds);
         }
         self.compact_and_push(ch);
@@ -67,8 +65,13 @@ impl<const N: usize> ArrayString<N> {
     #[cold]
     #[inline(never)]
     pub(super) fn compact_and_push(&mut self, ch: char) {
-        let len = self.len() as usize;
-        self.compact_and_put_char(len, ch);
+        let (start, size) = (self.start as usize, self.size as usize);
+        self.start = 0;
+        // SAFETY: the proof of this body shows what `move_run` requires.
+        unsafe { move_run(&mut self.array, start, 0, size) };
+        // SAFETY: the proof of this body shows what `encode` requires.
+        let len = unsafe { encode(ch, &mut self.array, size) };
+        self.size = (size + len) as u8;
     }
 
     /// Adds `string` at the end of a text that has to move to the start of the array for it.
@@ -153,7 +156,8 @@ impl<const N: usize> ArrayString<N> {
         self.start = 0;
         self.size = (start + (len + (text.size - end))) as u8;
         compact_and_open_gap(&mut self.array, text, start, end, len, steps);
-        write_by_call(&mut self.array, start, given.as_bytes());
+        // SAFETY: the proof of this body shows what `write_over` requires.
+        unsafe { write_over(&mut self.array, start, given.as_bytes()) };
     }
 
     /// Puts `ch` at a boundary. There must be room for it.
@@ -181,7 +185,7 @@ impl<const N: usize> ArrayString<N> {
         unsafe { encode(ch, &mut self.array, text.offset + at) };
     }
 
-    /// The same for a text that has to move to the start of the array for it, as a call.
+    /// The same for a text that has to move to the start of the array for it.
     ///
     /// # Contract
     ///
@@ -193,20 +197,6 @@ impl<const N: usize> ArrayString<N> {
     #[cold]
     #[inline(never)]
     pub(super) fn compact_and_insert(&mut self, at: usize, ch: char) {
-        self.compact_and_put_char(at, ch);
-    }
-
-    /// The same without a call.
-    ///
-    /// # Contract
-    ///
-    /// ```text
-    /// requires boundary { IsTrue (boundary self.old.text at) }
-    /// requires room { size self.old.text + width ch ≤ cap N }
-    /// ensures { self.new.text ≡ front self.old.text at ++ (ch ∷ back self.old.text at) }
-    /// ```
-    #[inline(always)]
-    pub(super) fn compact_and_put_char(&mut self, at: usize, ch: char) {
         let text = Span {
             offset: self.start as usize,
             size: self.size as usize,

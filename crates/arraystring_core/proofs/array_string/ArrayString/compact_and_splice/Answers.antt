@@ -34,23 +34,23 @@ overflow_cast-self g c =
     let room = replaced-room g.row.N _ _ _ c.self.invariant _ c.self.view_is _ _ c.args.given.now c.requires.order c.requires.start c.requires.end fits in
     omega (arith, room)
 
-pub write_by_call-requires : goal.write_by_call-requires
-write_by_call-requires g c =
+pub write_over-requires : goal.write_over-requires
+write_over-requires g c =
     let long = size-borrowed c.utf8.given in
     let fits : size c.args.self.now.text - (c.args.end - c.args.start) + length c.args.given.now ≤ cap g.row.N = omega (arith, c.requires.room, long) in
     let room = replaced-room g.row.N _ _ _ c.self.invariant _ c.self.view_is _ _ c.args.given.now c.requires.order c.requires.start c.requires.end fits in
     rw c.as_bytes.ensures.value (search rules, omega (arith, room))
 
 -- what is then in the array
-written : (g : given.Over) (c : goal.After-write_by_call g)
-    → Lies g.row.N c.write_by_call.new.array 0 (c.args.start + (length c.args.given.now + (c.self.inside.size - c.args.end)))
+written : (g : given.Over) (c : goal.After-write_over g)
+    → Lies g.row.N c.write_over.new.array 0 (c.args.start + (length c.args.given.now + (c.self.inside.size - c.args.end)))
     (front c.args.self.now.text c.args.start ++ (chars c.args.given.now ++ back c.args.self.now.text c.args.end))
 written g c =
     let given = c.args.given.now in
     let gap = c.compact_and_open_gap in
     let fits : size c.args.self.now.text - (c.args.end - c.args.start) + length given ≤ cap g.row.N = omega (arith, c.requires.room, size-borrowed c.utf8.given) in
     moved_to_start g.row.N _ _ _ c.self.invariant _ c.self.view_is _ _ given c.requires.order c.requires.start c.requires.end fits c.utf8.given
-    gap.new.array c.write_by_call.new.array gap.ensures.len gap.ensures.front gap.ensures.tail (rw c.as_bytes.ensures.value at c.write_by_call.ensures)
+    gap.new.array c.write_over.new.array gap.ensures.len gap.ensures.front gap.ensures.tail (rw c.as_bytes.ensures.value at c.write_over.ensures)
 
 pub invariant_of-self : goal.invariant_of-self
 invariant_of-self g c = (written g c).held

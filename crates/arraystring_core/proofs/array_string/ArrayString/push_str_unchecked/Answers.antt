@@ -5,12 +5,12 @@ use Rattle.arraystring_core.proofs.array_string.ArrayString.push_str_unchecked.G
 use Rattle.arraystring_core.proofs.array_string.ArrayString.push_str_unchecked.Goals as goal
 
 -- what is then in the array
-written : (g : given.Over) (c : goal.After-write_by_call g)
-    → Lies g.row.N c.write_by_call.new.array c.self.inside.start (c.self.inside.size + length c.args.string.now) (c.args.self.now.text ++ chars c.args.string.now)
+written : (g : given.Over) (c : goal.After-write_over g)
+    → Lies g.row.N c.write_over.new.array c.self.inside.start (c.self.inside.size + length c.args.string.now) (c.args.self.now.text ++ chars c.args.string.now)
 written g c =
     let s = c.self.inside in
     let room : s.start + s.size + length c.args.string.now ≤ cap g.row.N = omega (arith, c.if-end-string.false, c.capacity.ensures) in
-    let copied = rw c.as_bytes.ensures.value at c.write_by_call.ensures in
+    let copied = rw c.as_bytes.ensures.value at c.write_over.ensures in
     appended g.row.N _ _ _ c.self.invariant _ c.self.view_is c.args.string.now c.utf8.string room _ copied
 
 pub invariant_of-self : goal.invariant_of-self

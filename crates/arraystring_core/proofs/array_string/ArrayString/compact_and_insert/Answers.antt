@@ -6,8 +6,8 @@ use Rattle.arraystring_base.proofs.TextLaws.{chars-bytes, utf8-is, width-is, len
 use Rattle.arraystring_base.proofs.BoundaryLaws.{boundary-within}
 use Rattle.arraystring_core.proofs.StoredLaws.{opened-size}
 use Rattle.arraystring_core.proofs.SpanLemmas.{Lies, moved_to_start}
-use Rattle.arraystring_core.proofs.array_string.ArrayString.compact_and_put_char.Given as given
-use Rattle.arraystring_core.proofs.array_string.ArrayString.compact_and_put_char.Goals as goal
+use Rattle.arraystring_core.proofs.array_string.ArrayString.compact_and_insert.Given as given
+use Rattle.arraystring_core.proofs.array_string.ArrayString.compact_and_insert.Goals as goal
 
 pub compact_and_open_gap-requires : goal.compact_and_open_gap-requires
 compact_and_open_gap-requires g c =
