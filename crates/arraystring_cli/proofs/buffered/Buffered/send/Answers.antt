@@ -1,4 +1,4 @@
-use Rattle.std.proofs.Common.{◌≡◌, take, drop, subst, sym, ap, arith}
+use Rattle.std.proofs.Common.{◌≡◌, ℕ, List, take, drop, subst, sym, ap, arith}
 use Rattle.std.specs.Io.KnownBytes.{Keeps, Appends, append_known}
 use Rattle.arraystring_cli.proofs.BufferLemmas.{keeps-on, keeps-sent, keeps-waiting}
 use Rattle.arraystring_cli.proofs.buffered.Buffered.send.Goals as goal
@@ -28,7 +28,7 @@ loop-preserved g c =
       | in-Ok w ↦
           let count = w.in-Ok.count in
           let taken = subst (λ l. Appends old new (take count l)) c.deref.ensures.value w.in-Ok.ensures.bytes in
-          let sent = subst (λ l. Keeps (append_known old items) (append_known new l)) (sym w.drop_front.ensures) (keeps-sent old new items count taken) in
+          let sent = subst (λ l. Keeps (append_known old items) (append_known new l)) (sym {A = List ℕ} w.drop_front.ensures) (keeps-sent old new items count taken) in
           rw w.self-is (keeps-on first (append_known old items) (append_known new w.drop_front.new.bytes.items) c.loop.invariant sent)
       | in-Err+else-ne w ↦
           rw w.self-is (keeps-on first (append_known old items) (append_known new items) c.loop.invariant (keeps-waiting old new items w.in-Err.ensures.bytes))
