@@ -2,7 +2,7 @@
 use Rattle.std.proofs.Common.{◌≡◌, ◌≢◌, ℕ, min, Less, Equal, Greater, ◌+◌, ◌-◌, ◌/◌, ◌%◌, ◌^◌, ◌<◌, ◌≤◌, ◌++◌, Bool, true, false, not, cond, eqb, eqb-true, List, [], ◌∷◌, suc, zero, map, length, take, drop, get_or, take_all, length-take-le, length-drop, refl, sym, ap, ◌∙◌, arith, inl, inr, w8, w64, take-take}
 use Rattle.std.proofs.Math.Seq.{take-add}
 use Rattle.std.proofs.lemmas.Bool.{eq-eqb, cases_lt, both_ways}
-use Rattle.std.proofs.lemmas.List.{get_or-take, get_or-drop}
+use Rattle.std.proofs.lemmas.List.{get_or-take, get_or-drop, drop-take}
 use Rattle.std.proofs.lemmas.Simd.{tops_compared, mask_l-mod, bit_mask_l, length-zip2}
 use Rattle.std.proofs.lemmas.Nat.Bits.{bit_at-trailing_zeros}
 use Rattle.std.proofs.lemmas.Cmp.{nat_cmp_total, tied_itself}
@@ -95,6 +95,24 @@ first_bit xs ys m long is some small =
     first_apart xs ys i long (one-is (get_or lanes i false) (sym (bit i) ∙ lowest.1))
     (λ j lt. none-is (get_or lanes j false) (sym (bit j) ∙ lowest.2 j lt))
 
+pub shorter_same : (n m : ℕ) (a b : List ℕ) → n ≤ m → take m a ≡ take m b → take n a ≡ take n b
+shorter_same n m a b le same = sym (take-take n m a le) ∙ ap (take n) same ∙ take-take n m b le
+
+-- a front and the K bytes after it, if both are the same
+pub longer_same : (K : ℕ) (a b : List ℕ) (at : ℕ) → take at a ≡ take at b
+    → take (at + K - at) (drop at a) ≡ take (at + K - at) (drop at b) → take (at + K) a ≡ take (at + K) b
+longer_same K a b at before same =
+    let wide : at + K - at ≡ K = omega arith in
+    take-add at K a ∙ ap (λ l. l ++ take K (drop at a)) before
+    ∙ ap (λ l. take at b ++ l) (rw wide at same) ∙ sym (take-add at K b)
+
+-- and the other way
+pub block_of : (K : ℕ) (a b : List ℕ) (at : ℕ) → take (at + K) a ≡ take (at + K) b
+    → take (at + K - at) (drop at a) ≡ take (at + K - at) (drop at b)
+block_of K a b at same =
+    let wide : at + K - at ≡ K = omega arith in
+    rw wide (sym (drop-take at K a) ∙ ap (drop at) same ∙ drop-take at K b)
+
 -- the K bytes of both lists from `at` on, as their vectors are compared
 module _ (K : ℕ) (few : K ≤ 64) (a b : List ℕ) (at : ℕ) (in_a : at + K ≤ length a) (in_b : at + K ≤ length b) (before : take at a ≡ take at b) where
   abbrev block : List ℕ → List ℕ
@@ -124,9 +142,7 @@ module _ (K : ℕ) (few : K ≤ 64) (a b : List ℕ) (at : ℕ) (in_a : at + K �
   -- none is apart
   pub block_same : mask ≡ 0 → take (at + K) a ≡ take (at + K) b
   block_same e =
-      let same : block a ≡ block b = none_apart (block a) (block b) long (sym mask-is ∙ e) in
-      take-add at K a ∙ ap (λ l. l ++ take K (drop at a)) before
-      ∙ ap (λ l. take at b ++ l) (sym (block-is a) ∙ same ∙ block-is b) ∙ sym (take-add at K b)
+      longer_same K a b at before (none_apart (block a) (block b) long (sym mask-is ∙ e))
 
   -- the first that is apart decides
   abbrev first : ℕ
@@ -151,12 +167,23 @@ module _ (K : ℕ) (few : K ≤ 64) (a b : List ℕ) (at : ℕ) (in_a : at + K �
     pub first-in_b : at + first < length b
     first-in_b = omega (arith, within)
 
-    pub block_decides : slice_cmp nat_cmp a b ≡ nat_cmp (get_or a (at + first) 0) (get_or b (at + first) 0)
+    apart_there : get_or a (at + first) 0 ≢ get_or b (at + first) 0
+    apart_there e = found.2 (read a ∙ e ∙ sym (read b))
+
+    block_decides : slice_cmp nat_cmp a b ≡ nat_cmp (get_or a (at + first) 0) (get_or b (at + first) 0)
     block_decides =
         let same : take (at + first) a ≡ take (at + first) b =
         take-add at first a ∙ ap (λ l. l ++ take first (drop at a)) before
         ∙ ap (λ l. take at b ++ l) (sym (taken a) ∙ found.1 ∙ taken b) ∙ sym (take-add at first b) in
-        first_decides a b (at + first) first-in_a first-in_b same (λ e. found.2 (read a ∙ e ∙ sym (read b)))
+        first_decides a b (at + first) first-in_a first-in_b same apart_there
+
+    pub block_less : get_or a (at + first) 0 < get_or b (at + first) 0 → Less ≡ slice_cmp nat_cmp a b
+    block_less less = nat_cmp_is _ _ Less less ∙ sym block_decides
+
+    pub block_greater : get_or b (at + first) 0 ≤ get_or a (at + first) 0 → Greater ≡ slice_cmp nat_cmp a b
+    block_greater past =
+        let more : get_or b (at + first) 0 < get_or a (at + first) 0 = omega (arith, apart_there) in
+        nat_cmp_is _ _ Greater more ∙ sym block_decides
 
 -- one list begins the other
 pub prefix_decides : (a b : List ℕ) (n : ℕ) → n ≡ min (length a) (length b) → take n a ≡ take n b

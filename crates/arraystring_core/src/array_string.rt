@@ -117,10 +117,10 @@ impl<const N: usize> ArrayString<N> {
         ensures text { IsText self.now.text }
         ensures fits { size self.now.text ≤ cap N }
     {
-        let start = self.start as usize;
+        let (size, start) = (self.size as usize, self.start as usize);
         let all = &self.array[..];
         // SAFETY: the type's `invariant`: the `size` bytes from `start` on are UTF-8.
-        unsafe { str::from_utf8_unchecked(&all[start..start + self.size as usize]) }
+        unsafe { str::from_utf8_unchecked(&all[start..start + size]) }
     }
 
     /// Returns the bytes of the text, borrowed without a copy. There are as many as `len` returns.

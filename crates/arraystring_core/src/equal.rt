@@ -75,7 +75,7 @@ fn equal_by_two<const K: usize>(a: &[u8], b: &[u8]) -> bool
 
 /// The same for `K` bytes.
 #[inline(always)]
-fn equal_block<const K: usize>(a: &[u8], b: &[u8]) -> bool
+pub(crate) fn equal_block<const K: usize>(a: &[u8], b: &[u8]) -> bool
     requires lanes { K ≤ 64 }
     requires one { length a.now ≡ K }
     requires other { length b.now ≡ K }

@@ -1,5 +1,5 @@
 //! Gaps in an array, into which a text is put, and how a new array is filled.
-ghost use Rattle.std.specs.Prelude.{◌≡◌, ◌≢◌, ◌+◌, ◌-◌, ◌^◌, ◌≤◌, ◌++◌, min, length, take, drop};
+ghost use Rattle.std.specs.Prelude.{◌≡◌, ◌≢◌, ◌+◌, ◌-◌, ◌^◌, ◌<◌, ◌≤◌, ◌++◌, min, length, take, drop, MatchBool};
 ghost use Rattle.arraystring_base.specs.Text.{cap};
 
 use arraystring_base::utils::{Steps, shift, write_over};
@@ -85,6 +85,41 @@ pub(crate) fn fill<const N: usize>(array: &mut [u8; N], given: &[u8])
     } else {
         write_over(array, 0, given);
     }
+}
+
+/// The same if `given` is not larger than the capacity, and else nothing. Returns whether it is
+/// refused, and how many bytes were written. It has no branch of its own: where branches join, the
+/// compiler copies the array once more.
+#[inline(always)]
+pub(crate) fn try_fill<const N: usize>(array: &mut [u8; N], given: &[u8]) -> (bool, u8)
+    ensures len { length array.new ≡ N }
+    ensures refused { MatchBool result.0
+        ((cap N < length given.now) × (result.1 ≡ 0))
+        ((length given.now ≤ cap N) × (result.1 ≡ length given.now) × (array.new ≡ given.now ++ drop (length given.now) array.old)) }
+{
+    if N <= 64 {
+        return try_fill_small(array, given);
+    }
+    let refused = given.len() > if N < 255 { N } else { 255 };
+    let size = if refused { 0 } else { given.len() };
+    write_by_call(array, 0, &given[..size]);
+    (refused, size as u8)
+}
+
+/// The same for an array of at most 64 bytes.
+#[inline(never)]
+fn try_fill_small<const N: usize>(array: &mut [u8; N], given: &[u8]) -> (bool, u8)
+    requires { N ≤ 64 }
+    ensures len { length array.new ≡ N }
+    ensures refused { MatchBool result.0
+        ((cap N < length given.now) × (result.1 ≡ 0))
+        ((length given.now ≤ cap N) × (result.1 ≡ length given.now) × (array.new ≡ given.now ++ drop (length given.now) array.old)) }
+{
+    if given.len() > N {
+        return (true, 0);
+    }
+    write_over(array, 0, given);
+    (false, given.len() as u8)
 }
 
 /// Writes `given` over the bytes from `at` on, as `write_over` does, by one call whatever its length.

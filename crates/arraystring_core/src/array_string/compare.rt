@@ -41,7 +41,8 @@ impl<const N: usize> Ord for ArrayString<N> {
         ensures of_bytes { result ≡ slice_cmp nat_cmp (bytes self.now.text) (bytes other.now.text) }
         ensures says { MatchOrdering result (IsBefore self.now.text other.now.text) (self.now.text ≡ other.now.text) (IsBefore other.now.text self.now.text) }
     {
-        order(self.as_str(), other.as_str())
+        let other = other.as_str();
+        order(self.as_str(), other)
     }
 }
 

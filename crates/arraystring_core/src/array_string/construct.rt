@@ -8,7 +8,7 @@ ghost use Rattle.arraystring_core.specs.Construct.{IsWholeOrRefused};
 ghost use Rattle.arraystring_core.specs.Taken.{Takes, TakesAll, Fits, Gives, joined, joined_pieces, piece_text};
 
 use super::ArrayString;
-use crate::gap::{fill, write_by_call};
+use crate::gap::{fill, try_fill};
 use crate::well_formed::read_utf8;
 use arraystring_base::error::{Error, OutOfBounds, Utf8};
 use arraystring_base::utils::truncate_str;
@@ -23,17 +23,15 @@ impl<const N: usize> ArrayString<N> {
     pub fn try_from_str(string: &str) -> Result<Self, OutOfBounds>
         ensures { IsWholeOrRefused (chars string.now) (cap N) (from_out_of_bounds result) }
     {
-        // One path for both outcomes, so that the text is copied into the result once.
-        let fits = string.len() <= Self::capacity() as usize;
-        let size = if fits { string.len() } else { 0 };
-        let mut made = ArrayString {
-            array: [0; N],
+        // One path for both outcomes, so that the string is copied into the result once.
+        let mut array = [0; N];
+        let (refused, size) = try_fill(&mut array, string.as_bytes());
+        let mut result = Ok(ArrayString {
+            array,
             start: 0,
-            size: size as u8,
-        };
-        write_by_call(&mut made.array, 0, &string.as_bytes()[..size]);
-        let mut result = Ok(made);
-        if !fits {
+            size,
+        });
+        if refused {
             result = Err(OutOfBounds);
         }
         result
