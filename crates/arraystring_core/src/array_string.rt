@@ -272,7 +272,7 @@ impl<const N: usize> PartialEq for ArrayString<N> {
     ghost laws = { on_per (λ s. s.text) (partial_equiv_from_equiv nat_list_eq_equiv) };
 
     fn eq(&self, other: &Self) -> bool {
-        equal(self.as_str(), other.as_str())
+        equal::<N>(self.as_str(), other.as_str())
     }
 }
 

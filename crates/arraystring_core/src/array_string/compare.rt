@@ -41,8 +41,9 @@ impl<const N: usize> Ord for ArrayString<N> {
         ensures of_bytes { result ≡ slice_cmp nat_cmp (bytes self.now.text) (bytes other.now.text) }
         ensures says { MatchOrdering result (IsBefore self.now.text other.now.text) (self.now.text ≡ other.now.text) (IsBefore other.now.text self.now.text) }
     {
-        let other = other.as_str();
-        order(self.as_str(), other)
+        // The other one is read first, so that no register has to be moved.
+        let other_text = other.as_str();
+        order(self.as_str(), other_text)
     }
 }
 

@@ -1,4 +1,4 @@
-use Rattle.std.proofs.Common.{◌+◌, ◌-◌, ◌≡◌, ap, sym, take, ◌∙◌, arith}
+use Rattle.std.proofs.Common.{◌+◌, ◌-◌, ◌≡◌, sym, ◌∙◌, arith}
 use Rattle.arraystring_core.proofs.OrderLemmas.{shorter_same, prefix_decides}
 use Rattle.arraystring_core.proofs.order.order_by_pairs.Goals as goal
 

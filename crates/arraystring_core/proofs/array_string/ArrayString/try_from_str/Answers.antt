@@ -1,4 +1,4 @@
-use Rattle.std.proofs.Common.{refl, length, take_at, ap, ◌∙◌, arith, chars}
+use Rattle.std.proofs.Common.{refl, length, take_at, ap, arith, chars}
 use Rattle.arraystring_base.proofs.TextLaws.{size-borrowed}
 use Rattle.arraystring_core.proofs.array_string.ArrayString.try_from_str.Goals as goal
 
