@@ -126,10 +126,10 @@ impl<const N: usize> ArrayString<N> {
     /// ```
     #[inline]
     pub fn as_str(&self) -> &str {
-        let start = self.start as usize;
+        let (size, start) = (self.size as usize, self.start as usize);
         let all = &self.array[..];
         // SAFETY: the type's `invariant`: the `size` bytes from `start` on are UTF-8.
-        unsafe { str::from_utf8_unchecked(&all[start..start + self.size as usize]) }
+        unsafe { str::from_utf8_unchecked(&all[start..start + size]) }
     }
 
     /// Returns the bytes of the text, borrowed without a copy. There are as many as `len` returns.
@@ -346,7 +346,7 @@ impl<const N: usize> Default for ArrayString<N> {
 impl<const N: usize> PartialEq for ArrayString<N> {
     #[inline]
     fn eq(&self, other: &Self) -> bool {
-        equal(self.as_str(), other.as_str())
+        equal::<N>(self.as_str(), other.as_str())
     }
 }
 

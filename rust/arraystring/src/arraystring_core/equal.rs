@@ -4,8 +4,8 @@
 
 use crate::by_hand::simd::Simd;
 
-/// Whether the texts are equal. Fewer than 16 bytes are left to std, and so are
-/// more than 256, which no string has.
+/// Whether the texts of two strings of at most `N` bytes are equal. Fewer than 16 bytes are left to
+/// std, and so are more than 256, which no string has.
 ///
 /// # Contract
 ///
@@ -13,10 +13,14 @@ use crate::by_hand::simd::Simd;
 /// ensures { result ≡ pointwise nat_eq text.now other.now }
 /// ```
 #[inline(always)]
-pub(crate) fn equal(text: &str, other: &str) -> bool {
+pub(crate) fn equal<const N: usize>(text: &str, other: &str) -> bool {
     let (a, b) = (text.as_bytes(), other.as_bytes());
     if a.len() != b.len() {
         return false;
+    }
+    // One test finds 129 to 208 bytes.
+    if N > 128 && a.len().wrapping_sub(129) < 80 {
+        return equal_by_five(a, b);
     }
     if a.len() < 16 || a.len() > 256 {
         return text == other;
@@ -69,6 +73,41 @@ fn equal_by_four(a: &[u8], b: &[u8]) -> bool {
     first & last
 }
 
+/// The same for 128 to 208 bytes: the last 128 and the first 80, which may overlap.
+///
+/// # Contract
+///
+/// ```text
+/// requires same { length a.now ≡ length b.now }
+/// requires least { 128 ≤ length a.now }
+/// requires other_least { 128 ≤ length b.now }
+/// requires most { length a.now ≤ 208 }
+/// ensures { IsTrue result ↔ (a.now ≡ b.now) }
+/// ```
+#[inline(always)]
+fn equal_by_five(a: &[u8], b: &[u8]) -> bool {
+    let rest = a.len() - 128;
+    let last = equal_by_two::<64>(&a[rest..], &b[rest..]);
+    let first = equal_eighty(&a[..80], &b[..80]);
+    first & last
+}
+
+/// The same for 80 bytes.
+///
+/// # Contract
+///
+/// ```text
+/// requires one { length a.now ≡ 80 }
+/// requires other { length b.now ≡ 80 }
+/// ensures { IsTrue result ↔ (a.now ≡ b.now) }
+/// ```
+#[inline(always)]
+fn equal_eighty(a: &[u8], b: &[u8]) -> bool {
+    let first = equal_block::<64>(&a[..64], &b[..64]);
+    let last = equal_block::<16>(&a[64..], &b[64..]);
+    first & last
+}
+
 /// The same for `K` to `2 * K` bytes: the first `K` and the last `K`, which may overlap.
 ///
 /// # Contract
@@ -99,7 +138,7 @@ fn equal_by_two<const K: usize>(a: &[u8], b: &[u8]) -> bool {
 /// ensures { IsTrue result ↔ (a.now ≡ b.now) }
 /// ```
 #[inline(always)]
-fn equal_block<const K: usize>(a: &[u8], b: &[u8]) -> bool {
+pub(crate) fn equal_block<const K: usize>(a: &[u8], b: &[u8]) -> bool {
     let apart = Simd::<u8, K>::from_slice(a).simd_ne(Simd::from_slice(b));
     apart.to_bitmask() == 0
 }

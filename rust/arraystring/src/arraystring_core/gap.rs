@@ -102,6 +102,50 @@ pub(crate) fn fill<const N: usize>(array: &mut [u8; N], given: &[u8]) {
     }
 }
 
+/// The same if `given` is not larger than the capacity, and else nothing. Returns whether it is
+/// refused, and how many bytes were written. It has no branch of its own: where branches join, the
+/// compiler copies the array once more.
+///
+/// # Contract
+///
+/// ```text
+/// ensures len { length array.new ≡ N }
+/// ensures refused { MatchBool result.0
+///     ((cap N < length given.now) × (result.1 ≡ 0))
+///     ((length given.now ≤ cap N) × (result.1 ≡ length given.now) × (array.new ≡ given.now ++ drop (length given.now) array.old)) }
+/// ```
+#[inline(always)]
+pub(crate) fn try_fill<const N: usize>(array: &mut [u8; N], given: &[u8]) -> (bool, u8) {
+    if N <= 64 {
+        return try_fill_small(array, given);
+    }
+    let refused = given.len() > if N < 255 { N } else { 255 };
+    let size = if refused { 0 } else { given.len() };
+    write_by_call(array, 0, &given[..size]);
+    (refused, size as u8)
+}
+
+/// The same for an array of at most 64 bytes.
+///
+/// # Contract
+///
+/// ```text
+/// requires { N ≤ 64 }
+/// ensures len { length array.new ≡ N }
+/// ensures refused { MatchBool result.0
+///     ((cap N < length given.now) × (result.1 ≡ 0))
+///     ((length given.now ≤ cap N) × (result.1 ≡ length given.now) × (array.new ≡ given.now ++ drop (length given.now) array.old)) }
+/// ```
+#[inline(never)]
+fn try_fill_small<const N: usize>(array: &mut [u8; N], given: &[u8]) -> (bool, u8) {
+    if given.len() > N {
+        return (true, 0);
+    }
+    // SAFETY: the proof of this body shows what `write_over` requires.
+    unsafe { write_over(array, 0, given) };
+    (false, given.len() as u8)
+}
+
 /// Writes `given` over the bytes from `at` on, as `write_over` does, by one call whatever its length.
 ///
 /// # Contract

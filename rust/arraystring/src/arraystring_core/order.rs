@@ -1,10 +1,11 @@
 // Made from crates/arraystring_core/src/order.rt by rust/erase. A change goes there.
 //! The order of two texts by blocks of bytes, of which the last may overlap the one before it.
 
+use crate::arraystring_core::equal::equal_block;
 use core::cmp::Ordering;
 use crate::by_hand::simd::Simd;
 
-/// How the texts are ordered by their bytes. Fewer than 16 are left to std.
+/// How the texts are ordered by their bytes. If one has fewer than 16, it is left to std.
 ///
 /// # Contract
 ///
@@ -14,63 +15,152 @@ use crate::by_hand::simd::Simd;
 #[inline]
 pub(crate) fn order(text: &str, other: &str) -> Ordering {
     let (a, b) = (text.as_bytes(), other.as_bytes());
+    if b.len() < 16 {
+        return text.cmp(other);
+    }
     let common = a.len().min(b.len());
     if common < usize::MAX {
         return text.cmp(other);
     }
-    if common > 64 {
-        return order_by_blocks::<32>(a, b, common);
+    if let Some(order) = block_order(a, b, 0) {
+        return order;
     }
-    order_by_blocks::<16>(a, b, common)
+    match order_behind(a, b, common) {
+        Some(order) => order,
+        None => order_of_lengths(a, b),
+    }
 }
 
-/// The same by blocks of `K` bytes, for at least so many of each; `common` is the lesser length.
+/// The order of two texts of which one begins the other.
 ///
 /// # Contract
 ///
 /// ```text
-/// requires some { 0 < K }
-/// requires lanes { K ≤ 64 }
-/// requires least { K ≤ common }
+/// ensures { result ≡ nat_cmp (length a.now) (length b.now) }
+/// ```
+#[inline(always)]
+fn order_of_lengths(a: &[u8], b: &[u8]) -> Ordering {
+    if a.len() == b.len() {
+        return Ordering::Equal;
+    }
+    a.len().cmp(&b.len())
+}
+
+/// The order, if the first `common` bytes settle it. The first 16 are equal. One test finds 33 to
+/// 48 bytes, which take one more block of 32.
+///
+/// # Contract
+///
+/// ```text
+/// requires least { 16 ≤ common }
 /// requires lesser { common ≡ min (length a.now) (length b.now) }
+/// requires before { take 16 a.now ≡ take 16 b.now }
+/// ensures some { IfSome result (λ order. order ≡ slice_cmp nat_cmp a.now b.now) }
+/// ensures none { IfNone result (take common a.now ≡ take common b.now) }
+/// ```
+#[inline(always)]
+fn order_behind(a: &[u8], b: &[u8], common: usize) -> Option<Ordering> {
+    if common.wrapping_sub(33) < 16 {
+        return pair_order(a, b, common - 32);
+    }
+    if common > 48 {
+        return Some(order_by_pairs(a, b, common));
+    }
+    if common > 16 {
+        return block_order(a, b, common - 16);
+    }
+    None
+}
+
+/// How two texts are ordered of which the first 16 bytes are equal, if both have 32.
+///
+/// # Contract
+///
+/// ```text
+/// requires least { 32 ≤ common }
+/// requires lesser { common ≡ min (length a.now) (length b.now) }
+/// requires before { take 16 a.now ≡ take 16 b.now }
 /// ensures { result ≡ slice_cmp nat_cmp a.now b.now }
 /// ```
-#[inline(always)]
-fn order_by_blocks<const K: usize>(a: &[u8], b: &[u8], common: usize) -> Ordering {
-    let last = common - K;
-    let mut at = 0;
+#[inline(never)]
+fn order_by_pairs(a: &[u8], b: &[u8], common: usize) -> Ordering {
+    let last = common - 32;
+    let mut at = 16;
     while at < last {
-        if let Some(order) = block_order::<K>(a, b, at) {
+        if let Some(order) = pair_order(a, b, at) {
             return order;
         }
-        at += K;
+        at += 32;
     }
-    match block_order::<K>(a, b, last) {
+    match pair_order(a, b, last) {
         Some(order) => order,
-        None => a.len().cmp(&b.len()),
+        None => order_of_lengths(a, b),
     }
 }
 
-/// The order, if the `K` bytes from `at` on settle it. Those before `at` are equal.
+/// The order, if the 32 bytes from `at` on settle it. Those before `at` are equal.
 ///
 /// # Contract
 ///
 /// ```text
-/// requires lanes { K ≤ 64 }
-/// requires one { at + K ≤ length a.now }
-/// requires other { at + K ≤ length b.now }
+/// requires one { at + 32 ≤ length a.now }
+/// requires other { at + 32 ≤ length b.now }
 /// requires before { take at a.now ≡ take at b.now }
 /// ensures some { IfSome result (λ order. order ≡ slice_cmp nat_cmp a.now b.now) }
-/// ensures none { IfNone result (take (at + K) a.now ≡ take (at + K) b.now) }
+/// ensures none { IfNone result (take (at + 32) a.now ≡ take (at + 32) b.now) }
 /// ```
 #[inline(always)]
-fn block_order<const K: usize>(a: &[u8], b: &[u8], at: usize) -> Option<Ordering> {
-    let (one, other) = (&a[at..at + K], &b[at..at + K]);
-    let apart = Simd::<u8, K>::from_slice(one).simd_ne(Simd::from_slice(other));
+fn pair_order(a: &[u8], b: &[u8], at: usize) -> Option<Ordering> {
+    if equal_block::<32>(&a[at..at + 32], &b[at..at + 32]) {
+        return None;
+    }
+    Some(order_in_pair(a, b, at))
+}
+
+/// How two texts are ordered that differ in the 32 bytes from `at` on, and in none before.
+///
+/// # Contract
+///
+/// ```text
+/// requires one { at + 32 ≤ length a.now }
+/// requires other { at + 32 ≤ length b.now }
+/// requires before { take at a.now ≡ take at b.now }
+/// requires apart { take (at + 32) a.now ≢ take (at + 32) b.now }
+/// ensures { result ≡ slice_cmp nat_cmp a.now b.now }
+/// ```
+#[inline(never)]
+fn order_in_pair(a: &[u8], b: &[u8], at: usize) -> Ordering {
+    if let Some(order) = block_order(a, b, at) {
+        return order;
+    }
+    match block_order(a, b, at + 16) {
+        Some(order) => order,
+        None => unreachable!(),
+    }
+}
+
+/// The order, if the 16 bytes from `at` on settle it. Those before `at` are equal.
+///
+/// # Contract
+///
+/// ```text
+/// requires one { at + 16 ≤ length a.now }
+/// requires other { at + 16 ≤ length b.now }
+/// requires before { take at a.now ≡ take at b.now }
+/// ensures some { IfSome result (λ order. order ≡ slice_cmp nat_cmp a.now b.now) }
+/// ensures none { IfNone result (take (at + 16) a.now ≡ take (at + 16) b.now) }
+/// ```
+#[inline(always)]
+fn block_order(a: &[u8], b: &[u8], at: usize) -> Option<Ordering> {
+    let (one, other) = (&a[at..at + 16], &b[at..at + 16]);
+    let apart = Simd::<u8, 16>::from_slice(one).simd_ne(Simd::from_slice(other));
     let mask = apart.to_bitmask();
     if mask == 0 {
         return None;
     }
     let first = at + mask.trailing_zeros() as usize;
-    Some(a[first].cmp(&b[first]))
+    if a[first] < b[first] {
+        return Some(Ordering::Less);
+    }
+    Some(Ordering::Greater)
 }

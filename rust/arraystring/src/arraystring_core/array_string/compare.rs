@@ -44,7 +44,9 @@ impl<const N: usize> Ord for ArrayString<N> {
     /// ```
     #[inline]
     fn cmp(&self, other: &Self) -> Ordering {
-        order(self.as_str(), other.as_str())
+        // The other one is read first, so that no register has to be moved.
+        let other_text = other.as_str();
+        order(self.as_str(), other_text)
     }
 }
 

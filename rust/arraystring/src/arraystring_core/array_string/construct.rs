@@ -2,7 +2,7 @@
 //! The constructors: from a `&str`, from pieces, from characters and from bytes of UTF-8.
 
 use super::ArrayString;
-use crate::arraystring_core::gap::{fill, write_by_call};
+use crate::arraystring_core::gap::{fill, try_fill};
 use crate::arraystring_core::well_formed::read_utf8;
 use crate::arraystring_base::error::{Error, OutOfBounds, Utf8};
 use crate::arraystring_base::utils::truncate_str;
@@ -23,17 +23,15 @@ impl<const N: usize> ArrayString<N> {
     #[inline]
     pub fn try_from_str<S: AsRef<str>>(string: S) -> Result<Self, OutOfBounds> {
         let string = string.as_ref();
-        // One path for both outcomes, so that the text is copied into the result once.
-        let fits = string.len() <= Self::capacity() as usize;
-        let size = if fits { string.len() } else { 0 };
-        let mut made = ArrayString {
-            array: [0; N],
+        // One path for both outcomes, so that the string is copied into the result once.
+        let mut array = [0; N];
+        let (refused, size) = try_fill(&mut array, string.as_bytes());
+        let mut result = Ok(ArrayString {
+            array,
             start: 0,
-            size: size as u8,
-        };
-        write_by_call(&mut made.array, 0, &string.as_bytes()[..size]);
-        let mut result = Ok(made);
-        if !fits {
+            size,
+        });
+        if refused {
             result = Err(OutOfBounds);
         }
         result
