@@ -83,5 +83,8 @@ pub const CALLS: &[u8] = &[
     38,
 ];
 
+/// Those that have a form that counts in a counter of its caller's.
+pub const COUNTED: &[u8] = &[24, 25, 30, 31, 33, 37];
+
 /// Those that arrayvec has, the Rust crate and the kit's.
 pub const CALLS_OF_ARRAYVEC: &[u8] = &[0, 1, 3, 10, 11, 12, 13, 14, 15, 16, 20, 21, 26, 30, 31, 32];

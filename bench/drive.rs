@@ -16,7 +16,7 @@ mod string;
 use std::arch::global_asm;
 use std::hint::black_box;
 
-use cases::{CALLS, CALLS_OF_ARRAYVEC, Case};
+use cases::{CALLS, CALLS_OF_ARRAYVEC, COUNTED, Case};
 use edges::EDGES;
 use peers::Peer;
 
@@ -58,6 +58,7 @@ macro_rules! linked {
 
 linked!(port_2 port_23 port_63 port_255 kit_2 kit_23 kit_63 kit_255);
 linked!(port_timed_23 port_timed_63 port_timed_255);
+linked!(steps_23 steps_63 steps_255);
 
 fn linked(at: Linked, call: u8, case: &Case) -> u64 {
     let (held, given, units) = (case.held.as_bytes(), case.given.as_bytes(), &case.units);
@@ -103,6 +104,19 @@ fn make(capacity: usize, call: u8, case: &Case, times: u32) {
     }
 }
 
+/// The form of a call that counts answers what the call does.
+fn make_counted(capacity: usize, call: u8, case: &Case, times: u32) {
+    let (plain, form): (Linked, Linked) = match capacity {
+        23 => (port_23, steps_23),
+        63 => (port_63, steps_63),
+        255 => (port_255, steps_255),
+        _ => panic!("nothing counts at this capacity"),
+    };
+    for _ in 0..times {
+        assert_eq!(linked(form, call, case), linked(plain, call, case), "call {call} of {}", case.held);
+    }
+}
+
 /// callgrind writes what it counted so far, and begins anew, before each call of this.
 #[inline(never)]
 fn next_edge(title: &str) {
@@ -140,5 +154,9 @@ fn main() {
     for &call in CALLS {
         let case = Case::new(capacity, mixed, place == "front").for_call(call, capacity);
         make(capacity, call, &black_box(case), times);
+    }
+    for &call in COUNTED {
+        let case = Case::new(capacity, mixed, place == "front").for_call(call, capacity);
+        make_counted(capacity, call, &black_box(case), times);
     }
 }
