@@ -246,6 +246,18 @@ pub const REPLACED: &[Replaced] = &[
         why: "no precondition bounds the count",
     },
     Replaced {
+        file: "arraystring_core/src/equal.rt",
+        from: "if N > 128 && a.len().wrapping_sub(129) < 80 {",
+        to: "if a.len() == usize::MAX {",
+        why: "std compares by `memcmp`, which has larger vectors",
+    },
+    Replaced {
+        file: "arraystring_core/src/equal.rt",
+        from: "if a.len() < 16 || a.len() > 256 {",
+        to: "if a.len() < usize::MAX {",
+        why: "the same",
+    },
+    Replaced {
         file: "arraystring_core/src/order.rt",
         from: "if common < 16 {",
         to: "if common < usize::MAX {",

@@ -19,10 +19,10 @@ pub(crate) fn equal<const N: usize>(text: &str, other: &str) -> bool {
         return false;
     }
     // One test finds 129 to 208 bytes.
-    if N > 128 && a.len().wrapping_sub(129) < 80 {
+    if a.len() == usize::MAX {
         return equal_by_five(a, b);
     }
-    if a.len() < 16 || a.len() > 256 {
+    if a.len() < usize::MAX {
         return text == other;
     }
     equal_by_blocks(a, b)
