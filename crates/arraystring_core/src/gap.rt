@@ -2,6 +2,7 @@
 ghost use Rattle.std.specs.Prelude.{◌≡◌, ◌≢◌, ◌+◌, ◌-◌, ◌^◌, ◌<◌, ◌≤◌, ◌++◌, min, length, take, drop, MatchBool};
 ghost use Rattle.arraystring_base.specs.Text.{cap};
 
+use crate::ArrayString;
 use arraystring_base::utils::{Steps, shift, write_over};
 
 /// Where a text lies in its array: the `size` bytes from the offset `offset` on.
@@ -94,13 +95,13 @@ pub(crate) fn fill<const N: usize>(array: &mut [u8; N], given: &[u8])
 pub(crate) fn try_fill<const N: usize>(array: &mut [u8; N], given: &[u8]) -> (bool, u8)
     ensures len { length array.new ≡ N }
     ensures refused { MatchBool result.0
-        ((cap N < length given.now) × (result.1 ≡ 0))
+        ((cap N < length given.now) × (result.1 ≡ 0) × (array.new ≡ array.old))
         ((length given.now ≤ cap N) × (result.1 ≡ length given.now) × (array.new ≡ given.now ++ drop (length given.now) array.old)) }
 {
     if N <= 64 {
         return try_fill_small(array, given);
     }
-    let refused = given.len() > if N < 255 { N } else { 255 };
+    let refused = given.len() > ArrayString::<N>::capacity() as usize;
     let size = if refused { 0 } else { given.len() };
     write_by_call(array, 0, &given[..size]);
     (refused, size as u8)
@@ -112,7 +113,7 @@ fn try_fill_small<const N: usize>(array: &mut [u8; N], given: &[u8]) -> (bool, u
     requires { N ≤ 64 }
     ensures len { length array.new ≡ N }
     ensures refused { MatchBool result.0
-        ((cap N < length given.now) × (result.1 ≡ 0))
+        ((cap N < length given.now) × (result.1 ≡ 0) × (array.new ≡ array.old))
         ((length given.now ≤ cap N) × (result.1 ≡ length given.now) × (array.new ≡ given.now ++ drop (length given.now) array.old)) }
 {
     if given.len() > N {

@@ -12,6 +12,7 @@ pub(crate) fn order(text: &str, other: &str) -> Ordering
     ensures { result ≡ slice_cmp nat_cmp text.now other.now }
 {
     let (a, b) = (text.as_bytes(), other.as_bytes());
+    // Tested by itself, so that the shorter of two texts is not yet asked for.
     if b.len() < 16 {
         return text.cmp(other);
     }

@@ -1,6 +1,7 @@
 // Made from crates/arraystring_core/src/gap.rt by rust/erase. A change goes there.
 //! Gaps in an array, into which a text is put, and how a new array is filled.
 
+use crate::arraystring_core::ArrayString;
 use crate::arraystring_base::utils::{Steps, shift, write_over};
 
 /// Where a text lies in its array: the `size` bytes from the offset `offset` on.
@@ -111,7 +112,7 @@ pub(crate) fn fill<const N: usize>(array: &mut [u8; N], given: &[u8]) {
 /// ```text
 /// ensures len { length array.new ≡ N }
 /// ensures refused { MatchBool result.0
-///     ((cap N < length given.now) × (result.1 ≡ 0))
+///     ((cap N < length given.now) × (result.1 ≡ 0) × (array.new ≡ array.old))
 ///     ((length given.now ≤ cap N) × (result.1 ≡ length given.now) × (array.new ≡ given.now ++ drop (length given.now) array.old)) }
 /// ```
 #[inline(always)]
@@ -119,7 +120,7 @@ pub(crate) fn try_fill<const N: usize>(array: &mut [u8; N], given: &[u8]) -> (bo
     if N <= 64 {
         return try_fill_small(array, given);
     }
-    let refused = given.len() > if N < 255 { N } else { 255 };
+    let refused = given.len() > ArrayString::<N>::capacity() as usize;
     let size = if refused { 0 } else { given.len() };
     write_by_call(array, 0, &given[..size]);
     (refused, size as u8)
@@ -133,7 +134,7 @@ pub(crate) fn try_fill<const N: usize>(array: &mut [u8; N], given: &[u8]) -> (bo
 /// requires { N ≤ 64 }
 /// ensures len { length array.new ≡ N }
 /// ensures refused { MatchBool result.0
-///     ((cap N < length given.now) × (result.1 ≡ 0))
+///     ((cap N < length given.now) × (result.1 ≡ 0) × (array.new ≡ array.old))
 ///     ((length given.now ≤ cap N) × (result.1 ≡ length given.now) × (array.new ≡ given.now ++ drop (length given.now) array.old)) }
 /// ```
 #[inline(never)]

@@ -15,6 +15,7 @@ use crate::by_hand::simd::Simd;
 #[inline]
 pub(crate) fn order(text: &str, other: &str) -> Ordering {
     let (a, b) = (text.as_bytes(), other.as_bytes());
+    // Tested by itself, so that the shorter of two texts is not yet asked for.
     if b.len() < 16 {
         return text.cmp(other);
     }
