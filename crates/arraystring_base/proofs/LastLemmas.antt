@@ -1,5 +1,6 @@
 -- The last character of a text, by the bytes at its end.
 use Rattle.std.proofs.Common.{◌≡◌, ℕ, ◌+◌, ◌-◌, ◌*◌, ◌/◌, ◌%◌, ◌<◌, ◌≤◌, ◌⊎◌, List, [], ◌∷◌, ◌++◌, length, get_or, refl, sym, ap, ◌∙◌, subst, arith, IsUtf8, chars, inl, inr, length-append}
+use Rattle.std.specs.Prelude.{slice_index}
 use Rattle.std.specs.Char.{IsScalar}
 use Rattle.std.proofs.lemmas.Bool.{cases_lt}
 use Rattle.std.proofs.lemmas.List.{append-nil, get_or-append-add, nil_from_length}
@@ -14,6 +15,10 @@ chars_empty bs none = ap chars (nil_from_length bs none) ∙ chars-nil
 -- the k-th byte from the end
 abbrev pub from_end : List ℕ → ℕ → ℕ
 from_end bs k = get_or bs (length bs - k) 0
+
+-- the bytes of a text, looked at from its end
+pub looked_at : {all bs : List ℕ} {a : ℕ} (k : ℕ) → all ≡ bs → a ≡ slice_index all (length all - k) → a ≡ from_end bs k
+looked_at k whole is = is ∙ ap (λ l. from_end l k) whole
 
 from_end-behind : (xs ys : List ℕ) (k : ℕ) → k ≤ length ys → from_end (xs ++ ys) k ≡ from_end ys k
 from_end-behind xs ys k le =

@@ -1,5 +1,5 @@
 -- Lines as words and arguments: what a line is the line of.
-use Rattle.std.proofs.Common.{◌≡◌, ◌≢◌, ℕ, ◌<◌, ◌≤◌, List, [], ◌∷◌, ◌++◌, length, map, drop, get_or, ◌^◌, refl, sym, ap, subst, ◌∙◌, arith, nat_le, IsUtf8, true, ◌&&◌, ◌+◌, length-append, rules, Result, Ok, Err, IfSome, IfNone}
+use Rattle.std.proofs.Common.{◌≡◌, ◌≢◌, ℕ, ◌<◌, ◌≤◌, List, [], ◌∷◌, ◌++◌, length, map, drop, get_or, ◌^◌, refl, sym, ap, subst, ◌∙◌, arith, nat_le, IsUtf8, true, ◌&&◌, ◌+◌, length-append, rules, true≢false, Option, Some, None, Result, Ok, Err, IfSome, IfNone}
 use Rattle.std.specs.Bool.{⊤}
 use Rattle.std.proofs.lemmas.List.{append-nil}
 use Rattle.std.proofs.lemmas.Bool.{and_parts, leb-true}
@@ -14,7 +14,7 @@ use Rattle.std.specs.Result.{OkIff, result_ok}
 use Rattle.arraystring.specs.Text.{utf8, IsScalarValue, IsWellFormed}
 use Rattle.arraystring.proofs.TextLaws.{bytes-utf8, well_formed-utf8, utf8-well_formed}
 use Rattle.arraystring_run.specs.declared.commands.Command.{Command}
-use Rattle.arraystring_run.proofs.CommandLemmas.{are_letters, word-letters, kind, kinds, namesakes}
+use Rattle.arraystring_run.proofs.CommandLemmas.{are_letters, word-letters, kind, kinds, numbers_first, kinds-numbers_first, namesakes}
 use Rattle.arraystring_run.specs.Grammar.{Argument, Number, Character, Text, word, arguments, AreDigits, value_after, IsNumber, IsNumberBefore, IsSpelled, AreSpelled, IsLineOf, IsOneWord, space, spellings, line_of, AreArguments}
 
 head-of : (x y : ℕ) (xs ys : List ℕ) → x ∷ xs ≡ y ∷ ys → x ≡ y
@@ -129,11 +129,23 @@ pub no-before : (rest : List ℕ) {k : ℕ} {others : List ℕ} → ((n : ℕ) (
     → Reads rest (0 ∷ k ∷ others) → ⊥
 no-before rest {k} {others} bad read = let found = reads-before rest k others read in bad found.0 found.1 found.2
 
-pub no-two : (rest : List ℕ) → ((m n : ℕ) (behind : List ℕ) → IsNumberBefore rest m behind → IsNumber behind n → ⊥)
-    → Reads rest (0 ∷ 0 ∷ []) → ⊥
-no-two rest bad read =
-    let found = reads-before rest 0 [] read in
-    let last = reads-number found.1 found.3 in bad found.0 last.0 found.1 found.2 last.1
+pub no-number : (rest : List ℕ) → ((n : ℕ) → IsNumber rest n → ⊥) → Reads rest (0 ∷ []) → ⊥
+no-number rest bad read = let found = reads-number rest read in bad found.0 found.1
+
+pub if-none : {T A B : Type 0} (o : Option T) → (A → B) → IfNone o A → IfNone o B
+if-none None f a = f a
+if-none (Some x) f a = tt
+
+-- of two arguments or more the first is a number
+pub no-start : (rest : List ℕ) → ((n : ℕ) (behind : List ℕ) → IsNumberBefore rest n behind → ⊥) → (c : Command)
+    → 2 ≤ length (arguments c) → AreSpelled (space ∷ rest) (arguments c) → ⊥
+no-start rest bad c more spelled = start (arguments c) (kinds-numbers_first c) more spelled where
+  start : (given : List Argument) → numbers_first (map kind given) ≡ true → 2 ≤ length given → AreSpelled (space ∷ rest) given → ⊥
+  start [] first more spelled = absurd (omega (arith, more))
+  start (a ∷ []) first more spelled = absurd (omega (arith, more))
+  start (Number n ∷ b ∷ given) first more spelled = no-before rest bad (Number n ∷ b ∷ given, refl, spelled)
+  start (Character c ∷ b ∷ given) first more spelled = absurd (true≢false (sym first))
+  start (Text t ∷ b ∷ given) first more spelled = absurd (true≢false (sym first))
 
 -- digits have no space, so the number before the first space is one alone
 digits-one : (bs : List ℕ) → AreDigits bs → IsOneWord bs
@@ -165,11 +177,6 @@ pub spelled-before : (rest : List ℕ) (n : ℕ) (behind : List ℕ) (given : Li
     → AreSpelled (space ∷ behind) given → AreSpelled (space ∷ rest) (Number n ∷ given)
 spelled-before rest n behind given (digits, number, e) spelled =
     (digits, space ∷ behind, ap (λ l. space ∷ l) e, number, spelled)
-
-pub spelled-two : (rest : List ℕ) (m n : ℕ) → (behind : List ℕ) × IsNumberBefore rest m behind × IsNumber behind n
-    → AreSpelled (space ∷ rest) (Number m ∷ Number n ∷ [])
-spelled-two rest m n (behind, before, number) =
-    spelled-before rest m behind (Number n ∷ []) before (spelled-one (Number n) behind number)
 
 -- the line of a command is UTF-8
 low-utf8 : (b : ℕ) (bs : List ℕ) → b < 128 → IsUtf8 bs → IsUtf8 (b ∷ bs)

@@ -8,3 +8,4 @@ mod OneReadingLemmas
 mod LineLemmas
 mod AgreementLemmas
 mod FirstTightLemmas
+pub mod PlayLemmas

@@ -1,12 +1,13 @@
 -- Replies, part printed.
-use Rattle.std.proofs.Common.{◌≡◌, ℕ, List, [], ◌∷◌, ◌++◌, refl, sym, ap, subst, ◌∙◌, append_assoc, map, take, drop, take-append-drop, Option, Some, None, IfSome, Result, Ok, Err, OnOk}
+use Rattle.std.proofs.Common.{◌≡◌, ℕ, ◌==◌, true, length, List, [], ◌∷◌, ◌++◌, refl, sym, ap, subst, ◌∙◌, append_assoc, map, take, drop, take-append-drop, Option, Some, None, IfSome, Result, Ok, Err, OnOk}
 use Rattle.std.proofs.lemmas.List.{append-nil, map-append}
 use Rattle.std.proofs.lemmas.Fmt.{contents_after_writes}
 use Rattle.std.specs.Fmt.{WritesText, option_append}
 use Rattle.arraystring_run.specs.Runs.{Said, said}
 use Rattle.arraystring_run.specs.declared.commands.Reply.{Reply}
-use Rattle.std.proofs.KnownBytes.{Appends-nil, Appends-trans}
-use Rattle.std.specs.Io.KnownBytes.{Appends}
+use Rattle.std.proofs.KnownBytes.{Appends-nil, Appends-trans, Appends-kept}
+use Rattle.std.specs.Io.KnownBytes.{Appends, Keeps}
+use Rattle.arraystring_run.proofs.RunLemmas.{is_empty-none}
 use Rattle.arraystring_run.specs.Script.{line_feed, ended, printed, replies_printed, AppendsPrefix}
 
 pub printed-more : (rs : List Said) (r : Said) → replies_printed (rs ++ r ∷ []) ≡ replies_printed rs ++ ended (printed r)
@@ -52,6 +53,19 @@ front-then a b c bs cs p q = record {
 -- a first write, and what comes of the rest
 pub front-rest : (a b c : Option (List ℕ)) (all done rest : List ℕ) → all ≡ done ++ rest → Appends a b done → AppendsPrefix b c rest → AppendsPrefix a c all
 front-rest a b c all done rest parts p q = subst (AppendsPrefix a c) (sym parts) (front-then a b c done rest p q)
+
+-- a first write, and all that is left of it
+pub appended-rest : (a b c : Option (List ℕ)) (all done rest : List ℕ) → all ≡ done ++ rest → Appends a b done → Appends b c rest → Appends a c all
+appended-rest a b c all done rest parts p q = subst (Appends a c) (sym parts) (Appends-trans a b c done rest p q)
+
+-- a first write that left nothing
+pub appended-all : (a b : Option (List ℕ)) (all done rest : List ℕ) → all ≡ done ++ rest → true ≡ (length rest == 0) → Appends a b done → Appends a b all
+appended-all a b all done rest parts none p =
+    subst (Appends a b) (sym (parts ∙ ap (λ l. done ++ l) (is_empty-none rest none) ∙ append-nil done)) p
+
+-- a first write, and nothing of the rest
+pub front-kept : (a b c : Option (List ℕ)) (all done rest : List ℕ) → all ≡ done ++ rest → Appends a b done → Keeps b c → AppendsPrefix a c all
+front-kept a b c all done rest parts p q = record { done = done; later = rest; whole = parts; appended = Appends-kept a b c done p q }
 
 -- ---- a line that was printed into a string
 

@@ -1,7 +1,7 @@
 -- Runs of commands, part way.
-use Rattle.std.proofs.Common.{◌≡◌, ℕ, suc, ◌+◌, ◌<◌, ◌≤◌, List, [], ◌∷◌, ◌++◌, length, drop, get_or, refl, sym, ap, ◌∙◌, arith, Option, Some, None, Bool, true, false, nat_lt, if◌then◌else◌, append_assoc, inl, inr, reverse}
-use Rattle.std.proofs.lemmas.List.{append-nil, drop_all, reverse-append}
-use Rattle.std.proofs.lemmas.Bool.{cases_lt, lt-ltb, le-ltb}
+use Rattle.std.proofs.Common.{◌≡◌, ℕ, suc, ◌+◌, ◌<◌, ◌≤◌, ◌==◌, List, [], ◌∷◌, ◌++◌, length, drop, get_or, refl, sym, ap, ◌∙◌, arith, Option, Some, None, Bool, true, false, nat_lt, if◌then◌else◌, append_assoc, inl, inr, reverse}
+use Rattle.std.proofs.lemmas.List.{append-nil, drop_all, nil_from_length, reverse-append}
+use Rattle.std.proofs.lemmas.Bool.{cases_lt, eqb-true, lt-ltb, le-ltb}
 use Rattle.std.proofs.Math.Seq.{drop-cons}
 use Rattle.arraystring.specs.Text.{size, cut}
 use Rattle.arraystring.proofs.CutLaws.{cut-fits, cut-all}
@@ -40,6 +40,14 @@ earlier_of-step : (first : Option ℕ) (b : Bool) (i : ℕ) (rest : Option ℕ)
 earlier_of-step None true i rest = refl
 earlier_of-step None false i rest = refl
 earlier_of-step (Some k) b i rest = refl
+
+-- no commands give no reply, and leave the text
+pub of-none : (cs : List Command) (t : List ℕ) (n : ℕ) → cs ≡ []
+    → ((after cs t n).replies ≡ []) × ((after cs t n).text ≡ t) × (first_tight_from 0 cs t n ≡ None)
+of-none cs t n none = (ap (λ d. (after d t n).replies) none, ap (λ d. (after d t n).text) none, ap (λ d. first_tight_from 0 d t n) none)
+
+pub is_empty-none : {X : Type 0} (xs : List X) → true ≡ (length xs == 0) → xs ≡ []
+is_empty-none xs shown = nil_from_length xs (eqb-true (length xs) 0 (sym shown))
 
 -- the first i commands are done: `done` is what they replied, t what they left, and first their first tight one
 pub record IsPartWay (cs : List Command) (t₀ : List ℕ) (n i : ℕ) (done : List Said) (t : List ℕ) (first : Option ℕ) : Type 0 where

@@ -1,7 +1,7 @@
 //! The command of a line.
-ghost use Rattle.std.specs.Prelude.{◌≡◌, ◌∷◌, ◌++◌, ℕ, List, IfSome, IfNone};
+ghost use Rattle.std.specs.Prelude.{◌≡◌, ◌≤◌, ◌∷◌, ◌++◌, ℕ, List, length, IfSome, IfNone};
 ghost use Rattle.arraystring.specs.Text.{utf8, IsScalarValue};
-ghost use Rattle.arraystring_run.specs.Grammar.{IsLineOf, IsNumber, IsNumberBefore, IsOneWord, space};
+ghost use Rattle.arraystring_run.specs.Grammar.{arguments, IsLineOf, IsNumber, IsNumberBefore, IsOneWord, space};
 ghost use Rattle.arraystring_run.specs.declared.commands.Command.{Command as Edit};
 
 use crate::Command;
@@ -73,38 +73,40 @@ fn command_given<'a>(word: &str, rest: &'a str) -> Option<Command<'a>>
         "truncate" => Some(Command::Truncate(number(rest)?)),
         "remove" => Some(Command::Remove(number(rest)?)),
         "retain_not" => Some(Command::RetainNot(only_char(rest)?)),
-        "try_insert" => {
-            let (index, given) = number_before(rest)?;
-            Some(Command::TryInsert(index, only_char(given)?))
-        }
-        "try_insert_str" => {
-            let (index, given) = number_before(rest)?;
-            Some(Command::TryInsertStr(index, given))
-        }
-        "insert_str" => {
-            let (index, given) = number_before(rest)?;
-            Some(Command::InsertStr(index, given))
-        }
         "split_off" => Some(Command::SplitOff(number(rest)?)),
+        _ => command_given_more(word, rest),
+    }
+}
+
+/// The same of a word that takes two arguments or more. The first of them is a number.
+fn command_given_more<'a>(word: &str, rest: &'a str) -> Option<Command<'a>>
+    requires { IsOneWord word.now }
+    ensures some { IfSome result (λ c. IsLineOf (word.now ++ space ∷ rest.now) c) }
+    ensures none { IfNone result ((c : Edit) → 2 ≤ length (arguments c) → IsLineOf (word.now ++ space ∷ rest.now) c → ⊥) }
+{
+    let (start, rest) = number_before(rest)?;
+    match word {
+        "try_insert" => Some(Command::TryInsert(start, only_char(rest)?)),
+        "try_insert_str" => Some(Command::TryInsertStr(start, rest)),
+        "insert_str" => Some(Command::InsertStr(start, rest)),
         "drain" => {
-            let (start, end) = two_numbers(rest)?;
+            let end = number(rest)?;
             Some(Command::Drain { start, end })
         }
         "drain_through" => {
-            let (start, last) = two_numbers(rest)?;
+            let last = number(rest)?;
             Some(Command::DrainThrough { start, last })
         }
         "drain_back" => {
-            let (start, end) = two_numbers(rest)?;
+            let end = number(rest)?;
             Some(Command::DrainBack { start, end })
         }
         "replace_range" => {
-            let (start, rest) = number_before(rest)?;
             let (end, given) = number_before(rest)?;
             Some(Command::ReplaceRange { start, end, given })
         }
         "get" => {
-            let (start, end) = two_numbers(rest)?;
+            let end = number(rest)?;
             Some(Command::Get { start, end })
         }
         _ => None,
@@ -130,15 +132,6 @@ fn number_before(text: &str) -> Option<(u8, &str)>
 {
     let (digits, rest) = split_at_space(text)?;
     Some((number(digits)?, rest))
-}
-
-/// Two numbers with one space between them.
-fn two_numbers(text: &str) -> Option<(u8, u8)>
-    ensures some { IfSome result (λ both. (rest : List ℕ) × IsNumberBefore text.now both.0 rest × IsNumber rest both.1) }
-    ensures none { IfNone result ((m n : ℕ) (rest : List ℕ) → IsNumberBefore text.now m rest → IsNumber rest n → ⊥) }
-{
-    let (first, rest) = number_before(text)?;
-    Some((first, number(rest)?))
 }
 
 /// The character of a text that has exactly one.

@@ -1,8 +1,21 @@
 use Rattle.std.proofs.Common.{◌∙◌, sym}
-use Rattle.arraystring_run.proofs.PrintLemmas.{front-rest}
+use Rattle.arraystring_run.proofs.PrintLemmas.{appended-all, appended-rest, front-all, front-rest, on-ok}
 use Rattle.arraystring_run.proofs.printing.put.Goals as goal
 
 pub returns-clause-part : goal.returns-clause-part
 returns-clause-part g c =
     let (done, parts, appended) = c.in_ok-rest.ensures.some in
     front-rest _ _ _ _ done c.in_ok-rest.rest.now (sym c.as_bytes.ensures.value ∙ parts) appended c.put_rest.ensures.part
+
+pub returns-clause-whole : goal.returns-clause-whole
+returns-clause-whole g c =
+    let (done, parts, appended) = c.in_ok-rest.ensures.some in
+    on-ok c.put_rest.result _ _ (appended-rest _ _ _ _ done c.in_ok-rest.rest.now (sym c.as_bytes.ensures.value ∙ parts) appended) c.put_rest.ensures.whole
+
+pub returns-then-is_empty-clause-whole : goal.returns-then-is_empty-clause-whole
+returns-then-is_empty-clause-whole g c =
+    let (done, parts, appended) = c.in_ok-rest.ensures.some in
+    appended-all _ _ _ done c.in_ok-rest.rest.now (sym c.as_bytes.ensures.value ∙ parts) c.if-is_empty.ensures appended
+
+pub returns-then-is_empty-clause-part : goal.returns-then-is_empty-clause-part
+returns-then-is_empty-clause-part g c = front-all _ _ _ (returns-then-is_empty-clause-whole g c)

@@ -1,0 +1,37 @@
+use Rattle.std.proofs.Common.{◌∙◌, ap, length, map, sym}
+use Rattle.arraystring.specs.Text.{cap}
+use Rattle.arraystring_run.specs.Runs.{said}
+use Rattle.arraystring_run.proofs.RunLemmas.{is_empty-none, of-none}
+use Rattle.arraystring_run.proofs.runs.run.Goals.{then-not-is_empty, else-not-is_empty}
+use Rattle.arraystring_run.proofs.runs.run.Goals as goal
+
+pub returns-clause-replies : goal.returns-clause-replies
+returns-clause-replies g c = elim c.if-not-is_empty.branch [
+  | then-not-is_empty w ↦ ap (λ v. map said v.items) w.replies-is ∙ w.fill-first_tight.ensures.replies
+  | else-not-is_empty w ↦
+      let none = of-none _ c.args.text.now.text (cap g.row.N) (is_empty-none c.args.commands.now w.if-not-is_empty.ensures) in
+      ap (λ v. map said v.items) w.replies-is ∙ ap (map said) c.in_ok-replies.ensures.items ∙ sym none.0
+]
+
+pub returns-clause-one_each : goal.returns-clause-one_each
+returns-clause-one_each g c = elim c.if-not-is_empty.branch [
+  | then-not-is_empty w ↦ ap (λ v. v.len) w.replies-is ∙ w.fill-first_tight.ensures.one_each
+  | else-not-is_empty w ↦ 
+      ap (λ v. v.len) w.replies-is ∙ c.in_ok-replies.ensures.len ∙ sym (ap length (is_empty-none c.args.commands.now w.if-not-is_empty.ensures))
+]
+
+pub returns-clause-text : goal.returns-clause-text
+returns-clause-text g c = elim c.if-not-is_empty.branch [
+  | then-not-is_empty w ↦ ap (λ t. t.text) w.text-is ∙ w.fill-first_tight.ensures.text
+  | else-not-is_empty w ↦
+      let none = of-none _ c.args.text.now.text (cap g.row.N) (is_empty-none c.args.commands.now w.if-not-is_empty.ensures) in
+      ap (λ t. t.text) w.text-is ∙ sym none.1
+]
+
+pub returns-clause-first_tight : goal.returns-clause-first_tight
+returns-clause-first_tight g c = elim c.if-not-is_empty.branch [
+  | then-not-is_empty w ↦ w.first_tight-is ∙ w.fill-first_tight.ensures.first_tight
+  | else-not-is_empty w ↦
+      let none = of-none _ c.args.text.now.text (cap g.row.N) (is_empty-none c.args.commands.now w.if-not-is_empty.ensures) in
+      w.first_tight-is ∙ sym none.2
+]
