@@ -1,6 +1,7 @@
 -- Known bytes, of which some wait.
-use Rattle.std.proofs.Common.{◌≡◌, ℕ, List, [], ◌++◌, take, drop, refl, ap, ◌∙◌, append_assoc, take-append-drop}
-use Rattle.std.proofs.lemmas.List.{append-nil}
+use Rattle.std.proofs.Common.{◌≡◌, ℕ, ◌==◌, true, Vec, List, [], ◌++◌, take, drop, refl, sym, ap, ◌∙◌, append_assoc, take-append-drop}
+use Rattle.std.proofs.lemmas.Bool.{eqb-true}
+use Rattle.std.proofs.lemmas.List.{append-nil, nil_from_length}
 use Rattle.std.specs.Prelude.{Option, None, Some}
 use Rattle.std.specs.Io.KnownBytes.{Keeps, Appends, append_known}
 
@@ -26,3 +27,6 @@ keeps-sent (Some xs) (Some ys) items n e =
 pub append-nothing : (known : Option (List ℕ)) → append_known known [] ≡ known
 append-nothing None = refl
 append-nothing (Some xs) = ap Some (append-nil xs)
+
+pub none-waits : {Z : Type 0} (waiting : Vec ℕ Z) → (waiting.len == 0) ≡ true → waiting.items ≡ []
+none-waits waiting none = nil_from_length waiting.items (sym waiting.ok.0 ∙ eqb-true waiting.len 0 none)

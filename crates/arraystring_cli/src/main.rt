@@ -85,25 +85,32 @@ fn serve_buffered<I: Read, O: Write + Drop, E: Write>(
     alloc: Global,
     word: Option<&str>,
     input: &mut I,
-    mut output: O,
+    output: O,
     errors: &mut E,
 ) -> (u8, O)
     ensures { (held : List ℕ) × (result.0 ≢ 4 → held ≡ [])
         × IsServed word.entry (I.remaining input.old) (O.contents output) (append_known (O.contents result.1) held)
         (E.contents errors.old) (E.contents errors.new) (input.new ≡ input.old) (result.1 ≡ output) (errors.new ≡ errors.old) result.0 }
 {
+    let waiting = buffer(alloc, word);
+    let mut buffered = Buffered { output, waiting };
+    let status = serve(alloc, word, input, &mut buffered, errors);
+    let Buffered { output, waiting } = buffered;
+    // `serve` flushes what it played, which no contract of a writer says.
+    let is_whole = waiting.is_empty();
+    (if status == 0 && !is_whole { 4 } else { status }, output)
+}
+
+/// The room before the output: none for a word that names no capacity, or if there is no memory.
+fn buffer(alloc: Global, word: Option<&str>) -> Vec<u8>
+    ensures { result.items ≡ [] }
+{
     if names_capacity(word) {
         if let Ok(waiting) = Vec::with_capacity(alloc, BUFFER) {
-            let mut buffered = Buffered { output, waiting };
-            let status = serve(alloc, word, input, &mut buffered, errors);
-            let Buffered { output, waiting } = buffered;
-            // `serve` flushes what it played, which no contract of a writer says.
-            let is_whole = waiting.is_empty();
-            return (if status == 0 && !is_whole { 4 } else { status }, output);
+            return waiting;
         }
     }
-    let status = serve(alloc, word, input, &mut output, errors);
-    (status, output)
+    Vec::new(alloc)
 }
 
 #[cfg(test)]

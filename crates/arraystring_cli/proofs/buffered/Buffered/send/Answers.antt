@@ -1,6 +1,6 @@
-use Rattle.std.proofs.Common.{◌≡◌, ℕ, List, take, drop, subst, sym, ap, arith}
+use Rattle.std.proofs.Common.{◌≡◌, ℕ, ◌≤◌, List, length, take, drop, subst, sym, ap, arith}
 use Rattle.std.specs.Io.KnownBytes.{Keeps, Appends, append_known}
-use Rattle.arraystring_cli.proofs.BufferLemmas.{keeps-on, keeps-sent, keeps-waiting}
+use Rattle.arraystring_cli.proofs.BufferLemmas.{keeps-on, keeps-sent, keeps-waiting, none-waits}
 use Rattle.arraystring_cli.proofs.buffered.Buffered.send.Goals as goal
 use Rattle.arraystring_cli.proofs.buffered.Buffered.send.Goals.{in-Ok, in-Err+else-ne}
 
@@ -33,3 +33,16 @@ loop-preserved g c =
       | in-Err+else-ne w ↦
           rw w.self-is (keeps-on first (append_known old items) (append_known new items) c.loop.invariant (keeps-waiting old new items w.in-Err.ensures.bytes))
     ]
+
+pub returns-then-is_empty-clause-sent : goal.returns-then-is_empty-clause-sent
+returns-then-is_empty-clause-sent g c = none-waits c.loop.self.waiting (sym c.if-is_empty.ensures)
+
+pub drop_front-requires : goal.drop_front-requires
+drop_front-requires g c = subst (λ l. c.in-Ok.count ≤ length l) c.deref.ensures.value c.in-Ok.ensures.bound
+
+pub returns-then-ne-clause-kept : goal.returns-then-ne-clause-kept
+returns-then-ne-clause-kept g c =
+    let known = g.O.Write.contents in
+    let items = c.loop.self.waiting.items in
+    keeps-on (append_known (known c.args.self.now.output) c.args.self.now.waiting.items) (append_known (known c.loop.self.output) items) (append_known (known c.write.new.self) items)
+    c.loop.invariant (keeps-waiting (known c.loop.self.output) (known c.write.new.self) items c.in-Err.ensures.bytes)
