@@ -1,22 +1,10 @@
-//! Plays a script of commands from standard input to standard output. The tests of its functions
-//! are in `tests.rt`, those of scripts in `crates/arraystring_run_tests`.
+//! Plays a script of commands from standard input to standard output. What it calls is tested in
+//! `crates/arraystring_run_tests`, and the program by `try`.
 #![tactic(auto)]
 
-ghost use Rattle.std.specs.Prelude.{◌≡◌, ◌≢◌, ℕ, ⊤, List, [], Result};
-ghost use Rattle.std.specs.Io.KnownBytes.{append_known};
-ghost use Rattle.std.specs.declared.env.FillError.{FillError as Fault};
-ghost use Rattle.arraystring_run.specs.Script.{IsServed};
-ghost use Rattle.arraystring_cli.specs.Word.{IsOnlyWord};
-
-mod buffered;
-
 use arraystring::MaxString;
-use arraystring_run::{names_capacity, serve};
-use buffered::Buffered;
-use std::alloc::Global;
-use std::env::{Env, FillError};
+use arraystring_run::program::{given_word, serve_buffered};
 use std::io;
-use std::io::{Read, Write};
 use std::process::ExitCode;
 
 fn main(rt: HostRuntime) -> ExitCode {
@@ -26,92 +14,3 @@ fn main(rt: HostRuntime) -> ExitCode {
     let (status, _) = serve_buffered(rt.alloc(), word, input, output, errors);
     ExitCode::from(status)
 }
-
-/// How many bytes the buffer before the output has room for.
-const BUFFER: usize = 8192;
-
-/// The arguments of a program. The kit's `Env` does not say what its calls return; this trait names
-/// it, so that a contract can speak of it.
-trait Arguments {
-    /// What may be returned for the argument of an index, and what is in the buffer then.
-    ghost gives: { Self → ℕ → Result ℕ Fault → List ℕ → Type 0 };
-
-    /// Copies the argument `index` into the buffer and returns its length. Argument 0 is the
-    /// program's name.
-    fn argument(&self, index: usize, buffer: &mut [u8]) -> Result<usize, FillError>
-        ensures { gives self.now index result buffer.new };
-}
-
-/// Whatever the environment returns.
-impl<E: Env> Arguments for E {
-    ghost gives = { λ _ _ _ _. ⊤ };
-
-    fn argument(&self, index: usize, buffer: &mut [u8]) -> Result<usize, FillError> {
-        self.arg(index, buffer)
-    }
-}
-
-/// The word that the program was given: its only argument, if that is UTF-8. It takes no memory, so
-/// an argument of more than 255 bytes counts as none. No capacity has so long a name.
-fn given_word<A: Arguments>(arguments: &A) -> Option<MaxString>
-    ensures { (count : Result ℕ Fault) × (first : List ℕ) × (second : Result ℕ Fault) × (rest : List ℕ) × A.gives arguments.now 1 count first
-        × A.gives arguments.now 2 second rest × IsOnlyWord count first second result }
-{
-    let mut first = [0u8; 255];
-    let count = arguments.argument(1, &mut first);
-    let second = arguments.argument(2, &mut [0u8; 1]);
-    only_word(count, &first, second)
-}
-
-/// The text of the first argument, the first `count` bytes of `first`, if there is no second.
-fn only_word(
-    count: Result<usize, FillError>,
-    first: &[u8],
-    second: Result<usize, FillError>,
-) -> Option<MaxString>
-    ensures { IsOnlyWord count first.now second result }
-{
-    let (Ok(count), Err(FillError::NotPresent)) = (count, second) else {
-        return None;
-    };
-    MaxString::try_from_utf8(first.get(..count)?).ok()
-}
-
-/// Serves a word with a buffer before the output, so that a line costs no system call of its own.
-/// For a word that names no capacity no memory is taken. If there is no memory for a buffer, the
-/// output is not buffered. Returns the output too. After a failed write bytes may be left in the
-/// buffer (`held`), which are dropped.
-fn serve_buffered<I: Read, O: Write + Drop, E: Write>(
-    alloc: Global,
-    word: Option<&str>,
-    input: &mut I,
-    output: O,
-    errors: &mut E,
-) -> (u8, O)
-    ensures { (held : List ℕ) × (result.0 ≢ 4 → held ≡ [])
-        × IsServed word.entry (I.remaining input.old) (O.contents output) (append_known (O.contents result.1) held)
-        (E.contents errors.old) (E.contents errors.new) (input.new ≡ input.old) (result.1 ≡ output) (errors.new ≡ errors.old) result.0 }
-{
-    let waiting = buffer(alloc, word);
-    let mut buffered = Buffered { output, waiting };
-    let status = serve(alloc, word, input, &mut buffered, errors);
-    let Buffered { output, waiting } = buffered;
-    // `serve` flushes what it played, which no contract of a writer says.
-    let is_whole = waiting.is_empty();
-    (if status == 0 && !is_whole { 4 } else { status }, output)
-}
-
-/// The room before the output: none for a word that names no capacity, or if there is no memory.
-fn buffer(alloc: Global, word: Option<&str>) -> Vec<u8>
-    ensures { result.items ≡ [] }
-{
-    if names_capacity(word) {
-        if let Ok(waiting) = Vec::with_capacity(alloc, BUFFER) {
-            return waiting;
-        }
-    }
-    Vec::new(alloc)
-}
-
-#[cfg(test)]
-mod tests;

@@ -8,4 +8,6 @@ mod OneReadingLemmas
 mod LineLemmas
 mod AgreementLemmas
 mod FirstTightLemmas
-pub mod PlayLemmas
+mod PlayLemmas
+mod BufferLemmas
+mod ServedLemmas

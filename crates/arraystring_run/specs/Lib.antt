@@ -11,3 +11,4 @@ pub mod Runs
 pub mod Agreement
 pub mod Grammar
 pub mod Script
+pub mod Word

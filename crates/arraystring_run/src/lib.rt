@@ -2,12 +2,14 @@
 //! Its tests are in `crates/arraystring_run_tests`.
 #![tactic(auto)]
 
+pub mod buffered;
 mod commands;
 mod find;
 pub mod laws;
 mod line;
 mod player;
 mod printing;
+pub mod program;
 mod runs;
 mod script;
 mod steps;

@@ -17,6 +17,8 @@ mod player;
 #[cfg(test)]
 mod printing;
 #[cfg(test)]
+mod program;
+#[cfg(test)]
 mod runs;
 #[cfg(test)]
 mod surface;

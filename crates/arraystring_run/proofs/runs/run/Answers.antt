@@ -16,7 +16,7 @@ returns-clause-replies g c = elim c.if-not-is_empty.branch [
 pub returns-clause-one_each : goal.returns-clause-one_each
 returns-clause-one_each g c = elim c.if-not-is_empty.branch [
   | then-not-is_empty w ↦ ap (λ v. v.len) w.replies-is ∙ w.fill-first_tight.ensures.one_each
-  | else-not-is_empty w ↦ 
+  | else-not-is_empty w ↦
       ap (λ v. v.len) w.replies-is ∙ c.in_ok-replies.ensures.len ∙ sym (ap length (is_empty-none c.args.commands.now w.if-not-is_empty.ensures))
 ]
 

@@ -34,9 +34,9 @@ pub returns-clause-one_each : goal.returns-clause-one_each
 returns-clause-one_each g c = elim c.if-not-is_empty.branch [
   | then-not-is_empty w ↦ (c.in_ok-first_outcome.ensures.one_each, ap (λ v. v.len) w.second_replies-is ∙ w.fill-first_tight.ensures.one_each)
   | else-not-is_empty w ↦ (
-      c.in_ok-first_outcome.ensures.one_each,
-      ap (λ v. v.len) w.second_replies-is ∙ c.in_ok-second_replies.ensures.len ∙ sym (ap length (is_empty-none c.args.commands.now w.if-not-is_empty.ensures)),
-    )
+    c.in_ok-first_outcome.ensures.one_each,
+    ap (λ v. v.len) w.second_replies-is ∙ c.in_ok-second_replies.ensures.len ∙ sym (ap length (is_empty-none c.args.commands.now w.if-not-is_empty.ensures)),
+  )
 ]
 
 pub returns-clause-agree : goal.returns-clause-agree

@@ -1,0 +1,14 @@
+-- The word that a program is given.
+use Rattle.std.specs.Prelude.{◌≡◌, ◌≤◌, ℕ, List, length, take, Option, Result, Ok, Err, IfSome, IsSome}
+use Rattle.std.specs.declared.env.FillError.{FillError}
+use Rattle.std.specs.declared.env.FillError.TheVariants.{NotPresent}
+use Rattle.arraystring.specs.Stored.{Stored}
+use Rattle.arraystring.specs.Text.{IsText, size, bytes}
+
+-- the word is the first argument, whose bytes are the first of `first` by its count, and there is no second; every text of at
+-- most 255 bytes that is alone is the word
+pub record IsOnlyWord (count : Result ℕ FillError) (first : List ℕ) (second : Result ℕ FillError) (word : Option Stored) : Type 0 where
+  pub text : IfSome word (λ w. (n : ℕ) × (count ≡ Ok n) × (bytes w.text ≡ take n first))
+  pub alone : IsSome word → second ≡ Err NotPresent
+  pub whole : (t : List ℕ) (n : ℕ) → IsText t → size t ≤ 255 → count ≡ Ok n → n ≤ length first
+      → bytes t ≡ take n first → second ≡ Err NotPresent → IsSome word

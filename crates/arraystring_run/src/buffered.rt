@@ -1,0 +1,94 @@
+//! A buffer before a writer.
+ghost use Rattle.std.specs.Prelude.{◌≡◌, ◌+◌, ◌≤◌, ◌++◌, [], OnOk, length, drop, vec_len, vec_capacity};
+ghost use Rattle.std.specs.Io.{WritesAtMost};
+ghost use Rattle.std.specs.Io.KnownBytes.{Keeps, WriteAppends, append_known};
+
+use std::io;
+use std::io::{ErrorKind, Write};
+
+/// A writer, and the bytes that wait to be written to it. The memory for these is there before the
+/// writer is given, so a writer is never lost for want of it. Nothing is written when it is dropped.
+#[derive(Drop)]
+pub struct Buffered<O> {
+    pub output: O,
+    pub waiting: Vec<u8>,
+}
+
+impl<O: Write> Buffered<O> {
+    /// Writes what waits. If a write fails, what is not written still waits.
+    fn send(&mut self) -> io::Result<()>
+        ensures sent { OnOk result (self.new.waiting.items ≡ []) }
+        ensures kept { Keeps (append_known (O.contents self.old.output) self.old.waiting.items) (append_known (O.contents self.new.output) self.new.waiting.items) }
+    {
+        for _ in 0..u64::MAX {
+            if self.waiting.is_empty() {
+                return Ok(());
+            }
+            match self.output.write(&self.waiting) {
+                Ok(0) => return Err(ErrorKind::WriteZero.into()),
+                Ok(count) => drop_front(&mut self.waiting, count),
+                Err(error) => {
+                    if error.kind() != ErrorKind::Interrupted {
+                        return Err(error);
+                    }
+                }
+            }
+        }
+        Err(ErrorKind::Other.into())
+    }
+
+    /// Writes bytes for which there is no room behind what waits.
+    #[cold]
+    #[inline(never)]
+    fn send_and_write(&mut self, bytes: &[u8]) -> io::Result<usize>
+        ensures bound { WritesAtMost result bytes.now }
+        ensures bytes { WriteAppends (append_known (O.contents self.old.output) self.old.waiting.items) (append_known (O.contents self.new.output) self.new.waiting.items) result bytes.now }
+    {
+        self.send()?;
+        if bytes.len() > self.waiting.capacity() - self.waiting.len() {
+            return self.output.write(bytes);
+        }
+        add(&mut self.waiting, bytes);
+        Ok(bytes.len())
+    }
+}
+
+/// What waits is written behind what the writer has.
+impl<O: Write> Write for Buffered<O> {
+    ghost contents = { λ buffered. append_known (O.contents buffered.output) buffered.waiting.items };
+
+    #[inline(always)]
+    fn write(&mut self, bytes: &[u8]) -> io::Result<usize> {
+        if bytes.len() > self.waiting.capacity() - self.waiting.len() {
+            return self.send_and_write(bytes);
+        }
+        add(&mut self.waiting, bytes);
+        Ok(bytes.len())
+    }
+
+    fn flush(&mut self) -> io::Result<()> {
+        self.send()?;
+        self.output.flush()
+    }
+}
+
+/// Adds bytes for which there is room.
+#[inline(always)]
+fn add(waiting: &mut Vec<u8>, bytes: &[u8])
+    requires { vec_len waiting.old + length bytes.now ≤ vec_capacity waiting.old }
+    ensures { waiting.new.items ≡ waiting.old.items ++ bytes.now }
+{
+    let Ok(()) = waiting.extend_from_slice(bytes) else {
+        unreachable!();
+    };
+}
+
+/// Takes the first `count` bytes away.
+fn drop_front(bytes: &mut Vec<u8>, count: usize)
+    requires { count ≤ length bytes.old.items }
+    ensures { bytes.new.items ≡ drop count bytes.old.items }
+{
+    let len = bytes.len();
+    bytes.as_mut_slice().copy_within(count..len, 0);
+    bytes.truncate(len - count);
+}
