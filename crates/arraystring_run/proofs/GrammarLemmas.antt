@@ -1,5 +1,5 @@
 -- Lines as words and arguments: what a line is the line of.
-use Rattle.std.proofs.Common.{◌≡◌, ◌≢◌, ℕ, ◌<◌, ◌≤◌, List, [], ◌∷◌, ◌++◌, length, map, drop, get_or, ◌^◌, refl, sym, ap, subst, ◌∙◌, arith, nat_le, IsUtf8, true, ◌&&◌, ◌+◌, length-append, rules, true≢false, Option, Some, None, Result, Ok, Err, IfSome, IfNone}
+use Rattle.std.proofs.Common.{◌≡◌, ◌≢◌, ℕ, ◌<◌, ◌≤◌, List, [], ◌∷◌, ◌++◌, codes, length, map, drop, get_or, ◌^◌, refl, sym, ap, subst, ◌∙◌, arith, nat_le, IsUtf8, true, ◌&&◌, ◌+◌, length-append, rules, true≢false, Option, Some, None, Result, Ok, Err, IfSome, IfNone}
 use Rattle.std.specs.Bool.{⊤}
 use Rattle.std.proofs.lemmas.List.{append-nil}
 use Rattle.std.proofs.lemmas.Bool.{and_parts, leb-true}
@@ -14,6 +14,7 @@ use Rattle.std.specs.Result.{OkIff, result_ok}
 use Rattle.arraystring.specs.Text.{utf8, IsScalarValue, IsWellFormed}
 use Rattle.arraystring.proofs.TextLaws.{bytes-utf8, well_formed-utf8, utf8-well_formed}
 use Rattle.arraystring_run.specs.declared.commands.Command.{Command}
+use Rattle.arraystring_run.specs.declared.commands.Command.TheVariants as command
 use Rattle.arraystring_run.proofs.CommandLemmas.{are_letters, word-letters, kind, kinds, numbers_first, kinds-numbers_first, namesakes}
 use Rattle.arraystring_run.specs.Grammar.{Argument, Number, Character, Text, word, arguments, AreDigits, value_after, IsNumber, IsNumberBefore, IsSpelled, AreSpelled, IsLineOf, IsOneWord, space, spellings, line_of, AreArguments}
 
@@ -136,6 +137,10 @@ pub if-none : {T A B : Type 0} (o : Option T) → (A → B) → IfNone o A → I
 if-none None f a = f a
 if-none (Some x) f a = tt
 
+pub if_some-map : {A : Type 0} {P Q : A → Type 0} (o : Option A) → ((a : A) → P a → Q a) → IfSome o P → IfSome o Q
+if_some-map None f p = tt
+if_some-map (Some a) f p = f a p
+
 -- of two arguments or more the first is a number
 pub no-start : (rest : List ℕ) → ((n : ℕ) (behind : List ℕ) → IsNumberBefore rest n behind → ⊥) → (c : Command)
     → 2 ≤ length (arguments c) → AreSpelled (space ∷ rest) (arguments c) → ⊥
@@ -146,6 +151,33 @@ no-start rest bad c more spelled = start (arguments c) (kinds-numbers_first c) m
   start (Number n ∷ b ∷ given) first more spelled = no-before rest bad (Number n ∷ b ∷ given, refl, spelled)
   start (Character c ∷ b ∷ given) first more spelled = absurd (true≢false (sym first))
   start (Text t ∷ b ∷ given) first more spelled = absurd (true≢false (sym first))
+
+-- the other words of two arguments or more take the ends of a range, and no more
+pub ranges : (c : Command) → 2 ≤ length (arguments c) → (word c ≡ codes "try_insert" → ⊥) → (word c ≡ codes "try_insert_str" → ⊥)
+    → (word c ≡ codes "insert_str" → ⊥) → (word c ≡ codes "replace_range" → ⊥) → (m : ℕ) × (n : ℕ) × (arguments c ≡ Number m ∷ Number n ∷ [])
+ranges (command.TryPush c) more a b d e = absurd (omega (arith, more))
+ranges (command.TryPushStr given) more a b d e = absurd (omega (arith, more))
+ranges (command.PushStr given) more a b d e = absurd (omega (arith, more))
+ranges command.Pop more a b d e = absurd (omega (arith, more))
+ranges (command.Truncate i) more a b d e = absurd (omega (arith, more))
+ranges command.Trim more a b d e = absurd (omega (arith, more))
+ranges (command.Remove i) more a b d e = absurd (omega (arith, more))
+ranges (command.RetainNot c) more a b d e = absurd (omega (arith, more))
+ranges (command.TryInsert i c) more a b d e = absurd (a refl)
+ranges (command.TryInsertStr i given) more a b d e = absurd (b refl)
+ranges (command.InsertStr i given) more a b d e = absurd (d refl)
+ranges (command.SplitOff i) more a b d e = absurd (omega (arith, more))
+ranges command.Clear more a b d e = absurd (omega (arith, more))
+ranges (command.Drain m n) more a b d e = (m, n, refl)
+ranges (command.DrainThrough m n) more a b d e = (m, n, refl)
+ranges (command.DrainBack m n) more a b d e = (m, n, refl)
+ranges (command.ReplaceRange m n given) more a b d e = absurd (e refl)
+ranges command.Upper more a b d e = absurd (omega (arith, more))
+ranges command.Lower more a b d e = absurd (omega (arith, more))
+ranges (command.Get m n) more a b d e = (m, n, refl)
+ranges command.Len more a b d e = absurd (omega (arith, more))
+ranges command.Capacity more a b d e = absurd (omega (arith, more))
+ranges command.AsStr more a b d e = absurd (omega (arith, more))
 
 -- digits have no space, so the number before the first space is one alone
 digits-one : (bs : List ℕ) → AreDigits bs → IsOneWord bs

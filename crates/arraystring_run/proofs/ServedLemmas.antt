@@ -7,11 +7,8 @@ use Rattle.std.specs.Io.KnownBytes.{Appends, append_known}
 use Rattle.arraystring_run.specs.Script.{IsServed, AppendsPrefix, capacity_named, fault_line}
 use Rattle.arraystring_run.specs.declared.player.PlayFault.TheVariants.{Write}
 use Rattle.arraystring_run.proofs.BufferLemmas.{append-nothing}
+use Rattle.arraystring_run.proofs.GrammarLemmas.{if_some-map}
 use Rattle.arraystring_run.proofs.PrintLemmas.{front-all}
-
-if_some-map : {A : Type 0} {P Q : A → Type 0} (o : Option A) → ((a : A) → P a → Q a) → IfSome o P → IfSome o Q
-if_some-map None f p = tt
-if_some-map (Some a) f p = f a p
 
 if_some-all : {A : Type 0} {Q : A → Type 0} (o : Option A) → ((a : A) → Q a) → IfSome o Q
 if_some-all None f = tt

@@ -1,7 +1,7 @@
 //! The command of a line.
-ghost use Rattle.std.specs.Prelude.{◌≡◌, ◌≤◌, ◌∷◌, ◌++◌, ℕ, List, length, IfSome, IfNone};
+ghost use Rattle.std.specs.Prelude.{◌≡◌, ◌≤◌, [], ◌∷◌, ◌++◌, ℕ, List, length, IfSome, IfNone};
 ghost use Rattle.arraystring.specs.Text.{utf8, IsScalarValue};
-ghost use Rattle.arraystring_run.specs.Grammar.{arguments, IsLineOf, IsNumber, IsNumberBefore, IsOneWord, space};
+ghost use Rattle.arraystring_run.specs.Grammar.{word as word_of, arguments, Number, IsLineOf, IsNumber, IsNumberBefore, IsOneWord, space};
 ghost use Rattle.arraystring_run.specs.declared.commands.Command.{Command as Edit};
 
 use crate::Command;
@@ -89,26 +89,24 @@ fn command_given_more<'a>(word: &str, rest: &'a str) -> Option<Command<'a>>
         "try_insert" => Some(Command::TryInsert(start, only_char(rest)?)),
         "try_insert_str" => Some(Command::TryInsertStr(start, rest)),
         "insert_str" => Some(Command::InsertStr(start, rest)),
-        "drain" => {
-            let end = number(rest)?;
-            Some(Command::Drain { start, end })
-        }
-        "drain_through" => {
-            let last = number(rest)?;
-            Some(Command::DrainThrough { start, last })
-        }
-        "drain_back" => {
-            let end = number(rest)?;
-            Some(Command::DrainBack { start, end })
-        }
         "replace_range" => {
             let (end, given) = number_before(rest)?;
             Some(Command::ReplaceRange { start, end, given })
         }
-        "get" => {
-            let end = number(rest)?;
-            Some(Command::Get { start, end })
-        }
+        _ => command_of_range(word, start, number(rest)?),
+    }
+}
+
+/// The command of a word that takes the ends of a range and no more.
+fn command_of_range(word: &str, start: u8, end: u8) -> Option<Command<'static>>
+    ensures some { IfSome result (λ c. (word.now ≡ word_of c) × (arguments c ≡ Number start ∷ Number end ∷ [])) }
+    ensures none { IfNone result ((c : Edit) (m n : ℕ) → word.now ≡ word_of c → arguments c ≡ Number m ∷ Number n ∷ [] → ⊥) }
+{
+    match word {
+        "drain" => Some(Command::Drain { start, end }),
+        "drain_through" => Some(Command::DrainThrough { start, last: end }),
+        "drain_back" => Some(Command::DrainBack { start, end }),
+        "get" => Some(Command::Get { start, end }),
         _ => None,
     }
 }
