@@ -10,7 +10,7 @@ use Rattle.arraystring_base.proofs.BoundaryLaws.{front-back, front-is, back-is, 
 use Rattle.arraystring_core.specs.Stored.{Stored, stored, IsStored}
 use Rattle.arraystring_core.specs.GhostProofs.{stored-utf8, stored-size, stored-bytes}
 use Rattle.arraystring_core.specs.Drained.{IsDrained}
-use Rattle.arraystring_core.specs.Edits.{Cause, Test, first_cause, ok_unless, part, draining}
+use Rattle.arraystring_core.specs.Edits.{Cause, Test, first_cause, ok_unless, part, draining, replacement}
 use Rattle.arraystring_core.proofs.EditLaws.{none-holds, inside-failed}
 use Rattle.arraystring_core.proofs.SpanLemmas.{dropped as dropped_part, kept as kept_part}
 
@@ -107,6 +107,26 @@ part-where t start end e =
       within = reached;
       starts = inside-failed t start (omega arith) none.1.1.0;
       ends = inside-failed t end reached none.1.1.1.0;
+    }
+
+-- what is known if no test of a replacement holds
+pub record IsReplaced (t : List ℕ) (start end : ℕ) (given : List ℕ) (n : ℕ) : Type 0 where
+  pub order : start ≤ end
+  pub fits : size t - (end - start) + size given ≤ n
+  pub starts : boundary t start ≡ true
+  pub ends : boundary t end ≡ true
+
+pub replaced-where : (t : List ℕ) (start end : ℕ) (given : List ℕ) (n : ℕ) → first_cause (replacement t start end given n).tests ≡ None
+    → IsReplaced t start end given n
+replaced-where t start end given n e =
+    let none = none-holds (replacement t start end given n).tests e in
+    let le : start ≤ end = ltb-false end start none.0 in
+    let reached : end ≤ size t = ltb-false (size t) end none.1.0 in
+    record {
+      order = le;
+      fits = ltb-false n (size t - (end - start) + size given) none.1.1.0;
+      starts = inside-failed t start (omega arith) none.1.1.1.0;
+      ends = inside-failed t end reached none.1.1.1.1.0;
     }
 
 -- the part between two boundaries of a stored text, where it is in the array

@@ -1,5 +1,6 @@
-use Rattle.std.proofs.Common.{◌∙◌, sym}
-use Rattle.arraystring_run.proofs.PrintLemmas.{appended-all, appended-rest, front-all, front-rest, on-ok}
+use Rattle.std.proofs.Common.{[], ◌∙◌, refl, sym}
+use Rattle.std.proofs.KnownBytes.{Appends-nil}
+use Rattle.arraystring_run.proofs.PrintLemmas.{appended-all, appended-rest, front-all, front-kept, front-rest, on-ok}
 use Rattle.arraystring_run.proofs.printing.put.Goals as goal
 
 pub returns-clause-part : goal.returns-clause-part
@@ -19,3 +20,6 @@ returns-then-is_empty-clause-whole g c =
 
 pub returns-then-is_empty-clause-part : goal.returns-then-is_empty-clause-part
 returns-then-is_empty-clause-part g c = front-all _ _ _ (returns-then-is_empty-clause-whole g c)
+
+pub returns-in_err-rest-clause-part : goal.returns-in_err-rest-clause-part
+returns-in_err-rest-clause-part g c = front-kept _ _ _ c.args.text.now [] c.args.text.now refl (Appends-nil _) c.in_err-rest.ensures.none
