@@ -1,6 +1,6 @@
 use Rattle.std.proofs.Common.{◌≡◌, ℕ, ◌+◌, ◌++◌, ◌∷◌, [], List, ap, sym, subst, ◌∙◌, map, take, drop, codes}
 use Rattle.std.proofs.lemmas.List.{take_more, take_all, map-append}
-use Rattle.std.proofs.KnownBytes.{Appends-trans, Appends-kept}
+use Rattle.std.proofs.KnownBytes.{Appends-nil, Appends-trans, Appends-kept}
 use Rattle.std.specs.Io.KnownBytes.{Appends}
 use Rattle.arraystring.specs.Text.{bytes}
 use Rattle.arraystring_run.specs.Runs.{said}
@@ -54,3 +54,6 @@ returns-clause-part g c =
     subst (λ l. Appends old (g.O.Write.contents c.loop-reply.output) (replies_printed (map said l))) (take_all c.loop-reply.reply-index rs c.loop-reply-test.false) c.loop-reply.invariant in
     let line = subst (λ l. Appends (g.O.Write.contents c.loop-reply.output) (g.O.Write.contents c.put_line.new.output) (ended (codes "final " ++ l))) c.as_str.ensures.bytes c.in_ok-put_line.ensures.whole in
     front-all _ _ _ (Appends-kept _ _ _ _ (Appends-trans _ _ _ _ _ all line) c.flush.ensures.bytes)
+
+pub loop-reply-init : goal.loop-reply-init
+loop-reply-init g c = Appends-nil _

@@ -1,8 +1,9 @@
-use Rattle.std.proofs.Common.{◌≡◌, ◌+◌, ◌++◌, ◌∷◌, [], drop, length, slice_range, subst, arith, rules, length-drop, length-take, ◌-◌}
+use Rattle.std.proofs.Common.{◌≡◌, ◌+◌, ◌++◌, ◌∷◌, [], ap, drop, length, slice_range, subst, arith, rules, length-drop, length-take, ◌-◌}
+use Rattle.std.proofs.lemmas.List.{drop_all}
 use Rattle.std.proofs.lemmas.Str.{IsCharBoundary-start}
 use Rattle.arraystring_run.specs.Grammar.{IsLineOf}
 use Rattle.arraystring_run.specs.Script.{lines}
-use Rattle.arraystring_run.proofs.ScriptLemmas.{IsPartRead, line-from, after-line_feed, read-none, read-more, read-bad}
+use Rattle.arraystring_run.proofs.ScriptLemmas.{IsPartRead, line-from, after-line_feed, read-all, read-none, read-more, read-bad}
 use Rattle.arraystring_run.proofs.script.commands.Goals as goal
 
 pub loop-start-init : goal.loop-start-init
@@ -52,3 +53,10 @@ loop-start-preserved c =
       text = way.text;
       boundary = after-line_feed bs start size found.found;
     }
+
+pub returns-clause-accepted : goal.returns-clause-accepted
+returns-clause-accepted c =
+    let bs = c.args.script.now in
+    let done = c.loop-start.commands.items in
+    let none = ap lines (drop_all c.loop-start.start bs c.loop-start-test.false) in
+    read-all (lines bs) done c.loop-start.number (subst (λ l. IsPartRead (lines bs) done l c.loop-start.number) none c.loop-start.invariant.read)
