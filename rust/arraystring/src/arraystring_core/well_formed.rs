@@ -60,9 +60,8 @@ fn behind_characters(given: &[u8]) -> &[u8] {
     rest
 }
 
-/// How many bytes the first character takes, by the Unicode Standard's table of well-formed UTF-8
-/// byte sequences (section 3.9, table 3-7), of which each row is an arm. Four characters of ASCII
-/// are taken together with those that follow. 0 if no character is at the front.
+/// How many bytes the first character takes. Four characters of ASCII are taken together with those
+/// that follow. 0 if no character is at the front.
 ///
 /// # Contract
 ///
@@ -75,17 +74,61 @@ fn behind_characters(given: &[u8]) -> &[u8] {
 fn characters_at_front(bytes: &[u8]) -> usize {
     match bytes {
         [0..=0x7F, 0..=0x7F, 0..=0x7F, 0..=0x7F, rest @ ..] => 4 + ascii_at_front(rest),
-        [0..=0x7F, ..] => 1,
-        [0xC2..=0xDF, 0x80..=0xBF, ..] => 2,
-        [0xE0, 0xA0..=0xBF, 0x80..=0xBF, ..] => 3,
-        [0xE1..=0xEC, 0x80..=0xBF, 0x80..=0xBF, ..] => 3,
-        [0xED, 0x80..=0x9F, 0x80..=0xBF, ..] => 3,
-        [0xEE..=0xEF, 0x80..=0xBF, 0x80..=0xBF, ..] => 3,
-        [0xF0, 0x90..=0xBF, 0x80..=0xBF, 0x80..=0xBF, ..] => 4,
-        [0xF1..=0xF3, 0x80..=0xBF, 0x80..=0xBF, 0x80..=0xBF, ..] => 4,
-        [0xF4, 0x80..=0x8F, 0x80..=0xBF, 0x80..=0xBF, ..] => 4,
+        [first, second, third, fourth, ..] => character_at_front(*first, *second, *third, *fourth),
         _ => 0,
     }
+}
+
+/// How many of four bytes the first character takes, by the Unicode Standard's table of well-formed
+/// UTF-8 byte sequences (section 3.9, table 3-7). 0 if they begin with no character.
+///
+/// # Contract
+///
+/// ```text
+/// ensures within { result ≤ 4 }
+/// ensures character { IsUtf8 (take result (first ∷ second ∷ third ∷ fourth ∷ [])) }
+/// ```
+#[inline(always)]
+fn character_at_front(first: u8, second: u8, third: u8, fourth: u8) -> usize {
+    match first {
+        0..=0x7F => 1,
+        0xC2..=0xDF if is_second(first, second) => 2,
+        0xE0..=0xEF if is_second(first, second) && is_later(third) => 3,
+        0xF0..=0xF4 if is_second(first, second) && is_later(third) && is_later(fourth) => 4,
+        _ => 0,
+    }
+}
+
+/// Whether a byte may be the second one of a character that takes more than one, as the rows of that table say.
+///
+/// # Contract
+///
+/// ```text
+/// ensures later { IsTrue result → (0x80 ≤ second) × (second ≤ 0xBF) }
+/// ensures least { IsTrue result → (first ≡ 0xE0 → 0xA0 ≤ second) × (first ≡ 0xF0 → 0x90 ≤ second) }
+/// ensures greatest { IsTrue result → (first ≡ 0xED → second ≤ 0x9F) × (first ≡ 0xF4 → second ≤ 0x8F) }
+/// ```
+#[inline(always)]
+fn is_second(first: u8, second: u8) -> bool {
+    match first {
+        0xE0 => matches!(second, 0xA0..=0xBF),
+        0xED => matches!(second, 0x80..=0x9F),
+        0xF0 => matches!(second, 0x90..=0xBF),
+        0xF4 => matches!(second, 0x80..=0x8F),
+        _ => is_later(second),
+    }
+}
+
+/// Whether a byte may be the third or fourth one of a character.
+///
+/// # Contract
+///
+/// ```text
+/// ensures { IsTrue result → (0x80 ≤ byte) × (byte ≤ 0xBF) }
+/// ```
+#[inline(always)]
+fn is_later(byte: u8) -> bool {
+    matches!(byte, 0x80..=0xBF)
 }
 
 /// How many bytes at the front are ASCII, in whole blocks of 16.

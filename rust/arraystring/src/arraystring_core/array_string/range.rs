@@ -352,24 +352,31 @@ impl<const N: usize> ArrayString<N> {
         with: &str,
         steps: &mut Steps,
     ) -> Result<(), Error> {
-        if start > end {
-            return Err(Error::OutOfBounds);
-        }
-        if end > self.len() {
+        self.can_replace(start, end, with)?;
+        let (from, to) = (start as usize, end as usize);
+        self.splice(from, to, with, steps);
+        Ok(())
+    }
+
+    /// Whether the bytes from `start` to `end` can be replaced by `with`, and else why not.
+    ///
+    /// # Contract
+    ///
+    /// ```text
+    /// ensures { result ≡ ok_unless (first_cause (replacement self.now.text start end (chars with.now) (cap N)).tests) tt }
+    /// ```
+    #[inline(always)]
+    fn can_replace(&self, start: u8, end: u8, with: &str) -> Result<(), Error> {
+        if start > end || end > self.len() {
             return Err(Error::OutOfBounds);
         }
         let kept = (self.len() - (end - start)) as usize;
         if kept + with.len() > Self::capacity() as usize {
             return Err(Error::OutOfBounds);
         }
-        let (from, to) = (start as usize, end as usize);
-        if !self.is_boundary(from) {
+        if !self.is_boundary(start as usize) || !self.is_boundary(end as usize) {
             return Err(Error::Utf8);
         }
-        if !self.is_boundary(to) {
-            return Err(Error::Utf8);
-        }
-        self.splice(from, to, with, steps);
         Ok(())
     }
 }
