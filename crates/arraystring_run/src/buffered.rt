@@ -10,7 +10,9 @@ use std::io::{ErrorKind, Write};
 /// writer is given, so a writer is never lost for want of it. Nothing is written when it is dropped.
 #[derive(Drop)]
 pub struct Buffered<O> {
+    /// Where the bytes go.
     pub output: O,
+    /// The bytes that wait. Its capacity is what may wait at most.
     pub waiting: Vec<u8>,
 }
 

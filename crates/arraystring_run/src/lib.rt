@@ -1,5 +1,5 @@
-//! Commands that edit a string of bounded size: runs of them, and scripts that are played.
-//! Its tests are in `crates/arraystring_run_tests`.
+//! Commands that edit a string of bounded size: runs of them, and scripts that are played. `program`
+//! has what the `main` of such a player calls. Its tests are in `crates/arraystring_run_tests`.
 #![tactic(auto)]
 
 pub mod buffered;
