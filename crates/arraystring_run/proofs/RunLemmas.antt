@@ -1,6 +1,6 @@
 -- Runs of commands, part way.
 use Rattle.std.proofs.Common.{◌≡◌, ℕ, suc, ◌+◌, ◌<◌, ◌≤◌, ◌==◌, List, [], ◌∷◌, ◌++◌, length, drop, get_or, refl, sym, ap, ◌∙◌, arith, Option, Some, None, Bool, true, false, nat_lt, if◌then◌else◌, append_assoc, inl, inr, reverse}
-use Rattle.std.proofs.lemmas.List.{append-nil, drop_all, get_or_default, nil_from_length, reverse-append}
+use Rattle.std.proofs.lemmas.List.{append-nil, drop_all, nil_from_length, reverse-append}
 use Rattle.std.proofs.lemmas.Bool.{cases_lt, eqb-true, lt-ltb, le-ltb}
 use Rattle.std.proofs.Math.Seq.{drop-cons}
 use Rattle.arraystring.specs.Text.{size, cut}
@@ -83,11 +83,3 @@ module _ (cs : List Command) (t₀ : List ℕ) (n : ℕ) where
         tight = way.tight ∙ ap (λ d. earlier_of first (first_tight_from i d t n)) next
             ∙ earlier_of-step first (tight command t n) i (first_tight_from (i + 1) (drop (i + 1) cs) (edit command t n).text n);
       }
-
-  -- the command at i was made, and this is what it left
-  pub went-on : (i : ℕ) (done new : List Said) (t u : List ℕ) (first next : Option ℕ) (d : Command) → i < length cs
-      → new ≡ done ++ (edit (get_or cs i d) t n).reply ∷ [] → u ≡ (edit (get_or cs i d) t n).text
-      → next ≡ earlier_of first (if tight (get_or cs i d) t n then Some i else None)
-      → IsPartWay cs t₀ n i done t first → IsPartWay cs t₀ n (i + 1) new u next
-  went-on i done new t u first next d lt replies text tight way =
-      rw (replies, text, tight) (one-more i done t first (get_or cs i d) lt (get_or_default cs i d (get_or cs i d) lt) way)

@@ -1,18 +1,10 @@
-use Rattle.std.proofs.Common.{ap, length, map, sym, ◌∙◌}
+use Rattle.std.proofs.Common.{◌≡◌, ap, length, map, sym, ◌∙◌}
 use Rattle.arraystring.specs.Text.{cap}
 use Rattle.arraystring_run.specs.Runs.{said, after}
 use Rattle.arraystring_run.proofs.RunLemmas.{is_empty-none, of-none}
 use Rattle.arraystring_run.proofs.AgreementLemmas.{alike, no-sooner, same-text}
 use Rattle.arraystring_run.proofs.runs.run_both.Goals.{then-not-is_empty, else-not-is_empty}
 use Rattle.arraystring_run.proofs.runs.run_both.Goals as goal
-
-pub returns-clause-second_replies : goal.returns-clause-second_replies
-returns-clause-second_replies g c = elim c.if-not-is_empty.branch [
-  | then-not-is_empty w ↦ ap (λ v. map said v.items) w.second_replies-is ∙ w.fill-first_tight.ensures.replies
-  | else-not-is_empty w ↦
-      let none = of-none _ c.args.second.now.text (cap g.row.M) (is_empty-none c.args.commands.now w.if-not-is_empty.ensures) in
-      ap (λ v. map said v.items) w.second_replies-is ∙ ap (map said) c.in_ok-second_replies.ensures.items ∙ sym none.0
-]
 
 pub returns-clause-second_text : goal.returns-clause-second_text
 returns-clause-second_text g c = elim c.if-not-is_empty.branch [
@@ -41,9 +33,17 @@ returns-clause-one_each g c = elim c.if-not-is_empty.branch [
 
 pub returns-clause-agree : goal.returns-clause-agree
 returns-clause-agree g c = λ same le.
+    let cs = c.args.commands.now in
     let first = c.in_ok-first_outcome.ensures in
-    rw (first.replies, first.first_tight, returns-clause-second_replies g c, ← same)
-    (alike c.args.commands.now c.args.first.now.text (cap g.row.N) (cap g.row.M) le)
+    let t = c.args.second.now.text in
+    let second : map said c.if-not-is_empty.second_replies.items ≡ (after cs t (cap g.row.M)).replies =
+    elim c.if-not-is_empty.branch [
+      | then-not-is_empty w ↦ ap (λ v. map said v.items) w.second_replies-is ∙ w.fill-first_tight.ensures.replies
+      | else-not-is_empty w ↦
+          let none = of-none cs t (cap g.row.M) (is_empty-none cs w.if-not-is_empty.ensures) in
+          ap (λ v. map said v.items) w.second_replies-is ∙ ap (map said) c.in_ok-second_replies.ensures.items ∙ sym none.0
+    ] in
+    rw (first.replies, first.first_tight, second, ← same) (alike cs c.args.first.now.text (cap g.row.N) (cap g.row.M) le)
 
 pub returns-clause-no_sooner : goal.returns-clause-no_sooner
 returns-clause-no_sooner g c = λ same le.
