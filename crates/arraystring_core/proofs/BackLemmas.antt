@@ -1,34 +1,13 @@
 -- A replacement that is taken back.
-use Rattle.std.proofs.Common.{◌≡◌, ℕ, ◌+◌, ◌-◌, ◌≤◌, List, ◌++◌, sym, ap, ◌∙◌, arith, true, None, append_assoc}
-use Rattle.std.proofs.lemmas.Bool.{le-ltb, ltb-false}
+use Rattle.std.proofs.Common.{◌≡◌, ℕ, ◌+◌, ◌-◌, ◌≤◌, List, ◌++◌, sym, ap, ◌∙◌, arith, None, append_assoc}
+use Rattle.std.proofs.lemmas.Bool.{le-ltb}
 use Rattle.arraystring_base.specs.Text.{size, front, back, boundary}
 use Rattle.arraystring_base.proofs.TextLaws.{size-append}
 use Rattle.arraystring_base.proofs.BoundaryLaws.{front-size, front-is, back-is, back-size, boundary-is}
 use Rattle.arraystring_core.specs.Edits.{first_cause, part, replacement}
-use Rattle.arraystring_core.proofs.EditLaws.{none-holds, inside-failed, inside-not}
+use Rattle.arraystring_core.proofs.DrainLemmas.{IsAllowed, allowed-where}
+use Rattle.arraystring_core.proofs.EditLaws.{inside-not}
 use Rattle.arraystring_core.proofs.PartLaws.{part-joined, part-size}
-
--- what is known if a replacement has no cause
-record IsAllowed (t : List ℕ) (start end : ℕ) (given : List ℕ) (n : ℕ) : Type 0 where
-  order : start ≤ end
-  within : end ≤ size t
-  room : size t - (end - start) + size given ≤ n
-  starts : boundary t start ≡ true
-  ends : boundary t end ≡ true
-
-allowed-where : (t given : List ℕ) (start end n : ℕ) → first_cause (replacement t start end given n).tests ≡ None
-    → IsAllowed t start end given n
-allowed-where t given start end n e =
-    let none = none-holds (replacement t start end given n).tests e in
-    let le : start ≤ end = ltb-false end start none.0 in
-    let reached : end ≤ size t = ltb-false (size t) end none.1.0 in
-    record {
-      order = le;
-      within = reached;
-      room = ltb-false n (size t - (end - start) + size given) none.1.1.0;
-      starts = inside-failed t start (omega arith) none.1.1.1.0;
-      ends = inside-failed t end reached none.1.1.1.1.0;
-    }
 
 none-where : (t given : List ℕ) (start end n : ℕ) → IsAllowed t start end given n
     → first_cause (replacement t start end given n).tests ≡ None

@@ -109,22 +109,24 @@ part-where t start end e =
       ends = inside-failed t end reached none.1.1.1.0;
     }
 
--- what is known if no test of a replacement holds
-pub record IsReplaced (t : List ℕ) (start end : ℕ) (given : List ℕ) (n : ℕ) : Type 0 where
+-- what is known if a replacement has no cause
+pub record IsAllowed (t : List ℕ) (start end : ℕ) (given : List ℕ) (n : ℕ) : Type 0 where
   pub order : start ≤ end
-  pub fits : size t - (end - start) + size given ≤ n
+  pub within : end ≤ size t
+  pub room : size t - (end - start) + size given ≤ n
   pub starts : boundary t start ≡ true
   pub ends : boundary t end ≡ true
 
-pub replaced-where : (t : List ℕ) (start end : ℕ) (given : List ℕ) (n : ℕ) → first_cause (replacement t start end given n).tests ≡ None
-    → IsReplaced t start end given n
-replaced-where t start end given n e =
+pub allowed-where : (t given : List ℕ) (start end n : ℕ) → first_cause (replacement t start end given n).tests ≡ None
+    → IsAllowed t start end given n
+allowed-where t given start end n e =
     let none = none-holds (replacement t start end given n).tests e in
     let le : start ≤ end = ltb-false end start none.0 in
     let reached : end ≤ size t = ltb-false (size t) end none.1.0 in
     record {
       order = le;
-      fits = ltb-false n (size t - (end - start) + size given) none.1.1.0;
+      within = reached;
+      room = ltb-false n (size t - (end - start) + size given) none.1.1.0;
       starts = inside-failed t start (omega arith) none.1.1.1.0;
       ends = inside-failed t end reached none.1.1.1.1.0;
     }

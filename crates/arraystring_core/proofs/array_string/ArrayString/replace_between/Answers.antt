@@ -1,7 +1,7 @@
 use Rattle.std.proofs.Common.{chars, refl, rules}
 use Rattle.arraystring_base.specs.Text.{cap}
 use Rattle.arraystring_core.specs.Edits.{replacement}
-use Rattle.arraystring_core.proofs.DrainLemmas.{no_cause, replaced-where}
+use Rattle.arraystring_core.proofs.DrainLemmas.{allowed-where, no_cause}
 use Rattle.arraystring_core.proofs.EditLaws.{makes}
 use Rattle.arraystring_core.proofs.array_string.ArrayString.replace_between.Goals as goal
 
@@ -10,8 +10,8 @@ splice-requires g c =
     let t = c.args.self.now.text in
     let given = chars c.args.with.now in
     let none = no_cause (replacement t c.args.start c.args.end given (cap g.row.N)).tests c.in_ok-can_replace.ensures in
-    let is = replaced-where t c.args.start c.args.end given (cap g.row.N) none in
-    (search rules, (is.order, (is.starts, (is.ends, (is.fits, c.requires)))))
+    let is = allowed-where t given c.args.start c.args.end (cap g.row.N) none in
+    (search rules, (is.order, (is.starts, (is.ends, (is.room, c.requires)))))
 
 pub returns-clause-edit : goal.returns-clause-edit
 returns-clause-edit g c =
