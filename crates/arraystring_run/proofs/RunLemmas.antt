@@ -41,13 +41,15 @@ earlier_of-step None true i rest = refl
 earlier_of-step None false i rest = refl
 earlier_of-step (Some k) b i rest = refl
 
--- no commands give no reply, and leave the text
-pub of-none : (cs : List Command) (t : List ℕ) (n : ℕ) → cs ≡ []
-    → ((after cs t n).replies ≡ []) × ((after cs t n).text ≡ t) × (first_tight_from 0 cs t n ≡ None)
-of-none cs t n none = (ap (λ d. (after d t n).replies) none, ap (λ d. (after d t n).text) none, ap (λ d. first_tight_from 0 d t n) none)
-
 pub is_empty-none : {X : Type 0} (xs : List X) → true ≡ (length xs == 0) → xs ≡ []
 is_empty-none xs shown = nil_from_length xs (eqb-true (length xs) 0 (sym shown))
+
+-- no commands give no reply, and leave the text
+pub of-none : (cs : List Command) (t : List ℕ) (n : ℕ) → true ≡ (length cs == 0)
+    → ((after cs t n).replies ≡ []) × ((after cs t n).text ≡ t) × (first_tight_from 0 cs t n ≡ None)
+of-none cs t n shown =
+    let none = is_empty-none cs shown in
+    (ap (λ d. (after d t n).replies) none, ap (λ d. (after d t n).text) none, ap (λ d. first_tight_from 0 d t n) none)
 
 -- the first i commands are done: `done` is what they replied, t what they left, and first their first tight one
 pub record IsPartWay (cs : List Command) (t₀ : List ℕ) (n i : ℕ) (done : List Said) (t : List ℕ) (first : Option ℕ) : Type 0 where

@@ -10,7 +10,7 @@ pub returns-clause-second_text : goal.returns-clause-second_text
 returns-clause-second_text g c = elim c.if-not-is_empty.branch [
   | then-not-is_empty w ↦ ap (λ t. t.text) w.second-is ∙ w.fill-first_tight.ensures.text
   | else-not-is_empty w ↦
-      let none = of-none _ c.args.second.now.text (cap g.row.M) (is_empty-none c.args.commands.now w.if-not-is_empty.ensures) in
+      let none = of-none c.args.commands.now c.args.second.now.text (cap g.row.M) w.if-not-is_empty.ensures in
       ap (λ t. t.text) w.second-is ∙ sym none.1
 ]
 
@@ -18,7 +18,7 @@ pub returns-clause-second_tight : goal.returns-clause-second_tight
 returns-clause-second_tight g c = elim c.if-not-is_empty.branch [
   | then-not-is_empty w ↦ w.first_tight-is ∙ w.fill-first_tight.ensures.first_tight
   | else-not-is_empty w ↦
-      let none = of-none _ c.args.second.now.text (cap g.row.M) (is_empty-none c.args.commands.now w.if-not-is_empty.ensures) in
+      let none = of-none c.args.commands.now c.args.second.now.text (cap g.row.M) w.if-not-is_empty.ensures in
       w.first_tight-is ∙ sym none.2
 ]
 
@@ -40,7 +40,7 @@ returns-clause-agree g c = λ same le.
     elim c.if-not-is_empty.branch [
       | then-not-is_empty w ↦ ap (λ v. map said v.items) w.second_replies-is ∙ w.fill-first_tight.ensures.replies
       | else-not-is_empty w ↦
-          let none = of-none cs t (cap g.row.M) (is_empty-none cs w.if-not-is_empty.ensures) in
+          let none = of-none c.args.commands.now t (cap g.row.M) w.if-not-is_empty.ensures in
           ap (λ v. map said v.items) w.second_replies-is ∙ ap (map said) c.in_ok-second_replies.ensures.items ∙ sym none.0
     ] in
     rw (first.replies, first.first_tight, second, ← same) (alike cs c.args.first.now.text (cap g.row.N) (cap g.row.M) le)
