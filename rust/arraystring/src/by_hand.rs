@@ -4,6 +4,8 @@
 //! - `convert`: the traits of the Rust crate that the language of the sources can't have.
 //! - `retain`: what is left where a closure panics, since the language of the sources does not unwind.
 //! - `simd`: the vectors of the sources, as arrays.
+//!
+//! `count_tests` are the tests of `steps` that set its counts.
 #![forbid(unsafe_code)]
 
 mod convert;

@@ -36,31 +36,83 @@ fn parts_panic_as_those_of_str() {
     }
 }
 
+/// Asserts that a part panics where that of the `str` does, with the same words, and is the same one elsewhere.
+macro_rules! as_str_does {
+    ($string:expr, $text:expr, $range:expr, $wide:expr) => {{
+        let (string, text): (&ArrayString<12>, &str) = ($string, $text);
+        match text.get($wide) {
+            Some(part) => assert_eq!((string.slice($range), &string[$range], string.get($range)), (part, part, Some(part))),
+            None => {
+                let wanted = words(|| drop(text[$wide].to_string()));
+                assert_eq!(words(|| drop(string[$range].to_string())), wanted);
+                assert_eq!(words(|| drop(string.slice($range).to_string())), wanted);
+                assert_eq!(string.get($range), None);
+            }
+        }
+    }};
+}
+
+/// What a text of at most 12 bytes is asked for.
+const ENDS: [u8; 19] = [0, 1, 2, 3, 4, 5, 6, 7, 8, 9, 10, 11, 12, 13, 127, 128, 253, 254, 255];
+
 #[test]
-fn each_kind_of_range_panics() {
-    let string = ArrayString::<12>::from("aé€🤔");
-    words(|| drop(string[2..].to_string()));
-    words(|| drop(string[..2].to_string()));
-    words(|| drop(string[0..=1].to_string()));
-    words(|| drop(string[..=255].to_string()));
-    words(|| drop(string[11..].to_string()));
-    let full = ArrayString::<255>::from("x".repeat(255).as_str());
-    assert_eq!((full[..=254].len(), full[..].len(), full[255..].len()), (255, 255, 0));
+fn each_kind_of_range_panics_as_that_of_str() {
+    for text in ["", "a", "aé€🤔", "🤔🤔🤔", "abcdefghijkl"] {
+        for offset in 0..=12 - text.len() {
+            let mut string = ArrayString::<12>::from(".".repeat(offset).as_str());
+            string.push_str(text);
+            assert!(string.drain(..offset as u8).is_ok());
+            assert_eq!(&string[..], text);
+            for end in ENDS {
+                let to = end as usize;
+                as_str_does!(&string, text, end.., to..);
+                as_str_does!(&string, text, ..end, ..to);
+                // 256 is past each text; std counts an included end of its own from there on.
+                as_str_does!(&string, text, ..=end, ..to + 1);
+            }
+        }
+    }
+}
+
+#[test]
+fn a_full_text_has_no_end_past_it() {
+    let text = "x".repeat(255);
+    let full = ArrayString::<255>::from(text.as_str());
+    for end in 0..=254u8 {
+        assert_eq!((full[..=end].len(), full[end..].len()), (end as usize + 1, 255 - end as usize));
+    }
+    assert_eq!((full[..].len(), full[255..].len()), (255, 0));
     words(|| drop(full[..=255].to_string()));
 }
 
 #[test]
 fn a_part_of_the_array_that_is_no_text_is_not_changed() {
-    let mut string = ArrayString::<8>::from("abcdefgh");
-    assert!(string.truncate(2).is_ok());
-    words(|| string.make_ascii_uppercase_in(0..3));
-    assert_eq!(string, "ab");
+    for len in 0..8u8 {
+        let mut string = ArrayString::<8>::from("abcdefgh");
+        assert!(string.truncate(len).is_ok());
+        for start in 0..=9 {
+            for end in (0..=9).filter(|end| start > *end || *end > len) {
+                words(|| string.make_ascii_uppercase_in(start..end));
+                words(|| string.make_ascii_lowercase_in(start..end));
+                assert_eq!(string, &"abcdefgh"[..len as usize]);
+            }
+        }
+        string.make_ascii_uppercase();
+        assert_eq!(string, &"ABCDEFGH"[..len as usize]);
+    }
 }
 
 #[test]
 fn a_look_past_the_bytes_panics() {
-    let mut steps = Steps::new();
-    let wanted = "index out of bounds: the len is 2 but the index is 2";
-    assert_eq!(words(|| _ = look(b"ab", 2, &mut steps)), wanted);
-    assert_eq!(look(b"ab", 1, &mut steps), b'b');
+    for len in 0..=9 {
+        let bytes = &b"abcdefghi"[..len];
+        let mut steps = Steps::new();
+        for (at, byte) in bytes.iter().enumerate() {
+            assert_eq!((look(bytes, at, &mut steps), steps.looked()), (*byte, at as u64 + 1));
+        }
+        for at in [len, len + 1, 255, 256, usize::MAX] {
+            let wanted = format!("index out of bounds: the len is {len} but the index is {at}");
+            assert_eq!(words(|| _ = look(bytes, at, &mut steps)), wanted);
+        }
+    }
 }

@@ -1,8 +1,11 @@
 //! The traits that are written by hand.
 
 use std::borrow::Borrow;
+use std::collections::hash_map::DefaultHasher;
 use std::collections::{BTreeMap, HashMap};
 use std::error::Error as StdError;
+use std::fmt::Write;
+use std::hash::{Hash, Hasher};
 
 use arraystring::error::{OutOfBounds, Utf8, Utf16};
 use arraystring::prelude::*;
@@ -22,6 +25,89 @@ fn a_string_is_its_text() {
     assert_eq!((AsRef::<str>::as_ref(&cached), AsRef::<[u8]>::as_ref(&cached)), ("aé€", "aé€".as_bytes()));
     assert_eq!(Borrow::<str>::borrow(&cached), "aé€");
     assert!(cached == *"aé€" && cached == "aé€" && cached != "aé" && cached != *"b");
+}
+
+/// The characters that the tests of each trait go through: all of one and two bytes, and of the others the first and last of
+/// each row of the table of well-formed bytes, and some between.
+fn characters() -> impl Iterator<Item = char> {
+    let edges = [0x800, 0xFFF, 0x1000, 0xD7FF, 0xE000, 0xFFFF, 0x10000, 0x3FFFF, 0x40000, 0xFFFFF, 0x100000, 0x10FFFF];
+    (0..0x800).chain(edges).chain((0x800..0x11_0000).step_by(997)).filter_map(char::from_u32)
+}
+
+/// Texts with a character at the front, in the middle, at the end, and twice.
+fn texts_with(ch: char) -> [String; 5] {
+    [format!("{ch}"), format!("{ch}é"), format!("a{ch}b"), format!("a{ch}"), format!("{ch}{ch}")]
+}
+
+fn hash_of<T: Hash + ?Sized>(value: &T) -> u64 {
+    let mut state = DefaultHasher::new();
+    value.hash(&mut state);
+    state.finish()
+}
+
+/// Asserts that a value shows a text by each trait that both types of strings have.
+macro_rules! shows {
+    ($type:ty, $string:expr, $text:expr) => {{
+        let (string, text): ($type, &str) = ($string, $text);
+        assert_eq!((AsRef::<str>::as_ref(&string), AsRef::<[u8]>::as_ref(&string)), (text, text.as_bytes()));
+        assert_eq!((Borrow::<str>::borrow(&string), string.to_string().as_str()), (text, text));
+        assert_eq!((string.as_str(), string.as_bytes(), string.len() as usize), (text, text.as_bytes(), text.len()));
+        assert!(string == *text && string == text && !(string != *text) && !(string != text));
+        let longer = format!("{text}\0");
+        assert!(string != *longer.as_str() && string != longer.as_str() && text.is_empty() == (string == ""));
+        assert_eq!(hash_of(&string), hash_of(text));
+        let copy = string;
+        assert!(string == copy && string.cmp(&copy).is_eq() && string.clone() == copy);
+        let empty = <$type>::default();
+        assert_eq!((empty == string, string.cmp(&empty)), (text.is_empty(), text.cmp("")));
+        assert_eq!((empty.as_str(), <$type>::new().as_str()), ("", ""));
+        let mut written = <$type>::default();
+        assert!(write!(written, "{string}").is_ok() && written == string);
+        assert_eq!(<$type>::default() + text, string);
+        assert_eq!(text.parse::<$type>(), Ok(string));
+        let others = [
+            <$type>::from_str_truncate(text),
+            <$type>::from_chars(text.chars()),
+            <$type>::from_iterator(text.split_inclusive(|_| true)),
+            <$type>::from_utf16_lossy(text.encode_utf16().collect::<Vec<_>>()),
+        ];
+        assert_eq!(others, [string; 4]);
+    }};
+}
+
+#[test]
+fn each_trait_with_each_character() {
+    for ch in characters() {
+        for text in texts_with(ch) {
+            let string = Name::from(&*text);
+            shows!(Name, string, &text);
+            shows!(CacheString, CacheString::from_str_truncate(&text), &text);
+            shows!(ArrayString<63>, *CacheString::from_str_truncate(&text), &text);
+            assert_eq!((&*string, CacheString::from(ArrayString::from(&*text)).as_str()), (&*text, &*text));
+        }
+    }
+}
+
+#[test]
+fn each_character_is_collected_and_extended() {
+    for ch in characters() {
+        for text in texts_with(ch) {
+            let chars: Vec<char> = text.chars().collect();
+            let pieces: Vec<&str> = text.split_inclusive(|_| true).collect();
+            let collected = [
+                chars.iter().collect::<Name>(),
+                chars.iter().copied().collect(),
+                pieces.iter().copied().collect(),
+                Name::from_iter(&chars),
+            ];
+            assert_eq!(collected.map(|made| made.to_string()), [(); 4].map(|()| text.clone()));
+            let mut extended = [Name::new(); 3];
+            extended[0].extend(&chars);
+            extended[1].extend(chars);
+            extended[2].extend(pieces);
+            assert_eq!(extended.map(|made| made.to_string()), [(); 3].map(|()| text.clone()));
+        }
+    }
 }
 
 #[test]
@@ -49,13 +135,21 @@ fn strings_are_collected_and_extended() {
 
 #[test]
 fn a_part_by_each_kind_of_range() {
-    let name = Name::from("aé€b");
-    assert_eq!(
-        [&name[1..3], &name[3..], &name[..3], &name[..], &name[1..=2], &name[..=2]],
-        ["é", "€b", "aé", "aé€b", "é", "aé"]
-    );
-    let cached = CacheString::from_str_truncate("aé");
-    assert_eq!(&cached[1..3], "é");
+    for text in ["", "a", "\0", "aé€b", "🤔\0é", "abcdefgh"] {
+        let (name, cached) = (Name::from(text), CacheString::from_str_truncate(text));
+        assert_eq!((&name[..], &cached[..]), (text, text));
+        for start in 0..=text.len() {
+            for end in start..=text.len() {
+                let Some(part) = text.get(start..end) else { continue };
+                let (first, last) = (start as u8, end as u8);
+                assert_eq!((&name[first..last], &cached[first..last]), (part, part));
+                assert_eq!((&name[..last], &name[first..]), (&text[..end], &text[start..]));
+                if last > first {
+                    assert_eq!((&name[first..=last - 1], &name[..=last - 1]), (part, &text[..end]));
+                }
+            }
+        }
+    }
 }
 
 #[test]

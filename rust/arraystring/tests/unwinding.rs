@@ -6,16 +6,29 @@ use std::panic::{AssertUnwindSafe, catch_unwind};
 
 use arraystring::ArrayString;
 
+/// How many bytes after the address of a string that of its text is.
+fn distance<const N: usize>(string: &ArrayString<N>) -> usize {
+    string.as_bytes().as_ptr().addr() - std::ptr::from_ref(string).addr()
+}
+
+/// A string whose text begins at an offset of its array.
+fn behind<const N: usize>(offset: usize, text: &str) -> ArrayString<N> {
+    let mut string = ArrayString::<N>::from(".".repeat(offset).as_str());
+    assert_eq!(string.try_push_str(text), Ok(()));
+    assert!(string.drain(..offset as u8).is_ok());
+    assert_eq!(distance(&string), distance(&ArrayString::<N>::from(text)) + offset);
+    string
+}
+
 /// Makes a call that panics on a string, and returns the text that it leaves.
 fn left<const N: usize>(text: &str, call: impl FnOnce(&mut ArrayString<N>)) -> String {
     // A text that does not begin at offset 0, where there is room.
-    let mut string = ArrayString::<N>::from(".");
-    string.push_str(text);
-    if string.as_str().len() > text.len() {
-        assert!(string.remove(0).is_ok());
-    } else {
-        string = ArrayString::from(text);
-    }
+    left_at(usize::from(text.len() < N), text, call)
+}
+
+/// The same where the text begins at an offset of its array.
+fn left_at<const N: usize>(offset: usize, text: &str, call: impl FnOnce(&mut ArrayString<N>)) -> String {
+    let mut string = behind::<N>(offset, text);
     let panicked = catch_unwind(AssertUnwindSafe(|| call(&mut string)));
     assert!(panicked.is_err(), "no panic at `{text}`");
     assert_eq!(str::from_utf8(string.as_bytes()), Ok(string.as_str()));
@@ -42,28 +55,99 @@ fn panic_now() -> ! {
     std::panic::resume_unwind(Box::new("on purpose"))
 }
 
+/// Calls `retain` with a closure that gives some answers and then panics, on a text that begins at an offset, and asserts
+/// what it leaves. The answer about the character at `at` is yes where `keeps` says so.
+fn kept_before_a_panic<const N: usize>(offset: usize, text: &str, answers: usize, keeps: impl Fn(usize) -> bool) {
+    let mut at = 0;
+    let left = left_at::<N>(offset, text, |string| {
+        string.retain(|_| {
+            if at == answers {
+                panic_now();
+            }
+            at += 1;
+            keeps(at - 1)
+        });
+    });
+    let kept = text.chars().take(answers).enumerate().filter(|(at, _)| keeps(*at));
+    assert_eq!(left, kept.map(|(_, ch)| ch).collect::<String>(), "{answers} answers about `{text}` at {offset}");
+}
+
+/// The offsets at which texts begin in these tests.
+const OFFSETS: std::ops::RangeInclusive<usize> = 0..=8;
+
 #[test]
 fn a_closure_that_panics_leaves_what_it_kept() {
     for text in TEXTS {
         let count = text.chars().count();
-        for panics_at in 0..count {
-            for answers in 0..1u32 << count.min(11) {
-                let keeps = |at: usize| answers >> (at % 11) & 1 == 0;
-                let mut at = 0;
-                let left = left::<100>(text, |string| {
-                    string.retain(|_| {
-                        if at == panics_at {
-                            panic_now();
-                        }
-                        at += 1;
-                        keeps(at - 1)
-                    });
-                });
-                let kept = text.chars().take(panics_at).enumerate().filter(|(at, _)| keeps(*at));
-                assert_eq!(left, kept.map(|(_, ch)| ch).collect::<String>());
-                if count > 11 && answers > 40 {
-                    break;
+        for offset in OFFSETS {
+            for answers in 0..count {
+                // Each pattern of the answers that are given, of those of long texts the first ones.
+                for pattern in 0..1u32 << answers.min(if count > 11 { 5 } else { 11 }) {
+                    kept_before_a_panic::<100>(offset, text, answers, |at| pattern >> (at % 11) & 1 == 0);
                 }
+            }
+        }
+    }
+}
+
+#[test]
+fn each_four_widths_at_each_offset() {
+    const WIDTHS: [char; 4] = ['a', 'é', '€', '🤔'];
+    for widths in 0..256 {
+        let text: String = (0..4).map(|at| WIDTHS[widths >> (2 * at) & 3]).collect();
+        for offset in OFFSETS {
+            for answers in 0..4 {
+                for pattern in 0..1 << answers {
+                    kept_before_a_panic::<24>(offset, &text, answers, |at| pattern >> at & 1 == 0);
+                }
+            }
+        }
+    }
+}
+
+#[test]
+fn runs_of_each_length_at_each_offset() {
+    // One run is dropped, the next is kept and has to move; both of each length to 20.
+    for dropped in 0..=20 {
+        for kept in 0..=20 {
+            for before in [0, 1, 5] {
+                let text = "b".repeat(before) + &"d".repeat(dropped) + &"é".repeat(kept) + "e";
+                for offset in OFFSETS {
+                    let is_kept = |at: usize| !(before..before + dropped).contains(&at);
+                    kept_before_a_panic::<100>(offset, &text, before + dropped + kept, is_kept);
+                }
+            }
+        }
+    }
+}
+
+#[test]
+fn the_last_offsets_of_an_array() {
+    for len in 1..=8 {
+        let text = "é".repeat(len);
+        for answers in 0..len {
+            for pattern in 0..1 << answers {
+                kept_before_a_panic::<255>(255 - 2 * len, &text, answers, |at| pattern >> at & 1 == 0);
+                kept_before_a_panic::<16>(16 - 2 * len, &text, answers, |at| pattern >> at & 1 == 0);
+            }
+        }
+    }
+}
+
+#[test]
+fn what_was_dropped_once_is_asked_about_once() {
+    // No panic: each character is asked about once, in order, at each offset.
+    for text in TEXTS {
+        for offset in OFFSETS {
+            for pattern in [0, u32::MAX, 0x5555_5555, 0xAAAA_AAAA, 0x3333_3333, 0x0F0F_0F0F, 0xF731_8CEF] {
+                let keeps = |at: usize| pattern >> (at % 32) & 1 == 0;
+                let (mut string, mut asked) = (behind::<100>(offset, text), String::new());
+                string.retain(|ch| {
+                    asked.push(ch);
+                    keeps(asked.chars().count() - 1)
+                });
+                let kept = text.chars().enumerate().filter(|(at, _)| keeps(*at));
+                assert_eq!((asked.as_str(), string.as_str()), (*text, &*kept.map(|(_, ch)| ch).collect::<String>()));
             }
         }
     }
@@ -80,14 +164,23 @@ impl Drop for Dropped {
 
 #[test]
 fn a_closure_whose_drop_panics_leaves_what_it_kept() {
-    let dropped = Dropped;
-    let left = left::<100>("aé€🤔b", |string| {
-        string.retain(move |ch| {
-            let _ = &dropped;
-            ch.len_utf8() % 2 == 0
-        });
-    });
-    assert_eq!(left, "é🤔");
+    for text in TEXTS {
+        for offset in OFFSETS {
+            for pattern in 0..16u32 {
+                let keeps = |at: usize| pattern >> (at % 4) & 1 == 0;
+                let (dropped, mut at) = (Dropped, 0);
+                let left = left_at::<100>(offset, text, |string| {
+                    string.retain(move |_| {
+                        let _ = &dropped;
+                        at += 1;
+                        keeps(at - 1)
+                    });
+                });
+                let kept = text.chars().enumerate().filter(|(at, _)| keeps(*at));
+                assert_eq!(left, kept.map(|(_, ch)| ch).collect::<String>());
+            }
+        }
+    }
 }
 
 /// An iterator that panics after some items, and says any number of items.

@@ -5,7 +5,7 @@ use std::collections::{BTreeMap, BTreeSet};
 use crate::cursor::{Cursor, Fault};
 use crate::edits::tidied;
 use crate::items::File;
-use crate::rules::REPLACED;
+use crate::rules::{REPLACED, TESTED};
 
 /// A source that is erased.
 pub struct Source<'a> {
@@ -48,7 +48,7 @@ pub fn erase(source: &Source, tally: &mut Tally) -> Result<Erased, Fault> {
     let text = replaced(source, tally)?;
     let File { edits, modules, dropped, .. } = File::read(source, &text, tally)?;
     let head = format!("// Made from crates/{} by rust/erase. A change goes there.\n", source.path);
-    let made = head + &tidied(&edits.apply(&text));
+    let made = head + &tidied(&edits.apply(&text)) + &tested(source, tally);
     no_proof_is_left(&made)?;
     Ok(Erased { text: made, modules, dropped })
 }
@@ -69,6 +69,17 @@ fn replaced(source: &Source, tally: &mut Tally) -> Result<String, Fault> {
         tally.used.insert(format!("line {}", rule.from));
     }
     Ok(text)
+}
+
+/// The lines that put tests by hand into a module.
+fn tested(source: &Source, tally: &mut Tally) -> String {
+    let mut lines = String::new();
+    for rule in TESTED.iter().filter(|rule| rule.file == source.path) {
+        lines += &format!("\n#[cfg(test)]\n#[path = \"{}\"]\nmod tests;\n", rule.path);
+        tally.count("modules of tests by hand");
+        tally.used.insert(format!("tests {}", rule.path));
+    }
+    lines
 }
 
 /// What was made has no word of proofs outside comments.

@@ -5,7 +5,7 @@ use std::fs;
 use std::path::{Path, PathBuf};
 
 use crate::erase::{Source, Tally, erase, line_of};
-use crate::rules::{BY_HAND, CRATES, FATES, LEFT_OUT, REPLACED, WIDER};
+use crate::rules::{BY_HAND, CRATES, FATES, LEFT_OUT, REPLACED, TESTED, WIDER};
 
 /// Each file of the Rust crate that is made, by its path in `src`.
 pub type Made = BTreeMap<String, String>;
@@ -52,6 +52,7 @@ fn all_used(tally: &Tally) -> Result<(), String> {
     let names = FATES.iter().map(|(name, _)| name.to_string());
     let names = names.chain(WIDER.iter().map(|rule| format!("wider {}", rule.call)));
     let names = names.chain(REPLACED.iter().map(|rule| format!("line {}", rule.from)));
+    let names = names.chain(TESTED.iter().map(|rule| format!("tests {}", rule.path)));
     let mut names = names.chain(LEFT_OUT.iter().map(|rule| rule.name.to_string()));
     match names.find(|name| !tally.used.contains(name)) {
         Some(name) => Err(format!("rust/erase/src/rules.rs: nothing in the sources matches the entry `{name}`")),

@@ -59,6 +59,9 @@ fn run(root: &std::path::Path, is_check: bool) -> Result<(), String> {
     for rule in rules::REPLACED {
         println!("another line: {}: `{}` is `{}`: {}", rule.file, rule.from, rule.to, rule.why);
     }
+    for rule in rules::TESTED {
+        println!("tests by hand: {} has {}: {}", rule.file, rule.path, rule.why);
+    }
     println!("{} files {} rust/arraystring/src", made.len(), if is_check { "are as in" } else { "written to" });
     Ok(())
 }

@@ -22,6 +22,17 @@ mod arraystring_core;
 mod by_hand;
 ";
 
+/// Tests by hand that lie inside a module, since they set what is private there.
+pub const TESTED: &[Tested] =
+    &[Tested { file: "arraystring_base/src/steps.rt", path: "../by_hand/count_tests.rs", why: "they set the counts" }];
+
+pub struct Tested {
+    pub file: &'static str,
+    /// The file of the tests, from the folder of the module.
+    pub path: &'static str,
+    pub why: &'static str,
+}
+
 /// What is left out of the Rust crate: modules, and laws about them.
 pub const LEFT_OUT: &[LeftOut] = &[
     LeftOut { name: "integration", why: "it stands on `serde_json`, and the Rust crate has no dependency" },

@@ -97,3 +97,7 @@ pub fn look(bytes: &[u8], at: usize, steps: &mut Steps) -> u8 {
     steps.looked = steps.looked.saturating_add(1);
     bytes[at]
 }
+
+#[cfg(test)]
+#[path = "../by_hand/count_tests.rs"]
+mod tests;

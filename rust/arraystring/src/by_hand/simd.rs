@@ -75,34 +75,106 @@ impl<const K: usize> Mask<K> {
 mod tests {
     use super::*;
 
-    /// Asserts that each byte sets its own bit.
-    fn each_place<const K: usize>() {
-        for at in 0..K {
-            let mut bytes = [7; K];
-            bytes[at] = 200;
-            let apart = Simd::<u8, K>::from_slice(&bytes).simd_ne(Simd::splat(7));
-            let above = Simd::<u8, K>::from_slice(&bytes).simd_ge(Simd::splat(128));
-            assert_eq!((apart.to_bitmask(), above.to_bitmask()), (1 << at, 1 << at));
+    /// Every size of a vector that the sources name, and 1.
+    macro_rules! at_each_size {
+        ($test:ident) => {
+            $test::<1>();
+            $test::<2>();
+            $test::<4>();
+            $test::<8>();
+            $test::<12>();
+            $test::<16>();
+            $test::<32>();
+            $test::<64>();
+        };
+    }
+
+    /// The bits of the lanes for which `is_yes` holds.
+    fn bits_of(size: usize, is_yes: impl Fn(usize) -> bool) -> u64 {
+        (0..size).map(|lane| u64::from(is_yes(lane)) << lane).sum()
+    }
+
+    /// Asserts what each function answers about two vectors.
+    fn compared<const K: usize>(bytes: [u8; K], others: [u8; K]) {
+        let (vector, other) = (Simd::<u8, K>(bytes), Simd::<u8, K>(others));
+        let apart = bits_of(K, |lane| bytes[lane] != others[lane]);
+        let at_least = bits_of(K, |lane| bytes[lane] >= others[lane]);
+        assert_eq!(vector.simd_ne(other).to_bitmask(), apart, "{bytes:?} {others:?}");
+        assert_eq!(vector.simd_ge(other).to_bitmask(), at_least, "{bytes:?} {others:?}");
+    }
+
+    /// Each byte in each lane, between lanes that are less and lanes that are not, beside 128, itself and its neighbours.
+    fn each_byte_in_each_lane<const K: usize>() {
+        for lane in 0..K {
+            for byte in 0..=255u8 {
+                for (around, limit) in [(0, 128), (127, 128), (128, 128), (255, 128), (7, byte), (7, byte.wrapping_add(1))] {
+                    let mut bytes = [around; K];
+                    bytes[lane] = byte;
+                    compared(bytes, [limit; K]);
+                }
+            }
         }
-        let apart = Simd::<u8, K>::splat(1).simd_ne(Simd::splat(2)).to_bitmask();
-        assert_eq!((apart.count_ones() as usize, apart.leading_zeros() as usize), (K, 64 - K));
-        let same = Simd::<u8, K>::splat(127);
-        assert_eq!((same.simd_ne(same).to_bitmask(), same.simd_ge(Simd::splat(128)).to_bitmask()), (0, 0));
+    }
+
+    /// Each byte beside each other one, in all lanes.
+    fn each_two_bytes<const K: usize>() {
+        for byte in 0..=255 {
+            for other in 0..=255 {
+                let vectors = (Simd::<u8, K>::splat(byte), Simd::<u8, K>::splat(other));
+                let wanted = [byte != other, byte >= other].map(|is_yes| bits_of(K, |_| is_yes));
+                let told = [vectors.0.simd_ne(vectors.1), vectors.0.simd_ge(vectors.1)].map(|mask| mask.to_bitmask());
+                assert_eq!(told, wanted, "{byte} {other}");
+            }
+        }
+    }
+
+    /// Each two lanes that are yes, and each two that are no.
+    fn each_two_lanes<const K: usize>() {
+        for one in 0..K {
+            for other in 0..K {
+                for answers in [[0, 1], [1, 0], [128, 127], [127, 128], [255, 0]] {
+                    let mut bytes = [answers[0]; K];
+                    bytes[one] = answers[1];
+                    bytes[other] = answers[1];
+                    compared(bytes, [128; K]);
+                    compared(bytes, [answers[0]; K]);
+                }
+            }
+        }
     }
 
     #[test]
-    fn answers_are_bits() {
-        each_place::<1>();
-        each_place::<12>();
-        each_place::<16>();
-        each_place::<32>();
-        each_place::<64>();
+    fn answers_are_the_lanes() {
+        at_each_size!(each_byte_in_each_lane);
+        at_each_size!(each_two_lanes);
+        each_two_bytes::<1>();
+        each_two_bytes::<16>();
+        for answers in 0..1u32 << 16 {
+            let bytes = core::array::from_fn::<u8, 16, _>(|lane| if answers >> lane & 1 == 1 { 128 } else { 127 });
+            assert_eq!(Simd::<u8, 16>(bytes).simd_ge(Simd::splat(128)).to_bitmask(), u64::from(answers));
+        }
+    }
+
+    /// The first bytes of a slice of each length are read and written, and none behind them.
+    fn read_and_written<const K: usize>() {
+        let source: [u8; 80] = core::array::from_fn(|at| 255 - at as u8);
+        for start in 0..=80 - K {
+            for end in start + K..=80 {
+                let vector = Simd::<u8, K>::from_slice(&source[start..end]);
+                assert_eq!(vector.0, source[start..start + K]);
+                let mut written = [1; 80];
+                vector.copy_to_slice(&mut written[start..end]);
+                assert_eq!(written[start..start + K], source[start..start + K]);
+                assert!(written[..start].iter().chain(&written[start + K..]).all(|byte| *byte == 1));
+            }
+        }
+        for byte in 0..=255 {
+            assert_eq!(Simd::<u8, K>::splat(byte).0, [byte; K]);
+        }
     }
 
     #[test]
     fn bytes_are_read_and_written() {
-        let mut written = [0; 5];
-        Simd::<u8, 4>::from_slice(b"abcdef").copy_to_slice(&mut written);
-        assert_eq!(&written, b"abcd\0");
+        at_each_size!(read_and_written);
     }
 }

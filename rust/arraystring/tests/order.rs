@@ -1,0 +1,224 @@
+//! Comparisons beside those of std, which take the place of the sources' own here: each length, and each place where texts
+//! differ, of bytes below and above 80.
+
+use std::cmp::Ordering;
+use std::collections::hash_map::DefaultHasher;
+use std::hash::{Hash, Hasher};
+use std::thread;
+
+use arraystring::{ArrayString, CacheString, Drain};
+
+/// Two characters of one width, the lesser first: bytes below 80, bytes on both sides of the middle of their range, bytes that
+/// differ in the first, a middle or the last place.
+const PAIRS: &[(char, char)] = &[
+    ('\0', '\u{1}'),
+    ('\0', '\u{7F}'),
+    ('a', 'b'),
+    ('\u{80}', '\u{81}'),
+    ('\u{BF}', '\u{C0}'),
+    ('\u{80}', '\u{7FF}'),
+    ('\u{800}', '\u{FFFF}'),
+    ('\u{20AC}', '\u{20AD}'),
+    ('\u{D7FF}', '\u{E000}'),
+    ('\u{10000}', '\u{10FFFF}'),
+    ('\u{1F914}', '\u{1F954}'),
+];
+
+/// Two characters of two widths, the lesser first.
+const WIDTHS: &[(char, char)] = &[
+    ('\u{7F}', '\u{80}'),
+    ('a', '\u{10FFFF}'),
+    ('\u{7FF}', '\u{800}'),
+    ('\u{7FF}', '\u{FFFF}'),
+    ('\u{FFFF}', '\u{10000}'),
+];
+
+/// A string with a text that begins at some offset of its array.
+fn behind<const N: usize>(offset: usize, text: &str) -> ArrayString<N> {
+    let mut string = ArrayString::<N>::from("x".repeat(offset).as_str());
+    string.push_str(text);
+    assert!(string.drain(..offset as u8).is_ok());
+    assert_eq!(string.as_str(), text);
+    string
+}
+
+fn hash_of<T: Hash + ?Sized>(value: &T) -> u64 {
+    let mut state = DefaultHasher::new();
+    value.hash(&mut state);
+    state.finish()
+}
+
+/// Asserts that two values are ordered by their texts, both ways.
+fn are_ordered<T: Ord + Hash>(one: &T, other: &T, texts: (&str, &str)) {
+    let wanted = texts.0.as_bytes().cmp(texts.1.as_bytes());
+    assert_eq!((one.cmp(other), other.cmp(one)), (wanted, wanted.reverse()), "{texts:?}");
+    assert_eq!((one.partial_cmp(other), other.partial_cmp(one)), (Some(wanted), Some(wanted.reverse())), "{texts:?}");
+    assert_eq!((one < other, one > other), (wanted.is_lt(), wanted.is_gt()), "{texts:?}");
+    assert_eq!((one <= other, one >= other), (wanted.is_le(), wanted.is_ge()), "{texts:?}");
+    assert_eq!((one == other, other == one), (wanted.is_eq(), wanted.is_eq()), "{texts:?}");
+    assert_eq!((one != other, other != one), (wanted.is_ne(), wanted.is_ne()), "{texts:?}");
+    if wanted == Ordering::Equal {
+        assert_eq!((hash_of(one), hash_of(other)), (hash_of(texts.0), hash_of(texts.1)));
+    }
+}
+
+/// Asserts that two texts are ordered as std orders them, as strings of a capacity, where both fit.
+fn at<const N: usize>(texts: (&str, &str)) {
+    let longest = texts.0.len().max(texts.1.len());
+    if longest > N.min(255) {
+        return;
+    }
+    let (one, other) = (ArrayString::<N>::from(texts.0), ArrayString::<N>::from(texts.1));
+    are_ordered(&one, &other, texts);
+    assert_eq!((one == *texts.1, one == *texts.0, one == texts.1), (texts.0 == texts.1, true, texts.0 == texts.1));
+    let offset = (N.min(255) - longest).min(3);
+    are_ordered(&behind::<N>(offset, texts.0), &other, texts);
+    are_ordered(&one, &behind::<N>(offset, texts.1), texts);
+}
+
+/// The same at each of the capacities on which the sources branch.
+fn at_some_capacities(texts: (&str, &str)) {
+    match texts.0.len().max(texts.1.len()) {
+        0..=16 => at::<16>(texts),
+        17..=64 => at::<64>(texts),
+        65..=128 => at::<128>(texts),
+        129 => at::<129>(texts),
+        _ => {}
+    }
+    at::<255>(texts);
+}
+
+/// Tests each length to 255, on four threads.
+fn each_length(test: impl Fn(usize) + Sync) {
+    let test = &test;
+    thread::scope(|scope| {
+        for first in 0..4 {
+            scope.spawn(move || (first..=255).step_by(4).for_each(test));
+        }
+    });
+}
+
+/// So many bytes of ASCII.
+fn letters(len: usize) -> String {
+    (0..len).map(|at| (b'!' + (at * 5 % 90) as u8) as char).collect()
+}
+
+/// A text with a character at a place.
+fn with(text: &str, at: usize, ch: char) -> String {
+    let mut made = text.to_string();
+    made.replace_range(at..at + ch.len_utf8(), ch.encode_utf8(&mut [0; 4]));
+    made
+}
+
+#[test]
+fn texts_that_differ_at_one_place() {
+    each_length(|len| {
+        let text = letters(len);
+        at_some_capacities((&text, &text));
+        for place in 0..len {
+            // Each pair comes at each place, at some lengths; each place and length have two pairs.
+            for pair in [place + len, place * 3 + len * 2 + 1] {
+                let (less, more) = PAIRS[pair % PAIRS.len()];
+                if place + less.len_utf8() > len {
+                    continue;
+                }
+                let (one, other) = (with(&text, place, less), with(&text, place, more));
+                at::<255>((&one, &other));
+            }
+        }
+    });
+}
+
+#[test]
+fn each_pair_at_each_place_of_some_lengths() {
+    for len in [1, 2, 4, 7, 15, 16, 17, 31, 32, 33, 48, 63, 64, 65] {
+        let text = letters(len);
+        for place in 0..len {
+            for (less, more) in PAIRS {
+                if place + less.len_utf8() <= len {
+                    let (one, other) = (with(&text, place, *less), with(&text, place, *more));
+                    at_some_capacities((&one, &other));
+                    // What comes after the first difference is of no account.
+                    let (one, other) = (one + "zz", other + "aa");
+                    at_some_capacities((&one, &other));
+                }
+            }
+        }
+    }
+}
+
+#[test]
+fn each_two_lengths() {
+    each_length(|len| {
+        let text = letters(255);
+        for other in 0..=255 {
+            at::<255>((&text[..len], &text[..other]));
+        }
+    });
+}
+
+#[test]
+fn characters_of_two_widths() {
+    for len in 0..=251 {
+        for (less, more) in WIDTHS {
+            let (mut one, mut other) = (letters(len), letters(len));
+            one.push(*less);
+            other.push(*more);
+            at_some_capacities((&one, &other));
+        }
+    }
+}
+
+#[test]
+fn each_capacity_compares_full_texts() {
+    fn full<const N: usize>() {
+        let len = N.min(255);
+        let text = letters(len);
+        at::<N>((&text, &text));
+        for place in 0..len {
+            at::<N>((&with(&text, place, '\0'), &with(&text, place, '\u{7F}')));
+            at::<N>((&text[..place], &text));
+        }
+    }
+    full::<0>();
+    full::<1>();
+    full::<8>();
+    full::<15>();
+    full::<16>();
+    full::<17>();
+    full::<23>();
+    full::<32>();
+    full::<63>();
+    full::<64>();
+    full::<65>();
+    full::<127>();
+    full::<128>();
+    full::<129>();
+    full::<208>();
+    full::<209>();
+    full::<254>();
+    full::<256>();
+    full::<300>();
+}
+
+#[test]
+fn drains_and_cache_strings_are_ordered_alike() {
+    for len in 0..=63 {
+        let text = letters(len);
+        for place in 0..len {
+            for (less, more) in PAIRS.iter().filter(|(less, _)| place + less.len_utf8() <= len) {
+                let texts = (&*with(&text, place, *less), &*with(&text, place, *more));
+                let cached = (CacheString::from_str_truncate(texts.0), CacheString::from_str_truncate(texts.1));
+                are_ordered(&cached.0, &cached.1, texts);
+                are_ordered(&cached.0, &cached.0.clone(), (texts.0, texts.0));
+                let drained = |text: &str| -> Drain<70> {
+                    let mut string = ArrayString::<70>::from(format!("é{text}z").as_str());
+                    string.drain(2..2 + text.len() as u8).expect("a part")
+                };
+                let drains = (drained(texts.0), drained(texts.1));
+                are_ordered(&drains.0, &drains.1, texts);
+                are_ordered(&drains.1, &drains.1.clone(), (texts.1, texts.1));
+            }
+        }
+    }
+}

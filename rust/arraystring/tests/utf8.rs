@@ -1,0 +1,147 @@
+//! Bytes are taken exactly where std takes them as UTF-8: each length, each place and each byte of a fault.
+
+use std::thread;
+
+use arraystring::error::Utf8;
+use arraystring::{ArrayString, CacheString, Error};
+
+/// How many bytes the texts have at most: more than any string takes.
+const MOST: usize = 300;
+
+/// Asserts that bytes are taken or refused as std does it, and that what is taken is cut or refused for its size.
+fn as_std(bytes: &[u8]) {
+    let wanted = str::from_utf8(bytes);
+    let made = ArrayString::<255>::from_utf8(bytes);
+    let whole = ArrayString::<255>::try_from_utf8(bytes);
+    let Ok(text) = wanted else {
+        assert_eq!((made, whole), (Err(Utf8), Err(Error::Utf8)), "{bytes:x?}");
+        return;
+    };
+    let cut = &text[..text.floor_char_boundary(255)];
+    assert_eq!(made.as_ref().map(|made| made.as_bytes()), Ok(cut.as_bytes()), "{bytes:x?}");
+    match whole {
+        Ok(whole) => assert_eq!((whole.as_bytes(), text.len()), (bytes, cut.len()), "{bytes:x?}"),
+        refused => assert!(refused == Err(Error::OutOfBounds) && text.len() > 255, "{bytes:x?}"),
+    }
+}
+
+/// Makes a test of each number below a limit, on four threads.
+fn each_below(limit: usize, test: impl Fn(usize) + Sync) {
+    let test = &test;
+    thread::scope(|scope| {
+        for first in 0..4 {
+            scope.spawn(move || (first..limit).step_by(4).for_each(test));
+        }
+    });
+}
+
+/// ASCII of some length, with each byte of it among them.
+fn ascii(len: usize) -> Vec<u8> {
+    (0..len).map(|at| (at * 7 % 128) as u8).collect()
+}
+
+/// Puts a byte that is not ASCII at each place of ASCII: each such byte, or those at the ends and one that changes.
+fn one_fault_in_ascii(len: usize, is_each: bool) {
+    let mut bytes = ascii(len);
+    as_std(&bytes);
+    for at in 0..len {
+        let byte = bytes[at];
+        let is_tried = |fault: &u8| is_each || [0x80, 0xFF, 0x80 + (at + len) as u8 % 0x80].contains(fault);
+        for fault in (0x80..=0xFF).filter(is_tried) {
+            bytes[at] = fault;
+            assert_eq!(ArrayString::<255>::from_utf8(&bytes), Err(Utf8), "{fault:x} at {at} of {len}");
+        }
+        bytes[at] = byte;
+    }
+}
+
+#[test]
+fn one_byte_from_80_on_at_each_place_of_ascii() {
+    // Without optimisation all bytes at all lengths take a minute, so some lengths have some of the bytes there.
+    let is_each = |len: usize| !cfg!(debug_assertions) || len <= 66 || (127..=129).contains(&len);
+    each_below(MOST + 1, |len| one_fault_in_ascii(len, is_each(len)));
+}
+
+#[test]
+fn each_width_at_each_place_of_ascii() {
+    each_below(MOST + 1, |len| {
+        for at in 0..=len {
+            for ch in ['\0', '\u{7F}', '\u{80}', '\u{7FF}', '\u{800}', '\u{FFFF}', '\u{10000}', '\u{10FFFF}'] {
+                let mut bytes = ascii(len);
+                let spelled = ch.to_string();
+                bytes.splice(at..at, spelled.bytes());
+                as_std(&bytes);
+                if ch.len_utf8() > 1 {
+                    // Without its last byte.
+                    bytes.remove(at + ch.len_utf8() - 1);
+                    as_std(&bytes);
+                }
+            }
+        }
+    });
+}
+
+#[test]
+fn each_two_bytes_at_some_places() {
+    each_below(0x10000, |pair| {
+        let two = (pair as u16).to_be_bytes();
+        as_std(&two);
+        for (before, after) in [(0, 2), (2, 0), (13, 1), (14, 0), (15, 20), (31, 3), (62, 4)] {
+            as_std(&[&ascii(before)[..], &two, &ascii(after)].concat());
+        }
+    });
+}
+
+/// The bytes at which the rows of the table of well-formed bytes begin and end, and their neighbours (the Unicode Standard,
+/// section 3.9).
+const EDGES: &[u8] = &[
+    0x00, 0x7F, 0x80, 0x8F, 0x90, 0x9F, 0xA0, 0xBF, 0xC0, 0xC1, 0xC2, 0xDF, 0xE0, 0xE1, 0xEC, 0xED, 0xEE, 0xEF, 0xF0, 0xF1,
+    0xF3, 0xF4, 0xF5, 0xFF,
+];
+
+#[test]
+fn each_four_bytes_of_the_edges() {
+    each_below(EDGES.len() * EDGES.len(), |two| {
+        let (first, second) = (EDGES[two / EDGES.len()], EDGES[two % EDGES.len()]);
+        for third in EDGES {
+            let three = [first, second, *third];
+            as_std(&three);
+            as_std(&[&ascii(16)[..], &three].concat());
+            for fourth in EDGES {
+                as_std(&[first, second, *third, *fourth]);
+                as_std(&[first, second, *third, *fourth, b'a', b'b', b'c', b'd']);
+            }
+        }
+    });
+}
+
+#[test]
+fn each_character_is_taken() {
+    each_below(0x11, |plane| {
+        for ch in (0..0x1_0000).filter_map(|low| char::from_u32((plane * 0x1_0000 + low) as u32)) {
+            let (mut spelled, mut units) = ([0; 4], [0; 2]);
+            let spelled = ch.encode_utf8(&mut spelled);
+            let string = ArrayString::<4>::from_utf8(&*spelled).expect("a character");
+            assert_eq!(string.as_bytes(), spelled.as_bytes());
+            assert_eq!(ArrayString::<4>::from_utf16(&*ch.encode_utf16(&mut units)).as_ref(), Ok(&string));
+            let mut pushed = ArrayString::<4>::new();
+            assert_eq!((pushed.try_push(ch), pushed.as_bytes()), (Ok(()), spelled.as_bytes()));
+            assert_eq!((pushed.pop(), pushed.is_empty()), (Some(ch), true));
+        }
+    });
+}
+
+#[test]
+fn a_cache_string_takes_the_same() {
+    for len in 0..=70 {
+        for at in 0..len {
+            let mut bytes = ascii(len);
+            let cut = CacheString::from_utf8(&bytes).expect("ASCII");
+            assert_eq!(cut.as_bytes(), &bytes[..len.min(63)]);
+            for fault in [0x80, 0xBF, 0xC0, 0xFF] {
+                bytes[at] = fault;
+                assert_eq!((CacheString::from_utf8(&bytes), CacheString::try_from_utf8(&bytes)), (Err(Utf8), Err(Error::Utf8)));
+            }
+        }
+    }
+}
