@@ -116,9 +116,9 @@ fn texts_that_differ_at_one_place() {
         let text = letters(len);
         at_some_capacities((&text, &text));
         for place in 0..len {
-            // Each pair comes at each place, at some lengths; each place and length have two pairs.
-            for pair in [place + len, place * 3 + len * 2 + 1] {
-                let (less, more) = PAIRS[pair % PAIRS.len()];
+            // Each place of each length has a pair of ASCII and, where it fits, a wider one; which, changes.
+            let (ascii, wide) = PAIRS.split_at(3);
+            for (less, more) in [ascii[(place + len) % ascii.len()], wide[(place * 3 + len) % wide.len()]] {
                 if place + less.len_utf8() > len {
                     continue;
                 }
