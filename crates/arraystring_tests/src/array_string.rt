@@ -47,6 +47,13 @@ fn texts_and_capacities(rt: HostRuntime) {
         A🤔 | pop_counted | |                | 🤔   | A   | 4
             | pop_counted | |                | A    |     | 1
             | pop_counted | |                | None |     | 0
+        # 23 | a text is popped from its end
+        A🤔 | pop         | |                | 🤔   | A
+            | pop         | |                | A    |
+            | pop         | |                | None |
+        A🤔 | pop_counted | |                | 🤔   | A   | 4
+            | pop_counted | |                | A    |     | 1
+            | pop_counted | |                | None |     | 0
         # 5 | what does not fit
         new | try_push_str | | abc | ok          | abc
             | try_push_str | | def | OutOfBounds | abc

@@ -18,6 +18,14 @@ fn orders_and_additions(rt: HostRuntime) {
         é        | cmp | | z         | Greater | é
         a🤔      | cmp | | a🤔       | Equal   | a🤔
         new      | cmp | | \0        | Less    |
+        # 23 | texts are ordered by their characters
+        \u{FFFF} | cmp | | \u{10000} | Less    | \u{FFFF}
+        a        | cmp | | ab        | Less    | a
+        ab       | cmp | | b         | Less    | ab
+        b        | cmp | | ab        | Greater | b
+        é        | cmp | | z         | Greater | é
+        a🤔      | cmp | | a🤔       | Equal   | a🤔
+        new      | cmp | | \0        | Less    |
         # 4 | what lies behind the text is not compared
         abcd | pop  | |     | d     | abc
              | cmp  | | abc | Equal | abc

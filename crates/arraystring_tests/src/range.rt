@@ -48,6 +48,9 @@ fn ranges(rt: HostRuntime) {
         abcd | make_ascii_uppercase_in | 0..=4 | | None | abcd
         abcd | make_ascii_lowercase_in | 0..=4 | | None | abcd
         # 23 | letters change case in a range
+        abcd   | make_ascii_uppercase_in | 1..=2 | | ok   | aBCd
+        abcd   | make_ascii_lowercase_in | 1..=2 | | ok   | abcd
+        ABCD   | make_ascii_lowercase_in | 1..=2 | | ok   | AbcD
         aZéZaé | make_ascii_uppercase_in | 1..=4 | | ok   | aZéZaé
         aZéZaé | make_ascii_lowercase_in | 1..=4 | | ok   | azézaé
         aZéZaé | make_ascii_uppercase_in | 1..=3 | | ok   | aZéZaé
@@ -91,6 +94,7 @@ fn ranges(rt: HostRuntime) {
                | replace_range | 1..6   | BCD                     | ok          | ABCD🤔
         # 23 | moves of drains and replacements
         ABCD🤔 | drain_counted         | 0..2 |                        | AB          | CD🤔    | 0
+        ABCD🤔 | drain_counted         | ..2  |                        | AB          | CD🤔    | 0
         ABCD🤔 | drain_counted         | 1..3 |                        | BC          | AD🤔    | 5
         ABCD🤔 | drain_counted         | 3..8 |                        | D🤔          | ABC    | 0
         ABCD🤔 | drain_counted         | 2..2 |                        |             | ABCD🤔  | 0

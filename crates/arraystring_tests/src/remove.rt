@@ -21,6 +21,10 @@ fn removals(rt: HostRuntime) {
         My String | truncate | 5 | | ok | My St
                   | truncate | 6 | | ok | My St
                   | truncate | 5 | | ok | My St
+        🤔        | truncate | 1 | | Utf8 | 🤔
+                  | truncate | 3 | | Utf8 | 🤔
+                  | truncate | 4 | | ok   | 🤔
+                  | truncate | 0 | | ok   |
         # 4 | a text is truncated
         🤔 | truncate | 1 | | Utf8 | 🤔
            | truncate | 3 | | Utf8 | 🤔

@@ -44,6 +44,31 @@ fn trimmed_texts(rt: HostRuntime) {
         '   to be trimmed     ' | trim_spaces | | | ok | to be trimmed
         new                     | trim        | | | ok |
         new                     | trim_spaces | | | ok |
+        # 23 | texts are trimmed
+        '   🤔'                 | trim        | | | ok | 🤔
+        '   🤔'                 | trim_spaces | | | ok | 🤔
+        '   '                   | trim        | | | ok |
+        '   '                   | trim_spaces | | | ok |
+        '\t a '                 | trim        | | | ok | a
+        '\t a '                 | trim_spaces | | | ok | '\t a'
+        '\u{2003}a\u{3000}'     | trim        | | | ok | a
+        '\u{2003}a\u{3000}'     | trim_spaces | | | ok | '\u{2003}a\u{3000}'
+        '\u{85}a\u{85}'         | trim        | | | ok | a
+        '\u{85}a\u{85}'         | trim_spaces | | | ok | '\u{85}a\u{85}'
+        '\u{200B}a'             | trim        | | | ok | '\u{200B}a'
+        '\u{200B}a'             | trim_spaces | | | ok | '\u{200B}a'
+        ' \t '                  | trim        | | | ok |
+        ' \t '                  | trim_spaces | | | ok | '\t'
+        ' a\u{A0}b '            | trim        | | | ok | 'a\u{A0}b'
+        ' a\u{A0}b '            | trim_spaces | | | ok | 'a\u{A0}b'
+        ' a\u{A0}'              | trim        | | | ok | a
+        ' a\u{A0}'              | trim_spaces | | | ok | 'a\u{A0}'
+        '\u{2003}a '            | trim        | | | ok | a
+        '\u{2003}a '            | trim_spaces | | | ok | '\u{2003}a'
+        '   to be trimmed     ' | trim        | | | ok | to be trimmed
+        '   to be trimmed     ' | trim_spaces | | | ok | to be trimmed
+        new                     | trim        | | | ok |
+        new                     | trim_spaces | | | ok |
         # 4 | full texts are trimmed
         '  ab' | trim        | | | ok | ab
         '  ab' | trim_spaces | | | ok | ab
