@@ -44,7 +44,7 @@ fn served_without_memory(
 fn want_of_memory_is_served(rt: HostRuntime) -> Result<(), Fail> {
     let mut output = Vec::with_capacity(rt.alloc(), 1000)?;
     let mut errors = Vec::with_capacity(rt.alloc(), 1000)?;
-    let Some(mut scarce) = ScarceMemory::take(rt.alloc())? else {
+    let Some(mut scarce) = ScarceMemory::take(&rt)? else {
         return Ok(());
     };
     let mut refused = 0u32;
@@ -100,7 +100,7 @@ fn played_without_memory(
 #[test]
 fn want_of_memory_is_reported(rt: HostRuntime) -> Result<(), Fail> {
     let mut output = Vec::with_capacity(rt.alloc(), 1000)?;
-    let Some(mut scarce) = ScarceMemory::take(rt.alloc())? else {
+    let Some(mut scarce) = ScarceMemory::take(&rt)? else {
         return Ok(());
     };
     let mut refused = 0u32;
@@ -177,7 +177,7 @@ fn each_refused_growth_is_reported(rt: HostRuntime) -> Result<(), Fail> {
     let none = Err(PlayFault::Memory);
     let wanting = "out of memory\n";
     let mut output = Vec::with_capacity(alloc, 1000)?;
-    let Some(mut scarce) = ScarceMemory::take(alloc)? else {
+    let Some(mut scarce) = ScarceMemory::take(&rt)? else {
         return Ok(());
     };
     scarce.leave(alloc, 0)?;
@@ -203,7 +203,7 @@ fn each_refused_growth_is_reported(rt: HostRuntime) -> Result<(), Fail> {
 fn want_of_memory_leaves_the_text(rt: HostRuntime) -> Result<(), Fail> {
     let commands = [Command::TryPush('c'); 100];
     let mut text: ArrayString<23> = text_of("ab");
-    let Some(mut scarce) = ScarceMemory::take(rt.alloc())? else {
+    let Some(mut scarce) = ScarceMemory::take(&rt)? else {
         return Ok(());
     };
     let mut refused = 0u32;
@@ -233,7 +233,7 @@ fn want_of_memory_leaves_both_texts(rt: HostRuntime) -> Result<(), Fail> {
     let mut other: ArrayString<4> = text_of("ab");
     let mut first: ArrayString<23> = text_of("ab");
     let mut second: ArrayString<4> = text_of("ab");
-    let Some(mut scarce) = ScarceMemory::take(rt.alloc())? else {
+    let Some(mut scarce) = ScarceMemory::take(&rt)? else {
         return Ok(());
     };
     let mut refused = 0u32;

@@ -119,7 +119,7 @@ fn words_are_judged_without_memory(rt: HostRuntime) -> Result<(), Fail> {
     let mut output = Vec::with_capacity(rt.alloc(), 100)?;
     let mut errors = Vec::with_capacity(rt.alloc(), 100)?;
     let mut input: &[u8] = b"len\n";
-    let Some(scarce) = ScarceMemory::take(rt.alloc())? else {
+    let Some(scarce) = ScarceMemory::take(&rt)? else {
         return Ok(());
     };
     let (big, _) = serve_buffered(

@@ -79,6 +79,10 @@ fn escapes_are_characters(rt: HostRuntime) -> Result<(), Fail> {
 fn other_values_are_not_texts(rt: HostRuntime) -> Result<(), Fail> {
     for json in "null true false 7 -7 0.5 1e300 [] [\"a\"] {}".split(' ') {
         let value = Value::from_str(rt.alloc(), json)?;
+        let string = ArrayString::<8>::from_value(&value);
+        agree(&rt, json, string, Err(NotText));
+        let string = ArrayString::<23>::from_value(&value);
+        agree(&rt, json, string, Err(NotText));
         let string = ArrayString::<63>::from_value(&value);
         agree(&rt, json, string, Err(NotText));
         agree(&rt, json, CacheString::from_value(&value), Err(NotText));
@@ -150,7 +154,7 @@ fn value_at_last<S: Json>(
 #[test]
 fn want_of_memory_leaves_the_string(rt: HostRuntime) -> Result<(), Fail> {
     let string: ArrayString<63> = ArrayString::from_str_truncate(LETTERS);
-    let Some(scarce) = ScarceMemory::take(rt.alloc())? else {
+    let Some(scarce) = ScarceMemory::take(&rt)? else {
         return Ok(());
     };
     let made = value_at_last(&rt, rt.alloc(), scarce, &string)?;
@@ -165,7 +169,7 @@ fn want_of_memory_leaves_the_string(rt: HostRuntime) -> Result<(), Fail> {
 #[test]
 fn want_of_memory_leaves_the_cache_string(rt: HostRuntime) -> Result<(), Fail> {
     let string = CacheString::from_str_truncate(LETTERS);
-    let Some(scarce) = ScarceMemory::take(rt.alloc())? else {
+    let Some(scarce) = ScarceMemory::take(&rt)? else {
         return Ok(());
     };
     let made = value_at_last(&rt, rt.alloc(), scarce, &string)?;

@@ -23,7 +23,7 @@ fn changes_take_no_memory(rt: HostRuntime) -> Result<(), Fail> {
     for turn in 0..USERS {
         agree(&rt, users.insert(mixed(turn)), Ok(None));
     }
-    let Some(scarce) = ScarceMemory::take(rt.alloc())? else {
+    let Some(scarce) = ScarceMemory::take(&rt)? else {
         return Ok(());
     };
     for turn in 0..USERS {

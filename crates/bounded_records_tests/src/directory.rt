@@ -115,7 +115,7 @@ fn check_first(rt: &impl Abort, users: &Directory, count: u8) {
 #[test]
 fn each_refused_growth_changes_nothing(rt: HostRuntime) -> Result<(), Fail> {
     let mut users = Directory::new(rt.alloc());
-    let Some(mut scarce) = ScarceMemory::take(rt.alloc())? else {
+    let Some(mut scarce) = ScarceMemory::take(&rt)? else {
         return Ok(());
     };
     let mut count = 0u8;

@@ -28,7 +28,7 @@ fn rows_and_columns_are_read(rt: HostRuntime) {
 #[test]
 fn what_is_left_can_be_had(rt: HostRuntime) -> Result<(), Fail> {
     let alloc = rt.alloc();
-    let Some(mut scarce) = ScarceMemory::take(alloc)? else {
+    let Some(mut scarce) = ScarceMemory::take(&rt)? else {
         return Ok(());
     };
     scarce.leave_more(alloc)?;
