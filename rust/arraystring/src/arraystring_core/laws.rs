@@ -1,6 +1,6 @@
 // Made from crates/arraystring_core/src/laws.rt by rust/erase. A change goes there.
-//! Laws of strings, which callers may rely on. Each does nothing when it is called and carries its
-//! fact in its contract.
+//! Laws of strings, which callers may rely on. Each carries its fact in its contract and changes
+//! nothing. `text_fits` and `left_fits` call `len` and `as_str`, the others do nothing when called.
 
 use crate::arraystring_core::{ArrayString, Drain};
 
