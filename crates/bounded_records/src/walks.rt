@@ -1,6 +1,7 @@
 //! Walks over a directory, from both ends.
-ghost use Rattle.std.specs.Prelude.{◌≡◌, ⊤};
-ghost use Rattle.std.specs.Iterator.{YieldsFirstBy, YieldsLastBy, item_count};
+ghost use Rattle.std.specs.Prelude.{◌≡◌, ⊤, Some, IfSome, length};
+ghost use Rattle.std.specs.Iterator.{YieldsFirstBy, YieldsLastBy, UpTo, at_most, item_count};
+ghost use Rattle.std.specs.Iterator.SizeHint.{IsWithinCount};
 ghost use Rattle.bounded_records.specs.Walks.{name_text, user_texts};
 
 use crate::User;
@@ -54,8 +55,13 @@ impl<'a> Iterator for Names<'a> {
     }
 
     /// Returns how many are left, as both bounds.
-    fn size_hint(&self) -> (usize, Option<usize>) {
-        self.keys.size_hint()
+    fn size_hint(&self) -> (usize, Option<usize>)
+        ensures lower { IsWithinCount result.0 (at_most (length self.now)) }
+        ensures upper { IfSome result.1 (UpTo (at_most (length self.now))) }
+        ensures exact { result ≡ (length self.now, Some (length self.now)) }
+    {
+        let names = self.keys.len();
+        (names, Some(names))
     }
 }
 
@@ -128,8 +134,13 @@ impl<'a> Iterator for Users<'a> {
     }
 
     /// Returns how many are left, as both bounds.
-    fn size_hint(&self) -> (usize, Option<usize>) {
-        self.values.size_hint()
+    fn size_hint(&self) -> (usize, Option<usize>)
+        ensures lower { IsWithinCount result.0 (at_most (length self.now)) }
+        ensures upper { IfSome result.1 (UpTo (at_most (length self.now))) }
+        ensures exact { result ≡ (length self.now, Some (length self.now)) }
+    {
+        let users = self.values.len();
+        (users, Some(users))
     }
 }
 
