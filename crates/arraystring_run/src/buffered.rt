@@ -68,7 +68,11 @@ impl<O: Write> Write for Buffered<O> {
         Ok(bytes.len())
     }
 
-    fn flush(&mut self) -> io::Result<()> {
+    /// Writes what waits, and flushes the writer, also if nothing waits.
+    fn flush(&mut self) -> io::Result<()>
+        ensures bytes { Keeps (append_known (O.contents self.old.output) self.old.waiting.items) (append_known (O.contents self.new.output) self.new.waiting.items) }
+        ensures sent { OnOk result (self.new.waiting.items ≡ []) }
+    {
         self.send()?;
         self.output.flush()
     }

@@ -1,9 +1,9 @@
 //! What a program's `main` calls: the word that it was given, and `serve` with a buffer before the
 //! output.
-ghost use Rattle.std.specs.Prelude.{◌≡◌, ◌≢◌, ℕ, ⊤, List, [], Result};
+ghost use Rattle.std.specs.Prelude.{◌≡◌, ◌≢◌, ℕ, ⊤, List, [], None, Result, vec_capacity};
 ghost use Rattle.std.specs.Io.KnownBytes.{append_known};
 ghost use Rattle.std.specs.declared.env.FillError.{FillError as Fault};
-ghost use Rattle.arraystring_run.specs.Script.{IsServed};
+ghost use Rattle.arraystring_run.specs.Script.{IsServed, capacity_named};
 ghost use Rattle.arraystring_run.specs.Word.{IsOnlyWord};
 
 use crate::buffered::Buffered;
@@ -17,7 +17,8 @@ use std::io::{Read, Write};
 pub const BUFFER: usize = 8192;
 
 /// The arguments of a program. The kit's `Env` does not say what its calls return; this trait names
-/// it, so that a contract can speak of it.
+/// it, so that a contract can speak of it. A contract over it says no more than the impl does: of an
+/// `Env` nothing is known, and that its arguments are read is only tested.
 pub trait Arguments {
     /// What may be returned for the argument of an index, and what is in the buffer then.
     ghost gives: { Self → ℕ → Result ℕ Fault → List ℕ → Type 0 };
@@ -28,7 +29,9 @@ pub trait Arguments {
         ensures { gives self.now index result buffer.new };
 }
 
-/// Whatever the environment returns.
+/// Whatever the environment returns. No clause says that it is asked: an impl that never has an argument
+/// would prove too. `crates/arraystring_run_tests` asks environments of its own, in `program` and `words`,
+/// and `crates/arraystring_cli/try` gives the built program its arguments.
 impl<E: Env> Arguments for E {
     ghost gives = { λ _ _ _ _. ⊤ };
 
@@ -39,6 +42,9 @@ impl<E: Env> Arguments for E {
 
 /// The word that the program was given: its only argument, if that is UTF-8. It takes no memory, so
 /// an argument of more than 255 bytes counts as none. No capacity has so long a name.
+///
+/// The contract is relative to what `arguments` gives (`gives`). Of an environment it says nothing
+/// (`⊤`), so for a program it is only tested that the word is the argument.
 pub fn given_word<A: Arguments>(arguments: &A) -> Option<MaxString>
     ensures { (count : Result ℕ Fault) × (first : List ℕ) × (second : Result ℕ Fault) × (rest : List ℕ) × A.gives arguments.now 1 count first
         × A.gives arguments.now 2 second rest × IsOnlyWord count first second result }
@@ -87,9 +93,11 @@ pub fn serve_buffered<I: Read, O: Write + Drop, E: Write>(
     (if status == 0 && !is_whole { 4 } else { status }, output)
 }
 
-/// The room before the output: none for a word that names no capacity, or if there is no memory.
+/// The room before the output: none for a word that names no capacity, or if there is no memory. A list
+/// without room has taken no memory.
 fn buffer(alloc: Global, word: Option<&str>) -> Vec<u8>
-    ensures { result.items ≡ [] }
+    ensures empty { result.items ≡ [] }
+    ensures none_named { capacity_named word.entry ≡ None → vec_capacity result ≡ 0 }
 {
     if names_capacity(word) {
         if let Ok(waiting) = Vec::with_capacity(alloc, BUFFER) {
