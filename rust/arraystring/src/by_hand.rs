@@ -1,15 +1,43 @@
-//! What Rust asks beyond erasure: nothing here is proved. It has no `unsafe`, but `retain` and `simd` could break
-//! UTF-8 all the same.
+//! What Rust asks beyond erasure: nothing here is proved. `retain` and `look` are `unsafe` to call, as what they stand for is
+//! by its precondition, and the rest has no `unsafe`; but `retain`, `simd` and `known!` could break UTF-8 all the same.
 //!
 //! - `convert`: the traits of the Rust crate that the language of the sources can't have.
+//! - `known!`: tells rustc a clause that is proved; and `look`, which is told that it looks at a byte that is there.
 //! - `retain`: what is left where a closure panics, since the language of the sources does not unwind.
 //! - `simd`: the vectors of the sources, as arrays.
 //!
 //! `count_tests` are the tests of `steps` that set its counts.
-#![forbid(unsafe_code)]
+#![deny(unsafe_code)]
+
+/// Tells rustc a clause that is proved of each call, as `known!(source: from + len <= N)`. With debug assertions, or with the
+/// feature `checked`, it is tested instead.
+macro_rules! known {
+    ($clause:ident: $fact:expr) => {
+        if cfg!(any(debug_assertions, feature = "checked")) {
+            assert!($fact, concat!("the clause `", stringify!($clause), "` does not hold"));
+        } else {
+            // SAFETY: the clause is proved: an `unsafe fn` is called where it holds, and an invariant holds of each value.
+            unsafe { core::hint::assert_unchecked($fact) };
+        }
+    };
+}
 
 mod convert;
 mod retain;
 pub(crate) mod simd;
 
 pub(crate) use retain::retain_at;
+
+use crate::utils::Steps;
+
+/// The `look` of the proved bodies, which is at a byte that is there.
+///
+/// # Safety
+///
+/// The clause `in_bounds` of `utils::look` must hold.
+#[allow(unsafe_code)]
+#[inline(always)]
+pub(crate) unsafe fn look(bytes: &[u8], at: usize, steps: &mut Steps) -> u8 {
+    known!(in_bounds: at < bytes.len());
+    crate::utils::look(bytes, at, steps)
+}

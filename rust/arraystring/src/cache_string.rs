@@ -89,7 +89,7 @@ impl CacheString {
     #[inline]
     pub unsafe fn from_str_unchecked<S: AsRef<str>>(string: S) -> Self {
         let string = string.as_ref();
-        // SAFETY: the proof of this body shows what `from_str_unchecked` requires.
+        // SAFETY: the proof of `from_str_unchecked` in crates/arraystring/src/cache_string.rt shows the precondition of `from_str_unchecked`.
         CacheString(unsafe { ArrayString::from_str_unchecked(string) })
     }
 
@@ -174,7 +174,7 @@ impl CacheString {
     /// ```
     #[inline]
     pub unsafe fn from_iterator_unchecked<U: AsRef<str>, I: IntoIterator<Item = U>>(pieces: I) -> Self {
-        // SAFETY: the proof of this body shows what `from_iterator_unchecked` requires.
+        // SAFETY: the proof of `from_iterator_unchecked` in crates/arraystring/src/cache_string.rt shows `fits` of `from_iterator_unchecked`.
         CacheString(unsafe { ArrayString::from_iterator_unchecked(pieces) })
     }
 
@@ -259,7 +259,7 @@ impl CacheString {
     /// ```
     #[inline]
     pub unsafe fn from_chars_unchecked<I: IntoIterator<Item = char>>(characters: I) -> Self {
-        // SAFETY: the proof of this body shows what `from_chars_unchecked` requires.
+        // SAFETY: the proof of `from_chars_unchecked` in crates/arraystring/src/cache_string.rt shows `fits` of `from_chars_unchecked`.
         CacheString(unsafe { ArrayString::from_chars_unchecked(characters) })
     }
 
@@ -330,7 +330,7 @@ impl CacheString {
     #[inline]
     pub unsafe fn from_utf8_unchecked<B: AsRef<[u8]>>(given: B) -> Self {
         let given = given.as_ref();
-        // SAFETY: the proof of this body shows what `from_utf8_unchecked` requires.
+        // SAFETY: the proof of `from_utf8_unchecked` in crates/arraystring/src/cache_string.rt shows `well_formed` and `fits` of `from_utf8_unchecked`.
         CacheString(unsafe { ArrayString::from_utf8_unchecked(given) })
     }
 

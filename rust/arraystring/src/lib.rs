@@ -6,9 +6,11 @@
 #![no_std]
 #![deny(unsafe_op_in_unsafe_fn, missing_docs)]
 
+#[macro_use]
+mod by_hand;
+
 mod arraystring_base;
 mod arraystring_core;
-mod by_hand;
 
 mod cache_string;
 pub mod laws;

@@ -1,40 +1,68 @@
 //! The body of a function: its paths, and its calls that are `unsafe` in Rust.
 
+use crate::contracts::Called;
 use crate::cursor::{Fault, Kind, Token};
 use crate::edits::Edits;
 use crate::erase::Tally;
-use crate::rules::{CRATES, is_unsafe};
+use crate::rules::{CRATES, INSIDE, PROOFS_ALONE};
+
+/// Where a body stands.
+pub struct Here<'a> {
+    pub krate: &'a str,
+    /// Its file in the folder of crates.
+    pub path: &'a str,
+    /// The type or the file of its function.
+    pub owner: &'a str,
+    /// The name of its function behind that.
+    pub call: &'a str,
+    /// Whether a line that was put into it tests its precondition.
+    pub is_tested: bool,
+}
 
 /// Rewrites a body, which is given by its tokens.
-pub fn rewrite(source: &str, tokens: &[Token], krate: &str, edits: &mut Edits, tally: &mut Tally) -> Result<(), Fault> {
-    paths(source, tokens, krate, edits, tally);
+pub fn rewrite(source: &str, tokens: &[Token], here: &Here, edits: &mut Edits, tally: &mut Tally) -> Result<(), Fault> {
+    paths(source, tokens, here.krate, edits, tally);
     let body = Body { source, tokens };
-    let mut safe_until = 0;
-    let mut inner_until = 0;
+    let (mut safe_until, mut inner_until) = (0, 0);
     for at in 0..tokens.len() {
-        let text = body.text(at);
-        if text == "unsafe" && body.text(at + 1) == "{" {
-            let end = body.closing(at + 1)?;
-            safe_until = end;
+        if PROOFS_ALONE.contains(&body.text(at)) && body.text(at + 1) == "(" {
+            body.leave_out(at, edits)?;
+            tally.count("calls for the proof alone");
+        } else if body.text(at) == "unsafe" && body.text(at + 1) == "{" {
+            safe_until = body.closing(at + 1)?;
             if at < inner_until {
                 // The block round the call is enough.
                 edits.replace(tokens[at].at.start..tokens[at + 2].at.start, "");
-                edits.replace(tokens[end - 1].at.end..tokens[end].at.end, "");
+                edits.replace(tokens[safe_until - 1].at.end..tokens[safe_until].at.end, "");
             }
             if !body.has_reason(at) {
                 return Err(Fault::new(tokens[at].at.start, "an `unsafe` block without its line `// SAFETY: ..`"));
             }
-        } else if at >= safe_until && is_unsafe(text) && body.text(at + 1) == "(" && tokens[at].kind == Kind::Word {
-            let start = body.path_start(at)?;
-            if body.text(start) == "str" {
+        } else if let (true, Some(opens)) = (at >= safe_until, body.opens_call(at)) {
+            let start = body.path_start(at);
+            let called = body.called(at);
+            if matches!(called, Called::Behind("str")) && body.text(at).ends_with("_unchecked") {
                 return Err(Fault::new(tokens[at].at.start, "a call of std that is in no `unsafe` block"));
             }
+            let inside = INSIDE.iter().find(|rule| rule.call == body.text(at) && matches!(called, Called::Free));
+            let shown = match inside {
+                Some(rule) => {
+                    edits.replace(tokens[at].at.clone(), rule.by_hand);
+                    tally.used.insert(format!("inside {}", rule.call));
+                    Some(format!("`{}` of `{}`", rule.clause, rule.call))
+                }
+                None => tally.contracts.shown_by(body.text(at), &called, here.owner),
+            };
+            let Some(shown) = shown else { continue };
+            let start = start?;
             if at >= inner_until {
-                inner_until = body.closing(at + 1)?;
+                inner_until = body.closing(opens)?;
                 edits.insert(tokens[start].at.start, "unsafe { ");
                 edits.insert(tokens[inner_until].at.end, " }");
             }
-            body.say(start, &format!("the proof of this body shows what `{text}` requires."), edits, tally);
+            let name = here.call.rsplit("::").next().unwrap_or_default();
+            let tested = if here.is_tested { "by what the index above tests, " } else { "" };
+            body.say(start, &format!("{tested}the proof of `{name}` in crates/{} shows {shown}.", here.path), edits, tally);
         }
     }
     Ok(())
@@ -87,6 +115,50 @@ impl<'a> Body<'a> {
             }
         }
         Err(Fault::new(self.tokens[at].at.start, "a bracket that is not closed"))
+    }
+
+    /// The bracket of a call whose name is at `at`, behind the types that it may be given.
+    fn opens_call(&self, at: usize) -> Option<usize> {
+        if self.tokens[at].kind != Kind::Word {
+            return None;
+        }
+        let mut opens = at + 1;
+        if [1, 2, 3].map(|next| self.text(at + next)) == [":", ":", "<"] {
+            let (mut depth, mut end) = (1, at + 4);
+            while depth > 0 && end < self.tokens.len() {
+                match self.text(end) {
+                    "<" => depth += 1,
+                    ">" => depth -= 1,
+                    _ => {}
+                }
+                end += 1;
+            }
+            opens = end;
+        }
+        (self.text(opens) == "(").then_some(opens)
+    }
+
+    /// How the call whose name is at `at` names what it calls.
+    fn called(&self, at: usize) -> Called<'a> {
+        let before = |steps: usize| at.checked_sub(steps).map_or("", |at| self.text(at));
+        match (before(1), before(2)) {
+            (".", _) => Called::Method,
+            (":", ":") => Called::Behind(before(3)),
+            _ => Called::Free,
+        }
+    }
+
+    /// Takes out the statement that is the call at `at`.
+    fn leave_out(&self, at: usize, edits: &mut Edits) -> Result<(), Fault> {
+        let start = self.tokens[at].at.start;
+        let end = self.tokens.get(self.closing(at + 1)? + 1).map_or(start, |token| token.at.end);
+        let line = self.source[..start].rfind('\n').map_or(0, |end| end + 1);
+        let is_statement = self.source[line..start].trim().is_empty() && self.source[..end].ends_with(';');
+        if !is_statement || !self.source[end..].starts_with('\n') {
+            return Err(Fault::new(start, "a call for the proof alone that is no statement on a line of its own"));
+        }
+        edits.replace(line..end + 1, "");
+        Ok(())
     }
 
     /// The token with which the path to a call begins.

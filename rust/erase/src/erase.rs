@@ -2,10 +2,11 @@
 
 use std::collections::{BTreeMap, BTreeSet};
 
+use crate::contracts::Contracts;
 use crate::cursor::{Cursor, Fault};
 use crate::edits::tidied;
 use crate::items::File;
-use crate::rules::{REPLACED, TESTED};
+use crate::rules::{BY_STD, REPLACED, TESTED};
 
 /// A source that is erased.
 pub struct Source<'a> {
@@ -30,6 +31,8 @@ pub struct Erased {
 pub struct Tally {
     pub counts: BTreeMap<&'static str, usize>,
     pub used: BTreeSet<String>,
+    /// What was read of all functions before.
+    pub contracts: Contracts,
 }
 
 impl Tally {
@@ -48,7 +51,7 @@ pub fn erase(source: &Source, tally: &mut Tally) -> Result<Erased, Fault> {
     let text = replaced(source, tally)?;
     let File { edits, modules, dropped, .. } = File::read(source, &text, tally)?;
     let head = format!("// Made from crates/{} by rust/erase. A change goes there.\n", source.path);
-    let made = head + &tidied(&edits.apply(&text)) + &tested(source, tally);
+    let made = by_std(source, head + &tidied(&edits.apply(&text)), tally)? + &tested(source, tally);
     no_proof_is_left(&made)?;
     Ok(Erased { text: made, modules, dropped })
 }
@@ -69,6 +72,21 @@ fn replaced(source: &Source, tally: &mut Tally) -> Result<String, Fault> {
         tally.used.insert(format!("line {}", rule.from));
     }
     Ok(text)
+}
+
+/// The file in which std does what a function of the source does, if it is one. What is left is that function with its
+/// contract.
+fn by_std(source: &Source, made: String, tally: &mut Tally) -> Result<String, Fault> {
+    let Some(rule) = BY_STD.iter().find(|rule| rule.file == source.path) else { return Ok(made) };
+    let missing = || Fault::new(0, format!("the function `{}` with its contract is not there", rule.function));
+    let signature = made.find(&format!("pub(crate) fn {}", rule.function)).ok_or_else(missing)?;
+    let contract = made[..signature].rfind("/// # Contract").ok_or_else(missing)?;
+    let body = signature + made[signature..].find(" {\n").ok_or_else(missing)?;
+    let head = made.lines().next().unwrap_or_default();
+    tally.used.insert(format!("by std {}", rule.file));
+    tally.count("files whose work std does");
+    Ok(format!("{head}\n//! {}\n\n{}\n\n/// {}\n///\n{} {{\n    {}\n}}\n", rule.module, rule.imports, rule.docs, &made[contract..body], rule.body)
+        .replace("\n\n\n", "\n"))
 }
 
 /// The lines that put tests by hand into a module.

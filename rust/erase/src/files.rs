@@ -5,14 +5,29 @@ use std::fs;
 use std::path::{Path, PathBuf};
 
 use crate::erase::{Source, Tally, erase, line_of};
-use crate::rules::{BY_HAND, CRATES, FATES, LEFT_OUT, REPLACED, TESTED, WIDER};
+use crate::rules::{AGAIN, BY_HAND, BY_STD, CRATES, ENSURED, FATES, INSIDE, INVARIANTS, Invariant, KNOWN, LEFT_OUT, REPLACED, TESTED, WIDER};
 
 /// Each file of the Rust crate that is made, by its path in `src`.
 pub type Made = BTreeMap<String, String>;
 
 /// Makes all files out of the sources in a folder of crates.
 pub fn made(crates: &Path) -> Result<(Made, Tally), String> {
-    let (mut made, mut tally) = (Made::new(), Tally::default());
+    // Read twice: a call is `unsafe` by the contract of what it calls, which may come later.
+    let (_, mut read) = read_all(crates, Tally::default())?;
+    read.contracts.is_whole = true;
+    let (made, tally) = read_all(crates, Tally { contracts: read.contracts, ..Tally::default() })?;
+    all_used(&tally)?;
+    Ok((made, tally))
+}
+
+/// Makes all files by what is known of the contracts.
+fn read_all(crates: &Path, mut tally: Tally) -> Result<(Made, Tally), String> {
+    let mut made = Made::new();
+    for Invariant { defined: (file, line), .. } in INVARIANTS {
+        if !read(&crates.join(file))?.lines().any(|found| found == *line) {
+            return Err(format!("crates/{file}: the definition `{line}` of an invariant is not there"));
+        }
+    }
     for krate in CRATES {
         let mut left = sources(&crates.join(krate).join("src"))?;
         let mut waiting = vec!["lib".to_string()];
@@ -34,7 +49,6 @@ pub fn made(crates: &Path) -> Result<(Made, Tally), String> {
             return Err(format!("crates/{krate}/src/{path}: no module names this file"));
         }
     }
-    all_used(&tally)?;
     Ok((made, tally))
 }
 
@@ -52,6 +66,13 @@ fn all_used(tally: &Tally) -> Result<(), String> {
     let names = FATES.iter().map(|(name, _)| name.to_string());
     let names = names.chain(WIDER.iter().map(|rule| format!("wider {}", rule.call)));
     let names = names.chain(REPLACED.iter().map(|rule| format!("line {}", rule.from)));
+    let names = names.chain(BY_STD.iter().map(|rule| format!("by std {}", rule.file)));
+    let names = names.chain(KNOWN.iter().map(|(call, clause)| format!("known {call} {clause}")));
+    let names = names.chain(AGAIN.iter().map(|(call, clause, _)| format!("again {call} {clause}")));
+    let names = names.chain(ENSURED.iter().map(|rule| format!("ensured {} {}", rule.ensures.0, rule.ensures.1)));
+    let names = names.chain(INSIDE.iter().map(|rule| format!("inside {}", rule.call)));
+    let invariants = INVARIANTS.iter().flat_map(|rule| rule.calls);
+    let names = names.chain(invariants.map(|call| format!("invariant {call}")));
     let names = names.chain(TESTED.iter().map(|rule| format!("tests {}", rule.path)));
     let mut names = names.chain(LEFT_OUT.iter().map(|rule| rule.name.to_string()));
     match names.find(|name| !tally.used.contains(name)) {

@@ -2,10 +2,13 @@
 
 use std::ops::Range;
 
-use crate::body;
+use crate::body::{self, Here};
+use crate::contracts::Clause;
 use crate::cursor::{Cursor, Fault, Token};
+use crate::erase::Source;
 use crate::items::{File, Inside, Lead};
-use crate::rules::{BEHIND, FATES, Fate, LEFT_OUT, WALK, WIDER};
+use crate::known::{Names, test_of};
+use crate::rules::{AGAIN, BEHIND, ENSURED, FATES, Fate, INVARIANTS, KNOWN, LEFT_OUT, PRIVATE, WALK, WIDER};
 
 /// A function as it was read.
 struct Function {
@@ -15,7 +18,8 @@ struct Function {
     /// From `fn` to the last sign before its clauses and its body.
     head: Range<usize>,
     clauses: Option<Range<usize>>,
-    has_precondition: bool,
+    preconditions: Vec<Clause>,
+    postconditions: Vec<Clause>,
     /// Behind the bracket of its body.
     body: usize,
     /// Behind its last bracket.
@@ -41,12 +45,18 @@ impl<'a> File<'a, '_> {
             self.tally.used.insert(name.to_string());
             return Ok(());
         }
+        self.tally.contracts.note(&function.call, &function.preconditions, &function.postconditions);
         self.head(function.head.clone());
         self.wider(&function)?;
         let has_words = self.precondition(&function, lead, inside)?;
+        self.known(&function)?;
+        self.ensured(&function)?;
         self.contract(&function, lead, has_words)?;
         self.hint(&function, lead);
-        body::rewrite(self.text, &function.tokens, self.source.krate, &mut self.edits, self.tally)
+        let Source { krate, path, .. } = *self.source;
+        let is_tested = FATES.iter().any(|(call, fate)| *call == function.call && matches!(fate, Fate::Panics(_, Some(_))));
+        let here = Here { krate, path, owner: inside.owner, call: &function.call, is_tested };
+        body::rewrite(self.text, &function.tokens, &here, &mut self.edits, self.tally)
     }
 
     fn read_function(
@@ -62,31 +72,33 @@ impl<'a> File<'a, '_> {
         let call = format!("{}::{}", inside.owner, cursor.text(&name));
         let head = self.up_to(cursor, word.at.start, &["{", "requires", "ensures"])?;
         cursor.at = head.end;
-        let (clauses, has_precondition) = self.clauses(cursor)?;
+        let (clauses, [preconditions, postconditions]) = self.clauses(cursor)?;
         let body = cursor.at;
         let tokens = self.block(cursor, body)?;
-        Ok(Function { call, is_public, head, clauses, has_precondition, body, end: cursor.at, tokens })
+        Ok(Function { call, is_public, head, clauses, preconditions, postconditions, body, end: cursor.at, tokens })
     }
 
-    /// Reads the clauses of a function up to its body, whose bracket is taken. Returns where they are, and whether one is a
-    /// precondition.
-    fn clauses(&mut self, cursor: &mut Cursor<'a>) -> Result<(Option<Range<usize>>, bool), Fault> {
+    /// Reads the clauses of a function up to its body, whose bracket is taken. Returns where they are, the
+    /// preconditions and the postconditions.
+    fn clauses(&mut self, cursor: &mut Cursor<'a>) -> Result<(Option<Range<usize>>, [Vec<Clause>; 2]), Fault> {
         let start = cursor.at;
-        let (mut found, mut has_precondition): (Option<Range<usize>>, bool) = (None, false);
+        let (mut found, mut clauses): (Option<Range<usize>>, _) = (None, [Vec::new(), Vec::new()]);
         loop {
             let Some(token) = cursor.next_code()? else { return Err(Fault::new(start, "a function without its body")) };
             match cursor.text(&token) {
                 word @ ("requires" | "ensures") => {
-                    has_precondition |= word == "requires";
                     self.tally.count("clauses");
+                    let mut name = String::new();
                     if cursor.peek_code()? != "{" {
-                        cursor.next_code()?;
+                        name = cursor.next_code()?.map_or("", |token| cursor.text(&token)).to_string();
                     }
-                    cursor.expect("{")?;
+                    let opened = cursor.expect("{")?;
                     cursor.pass_clause()?;
+                    let text = self.text[opened.at.end..cursor.at - 1].trim().to_string();
+                    clauses[usize::from(word == "ensures")].push(Clause { name, text });
                     found = Some(found.map_or(token.at.start, |at| at.start)..cursor.at);
                 }
-                "{" => return Ok((found, has_precondition)),
+                "{" => return Ok((found, clauses)),
                 other => return Err(Fault::new(token.at.start, format!("`{other}` among the clauses of a function"))),
             }
         }
@@ -120,16 +132,87 @@ impl<'a> File<'a, '_> {
     fn precondition(&mut self, function: &Function, lead: &Lead, inside: &Inside) -> Result<bool, Fault> {
         let call = &function.call;
         let fate = FATES.iter().find(|(name, _)| name == call).map(|(_, fate)| fate);
+        let has_precondition = !function.preconditions.is_empty();
+        let rests = self.tally.contracts.is_unsafe(call);
         let why = match fate {
-            Some(fate) if function.is_public && function.has_precondition => {
+            Some(Fate::Safe(_)) if rests => format!("`{call}` has a precondition on which something rests, and is to be safe"),
+            Some(Fate::Unsafe(_)) if !rests => format!("`{call}` has no precondition on which something rests"),
+            Some(fate) if function.is_public && has_precondition => {
                 self.fate(function, fate, lead)?;
                 return Ok(true);
             }
-            None if !function.has_precondition || !(function.is_public || inside.of_trait) => return Ok(false),
+            None if !has_precondition || !(function.is_public || inside.of_trait) => {
+                if rests {
+                    self.tally.count("private functions that are `unsafe` in Rust");
+                    self.edits.replace(function.head.start..function.head.start + "fn".len(), "unsafe fn");
+                    self.words(lead.docs_end, "Safety", PRIVATE, lead.has_docs);
+                }
+                return Ok(rests);
+            }
             Some(_) => format!("`{call}` is in the list of calls with a precondition, and has none"),
             None => format!("`{call}` has a precondition and is in no list of src/rules.rs"),
         };
         Err(Fault::new(function.head.start, why))
+    }
+
+    /// Puts what is known at the start of a body: clauses that the function requires, and the invariant of its type.
+    fn known(&mut self, function: &Function) -> Result<(), Fault> {
+        let Function { call, head, body, preconditions, .. } = function;
+        let fault = |why: String| Fault::new(head.start, format!("`{call}`: {why}"));
+        let mut tests = Vec::new();
+        for (name, invariant) in INVARIANTS.iter().flat_map(|rule| rule.calls.iter().map(move |call| (call, rule))) {
+            if name == call {
+                tests.extend(invariant.tests.iter().map(|test| ("invariant", test.to_string())));
+                self.tally.used.insert(format!("invariant {call}"));
+            }
+        }
+        for (_, clause) in KNOWN.iter().filter(|(name, _)| name == call) {
+            let found = preconditions.iter().find(|precondition| precondition.name == *clause);
+            let found = found.ok_or_else(|| fault(format!("it has no clause `{clause}` that could be known")))?;
+            if found.is_given_up() || !self.tally.contracts.is_unsafe(call) {
+                return Err(fault(format!("`{clause}` is no fact in Rust, since safe calls do not show it")));
+            }
+            let test = test_of(&found.text, &Names { head: &self.text[head.clone()] }).map_err(fault)?;
+            let name = if clause.is_empty() { "precondition" } else { *clause };
+            self.again(function, clause, &format!("known!({name}: {test});"));
+            tests.push((name, test));
+            self.tally.used.insert(format!("known {call} {clause}"));
+        }
+        let line = self.text[*body..].split('\n').nth(1).unwrap_or_default();
+        let indent = &line[..line.len() - line.trim_start().len()];
+        for (clause, test) in tests {
+            self.edits.insert(*body, format!("\n{indent}known!({clause}: {test});"));
+            self.tally.count("clauses that are known");
+        }
+        Ok(())
+    }
+
+    /// Puts a clause that is known before the lines of a body at which it is to stand once more.
+    fn again(&mut self, function: &Function, clause: &str, known: &str) {
+        for (call, _, words) in AGAIN.iter().filter(|(call, name, _)| *call == function.call && *name == clause) {
+            let body = &self.text[function.body..function.end];
+            let lines = body.match_indices('\n').map(|(at, _)| function.body + at + 1);
+            for at in lines.filter(|at| self.text[*at..].trim_start_matches(' ').starts_with(words)).collect::<Vec<_>>() {
+                let indent = self.indent(at);
+                self.edits.insert(at, format!("{indent}{known}\n"));
+                self.tally.count("clauses that are known once more");
+                self.tally.used.insert(format!("again {call} {clause}"));
+            }
+        }
+    }
+
+    /// Puts what a callee ensures behind the line that calls it.
+    fn ensured(&mut self, function: &Function) -> Result<(), Fault> {
+        for rule in ENSURED.iter().filter(|rule| rule.call == function.call) {
+            let (callee, clause, says) = rule.ensures;
+            if self.tally.contracts.is_whole && !self.tally.contracts.ensures(callee, clause, says) {
+                let why = format!("`{callee}` does not ensure `{clause} {{ {says} }}`");
+                return Err(Fault::new(function.head.start, why));
+            }
+            self.put_behind(rule.behind, &format!("known!({clause}: {});", rule.test), function.body..function.end)?;
+            self.tally.used.insert(format!("ensured {callee} {clause}"));
+        }
+        Ok(())
     }
 
     /// Makes a section of the clauses, and takes them out of the code.
@@ -164,7 +247,7 @@ impl<'a> File<'a, '_> {
         self.tally.used.insert(function.call.clone());
         let (title, words) = match fate {
             Fate::Unsafe(words) => {
-                self.edits.insert(function.head.start, "unsafe ");
+                self.edits.replace(function.head.start..function.head.start + "fn".len(), "unsafe fn");
                 self.tally.count("calls that are `unsafe` in Rust");
                 ("Safety", *words)
             }

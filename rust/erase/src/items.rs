@@ -7,7 +7,7 @@ use crate::body;
 use crate::cursor::{Cursor, Fault, Kind, Token};
 use crate::edits::Edits;
 use crate::erase::{Source, Tally};
-use crate::rules::LEFT_OUT;
+use crate::rules::{LEFT_OUT, PROOFS_ALONE};
 
 /// Where items are read.
 pub struct Inside<'a> {
@@ -267,6 +267,10 @@ impl<'a, 't> File<'a, 't> {
         if &self.text[at.clone()] == "use std::marker::Model" {
             self.edits.replace(self.lines(at.start..cursor.at), "");
             self.tally.count("imports of `Model`");
+            return Ok(());
+        }
+        if PROOFS_ALONE.iter().any(|law| self.text[at.clone()].ends_with(&format!("::laws::{law}"))) {
+            self.edits.replace(self.lines(at.start..cursor.at), "");
             return Ok(());
         }
         for rule in LEFT_OUT {

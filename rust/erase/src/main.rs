@@ -7,12 +7,14 @@
 //! the repository, by default the one that the eraser was built in. What it can't read stops it.
 
 mod body;
+mod contracts;
 mod cursor;
 mod edits;
 mod erase;
 mod files;
 mod functions;
 mod items;
+mod known;
 mod rules;
 mod sections;
 
@@ -58,6 +60,9 @@ fn run(root: &std::path::Path, is_check: bool) -> Result<(), String> {
     }
     for rule in rules::REPLACED {
         println!("another line: {}: `{}` is `{}`: {}", rule.file, rule.from, rule.to, rule.why);
+    }
+    for rule in rules::BY_STD {
+        println!("by std: {}: `{}`: {}", rule.file, rule.body, rule.why);
     }
     for rule in rules::TESTED {
         println!("tests by hand: {} has {}: {}", rule.file, rule.path, rule.why);

@@ -17,9 +17,11 @@ pub const ROOT: &str = "\
 #![no_std]
 #![deny(unsafe_op_in_unsafe_fn, missing_docs)]
 
+#[macro_use]
+mod by_hand;
+
 mod arraystring_base;
 mod arraystring_core;
-mod by_hand;
 ";
 
 /// Tests by hand that lie inside a module, since they set what is private there.
@@ -89,8 +91,8 @@ pub const FATES: &[(&str, Fate)] = &[
     ("utils::shift", Unsafe("Both runs must lie in the array.")),
     ("steps::look", Panics("Where the index is not below the length.", None)),
     ("ArrayString::slice", Panics(LIKE_STR, None)),
-    ("ArrayString::make_ascii_uppercase_in", Panics(LIKE_STR, Some("let _ = self.between(start, end);"))),
-    ("ArrayString::make_ascii_lowercase_in", Panics(LIKE_STR, Some("let _ = self.between(start, end);"))),
+    ("ArrayString::make_ascii_uppercase_in", Panics(LIKE_STR, Some("let _ = &self.as_str()[start..end];"))),
+    ("ArrayString::make_ascii_lowercase_in", Panics(LIKE_STR, Some("let _ = &self.as_str()[start..end];"))),
     ("ArrayString::try_from_iterator", Safe(ENDS)),
     ("ArrayString::from_iterator", Safe(ENDS)),
     ("ArrayString::try_from_chars", Safe(ENDS)),
@@ -117,13 +119,187 @@ pub const FATES: &[(&str, Fate)] = &[
     ("utils::last_char", Safe(COUNTS)),
 ];
 
+/// Words of the clauses that Rust does without: counts, which stop at their end, iterators, which may go on for ever, and
+/// closures, which may panic. None of them is a fact here.
+pub const GIVEN_UP: &[&str] = &[
+    "steps.old.looked",
+    "steps.old.moved",
+    "self.old.moved",
+    "IsFiniteIterable",
+    "IsCallableInTurn",
+    "IsAlwaysCallable",
+];
+
+/// What stands under `# Safety` of a private function.
+pub const PRIVATE: &str = "Each clause `requires` of the contract must hold, but for those on counts, on iterators and on closures.";
+
+/// The clauses that stand at the start of a body as known, by their function and their name, if they have one. They are few,
+/// since each costs the compiler time and some cost speed: `rust/bench/run` tells.
+pub const KNOWN: &[(&str, &str)] = &[
+    ("moves::move_run", "source"),
+    ("moves::move_run", "target"),
+    ("moves::move_short_run", "source"),
+    ("moves::move_short_run", "target"),
+    ("moves::move_long_run", "source"),
+    ("moves::move_long_run", "target"),
+    ("moves::move_much", "source"),
+    ("moves::move_much", "target"),
+    ("moves::move_any_run", "source"),
+    ("moves::move_any_run", "target"),
+    ("moves::move_ends", "source"),
+    ("moves::move_ends", "target"),
+    ("moves::move_ends", "least"),
+    ("moves::move_pairs", "source"),
+    ("moves::move_pairs", "target"),
+    ("moves::move_pairs", "least"),
+    ("moves::write_over", ""),
+    ("moves::write_short_run", "room"),
+    ("moves::write_long_run", "room"),
+    ("moves::write_any_run", ""),
+    ("moves::copy_ends", "room"),
+    ("moves::copy_ends", "least"),
+    ("moves::bytes_at", ""),
+    ("moves::bytes_of", ""),
+    ("moves::put_bytes", ""),
+    ("utils::encode", ""),
+    ("utils::last_boundary", "within"),
+    ("gap::try_fill_small", ""),
+    ("gap::fill", ""),
+    ("gap::write_by_call", ""),
+    ("retain::retain_at", "held"),
+    ("retain::shift_run", "source"),
+    ("retain::shift_run", "target"),
+    ("retain::shift_long_run", "source"),
+    ("retain::shift_long_run", "target"),
+    ("ascii::uppercase_bytes", "order"),
+    ("ascii::uppercase_bytes", "within"),
+    ("ascii::lowercase_bytes", "order"),
+    ("ascii::lowercase_bytes", "within"),
+    ("ArrayString::between", "order"),
+    ("ArrayString::between", "start"),
+    ("ArrayString::between", "end"),
+    ("ArrayString::char_at", "boundary"),
+    ("ArrayString::char_at", "before_end"),
+];
+
+/// Clauses that stand as known once more, before each line of the body that begins with these words: by then the compiler
+/// knows which branch was taken. What the clause names is not changed in the body.
+pub const AGAIN: &[(&str, &str, &str)] = &[("utils::encode", "", "all[at"), ("retain::retain_at", "held", "let all =")];
+
+/// A clause that a callee ensures, known behind the line of the call.
+pub struct Ensured {
+    pub call: &'static str,
+    /// The line of the call.
+    pub behind: &'static str,
+    /// The callee, the name of its clause and what that says.
+    pub ensures: (&'static str, &'static str, &'static str),
+    /// The same of what the line names.
+    pub test: &'static str,
+}
+
+pub const ENSURED: &[Ensured] = &[Ensured {
+    call: "utils::truncate_str_counted",
+    behind: "let end = last_boundary(text, limit, steps);",
+    ensures: ("utils::last_boundary", "boundary", "IsCharBoundary text.now result"),
+    test: "text.is_char_boundary(end)",
+}];
+
+/// Calls of what is public, safe and panics, which bodies make by a function of `by_hand` that knows a clause instead.
+pub struct Inside {
+    pub call: &'static str,
+    pub by_hand: &'static str,
+    pub clause: &'static str,
+}
+
+pub const INSIDE: &[Inside] = &[Inside { call: "look", by_hand: "crate::by_hand::look", clause: "in_bounds" }];
+
+/// Calls in which the invariant of their type stands as known: the part of it that is arithmetic.
+pub struct Invariant {
+    /// The definition of which the tests are a part, and its file in the folder of crates.
+    pub defined: (&'static str, &'static str),
+    pub tests: &'static [&'static str],
+    pub calls: &'static [&'static str],
+}
+
+pub const INVARIANTS: &[Invariant] = &[
+    Invariant {
+        defined: (
+            "arraystring_core/specs/Stored.antt",
+            "IsStored array_size array start n = (start + n ≤ cap array_size) × (length array ≡ array_size) × ∥ IsUtf8 (take n (drop start array)) ∥₁",
+        ),
+        tests: &["usize::from(self.start) + usize::from(self.size) <= usize::from(Self::capacity())"],
+        calls: &[
+            "ArrayString::as_str",
+            "ArrayString::as_bytes",
+            "ArrayString::compact_and_push",
+            "ArrayString::splice",
+            "ArrayString::compact_and_splice",
+            "ArrayString::put_char",
+            "ArrayString::compact_and_insert",
+            "ArrayString::take_out",
+        ],
+    },
+    // A boundary is at most the size of its text, which is what the compiler is told of it.
+    Invariant {
+        defined: ("arraystring_core/specs/Drained.antt", "  pub at : IsTrue (boundary removed.text i)"),
+        tests: &[
+            "self.front <= self.size",
+            "usize::from(self.start) + usize::from(self.size) <= usize::from(crate::ArrayString::<N>::capacity())",
+        ],
+        calls: &["Drain::as_str", "Drain::next", "Drain::next_back"],
+    },
+];
+
+/// A file in which std does what a function of the source does.
+pub struct ByStd {
+    pub file: &'static str,
+    /// The documentation of the module.
+    pub module: &'static str,
+    pub imports: &'static str,
+    /// The function that is left, and its documentation.
+    pub function: &'static str,
+    pub docs: &'static str,
+    pub body: &'static str,
+    pub why: &'static str,
+}
+
+const MEMCMP: &str = "std compares by `memcmp`, which has larger vectors";
+
+pub const BY_STD: &[ByStd] = &[
+    ByStd {
+        file: "arraystring_core/src/equal.rt",
+        module: "Whether two texts are equal, which std tells here.",
+        imports: "",
+        function: "equal",
+        docs: "Whether the texts of two strings are equal.",
+        body: "text == other",
+        why: MEMCMP,
+    },
+    ByStd {
+        file: "arraystring_core/src/order.rt",
+        module: "The order of two texts, which std tells here.",
+        imports: "use core::cmp::Ordering;",
+        function: "order",
+        docs: "How the texts are ordered by their bytes.",
+        body: "text.cmp(other)",
+        why: MEMCMP,
+    },
+    ByStd {
+        file: "arraystring_core/src/well_formed.rt",
+        module: "The test of UTF-8, which std makes here.",
+        imports: "use crate::arraystring_base::error::Utf8;\nuse core::str;",
+        function: "read_utf8",
+        docs: "Returns the text whose UTF-8 is `given`, or `Err(Utf8)` if `given` is not well-formed.",
+        body: "str::from_utf8(given).map_err(Utf8::from)",
+        why: "std's vectors are the machine's, where those of `by_hand` are arrays",
+    },
+];
+
+/// Laws that a body calls for its proof alone.
+pub const PROOFS_ALONE: &[&str] = &["text_fits", "only_reading"];
+
 /// The line in a body behind which the line of `Panics` is put.
 pub const BEHIND: &str = "let (start, end) = plain_ends(range, self.len());";
-
-/// Whether a call by this name is `unsafe` in Rust.
-pub fn is_unsafe(name: &str) -> bool {
-    FATES.iter().any(|(call, fate)| matches!(fate, Fate::Unsafe(_)) && call.rsplit("::").next() == Some(name))
-}
 
 /// A call that takes more types here than in its source, as the Rust crate 0.3.0 does.
 pub struct Wider {
@@ -257,22 +433,10 @@ pub const REPLACED: &[Replaced] = &[
         why: "no precondition bounds the count",
     },
     Replaced {
-        file: "arraystring_core/src/equal.rt",
-        from: "if N > 128 && a.len().wrapping_sub(129) < 80 {",
-        to: "if a.len() == usize::MAX {",
-        why: "std compares by `memcmp`, which has larger vectors",
-    },
-    Replaced {
-        file: "arraystring_core/src/equal.rt",
-        from: "if a.len() < 16 || a.len() > 256 {",
-        to: "if a.len() < usize::MAX {",
-        why: "the same",
-    },
-    Replaced {
-        file: "arraystring_core/src/order.rt",
-        from: "if common < 16 {",
-        to: "if common < usize::MAX {",
-        why: "std compares by `memcmp`, which has larger vectors",
+        file: "arraystring_core/src/array_string/range.rt",
+        from: "self.between(start, end)",
+        to: "&self.as_str()[start..end]",
+        why: "no precondition bounds the range of `slice`, which panics as the index of `str` does",
     },
     Replaced {
         file: "arraystring_core/src/lib.rt",

@@ -5,7 +5,10 @@ use super::*;
 /// What comes of a file of the lowest crate.
 fn made(text: &str) -> Result<String, String> {
     let source = Source { krate: "arraystring_base", path: "arraystring_base/src/sample.rt", text };
-    let erased = erase(&source, &mut Tally::default());
+    let mut tally = Tally::default();
+    // As `files` does: once for the contracts, and once by them.
+    let _ = erase(&source, &mut tally);
+    let erased = erase(&source, &mut tally);
     erased
         .map(|erased| erased.text.split_once('\n').unwrap().1.to_string())
         .map_err(|fault| format!("{}: {}", line_of(text, fault.at), fault.why))
@@ -42,6 +45,10 @@ use core::fmt;
 
 /// Adds one.
 ///
+/// # Safety
+///
+/// Each clause `requires` of the contract must hold, but for those on counts, on iterators and on closures.
+///
 /// # Contract
 ///
 /// ```text
@@ -50,7 +57,7 @@ use core::fmt;
 /// ensures { result ≡ n + 1 }
 /// ```
 #[inline]
-pub(crate) fn add<I: Into<u8>>(n: I) -> u8 {
+pub(crate) unsafe fn add<I: Into<u8>>(n: I) -> u8 {
     crate::arraystring_base::steps::one(n)
 }
 
@@ -118,20 +125,164 @@ impl fmt::Display for Number {
 #[test]
 fn calls_that_are_unsafe_get_a_block_and_a_reason() {
     let source = "\
-fn put(&mut self) {
-    if shift(&mut self.array, (1, 2), 3) {
-        // SAFETY: it is UTF-8.
-        self.push_unchecked(Self::from_utf8_unchecked(unsafe { str::from_utf8_unchecked(s) }));
+impl Text {
+    fn put(&mut self) {
+        if shift::<4>(&mut self.array, (1, 2), 3) {
+            // SAFETY: it is UTF-8.
+            self.push(Self::spelled(unsafe { str::from_utf8_unchecked(s) }));
+        }
+        Other::spelled(shift);
     }
+
+    fn push(&mut self, text: Self)
+        requires { size text < 3 }
+        requires countable { steps.old.moved < 3 }
+    {}
+
+    fn spelled(text: &str)
+        requires well_formed { IsUtf8 text }
+        requires first { 0 < 1 }
+        requires fits { 0 < 2 }
+    {}
+}
+
+fn shift(array: &mut [u8; 3])
+    requires source { 1 < 2 }
+    requires target { 2 < 3 }
+{}
+
+fn count(steps: &mut Steps)
+    requires countable { steps.old.moved < 3 }
+{
+    count(steps);
 }
 ";
     let text = made(source).unwrap();
-    assert!(text.contains("    // SAFETY: the proof of this body shows what `shift` requires.\n    if unsafe { shift(&mut self.array, (1, 2), 3) } {\n"), "{text}");
-    let nested = "        // SAFETY: it is UTF-8.
-        // SAFETY: the proof of this body shows what `push_unchecked` requires.
-        // SAFETY: the proof of this body shows what `from_utf8_unchecked` requires.
-        unsafe { self.push_unchecked(Self::from_utf8_unchecked(str::from_utf8_unchecked(s))) };\n";
+    let plain = "        // SAFETY: the proof of `put` in crates/arraystring_base/src/sample.rt shows `source` and `target` of `shift`.
+        if unsafe { shift::<4>(&mut self.array, (1, 2), 3) } {\n";
+    assert!(text.contains(plain), "{text}");
+    let nested = "            // SAFETY: it is UTF-8.
+            // SAFETY: the proof of `put` in crates/arraystring_base/src/sample.rt shows the precondition of `push`.
+            // SAFETY: the proof of `put` in crates/arraystring_base/src/sample.rt shows `well_formed`, `first` and `fits` of `spelled`.
+            unsafe { self.push(Self::spelled(str::from_utf8_unchecked(s))) };\n";
     assert!(text.contains(nested), "{text}");
+    for line in ["        Other::spelled(shift);\n", "    unsafe fn push(", "\nunsafe fn shift(", "\nfn count(", "    count(steps);\n"] {
+        assert!(text.contains(line), "{line}: {text}");
+    }
+}
+
+#[test]
+fn a_law_that_a_proof_alone_calls_goes() {
+    let source = "\
+use crate::laws::text_fits;
+use crate::laws::walks;
+
+fn f(text: &Text) {
+    text_fits(text);
+    walks(text);
+}
+";
+    let wanted = "\
+use crate::arraystring_base::laws::walks;
+
+#[inline]
+fn f(text: &Text) {
+    walks(text);
+}
+";
+    assert_eq!(made(source).unwrap(), wanted);
+    assert_eq!(
+        made("fn f() {\n    let x = text_fits(text);\n}\n").unwrap_err(),
+        "2: a call for the proof alone that is no statement on a line of its own"
+    );
+}
+
+/// What comes of a file of the lowest crate that has a name of its own.
+fn made_as(path: &str, text: &str) -> Result<String, String> {
+    let source = Source { krate: "arraystring_base", path, text };
+    let mut tally = Tally::default();
+    let _ = erase(&source, &mut tally);
+    erase(&source, &mut tally).map(|erased| erased.text).map_err(|fault| fault.why)
+}
+
+#[test]
+fn a_clause_of_the_list_is_known_at_the_start_of_its_body() {
+    let write_over = |clause: &str| {
+        let text = format!(
+            "/// Writes.\npub fn write_over<const N: usize>(array: &mut [u8; N], at: usize, given: &[u8])\n    requires {clause}\n{{\n    write(array, at, given);\n}}\n"
+        );
+        made_as("arraystring_base/src/moves.rt", &text)
+    };
+    let known = "given: &[u8]) {\n    known!(precondition: given.len() <= N && at <= N - given.len());\n    write(array";
+    let text = write_over("{ at + length given.now ≤ N }").unwrap();
+    assert!(text.contains(known), "{text}");
+    let name = "`moves::write_over`: it has no clause `` that could be known";
+    assert_eq!(write_over("room { at + length given.now ≤ N }").unwrap_err(), name);
+    let unread = "`moves::write_over`: `≢` in a clause that is to be known";
+    assert_eq!(write_over("{ at ≢ N }").unwrap_err(), unread);
+    let given_up = "`moves::write_over` has no precondition on which something rests";
+    assert_eq!(write_over("{ steps.old.moved < 3 }").unwrap_err(), given_up);
+}
+
+#[test]
+fn a_clause_that_is_given_up_is_never_known() {
+    let text = "fn bytes_at<const N: usize>(at: usize)\n    requires { steps.old.moved < at }\n{\n    f();\n}\n";
+    let why = made_as("arraystring_base/src/moves.rt", text).unwrap_err();
+    assert_eq!(why, "`moves::bytes_at`: `` is no fact in Rust, since safe calls do not show it");
+}
+
+#[test]
+fn a_call_that_panics_is_safe_and_knows_nothing() {
+    let text = "\
+/// Looks.
+pub fn slice(&self, from: usize) -> &str
+    requires order { from < 3 }
+{
+    self.slice(from)
+}
+";
+    let made = made_as("arraystring_base/src/sample.rt", &format!("impl ArrayString {{\n{text}}}\n")).unwrap();
+    assert!(made.contains("\npub fn slice(") && made.contains("\n    self.slice(from)\n") && !made.contains("known!"), "{made}");
+}
+
+#[test]
+fn what_std_does_is_one_line_with_its_contract() {
+    let text = "\
+//! By blocks.
+use crate::x;
+
+/// By blocks of 16.
+#[inline(always)]
+pub(crate) fn equal<const N: usize>(text: &str, other: &str) -> bool
+    ensures { result ≡ x }
+{
+    by_blocks(text, other)
+}
+
+/// The same.
+fn by_blocks() -> bool {
+    x
+}
+";
+    let wanted = "\
+// Made from crates/arraystring_core/src/equal.rt by rust/erase. A change goes there.
+//! Whether two texts are equal, which std tells here.
+
+/// Whether the texts of two strings are equal.
+///
+/// # Contract
+///
+/// ```text
+/// ensures { result ≡ x }
+/// ```
+#[inline(always)]
+pub(crate) fn equal<const N: usize>(text: &str, other: &str) -> bool {
+    text == other
+}
+";
+    assert_eq!(made_as("arraystring_core/src/equal.rt", text).unwrap(), wanted);
+    let without = made_as("arraystring_core/src/equal.rt", "fn other() {\n    x\n}\n").unwrap_err();
+    assert_eq!(without, "the function `equal` with its contract is not there");
 }
 
 #[test]

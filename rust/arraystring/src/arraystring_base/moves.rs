@@ -26,16 +26,25 @@ use crate::by_hand::simd::Simd;
 /// ```
 #[inline(always)]
 pub unsafe fn move_run<const N: usize>(array: &mut [u8; N], from: usize, to: usize, len: usize) {
+    known!(source: len <= N && from <= N - len);
+    known!(target: len <= N && to <= N - len);
     if N > 64 && len > 64 {
-        move_much(array, from, to, len);
+        // SAFETY: the proof of `move_run` in crates/arraystring_base/src/moves.rt shows `source`, `target` and `long` of `move_much`.
+        unsafe { move_much(array, from, to, len) };
     } else if len >= 16 {
-        move_long_run(array, from, to, len);
+        // SAFETY: the proof of `move_run` in crates/arraystring_base/src/moves.rt shows `source`, `target`, `least` and `most` of `move_long_run`.
+        unsafe { move_long_run(array, from, to, len) };
     } else {
-        move_short_run(array, from, to, len);
+        // SAFETY: the proof of `move_run` in crates/arraystring_base/src/moves.rt shows `source`, `target` and `short` of `move_short_run`.
+        unsafe { move_short_run(array, from, to, len) };
     }
 }
 
 /// The same for fewer than 16 bytes.
+///
+/// # Safety
+///
+/// Each clause `requires` of the contract must hold, but for those on counts, on iterators and on closures.
 ///
 /// # Contract
 ///
@@ -46,21 +55,31 @@ pub unsafe fn move_run<const N: usize>(array: &mut [u8; N], from: usize, to: usi
 /// ensures { array.new ≡ take to array.old ++ (take len (drop from array.old) ++ drop (to + len) array.old) }
 /// ```
 #[inline(always)]
-fn move_short_run<const N: usize>(array: &mut [u8; N], from: usize, to: usize, len: usize) {
+unsafe fn move_short_run<const N: usize>(array: &mut [u8; N], from: usize, to: usize, len: usize) {
+    known!(source: len <= N && from <= N - len);
+    known!(target: len <= N && to <= N - len);
     if len >= 4 {
         if len >= 8 {
-            move_ends::<N, 8>(array, from, to, len);
+            // SAFETY: the proof of `move_short_run` in crates/arraystring_base/src/moves.rt shows `source`, `target`, `least` and `most` of `move_ends`.
+            unsafe { move_ends::<N, 8>(array, from, to, len) };
         } else {
-            move_ends::<N, 4>(array, from, to, len);
+            // SAFETY: the proof of `move_short_run` in crates/arraystring_base/src/moves.rt shows `source`, `target`, `least` and `most` of `move_ends`.
+            unsafe { move_ends::<N, 4>(array, from, to, len) };
         }
     } else if len >= 2 {
-        move_ends::<N, 2>(array, from, to, len);
+        // SAFETY: the proof of `move_short_run` in crates/arraystring_base/src/moves.rt shows `source`, `target`, `least` and `most` of `move_ends`.
+        unsafe { move_ends::<N, 2>(array, from, to, len) };
     } else if len == 1 {
-        move_ends::<N, 1>(array, from, to, len);
+        // SAFETY: the proof of `move_short_run` in crates/arraystring_base/src/moves.rt shows `source`, `target`, `least` and `most` of `move_ends`.
+        unsafe { move_ends::<N, 1>(array, from, to, len) };
     }
 }
 
 /// The same for 16 to 64 bytes. What an array of `N` bytes can't have is not tested.
+///
+/// # Safety
+///
+/// Each clause `requires` of the contract must hold, but for those on counts, on iterators and on closures.
 ///
 /// # Contract
 ///
@@ -72,15 +91,23 @@ fn move_short_run<const N: usize>(array: &mut [u8; N], from: usize, to: usize, l
 /// ensures { array.new ≡ take to array.old ++ (take len (drop from array.old) ++ drop (to + len) array.old) }
 /// ```
 #[inline(always)]
-fn move_long_run<const N: usize>(array: &mut [u8; N], from: usize, to: usize, len: usize) {
+unsafe fn move_long_run<const N: usize>(array: &mut [u8; N], from: usize, to: usize, len: usize) {
+    known!(source: len <= N && from <= N - len);
+    known!(target: len <= N && to <= N - len);
     if N > 32 && len > 32 {
-        move_ends::<N, 32>(array, from, to, len);
+        // SAFETY: the proof of `move_long_run` in crates/arraystring_base/src/moves.rt shows `source`, `target`, `least` and `most` of `move_ends`.
+        unsafe { move_ends::<N, 32>(array, from, to, len) };
     } else {
-        move_ends::<N, 16>(array, from, to, len);
+        // SAFETY: the proof of `move_long_run` in crates/arraystring_base/src/moves.rt shows `source`, `target`, `least` and `most` of `move_ends`.
+        unsafe { move_ends::<N, 16>(array, from, to, len) };
     }
 }
 
 /// The same for more than 64 bytes.
+///
+/// # Safety
+///
+/// Each clause `requires` of the contract must hold, but for those on counts, on iterators and on closures.
 ///
 /// # Contract
 ///
@@ -91,17 +118,26 @@ fn move_long_run<const N: usize>(array: &mut [u8; N], from: usize, to: usize, le
 /// ensures { array.new ≡ take to array.old ++ (take len (drop from array.old) ++ drop (to + len) array.old) }
 /// ```
 #[inline(always)]
-fn move_much<const N: usize>(array: &mut [u8; N], from: usize, to: usize, len: usize) {
+unsafe fn move_much<const N: usize>(array: &mut [u8; N], from: usize, to: usize, len: usize) {
+    known!(source: len <= N && from <= N - len);
+    known!(target: len <= N && to <= N - len);
     if len <= 128 {
-        move_ends::<N, 64>(array, from, to, len);
+        // SAFETY: the proof of `move_much` in crates/arraystring_base/src/moves.rt shows `source`, `target`, `least` and `most` of `move_ends`.
+        unsafe { move_ends::<N, 64>(array, from, to, len) };
     } else if N <= 256 {
-        move_pairs::<N, 64>(array, from, to, len);
+        // SAFETY: the proof of `move_much` in crates/arraystring_base/src/moves.rt shows `source`, `target`, `least` and `most` of `move_pairs`.
+        unsafe { move_pairs::<N, 64>(array, from, to, len) };
     } else {
-        move_any_run(array, from, to, len);
+        // SAFETY: the proof of `move_much` in crates/arraystring_base/src/moves.rt shows `source` and `target` of `move_any_run`.
+        unsafe { move_any_run(array, from, to, len) };
     }
 }
 
 /// The same for more bytes than a string has.
+///
+/// # Safety
+///
+/// Each clause `requires` of the contract must hold, but for those on counts, on iterators and on closures.
 ///
 /// # Contract
 ///
@@ -112,12 +148,18 @@ fn move_much<const N: usize>(array: &mut [u8; N], from: usize, to: usize, len: u
 /// ```
 #[cold]
 #[inline(never)]
-fn move_any_run<const N: usize>(array: &mut [u8; N], from: usize, to: usize, len: usize) {
+unsafe fn move_any_run<const N: usize>(array: &mut [u8; N], from: usize, to: usize, len: usize) {
+    known!(source: len <= N && from <= N - len);
+    known!(target: len <= N && to <= N - len);
     let all = &mut array[..];
     all.copy_within(from..from + len, to);
 }
 
 /// The same for `K` to `2 * K` bytes.
+///
+/// # Safety
+///
+/// Each clause `requires` of the contract must hold, but for those on counts, on iterators and on closures.
 ///
 /// # Contract
 ///
@@ -129,20 +171,31 @@ fn move_any_run<const N: usize>(array: &mut [u8; N], from: usize, to: usize, len
 /// ensures { array.new ≡ take to array.old ++ (take len (drop from array.old) ++ drop (to + len) array.old) }
 /// ```
 #[inline(always)]
-fn move_ends<const N: usize, const K: usize>(
+unsafe fn move_ends<const N: usize, const K: usize>(
     array: &mut [u8; N],
     from: usize,
     to: usize,
     len: usize,
 ) {
+    known!(source: len <= N && from <= N - len);
+    known!(target: len <= N && to <= N - len);
+    known!(least: K <= len);
     let rest = len - K;
-    let first = bytes_at::<N, K>(array, from);
-    let last = bytes_at::<N, K>(array, from + rest);
-    put_bytes(array, to, first);
-    put_bytes(array, to + rest, last);
+    // SAFETY: the proof of `move_ends` in crates/arraystring_base/src/moves.rt shows the precondition of `bytes_at`.
+    let first = unsafe { bytes_at::<N, K>(array, from) };
+    // SAFETY: the proof of `move_ends` in crates/arraystring_base/src/moves.rt shows the precondition of `bytes_at`.
+    let last = unsafe { bytes_at::<N, K>(array, from + rest) };
+    // SAFETY: the proof of `move_ends` in crates/arraystring_base/src/moves.rt shows the precondition of `put_bytes`.
+    unsafe { put_bytes(array, to, first) };
+    // SAFETY: the proof of `move_ends` in crates/arraystring_base/src/moves.rt shows the precondition of `put_bytes`.
+    unsafe { put_bytes(array, to + rest, last) };
 }
 
 /// The same for `2 * K` to `4 * K` bytes.
+///
+/// # Safety
+///
+/// Each clause `requires` of the contract must hold, but for those on counts, on iterators and on closures.
 ///
 /// # Contract
 ///
@@ -154,19 +207,28 @@ fn move_ends<const N: usize, const K: usize>(
 /// ensures { array.new ≡ take to array.old ++ (take len (drop from array.old) ++ drop (to + len) array.old) }
 /// ```
 #[inline(always)]
-fn move_pairs<const N: usize, const K: usize>(
+unsafe fn move_pairs<const N: usize, const K: usize>(
     array: &mut [u8; N],
     from: usize,
     to: usize,
     len: usize,
 ) {
+    known!(source: len <= N && from <= N - len);
+    known!(target: len <= N && to <= N - len);
+    known!(least: K <= len && K <= len - K);
     let rest = len - (K + K);
-    let front = bytes_at::<N, K>(array, from);
-    let after_front = bytes_at::<N, K>(array, from + K);
-    let before_end = bytes_at::<N, K>(array, from + rest);
-    let end = bytes_at::<N, K>(array, from + rest + K);
-    put_pair(array, to, front, after_front);
-    put_pair(array, to + rest, before_end, end);
+    // SAFETY: the proof of `move_pairs` in crates/arraystring_base/src/moves.rt shows the precondition of `bytes_at`.
+    let front = unsafe { bytes_at::<N, K>(array, from) };
+    // SAFETY: the proof of `move_pairs` in crates/arraystring_base/src/moves.rt shows the precondition of `bytes_at`.
+    let after_front = unsafe { bytes_at::<N, K>(array, from + K) };
+    // SAFETY: the proof of `move_pairs` in crates/arraystring_base/src/moves.rt shows the precondition of `bytes_at`.
+    let before_end = unsafe { bytes_at::<N, K>(array, from + rest) };
+    // SAFETY: the proof of `move_pairs` in crates/arraystring_base/src/moves.rt shows the precondition of `bytes_at`.
+    let end = unsafe { bytes_at::<N, K>(array, from + rest + K) };
+    // SAFETY: the proof of `move_pairs` in crates/arraystring_base/src/moves.rt shows the precondition of `put_pair`.
+    unsafe { put_pair(array, to, front, after_front) };
+    // SAFETY: the proof of `move_pairs` in crates/arraystring_base/src/moves.rt shows the precondition of `put_pair`.
+    unsafe { put_pair(array, to + rest, before_end, end) };
 }
 
 /// Writes `given` over the bytes of the array from the offset `at` on. No other byte changes. Up to
@@ -188,14 +250,21 @@ fn move_pairs<const N: usize, const K: usize>(
 /// ```
 #[inline(always)]
 pub unsafe fn write_over<const N: usize>(array: &mut [u8; N], at: usize, given: &[u8]) {
+    known!(precondition: given.len() <= N && at <= N - given.len());
     if given.len() >= 16 {
-        write_long_run(array, at, given);
+        // SAFETY: the proof of `write_over` in crates/arraystring_base/src/moves.rt shows `room` and `least` of `write_long_run`.
+        unsafe { write_long_run(array, at, given) };
     } else {
-        write_short_run(array, at, given);
+        // SAFETY: the proof of `write_over` in crates/arraystring_base/src/moves.rt shows `room` and `short` of `write_short_run`.
+        unsafe { write_short_run(array, at, given) };
     }
 }
 
 /// The same for fewer than 16 bytes.
+///
+/// # Safety
+///
+/// Each clause `requires` of the contract must hold, but for those on counts, on iterators and on closures.
 ///
 /// # Contract
 ///
@@ -205,22 +274,31 @@ pub unsafe fn write_over<const N: usize>(array: &mut [u8; N], at: usize, given: 
 /// ensures { array.new ≡ take at array.old ++ (given.now ++ drop (at + length given.now) array.old) }
 /// ```
 #[inline(always)]
-fn write_short_run<const N: usize>(array: &mut [u8; N], at: usize, given: &[u8]) {
+unsafe fn write_short_run<const N: usize>(array: &mut [u8; N], at: usize, given: &[u8]) {
+    known!(room: given.len() <= N && at <= N - given.len());
     let len = given.len();
     if len >= 4 {
         if len >= 8 {
-            copy_ends::<N, 8>(array, at, given);
+            // SAFETY: the proof of `write_short_run` in crates/arraystring_base/src/moves.rt shows `room`, `least` and `most` of `copy_ends`.
+            unsafe { copy_ends::<N, 8>(array, at, given) };
         } else {
-            copy_ends::<N, 4>(array, at, given);
+            // SAFETY: the proof of `write_short_run` in crates/arraystring_base/src/moves.rt shows `room`, `least` and `most` of `copy_ends`.
+            unsafe { copy_ends::<N, 4>(array, at, given) };
         }
     } else if len >= 2 {
-        copy_ends::<N, 2>(array, at, given);
+        // SAFETY: the proof of `write_short_run` in crates/arraystring_base/src/moves.rt shows `room`, `least` and `most` of `copy_ends`.
+        unsafe { copy_ends::<N, 2>(array, at, given) };
     } else if len == 1 {
-        copy_ends::<N, 1>(array, at, given);
+        // SAFETY: the proof of `write_short_run` in crates/arraystring_base/src/moves.rt shows `room`, `least` and `most` of `copy_ends`.
+        unsafe { copy_ends::<N, 1>(array, at, given) };
     }
 }
 
 /// The same for at least 16 bytes. What an array of `N` bytes can't have is not tested.
+///
+/// # Safety
+///
+/// Each clause `requires` of the contract must hold, but for those on counts, on iterators and on closures.
 ///
 /// # Contract
 ///
@@ -230,18 +308,26 @@ fn write_short_run<const N: usize>(array: &mut [u8; N], at: usize, given: &[u8])
 /// ensures { array.new ≡ take at array.old ++ (given.now ++ drop (at + length given.now) array.old) }
 /// ```
 #[inline(always)]
-fn write_long_run<const N: usize>(array: &mut [u8; N], at: usize, given: &[u8]) {
+unsafe fn write_long_run<const N: usize>(array: &mut [u8; N], at: usize, given: &[u8]) {
+    known!(room: given.len() <= N && at <= N - given.len());
     let len = given.len();
     if N > 64 && len > 64 {
-        write_any_run(array, at, given);
+        // SAFETY: the proof of `write_long_run` in crates/arraystring_base/src/moves.rt shows the precondition of `write_any_run`.
+        unsafe { write_any_run(array, at, given) };
     } else if N > 32 && len > 32 {
-        copy_ends::<N, 32>(array, at, given);
+        // SAFETY: the proof of `write_long_run` in crates/arraystring_base/src/moves.rt shows `room`, `least` and `most` of `copy_ends`.
+        unsafe { copy_ends::<N, 32>(array, at, given) };
     } else {
-        copy_ends::<N, 16>(array, at, given);
+        // SAFETY: the proof of `write_long_run` in crates/arraystring_base/src/moves.rt shows `room`, `least` and `most` of `copy_ends`.
+        unsafe { copy_ends::<N, 16>(array, at, given) };
     }
 }
 
 /// The same for any number of bytes, as a call: a copy takes much code where it is inlined.
+///
+/// # Safety
+///
+/// Each clause `requires` of the contract must hold, but for those on counts, on iterators and on closures.
 ///
 /// # Contract
 ///
@@ -250,12 +336,17 @@ fn write_long_run<const N: usize>(array: &mut [u8; N], at: usize, given: &[u8]) 
 /// ensures { array.new ≡ take at array.old ++ (given.now ++ drop (at + length given.now) array.old) }
 /// ```
 #[inline(never)]
-fn write_any_run<const N: usize>(array: &mut [u8; N], at: usize, given: &[u8]) {
+unsafe fn write_any_run<const N: usize>(array: &mut [u8; N], at: usize, given: &[u8]) {
+    known!(precondition: given.len() <= N && at <= N - given.len());
     let all = &mut array[..];
     all[at..at + given.len()].copy_from_slice(given);
 }
 
 /// The same for `K` to `2 * K` bytes.
+///
+/// # Safety
+///
+/// Each clause `requires` of the contract must hold, but for those on counts, on iterators and on closures.
 ///
 /// # Contract
 ///
@@ -266,15 +357,25 @@ fn write_any_run<const N: usize>(array: &mut [u8; N], at: usize, given: &[u8]) {
 /// ensures { array.new ≡ take at array.old ++ (given.now ++ drop (at + length given.now) array.old) }
 /// ```
 #[inline(always)]
-fn copy_ends<const N: usize, const K: usize>(array: &mut [u8; N], at: usize, given: &[u8]) {
+unsafe fn copy_ends<const N: usize, const K: usize>(array: &mut [u8; N], at: usize, given: &[u8]) {
+    known!(room: given.len() <= N && at <= N - given.len());
+    known!(least: K <= given.len());
     let rest = given.len() - K;
-    let first = bytes_of::<K>(given, 0);
-    let last = bytes_of::<K>(given, rest);
-    put_bytes(array, at, first);
-    put_bytes(array, at + rest, last);
+    // SAFETY: the proof of `copy_ends` in crates/arraystring_base/src/moves.rt shows the precondition of `bytes_of`.
+    let first = unsafe { bytes_of::<K>(given, 0) };
+    // SAFETY: the proof of `copy_ends` in crates/arraystring_base/src/moves.rt shows the precondition of `bytes_of`.
+    let last = unsafe { bytes_of::<K>(given, rest) };
+    // SAFETY: the proof of `copy_ends` in crates/arraystring_base/src/moves.rt shows the precondition of `put_bytes`.
+    unsafe { put_bytes(array, at, first) };
+    // SAFETY: the proof of `copy_ends` in crates/arraystring_base/src/moves.rt shows the precondition of `put_bytes`.
+    unsafe { put_bytes(array, at + rest, last) };
 }
 
 /// The `K` bytes from `at` on.
+///
+/// # Safety
+///
+/// Each clause `requires` of the contract must hold, but for those on counts, on iterators and on closures.
 ///
 /// # Contract
 ///
@@ -283,12 +384,18 @@ fn copy_ends<const N: usize, const K: usize>(array: &mut [u8; N], at: usize, giv
 /// ensures { result ≡ take K (drop at array.now) }
 /// ```
 #[inline(always)]
-fn bytes_at<const N: usize, const K: usize>(array: &[u8; N], at: usize) -> Simd<u8, K> {
+unsafe fn bytes_at<const N: usize, const K: usize>(array: &[u8; N], at: usize) -> Simd<u8, K> {
+    known!(precondition: K <= N && at <= N - K);
     let all = &array[..];
-    bytes_of(all, at)
+    // SAFETY: the proof of `bytes_at` in crates/arraystring_base/src/moves.rt shows the precondition of `bytes_of`.
+    unsafe { bytes_of(all, at) }
 }
 
 /// The `K` bytes of `given` from `at` on.
+///
+/// # Safety
+///
+/// Each clause `requires` of the contract must hold, but for those on counts, on iterators and on closures.
 ///
 /// # Contract
 ///
@@ -297,11 +404,16 @@ fn bytes_at<const N: usize, const K: usize>(array: &[u8; N], at: usize) -> Simd<
 /// ensures { result ≡ take K (drop at given.now) }
 /// ```
 #[inline(always)]
-fn bytes_of<const K: usize>(given: &[u8], at: usize) -> Simd<u8, K> {
+unsafe fn bytes_of<const K: usize>(given: &[u8], at: usize) -> Simd<u8, K> {
+    known!(precondition: K <= given.len() && at <= given.len() - K);
     Simd::<u8, K>::from_slice(&given[at..at + K])
 }
 
 /// Writes `K` bytes from `at` on.
+///
+/// # Safety
+///
+/// Each clause `requires` of the contract must hold, but for those on counts, on iterators and on closures.
 ///
 /// # Contract
 ///
@@ -310,12 +422,17 @@ fn bytes_of<const K: usize>(given: &[u8], at: usize) -> Simd<u8, K> {
 /// ensures { array.new ≡ take at array.old ++ (bytes.entry ++ drop (at + K) array.old) }
 /// ```
 #[inline(always)]
-fn put_bytes<const N: usize, const K: usize>(array: &mut [u8; N], at: usize, bytes: Simd<u8, K>) {
+unsafe fn put_bytes<const N: usize, const K: usize>(array: &mut [u8; N], at: usize, bytes: Simd<u8, K>) {
+    known!(precondition: K <= N && at <= N - K);
     let all = &mut array[..];
     bytes.copy_to_slice(&mut all[at..at + K]);
 }
 
 /// Writes `2 * K` bytes from `at` on.
+///
+/// # Safety
+///
+/// Each clause `requires` of the contract must hold, but for those on counts, on iterators and on closures.
 ///
 /// # Contract
 ///
@@ -324,12 +441,14 @@ fn put_bytes<const N: usize, const K: usize>(array: &mut [u8; N], at: usize, byt
 /// ensures { array.new ≡ take at array.old ++ ((first.entry ++ second.entry) ++ drop (at + (K + K)) array.old) }
 /// ```
 #[inline(always)]
-fn put_pair<const N: usize, const K: usize>(
+unsafe fn put_pair<const N: usize, const K: usize>(
     array: &mut [u8; N],
     at: usize,
     first: Simd<u8, K>,
     second: Simd<u8, K>,
 ) {
-    put_bytes(array, at, first);
-    put_bytes(array, at + K, second);
+    // SAFETY: the proof of `put_pair` in crates/arraystring_base/src/moves.rt shows the precondition of `put_bytes`.
+    unsafe { put_bytes(array, at, first) };
+    // SAFETY: the proof of `put_pair` in crates/arraystring_base/src/moves.rt shows the precondition of `put_bytes`.
+    unsafe { put_bytes(array, at + K, second) };
 }

@@ -79,7 +79,9 @@ pub fn truncate_str_counted<'a>(text: &'a str, size: u8, steps: &mut Steps) -> &
     if text.len() <= limit {
         return text;
     }
-    let end = last_boundary(text, limit, steps);
+    // SAFETY: the proof of `truncate_str_counted` in crates/arraystring_base/src/utils.rt shows `within` of `last_boundary`.
+    let end = unsafe { last_boundary(text, limit, steps) };
+    known!(boundary: text.is_char_boundary(end));
     &text[..end]
 }
 
@@ -111,7 +113,8 @@ pub fn last_char(text: &str, steps: &mut Steps) -> Option<(usize, char)> {
     if text.is_empty() {
         return None;
     }
-    let (start, ch) = char_before_end(text, steps);
+    // SAFETY: the proof of `last_char` in crates/arraystring_base/src/utils.rt shows `some` of `char_before_end`.
+    let (start, ch) = unsafe { char_before_end(text, steps) };
     Some((start, ch))
 }
 
@@ -135,20 +138,24 @@ pub fn last_char(text: &str, steps: &mut Steps) -> Option<(usize, char)> {
 /// ```
 #[inline(always)]
 pub unsafe fn encode<const N: usize>(ch: char, array: &mut [u8; N], at: usize) -> usize {
+    known!(precondition: ch.len_utf8() <= N && at <= N - ch.len_utf8());
     let code = ch as u32;
     let all = &mut array[..];
     if code < 0x80 {
+        known!(precondition: ch.len_utf8() <= N && at <= N - ch.len_utf8());
         all[at] = code as u8;
         1
     } else if code < 0x800 {
         let first = (0xC0 + code / 64) as u8;
         let second = (0x80 + code % 64) as u8;
+        known!(precondition: ch.len_utf8() <= N && at <= N - ch.len_utf8());
         all[at..at + 2].copy_from_slice(&[first, second]);
         2
     } else if code < 0x1_0000 {
         let first = (0xE0 + code / 4096) as u8;
         let second = (0x80 + code / 64 % 64) as u8;
         let third = (0x80 + code % 64) as u8;
+        known!(precondition: ch.len_utf8() <= N && at <= N - ch.len_utf8());
         all[at..at + 3].copy_from_slice(&[first, second, third]);
         3
     } else {
@@ -156,6 +163,7 @@ pub unsafe fn encode<const N: usize>(ch: char, array: &mut [u8; N], at: usize) -
         let second = (0x80 + code / 4096 % 64) as u8;
         let third = (0x80 + code / 64 % 64) as u8;
         let fourth = (0x80 + code % 64) as u8;
+        known!(precondition: ch.len_utf8() <= N && at <= N - ch.len_utf8());
         all[at..at + 4].copy_from_slice(&[first, second, third, fourth]);
         4
     }
@@ -192,7 +200,7 @@ pub unsafe fn shift<const N: usize>(
     steps: &mut Steps,
 ) {
     if from != to {
-        // SAFETY: the proof of this body shows what `move_run` requires.
+        // SAFETY: the proof of `shift` in crates/arraystring_base/src/utils.rt shows `source` and `target` of `move_run`.
         unsafe { move_run(array, from, to, len) };
         steps.count_moves(len);
     }
@@ -213,6 +221,10 @@ fn continues(byte: u8) -> bool {
 /// The last boundary that is not past `limit`. It looks once at each byte from `limit` back to it,
 /// but for the first byte of the text.
 ///
+/// # Safety
+///
+/// Each clause `requires` of the contract must hold, but for those on counts, on iterators and on closures.
+///
 /// # Contract
 ///
 /// ```text
@@ -228,11 +240,13 @@ fn continues(byte: u8) -> bool {
 /// ensures moved { steps.new.moved ≡ steps.old.moved }
 /// ```
 #[inline]
-fn last_boundary(text: &str, limit: usize, steps: &mut Steps) -> usize {
+unsafe fn last_boundary(text: &str, limit: usize, steps: &mut Steps) -> usize {
+    known!(within: limit < text.len());
     let all = text.as_bytes();
     let mut end = limit;
     // At most three bytes continue a character. The bound is for the compiler, which unrolls the loop.
-    while end > 0 && continues(look(all, end, steps)) && limit - end < 3 {
+    // SAFETY: the proof of `last_boundary` in crates/arraystring_base/src/utils.rt shows `in_bounds` of `look`.
+    while end > 0 && continues(unsafe { crate::by_hand::look(all, end, steps) }) && limit - end < 3 {
         end -= 1;
     }
     end
@@ -240,6 +254,10 @@ fn last_boundary(text: &str, limit: usize, steps: &mut Steps) -> usize {
 
 /// The last character of a text that has one, and where it begins. The bytes are read from the end
 /// back to the one that does not continue a character.
+///
+/// # Safety
+///
+/// Each clause `requires` of the contract must hold, but for those on counts, on iterators and on closures.
 ///
 /// # Contract
 ///
@@ -253,27 +271,31 @@ fn last_boundary(text: &str, limit: usize, steps: &mut Steps) -> usize {
 /// ensures moved { steps.new.moved ≡ steps.old.moved }
 /// ```
 #[inline]
-fn char_before_end(text: &str, steps: &mut Steps) -> (usize, char) {
+unsafe fn char_before_end(text: &str, steps: &mut Steps) -> (usize, char) {
     let all = text.as_bytes();
     let end = all.len();
-    let last = look(all, end - 1, steps) as u32;
+    // SAFETY: the proof of `char_before_end` in crates/arraystring_base/src/utils.rt shows `in_bounds` of `look`.
+    let last = unsafe { crate::by_hand::look(all, end - 1, steps) } as u32;
     if last < 0x80 {
         // SAFETY: a number below 0x80 is a scalar value, as `from_u32_unchecked` requires.
         return (end - 1, unsafe { char::from_u32_unchecked(last) });
     }
-    let second = look(all, end - 2, steps) as u32;
+    // SAFETY: the proof of `char_before_end` in crates/arraystring_base/src/utils.rt shows `in_bounds` of `look`.
+    let second = unsafe { crate::by_hand::look(all, end - 2, steps) } as u32;
     if second >= 0xC0 {
         let code = (second - 0xC0) * 64 + (last - 0x80);
         // SAFETY: the bytes of a `&str` are UTF-8 (the clause of `as_bytes`), so these two spell a scalar value.
         return (end - 2, unsafe { char::from_u32_unchecked(code) });
     }
-    let third = look(all, end - 3, steps) as u32;
+    // SAFETY: the proof of `char_before_end` in crates/arraystring_base/src/utils.rt shows `in_bounds` of `look`.
+    let third = unsafe { crate::by_hand::look(all, end - 3, steps) } as u32;
     if third >= 0xC0 {
         let code = (third - 0xE0) * 4096 + (second - 0x80) * 64 + (last - 0x80);
         // SAFETY: the bytes of a `&str` are UTF-8 (the clause of `as_bytes`), so these three spell a scalar value.
         return (end - 3, unsafe { char::from_u32_unchecked(code) });
     }
-    let fourth = look(all, end - 4, steps) as u32;
+    // SAFETY: the proof of `char_before_end` in crates/arraystring_base/src/utils.rt shows `in_bounds` of `look`.
+    let fourth = unsafe { crate::by_hand::look(all, end - 4, steps) } as u32;
     let front = (fourth - 0xF0) * 262_144 + (third - 0x80) * 4096;
     let code = front + (second - 0x80) * 64 + (last - 0x80);
     // SAFETY: the bytes of a `&str` are UTF-8 (the clause of `as_bytes`), so these four spell a scalar value.

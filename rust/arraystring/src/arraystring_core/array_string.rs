@@ -126,6 +126,7 @@ impl<const N: usize> ArrayString<N> {
     /// ```
     #[inline]
     pub fn as_str(&self) -> &str {
+        known!(invariant: usize::from(self.start) + usize::from(self.size) <= usize::from(Self::capacity()));
         let (size, start) = (self.size as usize, self.start as usize);
         let all = &self.array[..];
         // SAFETY: the type's `invariant`: the `size` bytes from `start` on are UTF-8.
@@ -145,6 +146,7 @@ impl<const N: usize> ArrayString<N> {
     /// ```
     #[inline]
     pub fn as_bytes(&self) -> &[u8] {
+        known!(invariant: usize::from(self.start) + usize::from(self.size) <= usize::from(Self::capacity()));
         let start = self.start as usize;
         let all = &self.array[..];
         &all[start..start + self.size as usize]
@@ -164,8 +166,9 @@ impl<const N: usize> ArrayString<N> {
     #[inline(always)]
     pub fn try_push(&mut self, ch: char) -> Result<(), OutOfBounds> {
         let end = self.start as usize + self.size as usize;
-        if Self::has_room(end, ch) {
-            // SAFETY: the proof of this body shows what `push_unchecked` requires.
+        // SAFETY: the proof of `try_push` in crates/arraystring_core/src/array_string.rt shows the precondition of `has_room`.
+        if unsafe { Self::has_room(end, ch) } {
+            // SAFETY: the proof of `try_push` in crates/arraystring_core/src/array_string.rt shows the precondition of `push_unchecked`.
             unsafe { self.push_unchecked(ch) };
             return Ok(());
         }
@@ -191,10 +194,12 @@ impl<const N: usize> ArrayString<N> {
     #[inline(always)]
     pub unsafe fn push_unchecked(&mut self, ch: char) {
         let end = self.start as usize + self.size as usize;
-        if !Self::has_room(end, ch) {
-            return self.compact_and_push(ch);
+        // SAFETY: the proof of `push_unchecked` in crates/arraystring_core/src/array_string.rt shows the precondition of `has_room`.
+        if !unsafe { Self::has_room(end, ch) } {
+            // SAFETY: the proof of `push_unchecked` in crates/arraystring_core/src/array_string.rt shows the precondition of `compact_and_push`.
+            return unsafe { self.compact_and_push(ch) };
         }
-        // SAFETY: the proof of this body shows what `encode` requires.
+        // SAFETY: the proof of `push_unchecked` in crates/arraystring_core/src/array_string.rt shows the precondition of `encode`.
         let len = unsafe { encode(ch, &mut self.array, end) };
         self.size = (self.size as usize + len) as u8;
     }
@@ -220,9 +225,10 @@ impl<const N: usize> ArrayString<N> {
             if size + string.len() > capacity {
                 return Err(OutOfBounds);
             }
-            self.compact_and_push_str(string);
+            // SAFETY: the proof of `try_push_str` in crates/arraystring_core/src/array_string.rt shows the precondition of `compact_and_push_str`.
+            unsafe { self.compact_and_push_str(string) };
         } else {
-            // SAFETY: the proof of this body shows what `push_str_unchecked` requires.
+            // SAFETY: the proof of `try_push_str` in crates/arraystring_core/src/array_string.rt shows the precondition of `push_str_unchecked`.
             unsafe { self.push_str_unchecked(string) };
         }
         Ok(())
@@ -247,7 +253,7 @@ impl<const N: usize> ArrayString<N> {
     pub fn push_str<S: AsRef<str>>(&mut self, string: S) {
         let string = string.as_ref();
         let room = Self::capacity() - self.len();
-        // SAFETY: the proof of this body shows what `push_str_unchecked` requires.
+        // SAFETY: the proof of `push_str` in crates/arraystring_core/src/array_string.rt shows the precondition of `push_str_unchecked`.
         unsafe { self.push_str_unchecked(truncate_str(string, room)) };
     }
 
@@ -272,10 +278,11 @@ impl<const N: usize> ArrayString<N> {
         let string = string.as_ref();
         let end = self.start as usize + self.size as usize;
         if end + string.len() > Self::capacity() as usize {
-            return self.compact_and_push_str(string);
+            // SAFETY: the proof of `push_str_unchecked` in crates/arraystring_core/src/array_string.rt shows the precondition of `compact_and_push_str`.
+            return unsafe { self.compact_and_push_str(string) };
         }
         self.size = (self.size as usize + string.len()) as u8;
-        // SAFETY: the proof of this body shows what `write_over` requires.
+        // SAFETY: the proof of `push_str_unchecked` in crates/arraystring_core/src/array_string.rt shows the precondition of `write_over`.
         unsafe { write_over(&mut self.array, end, string.as_bytes()) };
     }
 
@@ -316,7 +323,8 @@ impl<const N: usize> ArrayString<N> {
     #[inline]
     pub fn pop_counted(&mut self, steps: &mut Steps) -> Option<char> {
         let (start, ch) = last_char(self.as_str(), steps)?;
-        self.keep(start as u8);
+        // SAFETY: the proof of `pop_counted` in crates/arraystring_core/src/array_string.rt shows the precondition of `keep`.
+        unsafe { self.keep(start as u8) };
         Some(ch)
     }
 }

@@ -3,6 +3,10 @@
 
 /// The first character of a text that has one, and how many bytes it takes.
 ///
+/// # Safety
+///
+/// Each clause `requires` of the contract must hold, but for those on counts, on iterators and on closures.
+///
 /// # Contract
 ///
 /// ```text
@@ -13,7 +17,7 @@
 /// ensures within { result.1 ≤ length text.now }
 /// ```
 #[inline]
-pub(crate) fn first_char(text: &str) -> (char, usize) {
+pub(crate) unsafe fn first_char(text: &str) -> (char, usize) {
     let mut rest = text.chars();
     let Some(ch) = rest.next() else {
         unreachable!();

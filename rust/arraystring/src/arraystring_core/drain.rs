@@ -42,6 +42,10 @@ pub struct Drain<const N: usize> {
 impl<const N: usize> Drain<N> {
     /// The `size` bytes from `start` on are left.
     ///
+    /// # Safety
+    ///
+    /// Each clause `requires` of the contract must hold, but for those on counts, on iterators and on closures.
+    ///
     /// # Contract
     ///
     /// ```text
@@ -49,7 +53,7 @@ impl<const N: usize> Drain<N> {
     /// ensures { result.left ≡ (stored array.entry start size).text }
     /// ```
     #[inline(always)]
-    pub(crate) fn new(array: [u8; N], start: u8, size: u8) -> Self {
+    pub(crate) unsafe fn new(array: [u8; N], start: u8, size: u8) -> Self {
         Drain {
             front: 0,
             start,
@@ -69,6 +73,8 @@ impl<const N: usize> Drain<N> {
     /// ```
     #[inline]
     pub fn as_str(&self) -> &str {
+        known!(invariant: self.front <= self.size);
+        known!(invariant: usize::from(self.start) + usize::from(self.size) <= usize::from(crate::ArrayString::<N>::capacity()));
         let all = &self.array[..];
         let start = self.start as usize;
         let (front, end) = (start + self.front as usize, start + self.size as usize);
@@ -87,7 +93,8 @@ impl<const N: usize> Drain<N> {
 impl<const N: usize> Default for Drain<N> {
     #[inline]
     fn default() -> Self {
-        Drain::new([0; N], 0, 0)
+        // SAFETY: the proof of `default` in crates/arraystring_core/src/drain.rt shows the precondition of `new`.
+        unsafe { Drain::new([0; N], 0, 0) }
     }
 }
 
@@ -106,6 +113,8 @@ impl<const N: usize> Iterator for Drain<N> {
     /// after that.
     #[inline(always)]
     fn next(&mut self) -> Option<char> {
+        known!(invariant: self.front <= self.size);
+        known!(invariant: usize::from(self.start) + usize::from(self.size) <= usize::from(crate::ArrayString::<N>::capacity()));
         if self.front == self.size {
             return None;
         }
@@ -134,6 +143,8 @@ impl<const N: usize> DoubleEndedIterator for Drain<N> {
     /// after that.
     #[inline(always)]
     fn next_back(&mut self) -> Option<char> {
+        known!(invariant: self.front <= self.size);
+        known!(invariant: usize::from(self.start) + usize::from(self.size) <= usize::from(crate::ArrayString::<N>::capacity()));
         if self.size == self.front {
             return None;
         }

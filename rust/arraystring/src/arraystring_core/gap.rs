@@ -14,6 +14,10 @@ pub(crate) struct Span {
 /// Opens a gap of `len` bytes instead of the bytes from `start` to `end` of a text. There must be
 /// room after the text: it keeps its offset, and only the bytes after the gap move.
 ///
+/// # Safety
+///
+/// Each clause `requires` of the contract must hold, but for those on counts, on iterators and on closures.
+///
 /// # Contract
 ///
 /// ```text
@@ -31,7 +35,7 @@ pub(crate) struct Span {
 /// ensures looked { steps.new.looked ≡ steps.old.looked }
 /// ```
 #[inline(always)]
-pub(crate) fn open_gap<const N: usize>(
+pub(crate) unsafe fn open_gap<const N: usize>(
     array: &mut [u8; N],
     text: Span,
     start: usize,
@@ -40,7 +44,7 @@ pub(crate) fn open_gap<const N: usize>(
     steps: &mut Steps,
 ) {
     let tail = text.size - end;
-    // SAFETY: the proof of this body shows what `shift` requires.
+    // SAFETY: the proof of `open_gap` in crates/arraystring_core/src/gap.rt shows `source` and `target` of `shift`.
     unsafe { shift(
         array,
         text.offset + end,
@@ -51,6 +55,10 @@ pub(crate) fn open_gap<const N: usize>(
 }
 
 /// The same for a text that moves to the start of the array. Each byte moves at most once.
+///
+/// # Safety
+///
+/// Each clause `requires` of the contract must hold, but for those on counts, on iterators and on closures.
 ///
 /// # Contract
 ///
@@ -69,7 +77,7 @@ pub(crate) fn open_gap<const N: usize>(
 /// ensures looked { steps.new.looked ≡ steps.old.looked }
 /// ```
 #[inline(always)]
-pub(crate) fn compact_and_open_gap<const N: usize>(
+pub(crate) unsafe fn compact_and_open_gap<const N: usize>(
     array: &mut [u8; N],
     text: Span,
     start: usize,
@@ -78,14 +86,18 @@ pub(crate) fn compact_and_open_gap<const N: usize>(
     steps: &mut Steps,
 ) {
     let tail = text.size - end;
-    // SAFETY: the proof of this body shows what `shift` requires.
+    // SAFETY: the proof of `compact_and_open_gap` in crates/arraystring_core/src/gap.rt shows `source` and `target` of `shift`.
     unsafe { shift(array, text.offset, 0, start, steps) };
-    // SAFETY: the proof of this body shows what `shift` requires.
+    // SAFETY: the proof of `compact_and_open_gap` in crates/arraystring_core/src/gap.rt shows `source` and `target` of `shift`.
     unsafe { shift(array, text.offset + end, start + len, tail, steps) };
 }
 
 /// Writes `given` at the start of a new array. In a large one it is written by one call whatever its
 /// length, and the compiler then makes fewer copies of the array on its way out.
+///
+/// # Safety
+///
+/// Each clause `requires` of the contract must hold, but for those on counts, on iterators and on closures.
 ///
 /// # Contract
 ///
@@ -94,11 +106,13 @@ pub(crate) fn compact_and_open_gap<const N: usize>(
 /// ensures { array.new ≡ take 0 array.old ++ (given.now ++ drop (0 + length given.now) array.old) }
 /// ```
 #[inline(always)]
-pub(crate) fn fill<const N: usize>(array: &mut [u8; N], given: &[u8]) {
+pub(crate) unsafe fn fill<const N: usize>(array: &mut [u8; N], given: &[u8]) {
+    known!(precondition: given.len() <= N);
     if N > 64 {
-        write_by_call(array, 0, given);
+        // SAFETY: the proof of `fill` in crates/arraystring_core/src/gap.rt shows the precondition of `write_by_call`.
+        unsafe { write_by_call(array, 0, given) };
     } else {
-        // SAFETY: the proof of this body shows what `write_over` requires.
+        // SAFETY: the proof of `fill` in crates/arraystring_core/src/gap.rt shows the precondition of `write_over`.
         unsafe { write_over(array, 0, given) };
     }
 }
@@ -118,15 +132,21 @@ pub(crate) fn fill<const N: usize>(array: &mut [u8; N], given: &[u8]) {
 #[inline(always)]
 pub(crate) fn try_fill<const N: usize>(array: &mut [u8; N], given: &[u8]) -> (bool, u8) {
     if N <= 64 {
-        return try_fill_small(array, given);
+        // SAFETY: the proof of `try_fill` in crates/arraystring_core/src/gap.rt shows the precondition of `try_fill_small`.
+        return unsafe { try_fill_small(array, given) };
     }
     let refused = given.len() > ArrayString::<N>::capacity() as usize;
     let size = if refused { 0 } else { given.len() };
-    write_by_call(array, 0, &given[..size]);
+    // SAFETY: the proof of `try_fill` in crates/arraystring_core/src/gap.rt shows the precondition of `write_by_call`.
+    unsafe { write_by_call(array, 0, &given[..size]) };
     (refused, size as u8)
 }
 
 /// The same for an array of at most 64 bytes.
+///
+/// # Safety
+///
+/// Each clause `requires` of the contract must hold, but for those on counts, on iterators and on closures.
 ///
 /// # Contract
 ///
@@ -138,16 +158,21 @@ pub(crate) fn try_fill<const N: usize>(array: &mut [u8; N], given: &[u8]) -> (bo
 ///     ((length given.now ≤ cap N) × (result.1 ≡ length given.now) × (array.new ≡ given.now ++ drop (length given.now) array.old)) }
 /// ```
 #[inline(never)]
-fn try_fill_small<const N: usize>(array: &mut [u8; N], given: &[u8]) -> (bool, u8) {
+unsafe fn try_fill_small<const N: usize>(array: &mut [u8; N], given: &[u8]) -> (bool, u8) {
+    known!(precondition: N <= 64);
     if given.len() > N {
         return (true, 0);
     }
-    // SAFETY: the proof of this body shows what `write_over` requires.
+    // SAFETY: the proof of `try_fill_small` in crates/arraystring_core/src/gap.rt shows the precondition of `write_over`.
     unsafe { write_over(array, 0, given) };
     (false, given.len() as u8)
 }
 
 /// Writes `given` over the bytes from `at` on, as `write_over` does, by one call whatever its length.
+///
+/// # Safety
+///
+/// Each clause `requires` of the contract must hold, but for those on counts, on iterators and on closures.
 ///
 /// # Contract
 ///
@@ -156,7 +181,8 @@ fn try_fill_small<const N: usize>(array: &mut [u8; N], given: &[u8]) -> (bool, u
 /// ensures { array.new ≡ take at array.old ++ (given.now ++ drop (at + length given.now) array.old) }
 /// ```
 #[inline(always)]
-pub(crate) fn write_by_call<const N: usize>(array: &mut [u8; N], at: usize, given: &[u8]) {
+pub(crate) unsafe fn write_by_call<const N: usize>(array: &mut [u8; N], at: usize, given: &[u8]) {
+    known!(precondition: given.len() <= N && at <= N - given.len());
     let all = &mut array[..];
     all[at..at + given.len()].copy_from_slice(given);
 }

@@ -10,6 +10,10 @@ use core::str;
 /// its offset. Returns how many bytes are kept. A run of kept characters is moved as one piece, and
 /// only to the left.
 ///
+/// # Safety
+///
+/// Each clause `requires` of the contract must hold, but for those on counts, on iterators and on closures.
+///
 /// # Contract
 ///
 /// ```text
@@ -22,34 +26,43 @@ use core::str;
 /// ensures filtered { IsFiltered F.step f (chars (take size (drop offset array.old))) (chars (take result (drop offset array.new))) }
 /// ```
 #[inline]
-pub(crate) fn retain_at<const N: usize, F: FnMut(char) -> bool>(
+pub(crate) unsafe fn retain_at<const N: usize, F: FnMut(char) -> bool>(
     array: &mut [u8; N],
     offset: usize,
     size: usize,
     mut f: F,
 ) -> usize {
+    known!(held: size <= N && offset <= N - size);
     // The first `kept` bytes stay, and so do those from `run` to `read`, which were not moved yet.
     let mut kept = 0;
     let mut run = 0;
     let mut read = 0;
     while read < size {
+        known!(held: size <= N && offset <= N - size);
         let all = &array[..];
         // SAFETY: the clause `text`: what was not read yet is UTF-8, since a character begins at `read`.
         let text = unsafe { str::from_utf8_unchecked(&all[offset + read..offset + size]) };
-        let (ch, width) = first_char(text);
+        // SAFETY: the proof of `retain_at` in crates/arraystring_core/src/retain.rt shows the precondition of `first_char`.
+        let (ch, width) = unsafe { first_char(text) };
         if !f(ch) {
-            shift_run(array, offset + run, offset + kept, read - run);
+            // SAFETY: the proof of `retain_at` in crates/arraystring_core/src/retain.rt shows `source` and `target` of `shift_run`.
+            unsafe { shift_run(array, offset + run, offset + kept, read - run) };
             kept += read - run;
             run = read + width;
         }
         read += width;
     }
-    shift_run(array, offset + run, offset + kept, size - run);
+    // SAFETY: the proof of `retain_at` in crates/arraystring_core/src/retain.rt shows `source` and `target` of `shift_run`.
+    unsafe { shift_run(array, offset + run, offset + kept, size - run) };
     kept + (size - run)
 }
 
 /// `shift`, as a call if more than four bytes move: the loop over the characters is short without
 /// the code of a long move. After a character that is dropped the next run is often empty.
+///
+/// # Safety
+///
+/// Each clause `requires` of the contract must hold, but for those on counts, on iterators and on closures.
 ///
 /// # Contract
 ///
@@ -59,19 +72,26 @@ pub(crate) fn retain_at<const N: usize, F: FnMut(char) -> bool>(
 /// ensures { array.new ≡ take to array.old ++ (take len (drop from array.old) ++ drop (to + len) array.old) }
 /// ```
 #[inline(always)]
-fn shift_run<const N: usize>(array: &mut [u8; N], from: usize, to: usize, len: usize) {
+unsafe fn shift_run<const N: usize>(array: &mut [u8; N], from: usize, to: usize, len: usize) {
+    known!(source: len <= N && from <= N - len);
+    known!(target: len <= N && to <= N - len);
     if len == 0 {
         return;
     }
     if len > 4 {
-        shift_long_run(array, from, to, len);
+        // SAFETY: the proof of `shift_run` in crates/arraystring_core/src/retain.rt shows `source` and `target` of `shift_long_run`.
+        unsafe { shift_long_run(array, from, to, len) };
     } else {
-        // SAFETY: the proof of this body shows what `shift` requires.
+        // SAFETY: the proof of `shift_run` in crates/arraystring_core/src/retain.rt shows `source` and `target` of `shift`.
         unsafe { shift(array, from, to, len, &mut Steps::new()) };
     }
 }
 
 /// The same as a call.
+///
+/// # Safety
+///
+/// Each clause `requires` of the contract must hold, but for those on counts, on iterators and on closures.
 ///
 /// # Contract
 ///
@@ -81,7 +101,9 @@ fn shift_run<const N: usize>(array: &mut [u8; N], from: usize, to: usize, len: u
 /// ensures { array.new ≡ take to array.old ++ (take len (drop from array.old) ++ drop (to + len) array.old) }
 /// ```
 #[inline(never)]
-fn shift_long_run<const N: usize>(array: &mut [u8; N], from: usize, to: usize, len: usize) {
-    // SAFETY: the proof of this body shows what `shift` requires.
+unsafe fn shift_long_run<const N: usize>(array: &mut [u8; N], from: usize, to: usize, len: usize) {
+    known!(source: len <= N && from <= N - len);
+    known!(target: len <= N && to <= N - len);
+    // SAFETY: the proof of `shift_long_run` in crates/arraystring_core/src/retain.rt shows `source` and `target` of `shift`.
     unsafe { shift(array, from, to, len, &mut Steps::new()) };
 }

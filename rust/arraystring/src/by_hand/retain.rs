@@ -37,14 +37,22 @@ impl<const N: usize> Drop for Unfinished<'_, N> {
     #[inline(always)]
     fn drop(&mut self) {
         let Progress { kept, run, read } = self.progress;
-        self.array.copy_within(self.offset + run..self.offset + read, self.offset + kept);
+        // Where all were asked about there is nothing to move.
+        if run < read {
+            self.array.copy_within(self.offset + run..self.offset + read, self.offset + kept);
+        }
         *self.size = (kept + (read - run)) as u8;
     }
 }
 
 /// The proved `retain_at`, which leaves what was kept where `f` panics, and sets the size before `f` is dropped.
+///
+/// # Safety
+///
+/// The clauses `held` and `text` of the proved `retain_at` must hold.
+#[allow(unsafe_code)]
 #[inline]
-pub(crate) fn retain_at<const N: usize, F: FnMut(char) -> bool>(
+pub(crate) unsafe fn retain_at<const N: usize, F: FnMut(char) -> bool>(
     array: &mut [u8; N],
     size: &mut u8,
     offset: usize,
@@ -53,11 +61,13 @@ pub(crate) fn retain_at<const N: usize, F: FnMut(char) -> bool>(
 ) {
     let progress = Progress { kept: 0, run: 0, read: 0 };
     let mut text = Unfinished { array, size, offset, progress };
-    let left = retain::retain_at(text.array, offset, len, |ch| {
+    let answer = |ch| {
         let keeps = f(ch);
         text.progress.answer(ch, keeps);
         keeps
-    });
+    };
+    // SAFETY: `held` and `text` are those of this function, and the closure leaves the array alone.
+    let left = unsafe { retain::retain_at(text.array, offset, len, answer) };
     // `f` was called with all of it, and it lies at the offset.
     text.progress = Progress { kept: left, run: left, read: left };
 }

@@ -13,7 +13,8 @@ impl<const N: usize> ArrayString<N> {
     /// ```
     #[inline]
     pub fn make_ascii_uppercase(&mut self) {
-        self.uppercase_between(0, self.len() as usize);
+        // SAFETY: the proof of `make_ascii_uppercase` in crates/arraystring_core/src/array_string/ascii.rt shows `order`, `start` and `end` of `uppercase_between`.
+        unsafe { self.uppercase_between(0, self.len() as usize) };
     }
 
     /// Changes A..Z to a..z. All other characters stay as they are.
@@ -25,10 +26,15 @@ impl<const N: usize> ArrayString<N> {
     /// ```
     #[inline]
     pub fn make_ascii_lowercase(&mut self) {
-        self.lowercase_between(0, self.len() as usize);
+        // SAFETY: the proof of `make_ascii_lowercase` in crates/arraystring_core/src/array_string/ascii.rt shows `order`, `start` and `end` of `lowercase_between`.
+        unsafe { self.lowercase_between(0, self.len() as usize) };
     }
 
     /// Changes a..z to A..Z between two boundaries.
+    ///
+    /// # Safety
+    ///
+    /// Each clause `requires` of the contract must hold, but for those on counts, on iterators and on closures.
     ///
     /// # Contract
     ///
@@ -39,12 +45,17 @@ impl<const N: usize> ArrayString<N> {
     /// ensures { self.new.text ≡ front self.old.text start ++ (map to_ascii_uppercase (part self.old.text start end) ++ back self.old.text end) }
     /// ```
     #[inline]
-    pub(super) fn uppercase_between(&mut self, start: usize, end: usize) {
+    pub(super) unsafe fn uppercase_between(&mut self, start: usize, end: usize) {
         let offset = self.start as usize;
-        uppercase_bytes(&mut self.array, offset + start, offset + end);
+        // SAFETY: the proof of `uppercase_between` in crates/arraystring_core/src/array_string/ascii.rt shows `order` and `within` of `uppercase_bytes`.
+        unsafe { uppercase_bytes(&mut self.array, offset + start, offset + end) };
     }
 
     /// Changes A..Z to a..z between two boundaries.
+    ///
+    /// # Safety
+    ///
+    /// Each clause `requires` of the contract must hold, but for those on counts, on iterators and on closures.
     ///
     /// # Contract
     ///
@@ -55,13 +66,18 @@ impl<const N: usize> ArrayString<N> {
     /// ensures { self.new.text ≡ front self.old.text start ++ (map to_ascii_lowercase (part self.old.text start end) ++ back self.old.text end) }
     /// ```
     #[inline]
-    pub(super) fn lowercase_between(&mut self, start: usize, end: usize) {
+    pub(super) unsafe fn lowercase_between(&mut self, start: usize, end: usize) {
         let offset = self.start as usize;
-        lowercase_bytes(&mut self.array, offset + start, offset + end);
+        // SAFETY: the proof of `lowercase_between` in crates/arraystring_core/src/array_string/ascii.rt shows `order` and `within` of `lowercase_bytes`.
+        unsafe { lowercase_bytes(&mut self.array, offset + start, offset + end) };
     }
 }
 
 /// Changes the letters a..z among the bytes from `start` to `end`.
+///
+/// # Safety
+///
+/// Each clause `requires` of the contract must hold, but for those on counts, on iterators and on closures.
 ///
 /// # Contract
 ///
@@ -71,12 +87,18 @@ impl<const N: usize> ArrayString<N> {
 /// ensures { array.new ≡ take start array.old ++ (map to_ascii_uppercase (take (end - start) (drop start array.old)) ++ drop end array.old) }
 /// ```
 #[inline]
-fn uppercase_bytes<const N: usize>(array: &mut [u8; N], start: usize, end: usize) {
+unsafe fn uppercase_bytes<const N: usize>(array: &mut [u8; N], start: usize, end: usize) {
+    known!(order: start <= end);
+    known!(within: end <= N);
     let all = &mut array[..];
     all[start..end].make_ascii_uppercase();
 }
 
 /// Changes the letters A..Z among the bytes from `start` to `end`.
+///
+/// # Safety
+///
+/// Each clause `requires` of the contract must hold, but for those on counts, on iterators and on closures.
 ///
 /// # Contract
 ///
@@ -86,7 +108,9 @@ fn uppercase_bytes<const N: usize>(array: &mut [u8; N], start: usize, end: usize
 /// ensures { array.new ≡ take start array.old ++ (map to_ascii_lowercase (take (end - start) (drop start array.old)) ++ drop end array.old) }
 /// ```
 #[inline]
-fn lowercase_bytes<const N: usize>(array: &mut [u8; N], start: usize, end: usize) {
+unsafe fn lowercase_bytes<const N: usize>(array: &mut [u8; N], start: usize, end: usize) {
+    known!(order: start <= end);
+    known!(within: end <= N);
     let all = &mut array[..];
     all[start..end].make_ascii_lowercase();
 }

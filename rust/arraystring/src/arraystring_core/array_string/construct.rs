@@ -47,7 +47,7 @@ impl<const N: usize> ArrayString<N> {
     #[inline]
     pub fn from_str_truncate<S: AsRef<str>>(string: S) -> Self {
         let string = string.as_ref();
-        // SAFETY: the proof of this body shows what `from_str_unchecked` requires.
+        // SAFETY: the proof of `from_str_truncate` in crates/arraystring_core/src/array_string/construct.rt shows the precondition of `from_str_unchecked`.
         unsafe { Self::from_str_unchecked(truncate_str(string, Self::capacity())) }
     }
 
@@ -71,7 +71,8 @@ impl<const N: usize> ArrayString<N> {
     pub unsafe fn from_str_unchecked<S: AsRef<str>>(string: S) -> Self {
         let string = string.as_ref();
         let mut array = [0; N];
-        fill(&mut array, string.as_bytes());
+        // SAFETY: the proof of `from_str_unchecked` in crates/arraystring_core/src/array_string/construct.rt shows the precondition of `fill`.
+        unsafe { fill(&mut array, string.as_bytes()) };
         ArrayString {
             array,
             start: 0,
@@ -167,7 +168,7 @@ impl<const N: usize> ArrayString<N> {
         let mut made = Self::new();
         for piece in pieces {
             let piece = piece.as_ref();
-            // SAFETY: the proof of this body shows what `push_str_unchecked` requires.
+            // SAFETY: the proof of `from_iterator_unchecked` in crates/arraystring_core/src/array_string/construct.rt shows the precondition of `push_str_unchecked`.
             unsafe { made.push_str_unchecked(piece) };
         }
         made
@@ -260,7 +261,7 @@ impl<const N: usize> ArrayString<N> {
     pub unsafe fn from_chars_unchecked<I: IntoIterator<Item = char>>(characters: I) -> Self {
         let mut made = Self::new();
         for ch in characters {
-            // SAFETY: the proof of this body shows what `push_unchecked` requires.
+            // SAFETY: the proof of `from_chars_unchecked` in crates/arraystring_core/src/array_string/construct.rt shows the precondition of `push_unchecked`.
             unsafe { made.push_unchecked(ch) };
         }
         made
@@ -293,7 +294,7 @@ impl<const N: usize> ArrayString<N> {
         if text.len() > Self::capacity() as usize {
             return Err(Error::OutOfBounds);
         }
-        // SAFETY: the proof of this body shows what `from_str_unchecked` requires.
+        // SAFETY: the proof of `try_from_utf8` in crates/arraystring_core/src/array_string/construct.rt shows the precondition of `from_str_unchecked`.
         Ok(unsafe { Self::from_str_unchecked(text) })
     }
 
@@ -344,7 +345,7 @@ impl<const N: usize> ArrayString<N> {
     pub unsafe fn from_utf8_unchecked<B: AsRef<[u8]>>(given: B) -> Self {
         let given = given.as_ref();
         // SAFETY: the precondition `well_formed`.
-        // SAFETY: the proof of this body shows what `from_str_unchecked` requires.
+        // SAFETY: the proof of `from_utf8_unchecked` in crates/arraystring_core/src/array_string/construct.rt shows the precondition of `from_str_unchecked`.
         unsafe { Self::from_str_unchecked(str::from_utf8_unchecked(given)) }
     }
 }

@@ -5,7 +5,7 @@
 use crate::arraystring_core::ArrayString;
 use crate::arraystring_core::gap::{Span, compact_and_open_gap, open_gap};
 use crate::arraystring_base::error::OutOfBounds;
-use crate::arraystring_base::utils::{Steps, encode, is_boundary, shift, write_over};
+use crate::arraystring_base::utils::{Steps, encode, is_boundary, move_run, shift, write_over};
 
 impl<const N: usize> ArrayString<N> {
     /// Whether a character begins at `at`, or the text ends there.
@@ -23,6 +23,10 @@ impl<const N: usize> ArrayString<N> {
     /// Whether there is room for `ch` after `len` bytes. ASCII has a test of its own, which the
     /// compiler joins with that of `encode`. The width of others is not tested if four more fit.
     ///
+    /// # Safety
+    ///
+    /// Each clause `requires` of the contract must hold, but for those on counts, on iterators and on closures.
+    ///
     /// # Contract
     ///
     /// ```text
@@ -30,7 +34,7 @@ impl<const N: usize> ArrayString<N> {
     /// ensures { IsTrue result ↔ (len + width ch ≤ cap N) }
     /// ```
     #[inline(always)]
-    pub(super) fn has_room(len: usize, ch: char) -> bool {
+    pub(super) unsafe fn has_room(len: usize, ch: char) -> bool {
         let capacity = Self::capacity() as usize;
         if (ch as u32) < 0x80 {
             return len < capacity;
@@ -47,14 +51,20 @@ impl<const N: usize> ArrayString<N> {
     /// ```
     #[inline(always)]
     pub(super) fn try_push_near_end(&mut self, ch: char) -> Result<(), OutOfBounds> {
-        if !Self::has_room(self.size as usize, ch) {
+        // SAFETY: the proof of `try_push_near_end` in crates/arraystring_core/src/array_string/edit.rt shows the precondition of `has_room`.
+        if !unsafe { Self::has_room(self.size as usize, ch) } {
             return Err(OutOfBounds);
         }
-        self.compact_and_push(ch);
+        // SAFETY: the proof of `try_push_near_end` in crates/arraystring_core/src/array_string/edit.rt shows the precondition of `compact_and_push`.
+        unsafe { self.compact_and_push(ch) };
         Ok(())
     }
 
     /// Adds `ch` at the end of a text that has to move to the start of the array for it.
+    ///
+    /// # Safety
+    ///
+    /// Each clause `requires` of the contract must hold, but for those on counts, on iterators and on closures.
     ///
     /// # Contract
     ///
@@ -64,17 +74,22 @@ impl<const N: usize> ArrayString<N> {
     /// ```
     #[cold]
     #[inline(never)]
-    pub(super) fn compact_and_push(&mut self, ch: char) {
+    pub(super) unsafe fn compact_and_push(&mut self, ch: char) {
+        known!(invariant: usize::from(self.start) + usize::from(self.size) <= usize::from(Self::capacity()));
         let (start, size) = (self.start as usize, self.size as usize);
         self.start = 0;
-        // SAFETY: the proof of this body shows what `shift` requires.
-        unsafe { shift(&mut self.array, start, 0, size, &mut Steps::new()) };
-        // SAFETY: the proof of this body shows what `encode` requires.
+        // SAFETY: the proof of `compact_and_push` in crates/arraystring_core/src/array_string/edit.rt shows `source` and `target` of `move_run`.
+        unsafe { move_run(&mut self.array, start, 0, size) };
+        // SAFETY: the proof of `compact_and_push` in crates/arraystring_core/src/array_string/edit.rt shows the precondition of `encode`.
         let len = unsafe { encode(ch, &mut self.array, size) };
         self.size = (size + len) as u8;
     }
 
     /// Adds `string` at the end of a text that has to move to the start of the array for it.
+    ///
+    /// # Safety
+    ///
+    /// Each clause `requires` of the contract must hold, but for those on counts, on iterators and on closures.
     ///
     /// # Contract
     ///
@@ -84,12 +99,17 @@ impl<const N: usize> ArrayString<N> {
     /// ```
     #[cold]
     #[inline(never)]
-    pub(super) fn compact_and_push_str(&mut self, string: &str) {
+    pub(super) unsafe fn compact_and_push_str(&mut self, string: &str) {
         let len = self.len() as usize;
-        self.compact_and_splice(len, len, string, &mut Steps::new());
+        // SAFETY: the proof of `compact_and_push_str` in crates/arraystring_core/src/array_string/edit.rt shows `order`, `start`, `end` and `room` of `compact_and_splice`.
+        unsafe { self.compact_and_splice(len, len, string, &mut Steps::new()) };
     }
 
     /// Replaces the text between two boundaries by `given`. There must be room for it.
+    ///
+    /// # Safety
+    ///
+    /// Each clause `requires` of the contract must hold, but for those on counts, on iterators and on closures.
     ///
     /// # Contract
     ///
@@ -107,7 +127,8 @@ impl<const N: usize> ArrayString<N> {
     /// ensures looked { steps.new.looked ≡ steps.old.looked }
     /// ```
     #[inline(always)]
-    pub(super) fn splice(&mut self, start: usize, end: usize, given: &str, steps: &mut Steps) {
+    pub(super) unsafe fn splice(&mut self, start: usize, end: usize, given: &str, steps: &mut Steps) {
+        known!(invariant: usize::from(self.start) + usize::from(self.size) <= usize::from(Self::capacity()));
         let text = Span {
             offset: self.start as usize,
             size: self.size as usize,
@@ -115,15 +136,21 @@ impl<const N: usize> ArrayString<N> {
         let len = given.len();
         let tail = text.size - end;
         if text.offset + (start + (len + tail)) > Self::capacity() as usize {
-            return self.compact_and_splice(start, end, given, steps);
+            // SAFETY: the proof of `splice` in crates/arraystring_core/src/array_string/edit.rt shows `order`, `start`, `end` and `room` of `compact_and_splice`.
+            return unsafe { self.compact_and_splice(start, end, given, steps) };
         }
         self.size = (start + (len + tail)) as u8;
-        open_gap(&mut self.array, text, start, end, len, steps);
-        // SAFETY: the proof of this body shows what `write_over` requires.
+        // SAFETY: the proof of `splice` in crates/arraystring_core/src/array_string/edit.rt shows `order`, `within`, `held` and `room` of `open_gap`.
+        unsafe { open_gap(&mut self.array, text, start, end, len, steps) };
+        // SAFETY: the proof of `splice` in crates/arraystring_core/src/array_string/edit.rt shows the precondition of `write_over`.
         unsafe { write_over(&mut self.array, text.offset + start, given.as_bytes()) };
     }
 
     /// The same for a text that has to move to the start of the array for it.
+    ///
+    /// # Safety
+    ///
+    /// Each clause `requires` of the contract must hold, but for those on counts, on iterators and on closures.
     ///
     /// # Contract
     ///
@@ -141,13 +168,14 @@ impl<const N: usize> ArrayString<N> {
     /// ```
     #[cold]
     #[inline(never)]
-    pub(super) fn compact_and_splice(
+    pub(super) unsafe fn compact_and_splice(
         &mut self,
         start: usize,
         end: usize,
         given: &str,
         steps: &mut Steps,
     ) {
+        known!(invariant: usize::from(self.start) + usize::from(self.size) <= usize::from(Self::capacity()));
         let text = Span {
             offset: self.start as usize,
             size: self.size as usize,
@@ -155,12 +183,17 @@ impl<const N: usize> ArrayString<N> {
         let len = given.len();
         self.start = 0;
         self.size = (start + (len + (text.size - end))) as u8;
-        compact_and_open_gap(&mut self.array, text, start, end, len, steps);
-        // SAFETY: the proof of this body shows what `write_over` requires.
+        // SAFETY: the proof of `compact_and_splice` in crates/arraystring_core/src/array_string/edit.rt shows `order`, `within`, `held` and `room` of `compact_and_open_gap`.
+        unsafe { compact_and_open_gap(&mut self.array, text, start, end, len, steps) };
+        // SAFETY: the proof of `compact_and_splice` in crates/arraystring_core/src/array_string/edit.rt shows the precondition of `write_over`.
         unsafe { write_over(&mut self.array, start, given.as_bytes()) };
     }
 
     /// Puts `ch` at a boundary. There must be room for it.
+    ///
+    /// # Safety
+    ///
+    /// Each clause `requires` of the contract must hold, but for those on counts, on iterators and on closures.
     ///
     /// # Contract
     ///
@@ -170,22 +203,29 @@ impl<const N: usize> ArrayString<N> {
     /// ensures { self.new.text ≡ front self.old.text at ++ (ch ∷ back self.old.text at) }
     /// ```
     #[inline(always)]
-    pub(super) fn put_char(&mut self, at: usize, ch: char) {
+    pub(super) unsafe fn put_char(&mut self, at: usize, ch: char) {
+        known!(invariant: usize::from(self.start) + usize::from(self.size) <= usize::from(Self::capacity()));
         let text = Span {
             offset: self.start as usize,
             size: self.size as usize,
         };
         let len = ch.len_utf8();
         if text.offset + text.size + len > Self::capacity() as usize {
-            return self.compact_and_insert(at, ch);
+            // SAFETY: the proof of `put_char` in crates/arraystring_core/src/array_string/edit.rt shows `boundary` and `room` of `compact_and_insert`.
+            return unsafe { self.compact_and_insert(at, ch) };
         }
         self.size = (at + (len + (text.size - at))) as u8;
-        open_gap(&mut self.array, text, at, at, len, &mut Steps::new());
-        // SAFETY: the proof of this body shows what `encode` requires.
+        // SAFETY: the proof of `put_char` in crates/arraystring_core/src/array_string/edit.rt shows `order`, `within`, `held` and `room` of `open_gap`.
+        unsafe { open_gap(&mut self.array, text, at, at, len, &mut Steps::new()) };
+        // SAFETY: the proof of `put_char` in crates/arraystring_core/src/array_string/edit.rt shows the precondition of `encode`.
         unsafe { encode(ch, &mut self.array, text.offset + at) };
     }
 
     /// The same for a text that has to move to the start of the array for it.
+    ///
+    /// # Safety
+    ///
+    /// Each clause `requires` of the contract must hold, but for those on counts, on iterators and on closures.
     ///
     /// # Contract
     ///
@@ -196,7 +236,8 @@ impl<const N: usize> ArrayString<N> {
     /// ```
     #[cold]
     #[inline(never)]
-    pub(super) fn compact_and_insert(&mut self, at: usize, ch: char) {
+    pub(super) unsafe fn compact_and_insert(&mut self, at: usize, ch: char) {
+        known!(invariant: usize::from(self.start) + usize::from(self.size) <= usize::from(Self::capacity()));
         let text = Span {
             offset: self.start as usize,
             size: self.size as usize,
@@ -204,12 +245,17 @@ impl<const N: usize> ArrayString<N> {
         let len = ch.len_utf8();
         self.start = 0;
         self.size = (at + (len + (text.size - at))) as u8;
-        compact_and_open_gap(&mut self.array, text, at, at, len, &mut Steps::new());
-        // SAFETY: the proof of this body shows what `encode` requires.
+        // SAFETY: the proof of `compact_and_insert` in crates/arraystring_core/src/array_string/edit.rt shows `order`, `within`, `held` and `room` of `compact_and_open_gap`.
+        unsafe { compact_and_open_gap(&mut self.array, text, at, at, len, &mut Steps::new()) };
+        // SAFETY: the proof of `compact_and_insert` in crates/arraystring_core/src/array_string/edit.rt shows the precondition of `encode`.
         unsafe { encode(ch, &mut self.array, at) };
     }
 
     /// Takes out the text between two boundaries, without a move if it begins at index 0.
+    ///
+    /// # Safety
+    ///
+    /// Each clause `requires` of the contract must hold, but for those on counts, on iterators and on closures.
     ///
     /// # Contract
     ///
@@ -226,18 +272,24 @@ impl<const N: usize> ArrayString<N> {
     /// ensures looked { steps.new.looked ≡ steps.old.looked }
     /// ```
     #[inline]
-    pub(super) fn take_out(&mut self, start: usize, end: usize, steps: &mut Steps) {
+    pub(super) unsafe fn take_out(&mut self, start: usize, end: usize, steps: &mut Steps) {
+        known!(invariant: usize::from(self.start) + usize::from(self.size) <= usize::from(Self::capacity()));
         if start == 0 {
-            return self.drop_front(end);
+            // SAFETY: the proof of `take_out` in crates/arraystring_core/src/array_string/edit.rt shows the precondition of `drop_front`.
+            return unsafe { self.drop_front(end) };
         }
         let (offset, size) = (self.start as usize, self.size as usize);
         let tail = size - end;
         self.size = (start + tail) as u8;
-        // SAFETY: the proof of this body shows what `shift` requires.
+        // SAFETY: the proof of `take_out` in crates/arraystring_core/src/array_string/edit.rt shows `source` and `target` of `shift`.
         unsafe { shift(&mut self.array, offset + end, offset + start, tail, steps) };
     }
 
     /// Drops the part before a boundary, without a move.
+    ///
+    /// # Safety
+    ///
+    /// Each clause `requires` of the contract must hold, but for those on counts, on iterators and on closures.
     ///
     /// # Contract
     ///
@@ -246,12 +298,16 @@ impl<const N: usize> ArrayString<N> {
     /// ensures { self.new.text ≡ back self.old.text end }
     /// ```
     #[inline]
-    pub(super) fn drop_front(&mut self, end: usize) {
+    pub(super) unsafe fn drop_front(&mut self, end: usize) {
         self.start = (self.start as usize + end) as u8;
         self.size = (self.size as usize - end) as u8;
     }
 
     /// Keeps the part before a boundary.
+    ///
+    /// # Safety
+    ///
+    /// Each clause `requires` of the contract must hold, but for those on counts, on iterators and on closures.
     ///
     /// # Contract
     ///
@@ -260,7 +316,7 @@ impl<const N: usize> ArrayString<N> {
     /// ensures { self.new.text ≡ front self.old.text size }
     /// ```
     #[inline]
-    pub(super) fn keep(&mut self, size: u8) {
+    pub(super) unsafe fn keep(&mut self, size: u8) {
         self.size = size;
     }
 }

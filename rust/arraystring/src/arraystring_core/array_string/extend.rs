@@ -2,7 +2,6 @@
 //! What is appended from an iterator that is passed in.
 
 use super::ArrayString;
-use crate::arraystring_core::laws::text_fits;
 use crate::arraystring_base::error::OutOfBounds;
 
 impl<const N: usize> ArrayString<N> {
@@ -73,7 +72,6 @@ impl<const N: usize> ArrayString<N> {
         &mut self,
         characters: I,
     ) -> Result<(), OutOfBounds> {
-        text_fits(self);
         for ch in characters {
             if let Err(refusal) = self.try_push(ch) {
                 return Err(refusal);
@@ -98,7 +96,6 @@ impl<const N: usize> ArrayString<N> {
         &mut self,
         pieces: I,
     ) -> Result<(), OutOfBounds> {
-        text_fits(self);
         for piece in pieces {
             let piece = piece.as_ref();
             if let Err(refusal) = self.try_push_str(piece) {

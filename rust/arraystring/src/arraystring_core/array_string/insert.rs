@@ -32,7 +32,7 @@ impl<const N: usize> ArrayString<N> {
         if !self.is_boundary(index as usize) {
             return Err(Error::Utf8);
         }
-        // SAFETY: the proof of this body shows what `insert_unchecked` requires.
+        // SAFETY: the proof of `try_insert` in crates/arraystring_core/src/array_string/insert.rt shows `boundary` and `room` of `insert_unchecked`.
         unsafe { self.insert_unchecked(index, ch) };
         Ok(())
     }
@@ -56,7 +56,8 @@ impl<const N: usize> ArrayString<N> {
     /// ```
     #[inline]
     pub unsafe fn insert_unchecked(&mut self, index: u8, ch: char) {
-        self.put_char(index as usize, ch);
+        // SAFETY: the proof of `insert_unchecked` in crates/arraystring_core/src/array_string/insert.rt shows `boundary` and `room` of `put_char`.
+        unsafe { self.put_char(index as usize, ch) };
     }
 
     /// Inserts `string` at the byte index `index`.
@@ -125,7 +126,8 @@ impl<const N: usize> ArrayString<N> {
         if !self.is_boundary(start) {
             return Err(Error::Utf8);
         }
-        self.splice(start, start, string, steps);
+        // SAFETY: the proof of `try_insert_str_counted` in crates/arraystring_core/src/array_string/insert.rt shows `order`, `start`, `end` and `room` of `splice`.
+        unsafe { self.splice(start, start, string, steps) };
         Ok(())
     }
 
@@ -163,7 +165,7 @@ impl<const N: usize> ArrayString<N> {
             return Err(Error::Utf8);
         }
         let room = Self::capacity() - self.len();
-        // SAFETY: the proof of this body shows what `insert_str_unchecked` requires.
+        // SAFETY: the proof of `insert_str` in crates/arraystring_core/src/array_string/insert.rt shows `boundary` and `room` of `insert_str_unchecked`.
         unsafe { self.insert_str_unchecked(index, truncate_str(string, room)) };
         Ok(())
     }
@@ -189,6 +191,7 @@ impl<const N: usize> ArrayString<N> {
     pub unsafe fn insert_str_unchecked<S: AsRef<str>>(&mut self, index: u8, string: S) {
         let string = string.as_ref();
         let start = index as usize;
-        self.splice(start, start, string, &mut Steps::new());
+        // SAFETY: the proof of `insert_str_unchecked` in crates/arraystring_core/src/array_string/insert.rt shows `order`, `start`, `end` and `room` of `splice`.
+        unsafe { self.splice(start, start, string, &mut Steps::new()) };
     }
 }

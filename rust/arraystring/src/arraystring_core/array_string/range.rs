@@ -40,7 +40,7 @@ impl<const N: usize> ArrayString<N> {
     #[inline]
     pub fn slice<R: RangeBounds<u8>>(&self, range: R) -> &str {
         let (start, end) = plain_ends(range, self.len());
-        self.between(start, end)
+        &self.as_str()[start..end]
     }
 
     /// Returns the part of the text in the range, borrowed without a copy. Returns `None` if the
@@ -69,7 +69,8 @@ impl<const N: usize> ArrayString<N> {
         if start > end || !self.is_boundary(start) || !self.is_boundary(end) {
             return None;
         }
-        Some(self.between(start, end))
+        // SAFETY: the proof of `get` in crates/arraystring_core/src/array_string/range.rt shows `order`, `start` and `end` of `between`.
+        Some(unsafe { self.between(start, end) })
     }
 
     /// Removes the part in the range and returns its characters as a `Drain`. The part is removed
@@ -105,8 +106,10 @@ impl<const N: usize> ArrayString<N> {
         let (start, end) = saturating_ends(range, self.len());
         self.is_part(start, end)?;
         // Made here, and not in a function that both calls share: each one would copy the array once more.
-        let removed = Drain::new(self.array, self.start + start, end - start);
-        self.take_out(start as usize, end as usize, &mut Steps::new());
+        // SAFETY: the proof of `drain` in crates/arraystring_core/src/array_string/range.rt shows the precondition of `new`.
+        let removed = unsafe { Drain::new(self.array, self.start + start, end - start) };
+        // SAFETY: the proof of `drain` in crates/arraystring_core/src/array_string/range.rt shows `order`, `start` and `end` of `take_out`.
+        unsafe { self.take_out(start as usize, end as usize, &mut Steps::new()) };
         Ok(removed)
     }
 
@@ -151,8 +154,10 @@ impl<const N: usize> ArrayString<N> {
     ) -> Result<Drain<N>, Error> {
         let (from, to) = saturating_ends(range, self.len());
         self.is_part(from, to)?;
-        let removed = Drain::new(self.array, self.start + from, to - from);
-        self.take_out(from as usize, to as usize, steps);
+        // SAFETY: the proof of `drain_counted` in crates/arraystring_core/src/array_string/range.rt shows the precondition of `new`.
+        let removed = unsafe { Drain::new(self.array, self.start + from, to - from) };
+        // SAFETY: the proof of `drain_counted` in crates/arraystring_core/src/array_string/range.rt shows `order`, `start` and `end` of `take_out`.
+        unsafe { self.take_out(from as usize, to as usize, steps) };
         Ok(removed)
     }
 
@@ -263,8 +268,9 @@ impl<const N: usize> ArrayString<N> {
     #[inline]
     pub fn make_ascii_uppercase_in<R: RangeBounds<u8>>(&mut self, range: R) {
         let (start, end) = plain_ends(range, self.len());
-        let _ = self.between(start, end);
-        self.uppercase_between(start, end);
+        let _ = &self.as_str()[start..end];
+        // SAFETY: by what the index above tests, the proof of `make_ascii_uppercase_in` in crates/arraystring_core/src/array_string/range.rt shows `order`, `start` and `end` of `uppercase_between`.
+        unsafe { self.uppercase_between(start, end) };
     }
 
     /// Changes A..Z to a..z in the range. All other characters stay as they are.
@@ -293,11 +299,16 @@ impl<const N: usize> ArrayString<N> {
     #[inline]
     pub fn make_ascii_lowercase_in<R: RangeBounds<u8>>(&mut self, range: R) {
         let (start, end) = plain_ends(range, self.len());
-        let _ = self.between(start, end);
-        self.lowercase_between(start, end);
+        let _ = &self.as_str()[start..end];
+        // SAFETY: by what the index above tests, the proof of `make_ascii_lowercase_in` in crates/arraystring_core/src/array_string/range.rt shows `order`, `start` and `end` of `lowercase_between`.
+        unsafe { self.lowercase_between(start, end) };
     }
 
     /// The part between two boundaries.
+    ///
+    /// # Safety
+    ///
+    /// Each clause `requires` of the contract must hold, but for those on counts, on iterators and on closures.
     ///
     /// # Contract
     ///
@@ -308,7 +319,10 @@ impl<const N: usize> ArrayString<N> {
     /// ensures { result.now ≡ bytes (part self.now.text start end) }
     /// ```
     #[inline]
-    fn between(&self, start: usize, end: usize) -> &str {
+    unsafe fn between(&self, start: usize, end: usize) -> &str {
+        known!(order: start <= end);
+        known!(start: self.as_str().is_char_boundary(start));
+        known!(end: self.as_str().is_char_boundary(end));
         &self.as_str()[start..end]
     }
 
@@ -354,7 +368,8 @@ impl<const N: usize> ArrayString<N> {
     ) -> Result<(), Error> {
         self.can_replace(start, end, with)?;
         let (from, to) = (start as usize, end as usize);
-        self.splice(from, to, with, steps);
+        // SAFETY: the proof of `replace_between` in crates/arraystring_core/src/array_string/range.rt shows `order`, `start`, `end` and `room` of `splice`.
+        unsafe { self.splice(from, to, with, steps) };
         Ok(())
     }
 

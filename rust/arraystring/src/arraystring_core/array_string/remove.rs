@@ -36,7 +36,8 @@ impl<const N: usize> ArrayString<N> {
         if !self.is_boundary(size as usize) {
             return Err(Utf8);
         }
-        self.keep(size);
+        // SAFETY: the proof of `truncate` in crates/arraystring_core/src/array_string/remove.rt shows the precondition of `keep`.
+        unsafe { self.keep(size) };
         Ok(())
     }
 
@@ -97,8 +98,10 @@ impl<const N: usize> ArrayString<N> {
         if !self.is_boundary(start) {
             return Err(Error::Utf8);
         }
-        let (ch, width) = self.char_at(start);
-        self.take_out(start, start + width, steps);
+        // SAFETY: the proof of `remove_counted` in crates/arraystring_core/src/array_string/remove.rt shows `boundary` and `before_end` of `char_at`.
+        let (ch, width) = unsafe { self.char_at(start) };
+        // SAFETY: the proof of `remove_counted` in crates/arraystring_core/src/array_string/remove.rt shows `order`, `start` and `end` of `take_out`.
+        unsafe { self.take_out(start, start + width, steps) };
         Ok(ch)
     }
 
@@ -130,7 +133,8 @@ impl<const N: usize> ArrayString<N> {
     #[inline]
     pub fn retain<F: FnMut(char) -> bool>(&mut self, f: F) {
         let (offset, size) = (self.start as usize, self.size as usize);
-        retain_at(&mut self.array, &mut self.size, offset, size, f);
+        // SAFETY: the proof of `retain` in crates/arraystring_core/src/array_string/remove.rt shows `held` and `text` of `retain_at`.
+        unsafe { retain_at(&mut self.array, &mut self.size, offset, size, f) };
     }
 
     /// Removes all characters.
@@ -142,7 +146,8 @@ impl<const N: usize> ArrayString<N> {
     /// ```
     #[inline]
     pub fn clear(&mut self) {
-        self.keep(0);
+        // SAFETY: the proof of `clear` in crates/arraystring_core/src/array_string/remove.rt shows the precondition of `keep`.
+        unsafe { self.keep(0) };
     }
 
     /// Splits the text at the byte index `at`, which may be the length. Keeps the part before it
@@ -168,13 +173,18 @@ impl<const N: usize> ArrayString<N> {
         if !self.is_boundary(at as usize) {
             return Err(Error::Utf8);
         }
-        // SAFETY: the proof of this body shows what `from_str_unchecked` requires.
+        // SAFETY: the proof of `split_off` in crates/arraystring_core/src/array_string/remove.rt shows the precondition of `from_str_unchecked`.
         let rest = unsafe { Self::from_str_unchecked(&self.as_str()[at as usize..]) };
-        self.keep(at);
+        // SAFETY: the proof of `split_off` in crates/arraystring_core/src/array_string/remove.rt shows the precondition of `keep`.
+        unsafe { self.keep(at) };
         Ok(rest)
     }
 
     /// The character that begins at a boundary before the end, and how many bytes it takes.
+    ///
+    /// # Safety
+    ///
+    /// Each clause `requires` of the contract must hold, but for those on counts, on iterators and on closures.
     ///
     /// # Contract
     ///
@@ -187,7 +197,10 @@ impl<const N: usize> ArrayString<N> {
     /// ensures rest { back self.now.text (at + width result.0) ≡ drop 1 (back self.now.text at) }
     /// ```
     #[inline]
-    fn char_at(&self, at: usize) -> (char, usize) {
-        first_char(&self.as_str()[at..])
+    unsafe fn char_at(&self, at: usize) -> (char, usize) {
+        known!(boundary: self.as_str().is_char_boundary(at));
+        known!(before_end: at < usize::from(self.len()));
+        // SAFETY: the proof of `char_at` in crates/arraystring_core/src/array_string/remove.rt shows the precondition of `first_char`.
+        unsafe { first_char(&self.as_str()[at..]) }
     }
 }

@@ -2,7 +2,6 @@
 //! Trimming at both ends.
 
 use crate::arraystring_core::ArrayString;
-use crate::arraystring_core::laws::text_fits;
 use crate::arraystring_base::utils::{Steps, last_char};
 
 impl<const N: usize> ArrayString<N> {
@@ -79,12 +78,12 @@ impl<const N: usize> ArrayString<N> {
     /// ```
     #[inline]
     fn drop_trailing<F: Fn(char) -> bool>(&mut self, drops: F, steps: &mut Steps) {
-        text_fits(self);
         while let Some((start, ch)) = last_char(self.as_str(), steps) {
             if !drops(ch) {
                 break;
             }
-            self.keep(start as u8);
+            // SAFETY: the proof of `drop_trailing` in crates/arraystring_core/src/array_string/trim.rt shows the precondition of `keep`.
+            unsafe { self.keep(start as u8) };
         }
     }
 
@@ -103,7 +102,8 @@ impl<const N: usize> ArrayString<N> {
             if !drops(ch) {
                 break;
             }
-            self.drop_front(ch.len_utf8());
+            // SAFETY: the proof of `drop_leading` in crates/arraystring_core/src/array_string/trim.rt shows the precondition of `drop_front`.
+            unsafe { self.drop_front(ch.len_utf8()) };
         }
     }
 }

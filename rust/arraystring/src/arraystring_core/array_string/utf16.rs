@@ -3,7 +3,6 @@
 
 use super::ArrayString;
 use crate::arraystring_base::error::{Error, Utf16};
-use crate::arraystring_base::laws::only_reading;
 use crate::arraystring_base::utf16::{Unit16, Units};
 use core::char;
 
@@ -27,7 +26,8 @@ impl<const N: usize> ArrayString<N> {
     pub fn try_from_utf16<B: AsRef<[u16]>>(units: B) -> Result<Self, Error> {
         let units = units.as_ref();
         let mut prefix = Self::new();
-        match add_prefix(&mut prefix, units) {
+        // SAFETY: the proof of `try_from_utf16` in crates/arraystring_core/src/array_string/utf16.rt shows the precondition of `add_prefix`.
+        match unsafe { add_prefix(&mut prefix, units) } {
             None => Ok(prefix),
             Some(Unit16::Lone(_)) => Err(Error::Utf16),
             Some(Unit16::Char(_)) => Err(Error::OutOfBounds),
@@ -59,7 +59,8 @@ impl<const N: usize> ArrayString<N> {
     pub fn from_utf16<B: AsRef<[u16]>>(units: B) -> Result<Self, Utf16> {
         let units = units.as_ref();
         let mut prefix = Self::new();
-        match add_prefix(&mut prefix, units) {
+        // SAFETY: the proof of `from_utf16` in crates/arraystring_core/src/array_string/utf16.rt shows the precondition of `add_prefix`.
+        match unsafe { add_prefix(&mut prefix, units) } {
             Some(Unit16::Lone(_)) => Err(Utf16),
             _ => Ok(prefix),
         }
@@ -76,7 +77,6 @@ impl<const N: usize> ArrayString<N> {
     #[inline]
     pub fn from_utf16_lossy<B: AsRef<[u16]>>(units: B) -> Self {
         let units = units.as_ref();
-        only_reading(units);
         let mut text = Self::new();
         for item in Units::new(units) {
             match text.try_push(shown(item)) {
@@ -91,6 +91,10 @@ impl<const N: usize> ArrayString<N> {
 /// Adds to an empty string the longest prefix of characters of `units` that fits, and returns the
 /// item right after it.
 ///
+/// # Safety
+///
+/// Each clause `requires` of the contract must hold, but for those on counts, on iterators and on closures.
+///
 /// # Contract
 ///
 /// ```text
@@ -98,8 +102,7 @@ impl<const N: usize> ArrayString<N> {
 /// ensures { (items : List Unit16) → IsReading units.now items → first_stop items (cap N) ≡ stop_at result prefix.new.text }
 /// ```
 #[inline]
-fn add_prefix<const N: usize>(prefix: &mut ArrayString<N>, units: &[u16]) -> Option<Unit16> {
-    only_reading(units);
+unsafe fn add_prefix<const N: usize>(prefix: &mut ArrayString<N>, units: &[u16]) -> Option<Unit16> {
     for item in Units::new(units) {
         match item {
             Unit16::Char(ch) => match prefix.try_push(ch) {

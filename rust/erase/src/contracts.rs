@@ -1,0 +1,86 @@
+//! The contracts of all functions, which are read before any file is made.
+
+use std::collections::BTreeMap;
+
+use crate::rules::{FATES, Fate, GIVEN_UP};
+
+/// A clause of a function.
+pub struct Clause {
+    /// Its name, or `""`.
+    pub name: String,
+    pub text: String,
+}
+
+impl Clause {
+    /// How a comment calls the clause.
+    pub fn told(&self) -> String {
+        if self.name.is_empty() { "the precondition".to_string() } else { format!("`{}`", self.name) }
+    }
+
+    /// Whether Rust does without the clause, so that nothing may rest on it.
+    pub fn is_given_up(&self) -> bool {
+        GIVEN_UP.iter().any(|words| self.text.contains(words))
+    }
+}
+
+/// How a call names what it calls.
+pub enum Called<'a> {
+    /// Behind a dot.
+    Method,
+    /// Behind the name of a type or module.
+    Behind(&'a str),
+    /// By its name alone.
+    Free,
+}
+
+/// What was read of the functions, by their name behind that of their type or file.
+#[derive(Default)]
+pub struct Contracts {
+    /// The preconditions on which something rests in Rust, as comments call them.
+    requires: BTreeMap<String, Vec<String>>,
+    /// The name and the text of each postcondition.
+    ensures: BTreeMap<String, Vec<(String, String)>>,
+    /// Whether all functions were read.
+    pub is_whole: bool,
+}
+
+impl Contracts {
+    /// Notes the clauses of a function.
+    pub fn note(&mut self, call: &str, preconditions: &[Clause], postconditions: &[Clause]) {
+        let ensured = postconditions.iter().map(|clause| (clause.name.clone(), clause.text.clone())).collect();
+        self.ensures.insert(call.to_string(), ensured);
+        let clauses: Vec<_> = preconditions.iter().filter(|clause| !clause.is_given_up()).map(Clause::told).collect();
+        if !clauses.is_empty() && !FATES.iter().any(|(name, fate)| *name == call && matches!(fate, Fate::Panics(..))) {
+            self.requires.insert(call.to_string(), clauses);
+        }
+    }
+
+    /// Whether a function is `unsafe` in Rust.
+    pub fn is_unsafe(&self, call: &str) -> bool {
+        self.requires.contains_key(call)
+    }
+
+    /// Whether a function ensures a clause of this name with these words.
+    pub fn ensures(&self, call: &str, name: &str, says: &str) -> bool {
+        let clauses = self.ensures.get(call).map(Vec::as_slice).unwrap_or_default();
+        clauses.iter().any(|(of, text)| of == name && text == says)
+    }
+
+    /// What a call has to show, in words, if what it calls is `unsafe` in Rust.
+    pub fn shown_by(&self, name: &str, called: &Called, owner: &str) -> Option<String> {
+        let is_type = |owner: &str| owner.starts_with(char::is_uppercase);
+        let (_, clauses) = self.requires.iter().find(|(call, _)| {
+            let Some((of, its)) = call.split_once("::") else { return false };
+            let is_meant = match called {
+                Called::Method => is_type(of),
+                Called::Behind("Self") => of == owner,
+                Called::Behind(behind) if is_type(behind) => of == *behind,
+                Called::Behind(_) | Called::Free => !is_type(of),
+            };
+            its == name && is_meant
+        })?;
+        let (last, first) = clauses.split_last()?;
+        let clauses = if first.is_empty() { last.clone() } else { format!("{} and {last}", first.join(", ")) };
+        Some(format!("{clauses} of `{name}`"))
+    }
+}

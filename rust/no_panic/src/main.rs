@@ -1,0 +1,199 @@
+//! Each safe call of the string, made in a program without `std`. What the program does where something panics has no
+//! definition, so it links only where the machine code of no call can panic.
+//!
+//! Left out are the calls that panic as those of `str` do (the index, `slice`, the case calls on a range, `utils::look`) and
+//! `Debug`, which is printed by `core`'s own code. What a caller's closure or iterator does is its own.
+#![no_std]
+#![no_main]
+
+use core::cmp::Ordering;
+use core::fmt::Write;
+use core::hash::{Hash, Hasher};
+use core::hint::black_box;
+use core::panic::PanicInfo;
+
+use arraystring::utils::{Steps, is_char_boundary, is_inside_boundary, truncate_str, truncate_str_counted};
+use arraystring::utf16::Units;
+use arraystring::{ArrayString, CacheString};
+
+#[link(name = "c")]
+unsafe extern "C" {}
+
+unsafe extern "C" {
+    /// Nothing defines it.
+    fn a_panic_is_left() -> !;
+}
+
+#[panic_handler]
+fn panic(_: &PanicInfo) -> ! {
+    // SAFETY: a program with this call does not link.
+    unsafe { a_panic_is_left() }
+}
+
+/// A hasher that adds up.
+struct Sum(u64);
+
+impl Hasher for Sum {
+    fn finish(&self) -> u64 {
+        self.0
+    }
+
+    fn write(&mut self, bytes: &[u8]) {
+        for byte in bytes {
+            self.0 = self.0.wrapping_add(u64::from(*byte));
+        }
+    }
+}
+
+type Text<const N: usize> = ArrayString<N>;
+
+#[inline(never)]
+fn shown<const N: usize>(string: &Text<N>, other: &Text<N>, at: u8, end: u8) -> bool {
+    let mut sum = Sum(0);
+    string.hash(&mut sum);
+    let text = string.as_str().len() + string.as_bytes().len() + string.len() as usize + sum.finish() as usize;
+    let order = string.cmp(other) == Ordering::Less || string < other || string.partial_cmp(other).is_none();
+    let is_part = string.get(at..end).is_some() || string.get(at..=end).is_some() || string.get(..).is_none();
+    order || is_part || string == other || string.is_empty() || text == 7 || is_char_boundary(string, at).is_ok()
+}
+
+#[inline(never)]
+fn made<const N: usize>(text: &str, bytes: &[u8], units: &[u16]) -> usize {
+    let strings = [
+        Text::<N>::try_from_str(text).ok(),
+        Some(Text::from_str_truncate(text)),
+        Some(text.into()),
+        text.parse().ok(),
+        Text::try_from_chars(text.chars()).ok(),
+        Some(Text::from_chars(text.chars())),
+        Some(text.chars().collect()),
+        Text::try_from_iterator([text, text]).ok(),
+        Some(Text::from_iterator([text, text])),
+        Some([text, text].into_iter().collect()),
+        Text::from_utf8(bytes).ok(),
+        Text::try_from_utf8(bytes).ok(),
+        Text::from_utf16(units).ok(),
+        Text::try_from_utf16(units).ok(),
+        Some(Text::from_utf16_lossy(units)),
+        Some(Text::new()),
+        Some(Text::default()),
+    ];
+    strings.iter().flatten().map(|string| black_box(string).as_str().len()).sum()
+}
+
+#[inline(never)]
+fn added<const N: usize>(string: &mut Text<N>, text: &str, ch: char) -> bool {
+    string.push_str(text);
+    string.extend_chars(text.chars());
+    string.extend_strs([text, text]);
+    string.extend(text.chars());
+    string.extend([text]);
+    *string = *string + text;
+    string.try_push(ch).is_ok() || string.try_push_str(text).is_ok() || string.write_str(text).is_ok()
+}
+
+#[inline(never)]
+fn inserted<const N: usize>(string: &mut Text<N>, at: u8, text: &str, ch: char, steps: &mut Steps) -> bool {
+    string.try_insert(at, ch).is_ok()
+        || string.try_insert_str(at, text).is_ok()
+        || string.insert_str(at, text).is_ok()
+        || string.try_insert_str_counted(at, text, steps).is_ok()
+}
+
+#[inline(never)]
+fn replaced<const N: usize>(string: &mut Text<N>, at: u8, end: u8, text: &str, steps: &mut Steps) -> bool {
+    string.replace_range(at..end, text).is_ok() || string.replace_range_counted(at..=end, text, steps).is_ok()
+}
+
+#[inline(never)]
+fn removed<const N: usize>(string: &mut Text<N>, at: u8, steps: &mut Steps) -> u32 {
+    let chars = [string.pop(), string.pop_counted(steps), string.remove(at).ok(), string.remove_counted(at, steps).ok()];
+    string.trim();
+    string.trim_counted(steps);
+    string.trim_spaces();
+    let rest = string.split_off(at).map_or(0, |rest| u32::from(black_box(rest).len()));
+    if string.truncate(at).is_err() {
+        string.clear();
+    }
+    chars.into_iter().flatten().map(u32::from).fold(rest, u32::wrapping_add)
+}
+
+#[inline(never)]
+fn retained<const N: usize>(string: &mut Text<N>, dropped: char) {
+    string.retain(|ch| ch != dropped);
+}
+
+#[inline(never)]
+fn drained<const N: usize>(string: &mut Text<N>, at: u8, end: u8, steps: &mut Steps) -> u32 {
+    let mut sum = 0u32;
+    if let Ok(drain) = string.drain(at..end) {
+        for ch in drain {
+            sum = sum.wrapping_add(ch as u32);
+        }
+    }
+    if let Ok(mut drain) = string.drain_counted(at..=end, steps) {
+        let copy = drain;
+        while let Some(ch) = drain.next_back() {
+            sum = sum.wrapping_add(ch as u32 + u32::from(copy < drain) + u32::from(copy == drain));
+        }
+        sum = sum.wrapping_add(copy.as_str().len() as u32);
+    }
+    sum
+}
+
+#[inline(never)]
+fn cased<const N: usize>(string: &mut Text<N>) {
+    string.make_ascii_uppercase();
+    string.make_ascii_lowercase();
+}
+
+#[inline(never)]
+fn of_no_string(text: &str, units: &[u16], at: u8, steps: &mut Steps) -> usize {
+    let cut = truncate_str(text, at).len() + truncate_str_counted(text, at, steps).len();
+    let lone = Units::new(units).count();
+    cut + lone + usize::from(is_inside_boundary(at, 7u8).is_ok())
+}
+
+#[inline(never)]
+fn cached(text: &str, bytes: &[u8], units: &[u16], at: u8) -> usize {
+    let mut string = CacheString::from_str_truncate(text);
+    let rest = string.split_off(at).map_or(0, |rest| usize::from(rest.0.len()));
+    let strings = [
+        CacheString::try_from_str(text).ok(),
+        CacheString::from_utf8(bytes).ok(),
+        CacheString::from_utf16(units).ok(),
+        Some(CacheString::from_utf16_lossy(units)),
+        Some(CacheString::from_chars(text.chars())),
+        Some(string + text),
+    ];
+    rest + strings.iter().flatten().filter(|made| **black_box(made) < string || **made == string).count()
+}
+
+/// Makes all calls at a capacity, on values that the compiler knows nothing of.
+#[inline(never)]
+fn all_at<const N: usize>(text: &str, bytes: &[u8], units: &[u16], at: u8, end: u8, ch: char) -> usize {
+    let mut steps = Steps::new();
+    let (mut string, other) = (black_box(Text::<N>::new()), black_box(Text::<N>::new()));
+    let mut told = made::<N>(text, bytes, units);
+    told += usize::from(added(&mut string, text, ch));
+    told += usize::from(inserted(&mut string, at, text, ch, &mut steps));
+    told += usize::from(replaced(&mut string, at, end, text, &mut steps));
+    told += drained(&mut string, at, end, &mut steps) as usize;
+    retained(&mut string, ch);
+    cased(&mut string);
+    told += usize::from(shown(&string, &other, at, end));
+    told + removed(&mut string, at, &mut steps) as usize
+}
+
+#[unsafe(no_mangle)]
+extern "C" fn main(count: i32) -> i32 {
+    let (text, bytes, units) = black_box(("aé€🤔", &b"a\xC3\xA9"[..], &[0x61, 0xE9, 0xD83E, 0xDD14][..]));
+    let (at, end, ch) = black_box((count as u8, 3, 'é'));
+    let told = all_at::<23>(text, bytes, units, at, end, ch)
+        + all_at::<63>(text, bytes, units, at, end, ch)
+        + all_at::<255>(text, bytes, units, at, end, ch)
+        + of_no_string(text, units, at, &mut Steps::new())
+        + cached(text, bytes, units, at);
+    black_box(told);
+    0
+}
