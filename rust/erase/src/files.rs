@@ -5,7 +5,7 @@ use std::fs;
 use std::path::{Path, PathBuf};
 
 use crate::erase::{Source, Tally, erase, line_of};
-use crate::rules::{AGAIN, BY_HAND, BY_STD, CRATES, ENSURED, FATES, INSIDE, INVARIANTS, Invariant, KNOWN, LEFT_OUT, REPLACED, TESTED, WIDER};
+use crate::rules::{AGAIN, BODIES, BY_HAND, BY_STD, CRATES, FATES, INSIDE, INVARIANTS, Invariant, KNOWN, LEFT_OUT, REPLACED, TESTED, WIDER};
 
 /// Each file of the Rust crate that is made, by its path in `src`.
 pub type Made = BTreeMap<String, String>;
@@ -68,8 +68,8 @@ fn all_used(tally: &Tally) -> Result<(), String> {
     let names = names.chain(REPLACED.iter().map(|rule| format!("line {}", rule.from)));
     let names = names.chain(BY_STD.iter().map(|rule| format!("by std {}", rule.file)));
     let names = names.chain(KNOWN.iter().map(|(call, clause)| format!("known {call} {clause}")));
-    let names = names.chain(AGAIN.iter().map(|(call, clause, _)| format!("again {call} {clause}")));
-    let names = names.chain(ENSURED.iter().map(|rule| format!("ensured {} {}", rule.ensures.0, rule.ensures.1)));
+    let names = names.chain(AGAIN.iter().map(|rule| format!("again {} {}", rule.call, rule.before)));
+    let names = names.chain(BODIES.iter().map(|rule| format!("body {}", rule.call)));
     let names = names.chain(INSIDE.iter().map(|rule| format!("inside {}", rule.call)));
     let invariants = INVARIANTS.iter().flat_map(|rule| rule.calls);
     let names = names.chain(invariants.map(|call| format!("invariant {call}")));

@@ -8,7 +8,7 @@ use crate::cursor::{Cursor, Fault, Token};
 use crate::erase::Source;
 use crate::items::{File, Inside, Lead};
 use crate::known::{Names, test_of};
-use crate::rules::{AGAIN, BEHIND, ENSURED, FATES, Fate, INVARIANTS, KNOWN, LEFT_OUT, PRIVATE, WALK, WIDER};
+use crate::rules::{AGAIN, BEHIND, BODIES, FATES, Fate, INVARIANTS, KNOWN, LEFT_OUT, PRIVATE, WALK, WIDER, Why};
 
 /// A function as it was read.
 struct Function {
@@ -41,7 +41,7 @@ impl<'a> File<'a, '_> {
         let name = function.call.rsplit("::").next().unwrap_or_default();
         if LEFT_OUT.iter().any(|rule| rule.name == name) {
             self.edits.replace(self.lines(lead.start..function.end), "");
-            self.tally.count("laws left out");
+            self.tally.count("functions left out");
             self.tally.used.insert(name.to_string());
             return Ok(());
         }
@@ -50,9 +50,12 @@ impl<'a> File<'a, '_> {
         self.wider(&function)?;
         let has_words = self.precondition(&function, lead, inside)?;
         self.known(&function)?;
-        self.ensured(&function)?;
+        self.again(&function)?;
         self.contract(&function, lead, has_words)?;
         self.hint(&function, lead);
+        if self.other_body(&function) {
+            return Ok(());
+        }
         let Source { krate, path, .. } = *self.source;
         let is_tested = FATES.iter().any(|(call, fate)| *call == function.call && matches!(fate, Fate::Panics(_, Some(_))));
         let here = Here { krate, path, owner: inside.owner, call: &function.call, is_tested };
@@ -157,8 +160,7 @@ impl<'a> File<'a, '_> {
 
     /// Puts what is known at the start of a body: clauses that the function requires, and the invariant of its type.
     fn known(&mut self, function: &Function) -> Result<(), Fault> {
-        let Function { call, head, body, preconditions, .. } = function;
-        let fault = |why: String| Fault::new(head.start, format!("`{call}`: {why}"));
+        let Function { call, body, .. } = function;
         let mut tests = Vec::new();
         for (name, invariant) in INVARIANTS.iter().flat_map(|rule| rule.calls.iter().map(move |call| (call, rule))) {
             if name == call {
@@ -167,15 +169,8 @@ impl<'a> File<'a, '_> {
             }
         }
         for (_, clause) in KNOWN.iter().filter(|(name, _)| name == call) {
-            let found = preconditions.iter().find(|precondition| precondition.name == *clause);
-            let found = found.ok_or_else(|| fault(format!("it has no clause `{clause}` that could be known")))?;
-            if found.is_given_up() || !self.tally.contracts.is_unsafe(call) {
-                return Err(fault(format!("`{clause}` is no fact in Rust, since safe calls do not show it")));
-            }
-            let test = test_of(&found.text, &Names { head: &self.text[head.clone()] }).map_err(fault)?;
             let name = if clause.is_empty() { "precondition" } else { *clause };
-            self.again(function, clause, &format!("known!({name}: {test});"));
-            tests.push((name, test));
+            tests.push((name, self.test(function, clause)?));
             self.tally.used.insert(format!("known {call} {clause}"));
         }
         let line = self.text[*body..].split('\n').nth(1).unwrap_or_default();
@@ -187,32 +182,57 @@ impl<'a> File<'a, '_> {
         Ok(())
     }
 
-    /// Puts a clause that is known before the lines of a body at which it is to stand once more.
-    fn again(&mut self, function: &Function, clause: &str, known: &str) {
-        for (call, _, words) in AGAIN.iter().filter(|(call, name, _)| *call == function.call && *name == clause) {
+    /// Puts what is known once more before the lines of a body at which it is to stand.
+    fn again(&mut self, function: &Function) -> Result<(), Fault> {
+        for rule in AGAIN.iter().filter(|rule| rule.call == function.call) {
+            let fault = |why: String| Fault::new(function.head.start, format!("`{}`: {why}", rule.call));
+            let (test, comment) = match &rule.why {
+                Why::Requires => (self.test(function, rule.clause)?, String::new()),
+                Why::Ensures(callee, says, test) => {
+                    let contracts = &self.tally.contracts;
+                    if contracts.is_whole && !contracts.ensures(callee, rule.clause, says) {
+                        return Err(fault(format!("`{callee}` does not ensure `{} {{ {says} }}`", rule.clause)));
+                    }
+                    let name = callee.rsplit("::").next().unwrap_or_default();
+                    (test.to_string(), format!("// What `{name}` ensures.\n"))
+                }
+                Why::Follows(test, why) => (test.to_string(), format!("// {why}\n")),
+            };
+            let name = if rule.clause.is_empty() { "precondition" } else { rule.clause };
             let body = &self.text[function.body..function.end];
             let lines = body.match_indices('\n').map(|(at, _)| function.body + at + 1);
-            for at in lines.filter(|at| self.text[*at..].trim_start_matches(' ').starts_with(words)).collect::<Vec<_>>() {
+            for at in lines.filter(|at| self.text[*at..].trim_start_matches(' ').starts_with(rule.before)).collect::<Vec<_>>() {
                 let indent = self.indent(at);
-                self.edits.insert(at, format!("{indent}{known}\n"));
+                let comment = if comment.is_empty() { String::new() } else { format!("{indent}{comment}") };
+                self.edits.insert(at, format!("{comment}{indent}known!({name}: {test});\n"));
                 self.tally.count("clauses that are known once more");
-                self.tally.used.insert(format!("again {call} {clause}"));
+                self.tally.used.insert(format!("again {} {}", rule.call, rule.before));
             }
-        }
-    }
-
-    /// Puts what a callee ensures behind the line that calls it.
-    fn ensured(&mut self, function: &Function) -> Result<(), Fault> {
-        for rule in ENSURED.iter().filter(|rule| rule.call == function.call) {
-            let (callee, clause, says) = rule.ensures;
-            if self.tally.contracts.is_whole && !self.tally.contracts.ensures(callee, clause, says) {
-                let why = format!("`{callee}` does not ensure `{clause} {{ {says} }}`");
-                return Err(Fault::new(function.head.start, why));
-            }
-            self.put_behind(rule.behind, &format!("known!({clause}: {});", rule.test), function.body..function.end)?;
-            self.tally.used.insert(format!("ensured {callee} {clause}"));
         }
         Ok(())
+    }
+
+    /// The test of a clause that a function requires, and that something in Rust may rest on.
+    fn test(&self, function: &Function, clause: &str) -> Result<String, Fault> {
+        let Function { call, head, preconditions, .. } = function;
+        let fault = |why: String| Fault::new(head.start, format!("`{call}`: {why}"));
+        let found = preconditions.iter().find(|precondition| precondition.name == clause);
+        let found = found.ok_or_else(|| fault(format!("it has no clause `{clause}` that could be known")))?;
+        if found.is_given_up() || !self.tally.contracts.is_unsafe(call) {
+            return Err(fault(format!("`{clause}` is no fact in Rust, since safe calls do not show it")));
+        }
+        test_of(&found.text, &Names { head: &self.text[head.clone()] }).map_err(fault)
+    }
+
+    /// Puts another body in the place of that of a function, if a rule has one.
+    fn other_body(&mut self, function: &Function) -> bool {
+        let Some(rule) = BODIES.iter().find(|rule| rule.call == function.call) else { return false };
+        let indent = self.indent(function.head.start);
+        let lines: String = rule.lines.iter().map(|line| format!("\n{indent}    {line}")).collect();
+        self.edits.replace(function.body..function.end - 1, format!("{lines}\n{indent}"));
+        self.tally.count("bodies that are others in Rust");
+        self.tally.used.insert(format!("body {}", rule.call));
+        true
     }
 
     /// Makes a section of the clauses, and takes them out of the code.

@@ -1,7 +1,7 @@
 //! A clause of arithmetic as a test that Rust can make: what stands behind `known!`.
 //!
-//! Clauses speak of numbers without an upper bound. So a sum on the left of a comparison becomes a chain of subtractions that
-//! can't wrap, and a difference stops at 0, as it does in a clause. What can't be read so is refused.
+//! Clauses speak of numbers without an upper bound. So a sum on the left of a comparison is tested not to wrap, and a
+//! difference stops at 0, as it does in a clause. What can't be read so is refused.
 
 /// What the names of a clause are in its function.
 pub struct Names<'a> {
@@ -46,16 +46,18 @@ impl Number {
     }
 }
 
-/// `a + b ≤ c` as `b <= c && a <= c - b`, and so with more parts, each of which leaves room for those before it.
+/// `a + b ≤ c` as `a + b <= c && a <= a + b`, and so with more parts: the sum, and that no part of it wraps.
 fn at_most(sum: Number, sign: &str, limit: &str) -> Result<String, String> {
-    let (mut tests, mut room) = (Vec::new(), limit.to_string());
-    let mut parts = sum.parts();
-    while let Some(part) = parts.pop() {
+    let (mut total, mut wraps) = (String::new(), String::new());
+    for part in sum.parts() {
         let part = part.written()?;
-        tests.push(format!("{part} {sign} {room}"));
-        room = format!("{room} - {part}");
+        let more = if total.is_empty() { part } else { format!("{total} + {part}") };
+        if !total.is_empty() {
+            wraps += &format!(" && {total} <= {more}");
+        }
+        total = more;
     }
-    Ok(tests.join(" && "))
+    Ok(format!("{total} {sign} {limit}{wraps}"))
 }
 
 /// The words and signs of a clause.
@@ -205,25 +207,31 @@ mod tests {
     }
 
     #[test]
-    fn sums_leave_room_for_each_other() {
+    fn sums_do_not_wrap() {
         let capacity = "usize::from(crate::ArrayString::<N>::capacity())";
         for (clause, test) in [
-            ("from + len ≤ N", "len <= N && from <= N - len".to_string()),
-            ("at + K ≤ length given.now", "K <= given.len() && usize::from(at) <= given.len() - K".to_string()),
-            ("from + width ch ≤ N", "ch.len_utf8() <= N && from <= N - ch.len_utf8()".to_string()),
+            ("from + len ≤ N", "from + len <= N && from <= from + len".to_string()),
+            (
+                "at + K ≤ length given.now",
+                "usize::from(at) + K <= given.len() && usize::from(at) <= usize::from(at) + K".to_string(),
+            ),
+            ("from + width ch ≤ N", "from + ch.len_utf8() <= N && from <= from + ch.len_utf8()".to_string()),
             ("at < length given.now", "usize::from(at) < given.len()".to_string()),
             ("K ≤ 64", "K <= 64".to_string()),
-            ("from + size ≤ N", "size <= N && from <= N - size".to_string()),
+            ("from + size ≤ N", "from + size <= N && from <= from + size".to_string()),
             ("length given.now - K ≤ K", "given.len().saturating_sub(K) <= K".to_string()),
             ("length given.now ≡ K", "given.len() == K".to_string()),
             (
                 "size self.old.text + size (chars given.now) ≤ cap N",
-                format!("given.len() <= {capacity} && usize::from(self.len()) <= {capacity} - given.len()"),
+                format!(
+                    "usize::from(self.len()) + given.len() <= {capacity} \
+                     && usize::from(self.len()) <= usize::from(self.len()) + given.len()"
+                ),
             ),
             (
-                "text.offset + (from + (text.size - to)) ≤ N",
-                "text.size.saturating_sub(to) <= N && from <= N - text.size.saturating_sub(to) \
-                 && text.offset <= N - text.size.saturating_sub(to) - from"
+                "from + (to + (text.size - len)) < N",
+                "from + to + text.size.saturating_sub(len) < N && from <= from + to \
+                 && from + to <= from + to + text.size.saturating_sub(len)"
                     .to_string(),
             ),
             ("IsTrue (boundary self.old.text at)", "self.as_str().is_char_boundary(usize::from(at))".to_string()),

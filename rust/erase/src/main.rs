@@ -61,6 +61,9 @@ fn run(root: &std::path::Path, is_check: bool) -> Result<(), String> {
     for rule in rules::REPLACED {
         println!("another line: {}: `{}` is `{}`: {}", rule.file, rule.from, rule.to, rule.why);
     }
+    for rule in rules::BODIES {
+        println!("another body: `{}`: {}", rule.call, rule.why);
+    }
     for rule in rules::BY_STD {
         println!("by std: {}: `{}`: {}", rule.file, rule.body, rule.why);
     }

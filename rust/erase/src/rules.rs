@@ -35,9 +35,10 @@ pub struct Tested {
     pub why: &'static str,
 }
 
-/// What is left out of the Rust crate: modules, and laws about them.
+/// What is left out of the Rust crate: modules, laws about them, and what no other body calls here.
 pub const LEFT_OUT: &[LeftOut] = &[
     LeftOut { name: "integration", why: "it stands on `serde_json`, and the Rust crate has no dependency" },
+    LeftOut { name: "between", why: "`get` asks std for the part, and `slice` has the index itself" },
     LeftOut { name: "json_reads_back", why: "a law about JSON texts" },
     LeftOut { name: "json_reads_whole", why: "a law about JSON texts" },
 ];
@@ -175,33 +176,73 @@ pub const KNOWN: &[(&str, &str)] = &[
     ("ascii::uppercase_bytes", "within"),
     ("ascii::lowercase_bytes", "order"),
     ("ascii::lowercase_bytes", "within"),
-    ("ArrayString::between", "order"),
-    ("ArrayString::between", "start"),
-    ("ArrayString::between", "end"),
     ("ArrayString::char_at", "boundary"),
     ("ArrayString::char_at", "before_end"),
 ];
 
-/// Clauses that stand as known once more, before each line of the body that begins with these words: by then the compiler
-/// knows which branch was taken. What the clause names is not changed in the body.
-pub const AGAIN: &[(&str, &str, &str)] = &[("utils::encode", "", "all[at"), ("retain::retain_at", "held", "let all =")];
-
-/// A clause that a callee ensures, known behind the line of the call.
-pub struct Ensured {
+/// What is known once more in the middle of a body, where the compiler knows which branch was taken.
+pub struct Again {
     pub call: &'static str,
-    /// The line of the call.
-    pub behind: &'static str,
-    /// The callee, the name of its clause and what that says.
-    pub ensures: (&'static str, &'static str, &'static str),
-    /// The same of what the line names.
-    pub test: &'static str,
+    /// It stands before each line of the body that begins with these words.
+    pub before: &'static str,
+    pub clause: &'static str,
+    pub why: Why,
 }
 
-pub const ENSURED: &[Ensured] = &[Ensured {
-    call: "utils::truncate_str_counted",
-    behind: "let end = last_boundary(text, limit, steps);",
-    ensures: ("utils::last_boundary", "boundary", "IsCharBoundary text.now result"),
-    test: "text.is_char_boundary(end)",
+/// Why something is known there.
+pub enum Why {
+    /// The function requires the clause, and what it names is not changed in the body.
+    Requires,
+    /// A callee ensures the clause in these words, which are this test of what the body names.
+    Ensures(&'static str, &'static str, &'static str),
+    /// This test follows, for these reasons.
+    Follows(&'static str, &'static str),
+}
+
+const NOT_ALL: &str = "The invariant has it at most the size, and the test above leaves where it is the size.";
+
+pub const AGAIN: &[Again] = &[
+    Again { call: "utils::encode", before: "all[at", clause: "", why: Why::Requires },
+    Again {
+        call: "utils::truncate_str_counted",
+        before: "&text[..end]",
+        clause: "boundary",
+        why: Why::Ensures("utils::last_boundary", "IsCharBoundary text.now result", "text.is_char_boundary(end)"),
+    },
+    Again {
+        call: "retain::retain_at",
+        before: "let all =",
+        clause: "held",
+        why: Why::Follows(
+            "offset + size <= N && offset + read < offset + size",
+            "The clause `held`, and the test of the loop.",
+        ),
+    },
+    Again {
+        call: "Drain::next",
+        before: "let first =",
+        clause: "invariant",
+        why: Why::Follows("self.front < self.size", NOT_ALL),
+    },
+    Again {
+        call: "Drain::next_back",
+        before: "let last =",
+        clause: "invariant",
+        why: Why::Follows("self.front < self.size", NOT_ALL),
+    },
+];
+
+/// A function whose body is another one in the Rust crate.
+pub struct Body {
+    pub call: &'static str,
+    pub lines: &'static [&'static str],
+    pub why: &'static str,
+}
+
+pub const BODIES: &[Body] = &[Body {
+    call: "ArrayString::get",
+    lines: &["let (start, end) = plain_ends(range, self.len());", "self.as_str().get(start..end)"],
+    why: "std makes the same tests, and the index behind them makes none again",
 }];
 
 /// Calls of what is public, safe and panics, which bodies make by a function of `by_hand` that knows a clause instead.

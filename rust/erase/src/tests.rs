@@ -213,7 +213,7 @@ fn a_clause_of_the_list_is_known_at_the_start_of_its_body() {
         );
         made_as("arraystring_base/src/moves.rt", &text)
     };
-    let known = "given: &[u8]) {\n    known!(precondition: given.len() <= N && at <= N - given.len());\n    write(array";
+    let known = "given: &[u8]) {\n    known!(precondition: at + given.len() <= N && at <= at + given.len());\n    write(array";
     let text = write_over("{ at + length given.now ≤ N }").unwrap();
     assert!(text.contains(known), "{text}");
     let name = "`moves::write_over`: it has no clause `` that could be known";

@@ -26,8 +26,8 @@ use crate::by_hand::simd::Simd;
 /// ```
 #[inline(always)]
 pub unsafe fn move_run<const N: usize>(array: &mut [u8; N], from: usize, to: usize, len: usize) {
-    known!(source: len <= N && from <= N - len);
-    known!(target: len <= N && to <= N - len);
+    known!(source: from + len <= N && from <= from + len);
+    known!(target: to + len <= N && to <= to + len);
     if N > 64 && len > 64 {
         // SAFETY: the proof of `move_run` in crates/arraystring_base/src/moves.rt shows `source`, `target` and `long` of `move_much`.
         unsafe { move_much(array, from, to, len) };
@@ -56,8 +56,8 @@ pub unsafe fn move_run<const N: usize>(array: &mut [u8; N], from: usize, to: usi
 /// ```
 #[inline(always)]
 unsafe fn move_short_run<const N: usize>(array: &mut [u8; N], from: usize, to: usize, len: usize) {
-    known!(source: len <= N && from <= N - len);
-    known!(target: len <= N && to <= N - len);
+    known!(source: from + len <= N && from <= from + len);
+    known!(target: to + len <= N && to <= to + len);
     if len >= 4 {
         if len >= 8 {
             // SAFETY: the proof of `move_short_run` in crates/arraystring_base/src/moves.rt shows `source`, `target`, `least` and `most` of `move_ends`.
@@ -92,8 +92,8 @@ unsafe fn move_short_run<const N: usize>(array: &mut [u8; N], from: usize, to: u
 /// ```
 #[inline(always)]
 unsafe fn move_long_run<const N: usize>(array: &mut [u8; N], from: usize, to: usize, len: usize) {
-    known!(source: len <= N && from <= N - len);
-    known!(target: len <= N && to <= N - len);
+    known!(source: from + len <= N && from <= from + len);
+    known!(target: to + len <= N && to <= to + len);
     if N > 32 && len > 32 {
         // SAFETY: the proof of `move_long_run` in crates/arraystring_base/src/moves.rt shows `source`, `target`, `least` and `most` of `move_ends`.
         unsafe { move_ends::<N, 32>(array, from, to, len) };
@@ -119,8 +119,8 @@ unsafe fn move_long_run<const N: usize>(array: &mut [u8; N], from: usize, to: us
 /// ```
 #[inline(always)]
 unsafe fn move_much<const N: usize>(array: &mut [u8; N], from: usize, to: usize, len: usize) {
-    known!(source: len <= N && from <= N - len);
-    known!(target: len <= N && to <= N - len);
+    known!(source: from + len <= N && from <= from + len);
+    known!(target: to + len <= N && to <= to + len);
     if len <= 128 {
         // SAFETY: the proof of `move_much` in crates/arraystring_base/src/moves.rt shows `source`, `target`, `least` and `most` of `move_ends`.
         unsafe { move_ends::<N, 64>(array, from, to, len) };
@@ -149,8 +149,8 @@ unsafe fn move_much<const N: usize>(array: &mut [u8; N], from: usize, to: usize,
 #[cold]
 #[inline(never)]
 unsafe fn move_any_run<const N: usize>(array: &mut [u8; N], from: usize, to: usize, len: usize) {
-    known!(source: len <= N && from <= N - len);
-    known!(target: len <= N && to <= N - len);
+    known!(source: from + len <= N && from <= from + len);
+    known!(target: to + len <= N && to <= to + len);
     let all = &mut array[..];
     all.copy_within(from..from + len, to);
 }
@@ -177,8 +177,8 @@ unsafe fn move_ends<const N: usize, const K: usize>(
     to: usize,
     len: usize,
 ) {
-    known!(source: len <= N && from <= N - len);
-    known!(target: len <= N && to <= N - len);
+    known!(source: from + len <= N && from <= from + len);
+    known!(target: to + len <= N && to <= to + len);
     known!(least: K <= len);
     let rest = len - K;
     // SAFETY: the proof of `move_ends` in crates/arraystring_base/src/moves.rt shows the precondition of `bytes_at`.
@@ -213,9 +213,9 @@ unsafe fn move_pairs<const N: usize, const K: usize>(
     to: usize,
     len: usize,
 ) {
-    known!(source: len <= N && from <= N - len);
-    known!(target: len <= N && to <= N - len);
-    known!(least: K <= len && K <= len - K);
+    known!(source: from + len <= N && from <= from + len);
+    known!(target: to + len <= N && to <= to + len);
+    known!(least: K + K <= len && K <= K + K);
     let rest = len - (K + K);
     // SAFETY: the proof of `move_pairs` in crates/arraystring_base/src/moves.rt shows the precondition of `bytes_at`.
     let front = unsafe { bytes_at::<N, K>(array, from) };
@@ -250,7 +250,7 @@ unsafe fn move_pairs<const N: usize, const K: usize>(
 /// ```
 #[inline(always)]
 pub unsafe fn write_over<const N: usize>(array: &mut [u8; N], at: usize, given: &[u8]) {
-    known!(precondition: given.len() <= N && at <= N - given.len());
+    known!(precondition: at + given.len() <= N && at <= at + given.len());
     if given.len() >= 16 {
         // SAFETY: the proof of `write_over` in crates/arraystring_base/src/moves.rt shows `room` and `least` of `write_long_run`.
         unsafe { write_long_run(array, at, given) };
@@ -275,7 +275,7 @@ pub unsafe fn write_over<const N: usize>(array: &mut [u8; N], at: usize, given: 
 /// ```
 #[inline(always)]
 unsafe fn write_short_run<const N: usize>(array: &mut [u8; N], at: usize, given: &[u8]) {
-    known!(room: given.len() <= N && at <= N - given.len());
+    known!(room: at + given.len() <= N && at <= at + given.len());
     let len = given.len();
     if len >= 4 {
         if len >= 8 {
@@ -309,7 +309,7 @@ unsafe fn write_short_run<const N: usize>(array: &mut [u8; N], at: usize, given:
 /// ```
 #[inline(always)]
 unsafe fn write_long_run<const N: usize>(array: &mut [u8; N], at: usize, given: &[u8]) {
-    known!(room: given.len() <= N && at <= N - given.len());
+    known!(room: at + given.len() <= N && at <= at + given.len());
     let len = given.len();
     if N > 64 && len > 64 {
         // SAFETY: the proof of `write_long_run` in crates/arraystring_base/src/moves.rt shows the precondition of `write_any_run`.
@@ -337,7 +337,7 @@ unsafe fn write_long_run<const N: usize>(array: &mut [u8; N], at: usize, given: 
 /// ```
 #[inline(never)]
 unsafe fn write_any_run<const N: usize>(array: &mut [u8; N], at: usize, given: &[u8]) {
-    known!(precondition: given.len() <= N && at <= N - given.len());
+    known!(precondition: at + given.len() <= N && at <= at + given.len());
     let all = &mut array[..];
     all[at..at + given.len()].copy_from_slice(given);
 }
@@ -358,7 +358,7 @@ unsafe fn write_any_run<const N: usize>(array: &mut [u8; N], at: usize, given: &
 /// ```
 #[inline(always)]
 unsafe fn copy_ends<const N: usize, const K: usize>(array: &mut [u8; N], at: usize, given: &[u8]) {
-    known!(room: given.len() <= N && at <= N - given.len());
+    known!(room: at + given.len() <= N && at <= at + given.len());
     known!(least: K <= given.len());
     let rest = given.len() - K;
     // SAFETY: the proof of `copy_ends` in crates/arraystring_base/src/moves.rt shows the precondition of `bytes_of`.
@@ -385,7 +385,7 @@ unsafe fn copy_ends<const N: usize, const K: usize>(array: &mut [u8; N], at: usi
 /// ```
 #[inline(always)]
 unsafe fn bytes_at<const N: usize, const K: usize>(array: &[u8; N], at: usize) -> Simd<u8, K> {
-    known!(precondition: K <= N && at <= N - K);
+    known!(precondition: at + K <= N && at <= at + K);
     let all = &array[..];
     // SAFETY: the proof of `bytes_at` in crates/arraystring_base/src/moves.rt shows the precondition of `bytes_of`.
     unsafe { bytes_of(all, at) }
@@ -405,7 +405,7 @@ unsafe fn bytes_at<const N: usize, const K: usize>(array: &[u8; N], at: usize) -
 /// ```
 #[inline(always)]
 unsafe fn bytes_of<const K: usize>(given: &[u8], at: usize) -> Simd<u8, K> {
-    known!(precondition: K <= given.len() && at <= given.len() - K);
+    known!(precondition: at + K <= given.len() && at <= at + K);
     Simd::<u8, K>::from_slice(&given[at..at + K])
 }
 
@@ -423,7 +423,7 @@ unsafe fn bytes_of<const K: usize>(given: &[u8], at: usize) -> Simd<u8, K> {
 /// ```
 #[inline(always)]
 unsafe fn put_bytes<const N: usize, const K: usize>(array: &mut [u8; N], at: usize, bytes: Simd<u8, K>) {
-    known!(precondition: K <= N && at <= N - K);
+    known!(precondition: at + K <= N && at <= at + K);
     let all = &mut array[..];
     bytes.copy_to_slice(&mut all[at..at + K]);
 }

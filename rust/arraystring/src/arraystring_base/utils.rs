@@ -81,6 +81,7 @@ pub fn truncate_str_counted<'a>(text: &'a str, size: u8, steps: &mut Steps) -> &
     }
     // SAFETY: the proof of `truncate_str_counted` in crates/arraystring_base/src/utils.rt shows `within` of `last_boundary`.
     let end = unsafe { last_boundary(text, limit, steps) };
+    // What `last_boundary` ensures.
     known!(boundary: text.is_char_boundary(end));
     &text[..end]
 }
@@ -138,24 +139,24 @@ pub fn last_char(text: &str, steps: &mut Steps) -> Option<(usize, char)> {
 /// ```
 #[inline(always)]
 pub unsafe fn encode<const N: usize>(ch: char, array: &mut [u8; N], at: usize) -> usize {
-    known!(precondition: ch.len_utf8() <= N && at <= N - ch.len_utf8());
+    known!(precondition: at + ch.len_utf8() <= N && at <= at + ch.len_utf8());
     let code = ch as u32;
     let all = &mut array[..];
     if code < 0x80 {
-        known!(precondition: ch.len_utf8() <= N && at <= N - ch.len_utf8());
+        known!(precondition: at + ch.len_utf8() <= N && at <= at + ch.len_utf8());
         all[at] = code as u8;
         1
     } else if code < 0x800 {
         let first = (0xC0 + code / 64) as u8;
         let second = (0x80 + code % 64) as u8;
-        known!(precondition: ch.len_utf8() <= N && at <= N - ch.len_utf8());
+        known!(precondition: at + ch.len_utf8() <= N && at <= at + ch.len_utf8());
         all[at..at + 2].copy_from_slice(&[first, second]);
         2
     } else if code < 0x1_0000 {
         let first = (0xE0 + code / 4096) as u8;
         let second = (0x80 + code / 64 % 64) as u8;
         let third = (0x80 + code % 64) as u8;
-        known!(precondition: ch.len_utf8() <= N && at <= N - ch.len_utf8());
+        known!(precondition: at + ch.len_utf8() <= N && at <= at + ch.len_utf8());
         all[at..at + 3].copy_from_slice(&[first, second, third]);
         3
     } else {
@@ -163,7 +164,7 @@ pub unsafe fn encode<const N: usize>(ch: char, array: &mut [u8; N], at: usize) -
         let second = (0x80 + code / 4096 % 64) as u8;
         let third = (0x80 + code / 64 % 64) as u8;
         let fourth = (0x80 + code % 64) as u8;
-        known!(precondition: ch.len_utf8() <= N && at <= N - ch.len_utf8());
+        known!(precondition: at + ch.len_utf8() <= N && at <= at + ch.len_utf8());
         all[at..at + 4].copy_from_slice(&[first, second, third, fourth]);
         4
     }

@@ -119,6 +119,8 @@ impl<const N: usize> Iterator for Drain<N> {
             return None;
         }
         // A byte of ASCII is its character; others take the decoder.
+        // The invariant has it at most the size, and the test above leaves where it is the size.
+        known!(invariant: self.front < self.size);
         let first = self.array[self.start as usize + self.front as usize];
         if first < 0x80 {
             self.front += 1;
@@ -148,6 +150,8 @@ impl<const N: usize> DoubleEndedIterator for Drain<N> {
         if self.size == self.front {
             return None;
         }
+        // The invariant has it at most the size, and the test above leaves where it is the size.
+        known!(invariant: self.front < self.size);
         let last = self.array[self.start as usize + self.size as usize - 1];
         if last < 0x80 {
             self.size -= 1;

@@ -182,7 +182,7 @@ unsafe fn try_fill_small<const N: usize>(array: &mut [u8; N], given: &[u8]) -> (
 /// ```
 #[inline(always)]
 pub(crate) unsafe fn write_by_call<const N: usize>(array: &mut [u8; N], at: usize, given: &[u8]) {
-    known!(precondition: given.len() <= N && at <= N - given.len());
+    known!(precondition: at + given.len() <= N && at <= at + given.len());
     let all = &mut array[..];
     all[at..at + given.len()].copy_from_slice(given);
 }

@@ -32,13 +32,14 @@ pub(crate) unsafe fn retain_at<const N: usize, F: FnMut(char) -> bool>(
     size: usize,
     mut f: F,
 ) -> usize {
-    known!(held: size <= N && offset <= N - size);
+    known!(held: offset + size <= N && offset <= offset + size);
     // The first `kept` bytes stay, and so do those from `run` to `read`, which were not moved yet.
     let mut kept = 0;
     let mut run = 0;
     let mut read = 0;
     while read < size {
-        known!(held: size <= N && offset <= N - size);
+        // The clause `held`, and the test of the loop.
+        known!(held: offset + size <= N && offset + read < offset + size);
         let all = &array[..];
         // SAFETY: the clause `text`: what was not read yet is UTF-8, since a character begins at `read`.
         let text = unsafe { str::from_utf8_unchecked(&all[offset + read..offset + size]) };
@@ -73,8 +74,8 @@ pub(crate) unsafe fn retain_at<const N: usize, F: FnMut(char) -> bool>(
 /// ```
 #[inline(always)]
 unsafe fn shift_run<const N: usize>(array: &mut [u8; N], from: usize, to: usize, len: usize) {
-    known!(source: len <= N && from <= N - len);
-    known!(target: len <= N && to <= N - len);
+    known!(source: from + len <= N && from <= from + len);
+    known!(target: to + len <= N && to <= to + len);
     if len == 0 {
         return;
     }
@@ -102,8 +103,8 @@ unsafe fn shift_run<const N: usize>(array: &mut [u8; N], from: usize, to: usize,
 /// ```
 #[inline(never)]
 unsafe fn shift_long_run<const N: usize>(array: &mut [u8; N], from: usize, to: usize, len: usize) {
-    known!(source: len <= N && from <= N - len);
-    known!(target: len <= N && to <= N - len);
+    known!(source: from + len <= N && from <= from + len);
+    known!(target: to + len <= N && to <= to + len);
     // SAFETY: the proof of `shift_long_run` in crates/arraystring_core/src/retain.rt shows `source` and `target` of `shift`.
     unsafe { shift(array, from, to, len, &mut Steps::new()) };
 }

@@ -66,11 +66,7 @@ impl<const N: usize> ArrayString<N> {
     #[inline]
     pub fn get<R: RangeBounds<u8>>(&self, range: R) -> Option<&str> {
         let (start, end) = plain_ends(range, self.len());
-        if start > end || !self.is_boundary(start) || !self.is_boundary(end) {
-            return None;
-        }
-        // SAFETY: the proof of `get` in crates/arraystring_core/src/array_string/range.rt shows `order`, `start` and `end` of `between`.
-        Some(unsafe { self.between(start, end) })
+        self.as_str().get(start..end)
     }
 
     /// Removes the part in the range and returns its characters as a `Drain`. The part is removed
@@ -302,28 +298,6 @@ impl<const N: usize> ArrayString<N> {
         let _ = &self.as_str()[start..end];
         // SAFETY: by what the index above tests, the proof of `make_ascii_lowercase_in` in crates/arraystring_core/src/array_string/range.rt shows `order`, `start` and `end` of `lowercase_between`.
         unsafe { self.lowercase_between(start, end) };
-    }
-
-    /// The part between two boundaries.
-    ///
-    /// # Safety
-    ///
-    /// Each clause `requires` of the contract must hold, but for those on counts, on iterators and on closures.
-    ///
-    /// # Contract
-    ///
-    /// ```text
-    /// requires order { start ≤ end }
-    /// requires start { IsTrue (boundary self.now.text start) }
-    /// requires end { IsTrue (boundary self.now.text end) }
-    /// ensures { result.now ≡ bytes (part self.now.text start end) }
-    /// ```
-    #[inline]
-    unsafe fn between(&self, start: usize, end: usize) -> &str {
-        known!(order: start <= end);
-        known!(start: self.as_str().is_char_boundary(start));
-        known!(end: self.as_str().is_char_boundary(end));
-        &self.as_str()[start..end]
     }
 
     /// Whether the bytes from `start` to `end` can be taken out, and else why not.
