@@ -87,4 +87,4 @@ pub const CALLS: &[u8] = &[
 pub const COUNTED: &[u8] = &[24, 25, 30, 31, 33, 37];
 
 /// Those that arrayvec has, the Rust crate and the kit's.
-pub const CALLS_OF_ARRAYVEC: &[u8] = &[0, 1, 3, 10, 11, 12, 13, 14, 15, 16, 20, 21, 26, 30, 31, 32];
+pub const CALLS_OF_ARRAYVEC: &[u8] = &[0, 1, 3, 10, 11, 12, 13, 14, 15, 16, 17, 18, 19, 20, 21, 26, 30, 31, 32];

@@ -1,9 +1,9 @@
 //! Makes the calls that `run` counts: those of the port and of the kit's arrayvec, through their static library, and
 //! those of the peers in Rust, with the same tests before them.
 //!
-//! Arguments: the capacity, `ascii` or `mixed`, `front`, `middle`, `edges` or `clock`, and how often each call is made.
-//! All sides have to give the same answer and to leave the same text. `edges` prints the title of each edge, and `clock`
-//! what it timed.
+//! Arguments: the capacity, `ascii` or `mixed`, `front`, `middle`, `edges`, `short` or a clock, and how often each
+//! call is made. All sides have to give the same answer and to leave the same text. `edges` and `short` print the title of
+//! each case, and the clocks, `in_turn` and `waiting`, what they timed.
 
 #[cfg(has_arrayvec)]
 mod arrayvec;
@@ -11,6 +11,7 @@ mod cases;
 mod clock;
 mod edges;
 mod peers;
+mod short;
 mod string;
 
 use std::arch::global_asm;
@@ -58,6 +59,7 @@ macro_rules! linked {
 
 linked!(port_2 port_23 port_63 port_255 kit_2 kit_23 kit_63 kit_255);
 linked!(port_timed_23 port_timed_63 port_timed_255);
+linked!(port_waiting_23 port_waiting_63 port_waiting_255);
 linked!(steps_23 steps_63 steps_255);
 
 fn linked(at: Linked, call: u8, case: &Case) -> u64 {
@@ -132,11 +134,27 @@ fn make_edges(capacity: usize, times: u32) {
     }
 }
 
+fn make_short(capacity: usize, times: u32) {
+    for (title, call, case) in short::cases(capacity) {
+        next_edge(black_box(&title));
+        make(capacity, call, &black_box(case), times);
+    }
+}
+
 fn tell_clock(capacity: usize, rounds: u32) {
     match capacity {
         23 => clock::tell::<23>(port_timed_23, rounds),
         63 => clock::tell::<63>(port_timed_63, rounds),
         255 => clock::tell::<255>(port_timed_255, rounds),
+        _ => panic!("nothing is timed at this capacity"),
+    }
+}
+
+fn tell_waiting_clock(capacity: usize, rounds: u32) {
+    match capacity {
+        23 => clock::tell_waiting::<23>(port_waiting_23, rounds),
+        63 => clock::tell_waiting::<63>(port_waiting_63, rounds),
+        255 => clock::tell_waiting::<255>(port_waiting_255, rounds),
         _ => panic!("nothing is timed at this capacity"),
     }
 }
@@ -148,7 +166,9 @@ fn main() {
     let times: u32 = words[3].parse().expect("a number");
     match place {
         "edges" => return make_edges(capacity, times),
-        "clock" => return tell_clock(capacity, times),
+        "short" => return make_short(capacity, times),
+        "in_turn" => return tell_clock(capacity, times),
+        "waiting" => return tell_waiting_clock(capacity, times),
         _ => {}
     }
     for &call in CALLS {

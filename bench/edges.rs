@@ -67,6 +67,25 @@ impl Kind {
         Some(Case { given: self.text(size), end, ..case })
     }
 
+    /// A constructor of so many bytes.
+    fn made_of(self, size: usize) -> Option<Case> {
+        let case = self.on(self.text(size));
+        (size <= self.capacity).then(|| Case { units: case.held.encode_utf16().collect(), ..case })
+    }
+
+    /// Equal texts that fill half of the room.
+    fn equal_half(self) -> Case {
+        let case = self.on(self.text(self.capacity / 2));
+        Case { given: case.held.clone(), ..case }
+    }
+
+    /// A text with ten spaces before it, or behind it.
+    fn spaced(self, before: bool) -> Option<Case> {
+        let text = self.text(self.usual_size().min(self.capacity.checked_sub(10)?));
+        let spaces = " ".repeat(10);
+        Some(self.on(if before { spaces + &text } else { text + &spaces }))
+    }
+
     /// With one character dropped from a pattern again and again.
     fn dropping(self, pattern: &str, ch: char) -> Case {
         Case { ch, ..self.on(filled(pattern, self.usual_size())) }
@@ -103,6 +122,16 @@ pub const EDGES: &[Edge] = &[
     edge("`retain`, all dropped, `é`", 34, |kind| Some(kind.dropping("é", 'é'))),
     edge("`retain`, three neighbours dropped", 34, |kind| Some(kind.dropping("abcccdef", 'c'))),
     edge("`retain`, three neighbours dropped, mixed", 34, |kind| Some(kind.dropping("aééé🤔€", 'é'))),
+    edge("`retain`, one in three dropped", 34, |kind| Some(kind.dropping("abc", 'c'))),
+    edge("`cmp` of equal texts, half full", 13, |kind| Some(kind.equal_half())),
+    timed("`trim` of ten spaces at the start", 33, |kind| kind.spaced(true)),
+    timed("`trim` of ten spaces at the end", 33, |kind| kind.spaced(false)),
+    timed("`try_from_str` of 1", 1, |kind| kind.made_of(1)),
+    timed("`try_from_str` of 8", 1, |kind| kind.made_of(8)),
+    timed("`try_from_str` that fills it", 1, |kind| kind.made_of(kind.capacity)),
+    timed("`from_chars` that fills it", 4, |kind| kind.made_of(kind.capacity)),
+    timed("`from_utf16` that fills it", 7, |kind| kind.made_of(kind.capacity)),
+    edge("`insert_str` of 1 at the front", 27, |kind| Some(Case { start: 0, end: 0, ..kind.given(1)? })),
     edge("`push_str` of 1", 22, |kind| kind.given(1)),
     timed("`push_str` of 5", 22, |kind| kind.given(5)),
     edge("`push_str` of 63", 22, |kind| kind.given(63)),

@@ -77,7 +77,7 @@ fn counted_new_try_push_str<P: Peer>(given: &str) -> P {
 }
 
 #[inline(never)]
-fn counted_try_from_str<P: Peer>(given: &str) -> Option<P> {
+pub fn counted_try_from_str<P: Peer>(given: &str) -> Option<P> {
     P::try_from_str(given)
 }
 
@@ -96,7 +96,7 @@ fn counted_ten_pushes<P: Peer>(given: &str) -> P {
 }
 
 #[inline(never)]
-fn counted_from_chars<P: Peer>(given: &str) -> P {
+pub fn counted_from_chars<P: Peer>(given: &str) -> P {
     P::from_chars(given.chars())
 }
 
@@ -111,7 +111,7 @@ fn counted_from_utf8<P: Peer>(given: &[u8]) -> Option<P> {
 }
 
 #[inline(never)]
-fn counted_from_utf16<P: Peer>(units: &[u16]) -> Option<P> {
+pub fn counted_from_utf16<P: Peer>(units: &[u16]) -> Option<P> {
     P::from_utf16(units)
 }
 
@@ -141,12 +141,12 @@ pub fn counted_cmp<P: Peer>(text: &P, other: &P) -> Ordering {
 }
 
 #[inline(never)]
-fn counted_less<P: Peer>(text: &P, other: &P) -> bool {
+pub fn counted_less<P: Peer>(text: &P, other: &P) -> bool {
     text < other
 }
 
 #[inline(never)]
-fn counted_eq<P: Peer>(text: &P, other: &P) -> bool {
+pub fn counted_eq<P: Peer>(text: &P, other: &P) -> bool {
     text == other
 }
 
@@ -216,7 +216,7 @@ fn counted_truncate<P: Peer>(text: &mut P, size: u8) -> bool {
 }
 
 #[inline(never)]
-fn counted_trim<P: Peer>(text: &mut P) {
+pub fn counted_trim<P: Peer>(text: &mut P) {
     text.trim();
 }
 
@@ -282,9 +282,10 @@ pub fn answer<P: Peer>(call: u8, case: &Case) -> u64 {
         10 => return digest(counted_clone(&text).as_str()),
         11 => return digest(counted_as_str(&text)),
         12 => return counted_len(&text) as u64,
-        13 => return (counted_cmp(&text, &other) as i8 + 2) as u64,
-        14 => return counted_less(&text, &other) as u64,
-        15 => return counted_eq(&text, &other) as u64,
+        // (a peer has no offset)
+        13 | 17 => return (counted_cmp(&text, &other) as i8 + 2) as u64,
+        14 | 18 => return counted_less(&text, &other) as u64,
+        15 | 19 => return counted_eq(&text, &other) as u64,
         16 => return counted_hash(&text),
         20 => counted_try_push_str(&mut text, given) as u64,
         21 => counted_try_push(&mut text, ch) as u64,

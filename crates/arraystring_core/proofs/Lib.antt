@@ -16,4 +16,5 @@ mod BackLemmas
 mod WalkedLemmas
 mod EqualLemmas
 mod OrderLemmas
+mod WordLemmas
 mod WellFormedLemmas

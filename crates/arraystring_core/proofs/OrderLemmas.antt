@@ -15,7 +15,7 @@ use lib.Lanes.{top}
 use Rattle.arraystring_core.proofs.EqualLemmas.{apart, none_apart}
 
 -- the first elements that differ decide
-other_decides : (x y : ℕ) → x ≢ y → (xs ys : List ℕ) → slice_cmp nat_cmp (x ∷ xs) (y ∷ ys) ≡ nat_cmp x y
+pub other_decides : (x y : ℕ) → x ≢ y → (xs ys : List ℕ) → slice_cmp nat_cmp (x ∷ xs) (y ∷ ys) ≡ nat_cmp x y
 other_decides x y differ xs ys =
     elim (cases_lt x y) [
       | inl less ↦ rw (← nat_cmp_is x y Less less) refl

@@ -1,12 +1,12 @@
 //! Whether two texts are equal, by blocks: the first and the last ones, which may overlap. From 16
 //! to 256 bytes no branch depends on what the bytes are.
-ghost use Rattle.std.specs.Prelude.{◌≡◌, ◌+◌, ◌≤◌, ◌↔◌, length, IsTrue, nat_eq};
+ghost use Rattle.std.specs.Prelude.{◌≡◌, ◌+◌, ◌<◌, ◌≤◌, ◌↔◌, length, IsTrue, nat_eq};
 ghost use Rattle.std.specs.Cmp.Lexicographic.{pointwise};
 
 use std::simd::Simd;
 
-/// Whether the texts of two strings of at most `N` bytes are equal. Fewer than 16 bytes are left to
-/// std, and so are more than 256, which no string has.
+/// Whether the texts of two strings of at most `N` bytes are equal. More than 256 bytes, which no
+/// string has, are left to std.
 #[inline(always)]
 pub(crate) fn equal<const N: usize>(text: &str, other: &str) -> bool
     ensures { result ≡ pointwise nat_eq text.now other.now }
@@ -19,10 +19,32 @@ pub(crate) fn equal<const N: usize>(text: &str, other: &str) -> bool
     if N > 128 && a.len().wrapping_sub(129) < 80 {
         return equal_by_five(a, b);
     }
-    if a.len() < 16 || a.len() > 256 {
+    if a.len() > 256 {
         return text == other;
     }
+    if a.len() < 16 {
+        return equal_few(a, b);
+    }
     equal_by_blocks(a, b)
+}
+
+/// The same for fewer than 16 bytes.
+#[inline(always)]
+fn equal_few(a: &[u8], b: &[u8]) -> bool
+    requires same { length a.now ≡ length b.now }
+    requires few { length a.now < 16 }
+    ensures { IsTrue result ↔ (a.now ≡ b.now) }
+{
+    if a.len() >= 4 {
+        if a.len() >= 8 {
+            return equal_by_two::<8>(a, b);
+        }
+        return equal_by_two::<4>(a, b);
+    }
+    if a.len() >= 2 {
+        return equal_by_two::<2>(a, b);
+    }
+    a.is_empty() || a[0] == b[0]
 }
 
 /// The same for 16 to 256 bytes.

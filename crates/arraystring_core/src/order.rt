@@ -1,24 +1,22 @@
-//! The order of two texts by blocks of bytes, of which the last may overlap the one before it.
-ghost use Rattle.std.specs.Prelude.{◌≡◌, ◌≢◌, ◌+◌, ◌≤◌, min, length, take, IfSome, IfNone};
+//! The order of two texts by words or by blocks of bytes, of which the last may overlap the one before
+//! it. No byte is read outside of the texts.
+ghost use Rattle.std.specs.Prelude.{◌≡◌, ◌≢◌, ◌+◌, ◌-◌, ◌*◌, ◌^◌, ◌<◌, ◌≤◌, min, length, take, drop, IfSome, IfNone};
 ghost use Rattle.std.specs.Cmp.Lexicographic.{slice_cmp};
+ghost use Rattle.std.specs.Int.{w32, w64, from_be_bytes};
 ghost use Rattle.std.specs.Ordering.{nat_cmp};
 
 use crate::equal::equal_block;
 use std::cmp::Ordering;
 use std::simd::Simd;
 
-/// How the texts are ordered by their bytes. If one has fewer than 16, it is left to std.
+/// How the texts are ordered by their bytes.
 pub(crate) fn order(text: &str, other: &str) -> Ordering
     ensures { result ≡ slice_cmp nat_cmp text.now other.now }
 {
     let (a, b) = (text.as_bytes(), other.as_bytes());
-    // Tested by itself, so that the shorter of two texts is not yet asked for.
-    if b.len() < 16 {
-        return text.cmp(other);
-    }
     let common = a.len().min(b.len());
     if common < 16 {
-        return text.cmp(other);
+        return order_of_few(a, b, common);
     }
     if let Some(order) = block_order(a, b, 0) {
         return order;
@@ -27,6 +25,139 @@ pub(crate) fn order(text: &str, other: &str) -> Ordering
         Some(order) => order,
         None => order_of_lengths(a, b),
     }
+}
+
+/// The same for texts of which one has fewer than 16 bytes.
+#[inline(always)]
+fn order_of_few(a: &[u8], b: &[u8], common: usize) -> Ordering
+    requires few { common < 16 }
+    requires lesser { common ≡ min (length a.now) (length b.now) }
+    ensures { result ≡ slice_cmp nat_cmp a.now b.now }
+{
+    match few_order(a, b, common) {
+        Some(order) => order,
+        None => order_of_lengths(a, b),
+    }
+}
+
+/// The order, if the first `common` bytes settle it, of which there are at most 16.
+#[inline(always)]
+fn few_order(a: &[u8], b: &[u8], common: usize) -> Option<Ordering>
+    requires few { common ≤ 16 }
+    requires one { common ≤ length a.now }
+    requires other { common ≤ length b.now }
+    ensures some { IfSome result (λ order. order ≡ slice_cmp nat_cmp a.now b.now) }
+    ensures none { IfNone result (take common a.now ≡ take common b.now) }
+{
+    if common < 4 {
+        return order_by_bytes(a, b, common);
+    }
+    if common < 8 {
+        return order_by_halves(a, b, common);
+    }
+    order_by_words(a, b, common)
+}
+
+/// The same of 8 to 16 bytes: the first eight and the last eight.
+#[inline(always)]
+fn order_by_words(a: &[u8], b: &[u8], common: usize) -> Option<Ordering>
+    requires least { 8 ≤ common }
+    requires most { common ≤ 16 }
+    requires one { common ≤ length a.now }
+    requires other { common ≤ length b.now }
+    ensures some { IfSome result (λ order. order ≡ slice_cmp nat_cmp a.now b.now) }
+    ensures none { IfNone result (take common a.now ≡ take common b.now) }
+{
+    if let Some(order) = word_order(a, b, 0) {
+        return Some(order);
+    }
+    word_order(a, b, common - 8)
+}
+
+/// The same of 4 to 8 bytes: the first four and the last four, as one number.
+#[inline(always)]
+fn order_by_halves(a: &[u8], b: &[u8], common: usize) -> Option<Ordering>
+    requires least { 4 ≤ common }
+    requires most { common ≤ 8 }
+    requires one { common ≤ length a.now }
+    requires other { common ≤ length b.now }
+    ensures some { IfSome result (λ order. order ≡ slice_cmp nat_cmp a.now b.now) }
+    ensures none { IfNone result (take common a.now ≡ take common b.now) }
+{
+    let last = common - 4;
+    let one = half_word(a, 0) * 0x1_0000_0000 + half_word(a, last);
+    let other = half_word(b, 0) * 0x1_0000_0000 + half_word(b, last);
+    order_of_numbers(one, other)
+}
+
+/// The same of few bytes, one after the other.
+#[inline(always)]
+fn order_by_bytes(a: &[u8], b: &[u8], common: usize) -> Option<Ordering>
+    requires one { common ≤ length a.now }
+    requires other { common ≤ length b.now }
+    ensures some { IfSome result (λ order. order ≡ slice_cmp nat_cmp a.now b.now) }
+    ensures none { IfNone result (take common a.now ≡ take common b.now) }
+{
+    let mut at = 0;
+    while at < common {
+        if let Some(order) = order_of_numbers(a[at] as u64, b[at] as u64) {
+            return Some(order);
+        }
+        at += 1;
+    }
+    None
+}
+
+/// The order, if the 8 bytes from `at` on settle it. Those before `at` are equal.
+#[inline(always)]
+fn word_order(a: &[u8], b: &[u8], at: usize) -> Option<Ordering>
+    requires one { at + 8 ≤ length a.now }
+    requires other { at + 8 ≤ length b.now }
+    requires before { take at a.now ≡ take at b.now }
+    ensures some { IfSome result (λ order. order ≡ slice_cmp nat_cmp a.now b.now) }
+    ensures none { IfNone result (take (at + 8) a.now ≡ take (at + 8) b.now) }
+{
+    order_of_numbers(word(a, at), word(b, at))
+}
+
+/// The number of which the 8 bytes from `at` on are the digits.
+#[inline(always)]
+fn word(bytes: &[u8], at: usize) -> u64
+    requires { at + 8 ≤ length bytes.now }
+    ensures { result ≡ from_be_bytes w64 (take 8 (drop at bytes.now)) }
+{
+    let Some(digits) = bytes[at..].first_chunk::<8>() else {
+        unreachable!();
+    };
+    u64::from_be_bytes(*digits)
+}
+
+/// The number of which the 4 bytes from `at` on are the digits.
+#[inline(always)]
+fn half_word(bytes: &[u8], at: usize) -> u64
+    requires { at + 4 ≤ length bytes.now }
+    ensures value { result ≡ from_be_bytes w32 (take 4 (drop at bytes.now)) }
+    ensures small { result < 2 ^ 32 }
+{
+    let Some(digits) = bytes[at..].first_chunk::<4>() else {
+        unreachable!();
+    };
+    u32::from_be_bytes(*digits) as u64
+}
+
+/// The order of two numbers that differ.
+#[inline(always)]
+fn order_of_numbers(one: u64, other: u64) -> Option<Ordering>
+    ensures some { IfSome result (λ order. (order ≡ nat_cmp one other) × (one ≢ other)) }
+    ensures none { IfNone result (one ≡ other) }
+{
+    if one == other {
+        return None;
+    }
+    if one < other {
+        return Some(Ordering::Less);
+    }
+    Some(Ordering::Greater)
 }
 
 /// The order of two texts of which one begins the other.

@@ -1,0 +1,250 @@
+-- The number of which bytes are the digits, and the order of lists that such numbers are read from.
+use Rattle.std.specs.Option.{IfNone}
+use Rattle.std.proofs.Common.{Option, None, Some, ◌≡◌, ◌≢◌, ℕ, Less, Equal, Greater, Ordering, ◌+◌, ◌-◌, ◌*◌, ◌^◌, ◌<◌, ◌≤◌, ◌++◌, List, [], ◌∷◌, suc, zero, length, take, drop, get_or, length-take-le, length-drop, take-append-drop, mul-le-mul_right, suc-mul, pow-suc, refl, sym, ap, ◌∙◌, arith, inl, inr, ◌⊎◌, w32, w64}
+use Rattle.std.proofs.lemmas.Bool.{cases_lt}
+use Rattle.std.proofs.lemmas.List.{get_or-drop}
+use Rattle.std.proofs.lemmas.Nat.{be_bytes_4, be_bytes_8}
+use Rattle.std.proofs.lemmas.Cmp.{nat_cmp_total, tied_itself}
+use Rattle.std.specs.Cmp.{nat_cmp_is}
+use Rattle.std.specs.Cmp.Lexicographic.{slice_cmp}
+use Rattle.std.specs.Int.{from_be_bytes, to_be_bytes}
+use Rattle.std.specs.Ordering.{nat_cmp}
+use Rattle.arraystring_core.proofs.OrderLemmas.{other_decides, first_decides, shorter_same, longer_same}
+
+abbrev pub AreBytes : List ℕ → Type 0
+AreBytes l = (i : ℕ) → get_or l i 0 < 256
+
+-- the number
+abbrev value : List ℕ → ℕ
+value [] = 0
+value (x ∷ xs) = x * 256 ^ length xs + value xs
+
+eq_or_not : (x y : ℕ) → (x ≡ y) ⊎ (x ≢ y)
+eq_or_not x y =
+    elim (cases_lt x y) [
+      | inl less ↦ inr (λ e. omega (arith, less, e))
+      | inr past ↦ elim (cases_lt y x) [
+        | inl more ↦ inr (λ e. omega (arith, more, e))
+        | inr within ↦ inl (omega arith)
+      ]
+    ]
+
+higher : (x y p v w : ℕ) → x < y → v < p → x * p + v < y * p + w
+higher x y p v w less small =
+    let step : suc x * p ≤ y * p = mul-le-mul_right p less in
+    omega (arith, step, suc-mul x p, small)
+
+value_small : (xs : List ℕ) → AreBytes xs → value xs < 256 ^ length xs
+value_small [] bytes = omega arith
+value_small (x ∷ xs) bytes =
+    let rest = value_small xs (λ i. bytes (suc i)) in
+    let less = higher x 256 (256 ^ length xs) (value xs) 0 (bytes 0) rest in
+    omega (arith, less, pow-suc 256 (length xs))
+
+-- equal amounts change no order
+pub more_cmp : (k l v w : ℕ) → k ≡ l → nat_cmp (k + v) (l + w) ≡ nat_cmp v w
+more_cmp k l v w same =
+    elim (cases_lt v w) [
+      | inl less ↦ sym (nat_cmp_is (k + v) (l + w) Less (omega (arith, same, less))) ∙ nat_cmp_is v w Less less
+      | inr past ↦ elim (cases_lt w v) [
+        | inl more ↦ sym (nat_cmp_is (k + v) (l + w) Greater (omega (arith, same, more))) ∙ nat_cmp_is v w Greater more
+        | inr within ↦
+            let equal : v ≡ w = omega arith in
+            sym (nat_cmp_is (k + v) (l + w) Equal (omega (arith, same, equal))) ∙ nat_cmp_is v w Equal equal
+      ]
+    ]
+
+-- a higher digit decides, whatever the lower ones are
+pub higher_decides : (x y p v w : ℕ) → x ≢ y → v < p → w < p → nat_cmp (x * p + v) (y * p + w) ≡ nat_cmp x y
+higher_decides x y p v w differ small other_small =
+    elim (cases_lt x y) [
+      | inl less ↦ sym (nat_cmp_is _ _ Less (higher x y p v w less small)) ∙ nat_cmp_is x y Less less
+      | inr past ↦
+          let more : y < x = omega (arith, differ) in
+          sym (nat_cmp_is _ _ Greater (higher y x p w v more other_small)) ∙ nat_cmp_is x y Greater more
+    ]
+
+value_cmp : (xs ys : List ℕ) → length xs ≡ length ys → AreBytes xs → AreBytes ys → nat_cmp (value xs) (value ys) ≡ slice_cmp nat_cmp xs ys
+value_cmp [] [] long bytes other_bytes = refl
+value_cmp [] (y ∷ ys) long bytes other_bytes = absurd (omega arith)
+value_cmp (x ∷ xs) [] long bytes other_bytes = absurd (omega arith)
+value_cmp (x ∷ xs) (y ∷ ys) long bytes other_bytes =
+    let tail : length xs ≡ length ys = omega arith in
+    let power : 256 ^ length xs ≡ 256 ^ length ys = ap (λ n. 256 ^ n) tail in
+    let rest = value_cmp xs ys tail (λ i. bytes (suc i)) (λ i. other_bytes (suc i)) in
+    let small : value xs < 256 ^ length ys = rw power at (value_small xs (λ i. bytes (suc i))) in
+    let other_small = value_small ys (λ i. other_bytes (suc i)) in
+    elim (eq_or_not x y) [
+      | inl same ↦ rw (same, tied_itself nat_cmp_total y) (more_cmp (y * 256 ^ length xs) (y * 256 ^ length ys) (value xs) (value ys) (ap (λ p. y * p) power) ∙ rest)
+      | inr differ ↦
+          ap (λ p. nat_cmp (x * p + value xs) (y * 256 ^ length ys + value ys)) power
+          ∙ higher_decides x y (256 ^ length ys) (value xs) (value ys) differ small other_small
+          ∙ sym (other_decides x y differ xs ys)
+    ]
+
+value_8 : (bs : List ℕ) → length bs ≡ 8 → from_be_bytes w64 bs ≡ value bs
+value_8 [] l = absurd (omega arith)
+value_8 (a ∷ []) l = absurd (omega arith)
+value_8 (a ∷ b ∷ []) l = absurd (omega arith)
+value_8 (a ∷ b ∷ c ∷ []) l = absurd (omega arith)
+value_8 (a ∷ b ∷ c ∷ d ∷ []) l = absurd (omega arith)
+value_8 (a ∷ b ∷ c ∷ d ∷ e ∷ []) l = absurd (omega arith)
+value_8 (a ∷ b ∷ c ∷ d ∷ e ∷ f ∷ []) l = absurd (omega arith)
+value_8 (a ∷ b ∷ c ∷ d ∷ e ∷ f ∷ g ∷ []) l = absurd (omega arith)
+value_8 (a ∷ b ∷ c ∷ d ∷ e ∷ f ∷ g ∷ h ∷ []) l = omega arith
+value_8 (a ∷ b ∷ c ∷ d ∷ e ∷ f ∷ g ∷ h ∷ x ∷ bs) l = absurd (omega arith)
+
+value_4 : (bs : List ℕ) → length bs ≡ 4 → from_be_bytes w32 bs ≡ value bs
+value_4 [] l = absurd (omega arith)
+value_4 (a ∷ []) l = absurd (omega arith)
+value_4 (a ∷ b ∷ []) l = absurd (omega arith)
+value_4 (a ∷ b ∷ c ∷ []) l = absurd (omega arith)
+value_4 (a ∷ b ∷ c ∷ d ∷ []) l = omega arith
+value_4 (a ∷ b ∷ c ∷ d ∷ x ∷ bs) l = absurd (omega arith)
+
+number_cmp_8 : (a b : List ℕ) → length a ≡ 8 → length b ≡ 8 → AreBytes a → AreBytes b
+    → nat_cmp (from_be_bytes w64 a) (from_be_bytes w64 b) ≡ slice_cmp nat_cmp a b
+number_cmp_8 a b one other bytes other_bytes =
+    rw (value_8 a one, value_8 b other) (value_cmp a b (one ∙ sym other) bytes other_bytes)
+
+number_cmp_4 : (a b : List ℕ) → length a ≡ 4 → length b ≡ 4 → AreBytes a → AreBytes b
+    → nat_cmp (from_be_bytes w32 a) (from_be_bytes w32 b) ≡ slice_cmp nat_cmp a b
+number_cmp_4 a b one other bytes other_bytes =
+    rw (value_4 a one, value_4 b other) (value_cmp a b (one ∙ sym other) bytes other_bytes)
+
+-- parts of bytes are bytes
+take_bytes : (k : ℕ) (l : List ℕ) → AreBytes l → AreBytes (take k l)
+take_bytes zero l bytes i = omega arith
+take_bytes (suc k) [] bytes i = omega arith
+take_bytes (suc k) (x ∷ l) bytes zero = bytes 0
+take_bytes (suc k) (x ∷ l) bytes (suc i) = take_bytes k l (λ j. bytes (suc j)) i
+
+-- lists that differ in a part of one length, and not before it
+part_decides : (a b r s : List ℕ) → length a ≡ length b → a ≢ b → slice_cmp nat_cmp (a ++ r) (b ++ s) ≡ slice_cmp nat_cmp a b
+part_decides [] [] r s long differ = absurd (differ refl)
+part_decides [] (y ∷ b) r s long differ = absurd (omega arith)
+part_decides (x ∷ a) [] r s long differ = absurd (omega arith)
+part_decides (x ∷ a) (y ∷ b) r s long differ =
+    elim (eq_or_not x y) [
+      | inl same ↦ rw (same, tied_itself nat_cmp_total y) (part_decides a b r s (omega arith) (λ e. differ (ap (λ l. x ∷ l) e ∙ ap (λ z. z ∷ b) same)))
+      | inr apart ↦ other_decides x y apart (a ++ r) (b ++ s) ∙ sym (other_decides x y apart a b)
+    ]
+
+behind_same : (p a b : List ℕ) → slice_cmp nat_cmp (p ++ a) (p ++ b) ≡ slice_cmp nat_cmp a b
+behind_same [] a b = refl
+behind_same (x ∷ p) a b = rw (tied_itself nat_cmp_total x) (behind_same p a b)
+
+-- the K bytes of two lists from `at` on
+module _ (K : ℕ) (a b : List ℕ) (at : ℕ) (in_a : at + K ≤ length a) (in_b : at + K ≤ length b) (before : take at a ≡ take at b) where
+  part : List ℕ → List ℕ
+  part l = take K (drop at l)
+
+  abbrev rest : List ℕ → List ℕ
+  rest l = drop K (drop at l)
+
+  part-length : (l : List ℕ) → at + K ≤ length l → length (take K (drop at l)) ≡ K
+  part-length l within = length-take-le K (drop at l) (omega (arith, length-drop at l))
+
+  parts : (l : List ℕ) → take at l ++ (take K (drop at l) ++ rest l) ≡ l
+  parts l = ap (λ r. take at l ++ r) (take-append-drop K (drop at l)) ∙ take-append-drop at l
+
+  pub words_decide : take K (drop at a) ≢ take K (drop at b) → slice_cmp nat_cmp a b ≡ slice_cmp nat_cmp (take K (drop at a)) (take K (drop at b))
+  words_decide differ =
+      let one = ap (λ l. slice_cmp nat_cmp l b) (sym (parts a)) in
+      let other = ap (λ l. slice_cmp nat_cmp (take at a ++ (take K (drop at a) ++ rest a)) l) (sym (parts b)) in
+      let front = ap (λ l. slice_cmp nat_cmp (l ++ (take K (drop at a) ++ rest a)) (take at b ++ (take K (drop at b) ++ rest b))) before in
+      one ∙ other ∙ front ∙ behind_same (take at b) (take K (drop at a) ++ rest a) (take K (drop at b) ++ rest b)
+      ∙ part_decides (take K (drop at a)) (take K (drop at b)) (rest a) (rest b) (part-length a in_a ∙ sym (part-length b in_b)) differ
+
+  pub words_same : take K (drop at a) ≡ take K (drop at b) → take (at + K) a ≡ take (at + K) b
+  words_same same =
+      let wide : at + K - at ≡ K = omega arith in
+      longer_same K a b at before (rw wide same)
+
+-- by their numbers
+module _ (a b : List ℕ) (at : ℕ) (bytes : AreBytes a) (other_bytes : AreBytes b) (before : take at a ≡ take at b) where
+  at_bytes : (k : ℕ) (l : List ℕ) → AreBytes l → AreBytes (take k (drop at l))
+  at_bytes k l all = take_bytes k (drop at l) (λ i. rw (get_or-drop at l i 0) (all (at + i)))
+
+  module _ (in_a : at + 8 ≤ length a) (in_b : at + 8 ≤ length b)
+      (x y : ℕ) (one : x ≡ from_be_bytes w64 (take 8 (drop at a))) (other : y ≡ from_be_bytes w64 (take 8 (drop at b))) where
+    pub word_decides : x ≢ y → nat_cmp x y ≡ slice_cmp nat_cmp a b
+    word_decides differ =
+        ap (λ n. nat_cmp n y) one ∙ ap (nat_cmp (from_be_bytes w64 (take 8 (drop at a)))) other
+        ∙ number_cmp_8 (take 8 (drop at a)) (take 8 (drop at b)) (part-length 8 a b at in_a in_b before a in_a) (part-length 8 a b at in_a in_b before b in_b) (at_bytes 8 a bytes) (at_bytes 8 b other_bytes)
+        ∙ sym (words_decide 8 a b at in_a in_b before (λ e. differ (one ∙ ap (from_be_bytes w64) e ∙ sym other)))
+
+    pub word_same : x ≡ y → take (at + 8) a ≡ take (at + 8) b
+    word_same same =
+        words_same 8 a b at in_a in_b before
+        (sym (be_bytes_8 (take 8 (drop at a)) x (part-length 8 a b at in_a in_b before a in_a) (at_bytes 8 a bytes) one)
+        ∙ ap (to_be_bytes w64) same
+        ∙ be_bytes_8 (take 8 (drop at b)) y (part-length 8 a b at in_a in_b before b in_b) (at_bytes 8 b other_bytes) other)
+
+  module _ (in_a : at + 4 ≤ length a) (in_b : at + 4 ≤ length b)
+      (x y : ℕ) (one : x ≡ from_be_bytes w32 (take 4 (drop at a))) (other : y ≡ from_be_bytes w32 (take 4 (drop at b))) where
+    half_decides : x ≢ y → nat_cmp x y ≡ slice_cmp nat_cmp a b
+    half_decides differ =
+        ap (λ n. nat_cmp n y) one ∙ ap (nat_cmp (from_be_bytes w32 (take 4 (drop at a)))) other
+        ∙ number_cmp_4 (take 4 (drop at a)) (take 4 (drop at b)) (part-length 4 a b at in_a in_b before a in_a) (part-length 4 a b at in_a in_b before b in_b) (at_bytes 4 a bytes) (at_bytes 4 b other_bytes)
+        ∙ sym (words_decide 4 a b at in_a in_b before (λ e. differ (one ∙ ap (from_be_bytes w32) e ∙ sym other)))
+
+    half_same : x ≡ y → take (at + 4) a ≡ take (at + 4) b
+    half_same same =
+        words_same 4 a b at in_a in_b before
+        (sym (be_bytes_4 (take 4 (drop at a)) x (part-length 4 a b at in_a in_b before a in_a) (at_bytes 4 a bytes) one)
+        ∙ ap (to_be_bytes w32) same
+        ∙ be_bytes_4 (take 4 (drop at b)) y (part-length 4 a b at in_a in_b before b in_b) (at_bytes 4 b other_bytes) other)
+
+-- the first four and the last four of n bytes, as one number
+module _ (a b : List ℕ) (n : ℕ) (least : 4 ≤ n) (most : n ≤ 8) (in_a : n ≤ length a) (in_b : n ≤ length b) (bytes : AreBytes a) (other_bytes : AreBytes b)
+    (h k l m : ℕ) (first : h ≡ from_be_bytes w32 (take 4 (drop 0 a))) (other_first : k ≡ from_be_bytes w32 (take 4 (drop 0 b)))
+    (last : l ≡ from_be_bytes w32 (take 4 (drop (n - 4) a))) (other_last : m ≡ from_be_bytes w32 (take 4 (drop (n - 4) b)))
+    (small : l < 2 ^ 32) (other_small : m < 2 ^ 32) where
+  front : h ≡ k → take (n - 4) a ≡ take (n - 4) b
+  front same =
+      shorter_same (n - 4) 4 a b (omega (arith, most)) (half_same a b 0 bytes other_bytes refl (omega (arith, least, in_a)) (omega (arith, least, in_b)) h k first other_first same)
+
+  tail_in : (o : ℕ) → n ≤ o → n - 4 + 4 ≤ o
+  tail_in o within = omega (arith, least, within)
+
+  pub halves_decide : h * 4294967296 + l ≢ k * 4294967296 + m → nat_cmp (h * 4294967296 + l) (k * 4294967296 + m) ≡ slice_cmp nat_cmp a b
+  halves_decide differ =
+      elim (eq_or_not h k) [
+        | inl same ↦
+            more_cmp (h * 4294967296) (k * 4294967296) l m (ap (λ x. x * 4294967296) same)
+            ∙ half_decides a b (n - 4) bytes other_bytes (front same) (tail_in _ in_a) (tail_in _ in_b) l m last other_last (λ e. differ (ap (λ x. x * 4294967296 + l) same ∙ ap (λ x. k * 4294967296 + x) e))
+        | inr apart ↦
+            higher_decides h k 4294967296 l m apart small other_small
+            ∙ half_decides a b 0 bytes other_bytes refl (omega (arith, least, in_a)) (omega (arith, least, in_b)) h k first other_first apart
+      ]
+
+  pub halves_same : h * 4294967296 + l ≡ k * 4294967296 + m → take n a ≡ take n b
+  halves_same same =
+      let high : h ≡ k = omega (arith, same, small, other_small) in
+      let low : l ≡ m = omega (arith, same, high) in
+      let whole : n - 4 + 4 ≡ n = omega (arith, least) in
+      rw whole at (half_same a b (n - 4) bytes other_bytes (front high) (tail_in _ in_a) (tail_in _ in_b) l m last other_last low)
+
+-- one element after equal ones
+pub one_decides : (a b : List ℕ) (at : ℕ) → at < length a → at < length b → take at a ≡ take at b → get_or a at 0 ≢ get_or b at 0
+    → nat_cmp (get_or a at 0) (get_or b at 0) ≡ slice_cmp nat_cmp a b
+one_decides a b at in_a in_b before differ = sym (first_decides a b at in_a in_b before differ)
+
+same_through : (a b : List ℕ) (at : ℕ) → at < length a → at < length b → take at a ≡ take at b → get_or a at 0 ≡ get_or b at 0 → take (suc at) a ≡ take (suc at) b
+same_through [] b at in_a in_b before same = absurd (omega arith)
+same_through (x ∷ a) [] at in_a in_b before same = absurd (omega arith)
+same_through (x ∷ a) (y ∷ b) zero in_a in_b before same = ap (λ z. z ∷ []) same
+same_through (x ∷ a) (y ∷ b) (suc at) in_a in_b before same =
+    let first : x ≡ y = cc in
+    let front : take at a ≡ take at b = cc in
+    ap (λ l. x ∷ l) (same_through a b at (omega arith) (omega arith) front same) ∙ ap (λ z. z ∷ take (suc at) b) first
+
+pub one_same : (a b : List ℕ) (at : ℕ) → at < length a → at < length b → take at a ≡ take at b → get_or a at 0 ≡ get_or b at 0 → take (at + 1) a ≡ take (at + 1) b
+one_same a b at in_a in_b before same =
+    let next : suc at ≡ at + 1 = omega arith in
+    rw next at (same_through a b at in_a in_b before same)
+
+pub none_then : {X : Type 0} (r : Option X) {P Q : Type 0} → IfNone r P → (P → Q) → IfNone r Q
+none_then None known then = then known
+none_then (Some x) known then = known
