@@ -1,13 +1,13 @@
 -- A closure that is called with the characters of a text, and the bytes of those that are kept.
-use Rattle.std.proofs.Common.{◌≡◌, ℕ, ◌+◌, ◌-◌, ◌≤◌, Bool, true, false, List, [], ◌∷◌, ◌++◌, suc, length, take, drop, chars, refl, sym, ap, ◌∙◌, arith, IsUtf8, append_assoc, length-append, length-take-le, length-drop, take_at}
+use Rattle.std.proofs.Common.{◌≡◌, ℕ, ◌+◌, ◌-◌, ◌<◌, ◌≤◌, Bool, true, false, List, [], ◌∷◌, ◌++◌, suc, length, take, drop, chars, refl, sym, ap, ◌∙◌, arith, IsUtf8, append_assoc, length-append, length-take-le, length-drop, take_at, get_or, take-append-drop, inl}
 use Rattle.std.proofs.Math.Seq.{take-add}
-use Rattle.std.proofs.lemmas.List.{append-nil, drop-drop, drop_at}
+use Rattle.std.proofs.lemmas.List.{append-nil, drop-drop, drop_at, get_or-take, get_or-drop}
 use Rattle.std.proofs.lemmas.Str.{IsUtf8-append, IsUtf8-past_char, chars_past_char, chars-append, chars-nil, IsUtf8-encode, IsUtf8-nil}
 use Rattle.std.specs.List.Retain.{IsFiltered}
 use Rattle.std.specs.Prelude.{encode_utf8}
 use Rattle.std.specs.Char.{IsScalar}
 use Rattle.arraystring_base.specs.Text.{width, utf8}
-use Rattle.arraystring_base.proofs.TextLaws.{utf8-is, length-utf8, chars-bytes}
+use Rattle.arraystring_base.proofs.TextLaws.{scalar-is, utf8-is, utf8-one, length-utf8, chars-bytes}
 use Rattle.arraystring_core.specs.Retain.{IsCallableInTurn}
 use Rattle.arraystring_core.proofs.GapLemmas.{shift-before, shift-moved, shift-behind, shift-length}
 
@@ -126,6 +126,32 @@ module _ (old new : List ℕ) (offset kept run read size : ℕ) (first : kept �
       ap (take (to - from))
       (shift-behind old new (offset + run) (offset + kept) (read - run) source target moved (offset + from) (omega arith))
 
+head-split : (l : List ℕ) → 0 < length l → l ≡ get_or l 0 0 ∷ drop 1 l
+head-split [] some = absurd (omega arith)
+head-split (x ∷ l) some = refl
+
+-- a byte of ASCII begins the rest
+module _ (array : List ℕ) (offset read size : ℕ) (some : read < size) (within : offset + size ≤ length array)
+    (small : get_or array (offset + read) 0 < 0x80) where
+  abbrev pub ascii-rest : List ℕ
+  ascii-rest = drop 1 (between array offset read size)
+
+  pub ascii-starts : between array offset read size ≡ utf8 (get_or array (offset + read) 0) ++ ascii-rest
+  ascii-starts =
+      let all = between array offset read size in
+      let here : offset + read + 0 ≡ offset + read = omega arith in
+      let first : get_or all 0 0 ≡ get_or array (offset + read) 0 =
+      get_or-take (size - read) (drop (offset + read) array) 0 0 (omega arith) ∙ get_or-drop (offset + read) array 0 0 ∙ ap (λ k. get_or array k 0) here in
+      head-split all (omega (arith, between-length array offset read size (omega arith) within))
+      ∙ ap (λ c. c ∷ drop 1 all) first
+      ∙ ap (λ l. l ++ drop 1 all) (sym (utf8-one (get_or array (offset + read) 0) small))
+
+  pub ascii-scalar : IsScalar (get_or array (offset + read) 0)
+  ascii-scalar = scalar-is (get_or array (offset + read) 0) (inl (omega (arith, small)))
+
+  pub ascii-width : width (get_or array (offset + read) 0) ≡ 1
+  ascii-width = sym (length-utf8 (get_or array (offset + read) 0)) ∙ ap length (utf8-one (get_or array (offset + read) 0) small)
+
 pub none-between : (array : List ℕ) (offset at : ℕ) → between array offset at at ≡ []
 none-between array offset at =
     let none : at - at ≡ 0 = omega arith in ap (λ k. take k (drop (offset + at) array)) none
@@ -220,3 +246,49 @@ module _ {F : Type 0} (can : F → ℕ → Type 0) (steps : F → ℕ → Bool �
           callable = rw left (callable-later can steps f c (chars rest) callable-rest false g step);
           filtered = λ more h. rw same (filtered-rest more (filtered-dropped steps f c g (chars rest) more step (rw left at h)));
         }
+
+  -- a run that was kept is moved after the first ones
+  retained-together : (array : List ℕ) (f : F) (kept run read : ℕ) → IsPartRetained can steps array_size array₀ f₀ offset size array f kept run read
+      → offset + size ≤ length array → (moved : List ℕ)
+      → moved ≡ take (offset + kept) array ++ (take (read - run) (drop (offset + run) array) ++ drop (offset + kept + (read - run)) array)
+      → IsPartRetained can steps array_size array₀ f₀ offset size moved f (kept + (read - run)) read read
+  retained-together array f kept run read part within moved written =
+      let same : kept_bytes moved offset (kept + (read - run)) read read ≡ kept_bytes array offset kept run read =
+      ap (λ l. take (kept + (read - run)) (drop offset moved) ++ l) (none-between moved offset read)
+      ∙ append-nil (take (kept + (read - run)) (drop offset moved))
+      ∙ moved-bytes array moved offset kept run read size part.kept_first part.run_next part.read_within within written in
+      let left : between moved offset read size ≡ between array offset read size =
+      moved-rest array moved offset kept run read size part.kept_first part.run_next part.read_within within written read size (omega arith) in
+      record {
+        long = moved-length array moved offset kept run read size part.kept_first part.run_next part.read_within within written ∙ part.long;
+        kept_first = omega (arith, part.kept_first, part.run_next);
+        run_next = omega arith;
+        read_within = part.read_within;
+        rest_text = rw left part.rest_text;
+        kept_text = rw same part.kept_text;
+        callable = rw left part.callable;
+        filtered = λ more h. rw same (part.filtered more (rw left at h));
+      }
+
+  -- the next character is moved after the first ones, or is left out
+  module _ (array : List ℕ) (f : F) (kept read : ℕ) (part : IsPartRetained can steps array_size array₀ f₀ offset size array f kept read read)
+      (within : offset + size ≤ length array) (c : ℕ) (scalar : IsScalar c) (rest : List ℕ) (starts : between array offset read size ≡ utf8 c ++ rest)
+      (g : F) where
+    pub retained-moved : (moved : List ℕ)
+        → moved ≡ take (offset + kept) array ++ (take (width c) (drop (offset + read) array) ++ drop (offset + kept + width c) array)
+        → steps f c true g
+        → IsPartRetained can steps array_size array₀ f₀ offset size moved g (kept + width c) (read + width c) (read + width c)
+    retained-moved moved written step =
+        let wide : read + width c - read ≡ width c = omega arith in
+        let kept_too = retained-keep array f kept read read part within c scalar rest starts g step in
+        rw wide at (retained-together array g kept read (read + width c) kept_too within moved (rw wide written))
+
+    pub retained-left_out : steps f c false g
+        → IsPartRetained can steps array_size array₀ f₀ offset size array g kept (read + width c) (read + width c)
+    retained-left_out step =
+        let none : read - read ≡ 0 = omega arith in
+        let nowhere : offset + kept + 0 ≡ offset + kept = omega arith in
+        let nothing : kept + 0 ≡ kept = omega arith in
+        let unmoved : array ≡ take (offset + kept) array ++ (take (read - read) (drop (offset + read) array) ++ drop (offset + kept + (read - read)) array) =
+        rw (none, nowhere) (sym (take-append-drop (offset + kept) array)) in
+        rw nothing at (rw none at (retained-drop array f kept read read part within c scalar rest starts g array unmoved step))

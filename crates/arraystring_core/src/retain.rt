@@ -1,5 +1,5 @@
 //! Which characters of a text are kept is decided by a closure.
-ghost use Rattle.std.specs.Prelude.{◌≡◌, ◌+◌, ◌≤◌, ◌++◌, length, take, drop, chars, IsUtf8};
+ghost use Rattle.std.specs.Prelude.{◌≡◌, ◌+◌, ◌≤◌, length, take, drop, chars, IsUtf8};
 ghost use Rattle.std.specs.List.Retain.{IsFiltered};
 ghost use Rattle.arraystring_core.specs.Retain.{IsCallableInTurn};
 
@@ -9,8 +9,8 @@ use std::str;
 
 /// Calls `f` once with each character of a text, in order, and moves those for which it returns
 /// true together. The text is the `size` bytes of the array from `offset` on, and keeps
-/// its offset. Returns how many bytes are kept. A run of kept characters is moved as one piece, and
-/// only to the left.
+/// its offset. Returns how many bytes are kept. Each kept character is moved on its own, and only to
+/// the left.
 pub(crate) fn retain_at<const N: usize, F: FnMut(char) -> bool + Drop>(
     array: &mut [u8; N],
     offset: usize,
@@ -25,50 +25,35 @@ pub(crate) fn retain_at<const N: usize, F: FnMut(char) -> bool + Drop>(
     ensures text { IsUtf8 (take result (drop offset array.new)) }
     ensures filtered { IsFiltered F.step f (chars (take size (drop offset array.old))) (chars (take result (drop offset array.new))) }
 {
-    // The first `kept` bytes stay, and so do those from `run` to `read`, which were not moved yet.
+    // The first `kept` bytes are those of the kept characters, and from `read` on none was moved.
     let mut kept = 0;
-    let mut run = 0;
     let mut read = 0;
     while read < size {
-        let all = &array[..];
-        // SAFETY: the clause `text`: what was not read yet is UTF-8, since a character begins at `read`.
-        let text = unsafe { str::from_utf8_unchecked(&all[offset + read..offset + size]) };
-        let (ch, width) = first_char(text);
-        if !f(ch) {
-            shift_run(array, offset + run, offset + kept, read - run);
-            kept += read - run;
-            run = read + width;
+        // A byte of ASCII is its character; others take the decoder.
+        let first = array[offset + read];
+        if first < 0x80 {
+            if f(first as char) {
+                shift(array, offset + read, offset + kept, 1, &mut Steps::new());
+                kept += 1;
+            }
+            read += 1;
+        } else {
+            let all = &array[..];
+            // SAFETY: the clause `text`: what was not read yet is UTF-8, since a character begins at `read`.
+            let text = unsafe { str::from_utf8_unchecked(&all[offset + read..offset + size]) };
+            let (ch, width) = first_char(text);
+            if f(ch) {
+                shift(
+                    array,
+                    offset + read,
+                    offset + kept,
+                    width,
+                    &mut Steps::new(),
+                );
+                kept += width;
+            }
+            read += width;
         }
-        read += width;
     }
-    shift_run(array, offset + run, offset + kept, size - run);
-    kept + (size - run)
-}
-
-/// `shift`, as a call if more than four bytes move: the loop over the characters is short without
-/// the code of a long move. After a character that is dropped the next run is often empty.
-#[inline(always)]
-fn shift_run<const N: usize>(array: &mut [u8; N], from: usize, to: usize, len: usize)
-    requires source { from + len ≤ N }
-    requires target { to + len ≤ N }
-    ensures { array.new ≡ take to array.old ++ (take len (drop from array.old) ++ drop (to + len) array.old) }
-{
-    if len == 0 {
-        return;
-    }
-    if len > 4 {
-        shift_long_run(array, from, to, len);
-    } else {
-        shift(array, from, to, len, &mut Steps::new());
-    }
-}
-
-/// The same as a call.
-#[inline(never)]
-fn shift_long_run<const N: usize>(array: &mut [u8; N], from: usize, to: usize, len: usize)
-    requires source { from + len ≤ N }
-    requires target { to + len ≤ N }
-    ensures { array.new ≡ take to array.old ++ (take len (drop from array.old) ++ drop (to + len) array.old) }
-{
-    shift(array, from, to, len, &mut Steps::new());
+    kept
 }

@@ -168,10 +168,6 @@ pub const KNOWN: &[(&str, &str)] = &[
     ("gap::fill", ""),
     ("gap::write_by_call", ""),
     ("retain::retain_at", "held"),
-    ("retain::shift_run", "source"),
-    ("retain::shift_run", "target"),
-    ("retain::shift_long_run", "source"),
-    ("retain::shift_long_run", "target"),
     ("ascii::uppercase_bytes", "order"),
     ("ascii::uppercase_bytes", "within"),
     ("ascii::lowercase_bytes", "order"),
@@ -211,7 +207,7 @@ pub const AGAIN: &[Again] = &[
     },
     Again {
         call: "retain::retain_at",
-        before: "let all =",
+        before: "let first =",
         clause: "held",
         why: Why::Follows(
             "offset + size <= N && offset + read < offset + size",

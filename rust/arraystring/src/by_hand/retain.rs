@@ -1,47 +1,22 @@
 //! `retain_at` where a closure may panic.
 //!
-//! The proved loop has the array in a state between two texts while it calls the closure: what is kept lies in two runs.
-//! That is no fault there, since nothing unwinds. Here the two runs are put together before the caller sees the string.
+//! The proved loop has the array in a state between two texts while it calls the closure: what is kept lies together, and
+//! behind it are bytes of what was not asked about yet. That is no fault there, since nothing unwinds. Here the size is set
+//! to what is kept before the caller sees the string.
 
 use crate::arraystring_core::retain;
 
-/// What the proved loop has done when it calls the closure: the first `kept` bytes of the text stay, and so do those from
-/// `run` to `read`, which were not moved yet.
-struct Progress {
-    kept: usize,
-    run: usize,
-    read: usize,
-}
-
-impl Progress {
-    /// What is so when the answer about `ch` is known and the loop has acted on it.
-    #[inline(always)]
-    fn answer(&mut self, ch: char, keeps: bool) {
-        if !keeps {
-            self.kept += self.read - self.run;
-            self.run = self.read + ch.len_utf8();
-        }
-        self.read += ch.len_utf8();
-    }
-}
-
-/// A text of which not all characters were asked about. Where it is dropped, the text is what was kept.
-struct Unfinished<'a, const N: usize> {
-    array: &'a mut [u8; N],
+/// How many bytes are kept of a text of which not all characters were asked about. When the proved loop calls the closure,
+/// they lie together at the text's offset. Where this is dropped, the text is what was kept.
+struct Unfinished<'a> {
     size: &'a mut u8,
-    offset: usize,
-    progress: Progress,
+    kept: usize,
 }
 
-impl<const N: usize> Drop for Unfinished<'_, N> {
+impl Drop for Unfinished<'_> {
     #[inline(always)]
     fn drop(&mut self) {
-        let Progress { kept, run, read } = self.progress;
-        // Where all were asked about there is nothing to move.
-        if run < read {
-            self.array.copy_within(self.offset + run..self.offset + read, self.offset + kept);
-        }
-        *self.size = (kept + (read - run)) as u8;
+        *self.size = self.kept as u8;
     }
 }
 
@@ -59,15 +34,14 @@ pub(crate) unsafe fn retain_at<const N: usize, F: FnMut(char) -> bool>(
     len: usize,
     mut f: F,
 ) {
-    let progress = Progress { kept: 0, run: 0, read: 0 };
-    let mut text = Unfinished { array, size, offset, progress };
+    let mut text = Unfinished { size, kept: 0 };
     let answer = |ch| {
         let keeps = f(ch);
-        text.progress.answer(ch, keeps);
+        if keeps {
+            text.kept += ch.len_utf8();
+        }
         keeps
     };
     // SAFETY: `held` and `text` are those of this function, and the closure leaves the array alone.
-    let left = unsafe { retain::retain_at(text.array, offset, len, answer) };
-    // `f` was called with all of it, and it lies at the offset.
-    text.progress = Progress { kept: left, run: left, read: left };
+    let _kept = unsafe { retain::retain_at(array, offset, len, answer) };
 }
