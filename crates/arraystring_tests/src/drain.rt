@@ -105,9 +105,20 @@ fn walk_by(rt: &(impl Abort + AllocGlobal), text: &str, choice: u32) {
     agree(rt, text, drain.next_back(), None);
 }
 
+/// Walks over texts in so many ways. The columns are how many, and the text.
+fn check_walks(rt: &(impl Abort + AllocGlobal), table: &str) {
+    for row in rows(table) {
+        for choice in 0..number(rt, row, 0) {
+            walk_by(rt, column(row, 1), choice as u32);
+        }
+    }
+}
+
 #[test]
 fn each_walk(rt: HostRuntime) {
-    let table = "
+    check_walks(
+        &rt,
+        "
         1  |
         2  | a
         4  | aé
@@ -115,12 +126,8 @@ fn each_walk(rt: HostRuntime) {
         16 | aé€🤔
         32 | aé€🤔b
         64 | aé€🤔bé
-        ";
-    for row in rows(table) {
-        for choice in 0..number(&rt, row, 0) {
-            walk_by(&rt, column(row, 1), choice as u32);
-        }
-    }
+        ",
+    );
 }
 
 /// A drain of a text, of which `[ ]` has in it what is left after a step from each end if there is
@@ -145,29 +152,31 @@ fn left(written: &str) -> Drain<8> {
 /// this is the hash of the text. The columns are
 ///
 ///     one drain | `cmp` | | the other | order
-fn check_comparison(rt: &(impl Abort + AllocGlobal), row: &str) {
-    let (one, other) = (left(column(row, 0)), left(column(row, 3)));
-    let order = Ord::cmp(&one, &other);
-    returned(rt, row, order);
-    agree(rt, row, PartialOrd::partial_cmp(&one, &other), Some(order));
-    agree(rt, row, one == other, order.is_eq());
-    agree(rt, row, one != other, order.is_ne());
-    let hash = hash_of(&one);
-    agree(rt, row, hash == hash_of(&other), order.is_eq());
-    agree(rt, row, hash, hash_of(&one.as_str()));
+fn check_comparisons(rt: &(impl Abort + AllocGlobal), table: &str) {
+    for row in rows(table) {
+        let (one, other) = (left(column(row, 0)), left(column(row, 3)));
+        let order = Ord::cmp(&one, &other);
+        returned(rt, row, order);
+        agree(rt, row, PartialOrd::partial_cmp(&one, &other), Some(order));
+        agree(rt, row, one == other, order.is_eq());
+        agree(rt, row, one != other, order.is_ne());
+        let hash = hash_of(&one);
+        agree(rt, row, hash == hash_of(&other), order.is_eq());
+        agree(rt, row, hash, hash_of(&one.as_str()));
+    }
 }
 
 #[test]
 fn what_is_left_is_compared_and_printed(rt: HostRuntime) {
-    let table = "
+    check_comparisons(
+        &rt,
+        "
         a[bc]d     | cmp | | x[bc]       | Equal
         a[bc]d     | cmp | | [abcd]      | Greater
         [\u{FFFF}] | cmp | | [\u{10000}] | Less
         [a]        | cmp | | [ab]        | Less
-        ";
-    for row in rows(table) {
-        check_comparison(&rt, row);
-    }
+        ",
+    );
     let wanted = "Drain(\"\")|Drain(\n    \"\",\n)|Drain(\"\")|Drain(\"\")|Drain(\"\")";
     debugs(&rt, &Drain::<5>::default(), wanted);
     let wanted = "Drain(\"bc\")|Drain(\n    \"bc\",\n)|Drain(\"bc\")|Drain(\"bc\")|Drain(\"bc\")";

@@ -1,6 +1,7 @@
 //! JSON values that are read whole or refused, worked out by hand.
 ghost use Rattle.std.specs.Prelude.{◌≤◌};
 
+use super::printing::{Alone, debugs_as, displays};
 use super::table::agree;
 use arraystring::error::OutOfBounds;
 use arraystring::integration::{NotText, ValueError};
@@ -69,6 +70,26 @@ fn texts_of_each_size_are_whole_or_refused(rt: HostRuntime) -> Result<(), Fail> 
     Ok(())
 }
 
+/// Each character below U+0100 at each index of a text, of which JSON writes some as escapes: NUL, a quote,
+/// a backslash, the end of a line, DEL.
+#[test]
+fn each_character_is_kept(rt: HostRuntime) -> Result<(), Fail> {
+    for ch in '\0'..='\u{FF}' {
+        for index in 0..7usize {
+            let mut text = ArrayString::<8>::from("aaaaaa");
+            text.try_insert(index as u8, ch)?;
+            let text = text.as_str();
+            let given = Value::String(String::from_str(rt.alloc(), text)?);
+            let parsed = Value::from_str(rt.alloc(), given.to_string(rt.alloc())?.as_str())?;
+            agree(&rt, text, parsed.as_str(), Some(text));
+            whole_or_refused::<7>(&rt, &parsed, text, 7);
+            whole_or_refused::<300>(&rt, &parsed, text, 255);
+            cached_or_refused(&rt, &parsed, text);
+        }
+    }
+    Ok(())
+}
+
 #[test]
 fn escapes_take_the_room_of_their_characters(rt: HostRuntime) -> Result<(), Fail> {
     let value = Value::from_str(rt.alloc(), "\"a\\u00e9\\n\\ud83e\\udd14\"")?;
@@ -89,19 +110,10 @@ fn what_is_no_text_has_its_own_refusal(rt: HostRuntime) -> Result<(), Fail> {
     Ok(())
 }
 
-/// Asserts how a refusal is printed, in each form that could pad or cut it, at each width.
+/// Asserts that a refusal is printed as its name, and for debugging too, in each form at each width.
 fn prints<T: Display + Debug + Error>(rt: &(impl Abort + AllocGlobal), refusal: &T, name: &str) {
-    for width in 0..300usize {
-        let printed = format!(in rt.alloc();
-            "{refusal}{refusal:#}{refusal:width$}{refusal:<width$}{refusal:>width$}\
-            {refusal:*^width$}{refusal:0width$}{refusal:.width$}{refusal:>width$.1}\
-            {refusal:?}{refusal:#?}{refusal:width$?}{refusal:*^#width$?}{refusal:.1?}"
-        );
-        let printed = printed.expect(rt, "memory for what is printed");
-        agree(rt, name, printed.as_str().trim_start_matches(name), "");
-        agree(rt, name, printed.len() / 14, name.len());
-        agree(rt, name, printed.len() % 14, 0);
-    }
+    displays(rt, refusal, name);
+    debugs_as(rt, refusal, &Alone(name));
 }
 
 #[test]

@@ -34,6 +34,8 @@ mod json;
 #[cfg(test)]
 mod json_whole;
 #[cfg(test)]
+mod order;
+#[cfg(test)]
 mod printing;
 #[cfg(test)]
 mod range;

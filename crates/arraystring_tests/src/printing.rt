@@ -13,13 +13,14 @@ pub(crate) fn displays<T: Display>(rt: &(impl Abort + AllocGlobal), value: &T, w
     for width in 0..300usize {
         let printed = format!(in rt.alloc();
             "{value}{value:#}{value:width$}{value:<width$}{value:>width$}{value:*^width$}\
-            {value:0width$}{value:#width$}{value:.width$}{value:>width$.1}"
+            {value:0width$}{value:#width$}{value:.width$}{value:>width$.1}\
+            {value:+}{value:+#}{value:+width$}{value:+#0width$}{value:+.width$}"
         );
         let printed = printed.expect(rt, "memory for what is printed");
         let rest = printed.as_str().trim_start_matches(wanted);
         agree(rt, wanted, rest, "");
-        agree(rt, wanted, printed.len() / 10, wanted.len());
-        agree(rt, wanted, printed.len() % 10, 0);
+        agree(rt, wanted, printed.len() / 15, wanted.len());
+        agree(rt, wanted, printed.len() % 15, 0);
     }
 }
 
@@ -61,7 +62,8 @@ pub(crate) mod derived {
 fn forms<T: Debug>(rt: &(impl Abort + AllocGlobal), value: &T, width: usize) -> String {
     let printed = format!(in rt.alloc();
         "{value:?}|{value:#?}|{value:width$?}|{value:<width$?}|{value:>width$?}|{value:*^width$?}|\
-        {value:0width$?}|{value:#width$?}|{value:.width$?}|{value:>width$.1?}"
+        {value:0width$?}|{value:#width$?}|{value:.width$?}|{value:>width$.1?}|\
+        {value:+?}|{value:+#?}|{value:+width$?}|{value:+.width$?}|{value:+#0width$?}"
     );
     printed.expect(rt, "memory for what is printed")
 }

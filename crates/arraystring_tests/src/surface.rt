@@ -4,6 +4,7 @@ use arraystring::drain::Drain;
 use arraystring::error::{OutOfBounds, Utf8, Utf16};
 use arraystring::integration::{NotText, ValueError};
 use arraystring::utf16::{Unit16, Units};
+use arraystring::utils::Steps;
 use arraystring::{
     ArrayString, CacheString, Error, MaxString, SmallString, drain, error, laws, prelude,
 };
@@ -134,6 +135,30 @@ fn the_laws_are_at_hand(_rt: HostRuntime) {
     laws::walks();
     laws::what_comes_past_the_room();
     laws::white_space();
+}
+
+/// Each call that is `const`: a constant function can make no other.
+const fn in_a_constant(text: &ArrayString<5>, steps: &Steps) -> ([u8; 4], bool, [u64; 2]) {
+    let numbers = [
+        text.len(),
+        ArrayString::<5>::capacity(),
+        ArrayString::<300>::capacity(),
+        CacheString::capacity(),
+    ];
+    (numbers, text.is_empty(), [steps.looked(), steps.moved()])
+}
+
+/// The same of what takes nothing.
+const fn made_in_a_constant() -> (ArrayString<5>, CacheString, Steps) {
+    (ArrayString::new(), CacheString::new(), Steps::new())
+}
+
+#[test]
+fn constants_are_made(rt: HostRuntime) {
+    let (text, cached, steps) = made_in_a_constant();
+    let wanted = ([0, 5, 255, 63], true, [0, 0]);
+    agree(&rt, "numbers", in_a_constant(&text, &steps), wanted);
+    agree(&rt, "texts", (text.as_str(), cached.0.as_str()), ("", ""));
 }
 
 #[test]

@@ -47,11 +47,28 @@ fn check_row<const N: usize>(rt: &impl Abort, units: &[u16], row: &str)
     agree(rt, row, lossy.as_str(), column(row, 3));
 }
 
-/// The columns are units in hexadecimal, and what they are read as: a character, or a lone surrogate in
-/// hexadecimal. After the last of these nothing is read any more.
+/// Asserts what units are read as. The columns are units in hexadecimal, and characters and lone
+/// surrogates in hexadecimal. After the last of these nothing is read any more.
+fn check_units(rt: &impl Abort, table: &str) {
+    for row in rows(table) {
+        let (units, count) = units_of(rt, column(row, 0));
+        let mut walk = Units::new(units.get(..count).unwrap_or_default());
+        for word in column(row, 1).split_whitespace() {
+            let wanted = match word.parse::<char>() {
+                Ok(ch) => Unit16::Char(ch),
+                Err(_) => Unit16::Lone(u16::from_str_radix(word, 16).unwrap_or_default()),
+            };
+            agree(rt, row, walk.next(), Some(wanted));
+        }
+        agree(rt, row, (walk.next(), walk.next()), (None, None));
+    }
+}
+
 #[test]
 fn units_are_read(rt: HostRuntime) {
-    let table = "
+    check_units(
+        &rt,
+        "
                                                 |
         D834 DD1E 6D 75                         | 𝄞 m u
         D800 DC00 D800 DFFF DBFF DC00 DBFF DFFF | \u{10000} \u{103FF} \u{10FC00} \u{10FFFF}
@@ -61,19 +78,8 @@ fn units_are_read(rt: HostRuntime) {
         D800 DBFF DFFF                          | D800 \u{10FFFF}
         DC00 D800                               | DC00 D800
         D800 DC00 DC00                          | \u{10000} DC00
-        ";
-    for row in rows(table) {
-        let (units, count) = units_of(&rt, column(row, 0));
-        let mut walk = Units::new(units.get(..count).unwrap_or_default());
-        for word in column(row, 1).split_whitespace() {
-            let wanted = match word.parse::<char>() {
-                Ok(ch) => Unit16::Char(ch),
-                Err(_) => Unit16::Lone(u16::from_str_radix(word, 16).unwrap_or_default()),
-            };
-            agree(&rt, row, walk.next(), Some(wanted));
-        }
-        agree(&rt, row, (walk.next(), walk.next()), (None, None));
-    }
+        ",
+    );
 }
 
 #[test]

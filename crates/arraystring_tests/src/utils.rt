@@ -20,11 +20,26 @@ fn sizes_inside_a_limit(rt: HostRuntime) {
     agree(&rt, "inside a character", inside, Err(Utf8));
 }
 
-/// The columns are a text, a size, and the text cut to it. The size is a boundary if the cut has
-/// it.
+/// Asserts how texts are cut. The columns are a text, a size, and the text cut to it. The size is a
+/// boundary if the cut has it.
+fn check_cuts(rt: &impl Abort, table: &str) {
+    for row in rows(table) {
+        let (text, size, wanted) = (column(row, 0), number(rt, row, 1), column(row, 2));
+        let is_whole = wanted.len() == size as usize;
+        agree(rt, row, is_boundary(text, size as usize), is_whole);
+        agree(rt, row, truncate_str(text, size), wanted);
+        let mut steps = Steps::new();
+        let cut = truncate_str_counted(text, size, &mut steps);
+        agree(rt, row, cut, wanted);
+        agree(rt, row, (steps.looked() <= 4, steps.moved()), (true, 0));
+    }
+}
+
 #[test]
 fn texts_are_cut_at_boundaries(rt: HostRuntime) {
-    let table = "
+    check_cuts(
+        &rt,
+        "
         A🤔    | 0  |
         A🤔    | 1  | A
         A🤔    | 2  | A
@@ -40,17 +55,11 @@ fn texts_are_cut_at_boundaries(rt: HostRuntime) {
         aé     | 3  | aé
         a€b    | 3  | a
         a€b    | 4  | a€
-        ";
-    for row in rows(table) {
-        let (text, size, wanted) = (column(row, 0), number(&rt, row, 1), column(row, 2));
-        let is_whole = wanted.len() == size as usize;
-        agree(&rt, row, is_boundary(text, size as usize), is_whole);
-        agree(&rt, row, truncate_str(text, size), wanted);
-        let mut steps = Steps::new();
-        let cut = truncate_str_counted(text, size, &mut steps);
-        agree(&rt, row, cut, wanted);
-        agree(&rt, row, (steps.looked() <= 4, steps.moved()), (true, 0));
-    }
+        256 x  | 0   |
+        256 x  | 254 | 254 x
+        256 x  | 255 | 255 x
+        ",
+    );
 }
 
 /// The columns are a text, if its last character begins, and that character.

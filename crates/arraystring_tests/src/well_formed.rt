@@ -1,41 +1,124 @@
-//! Reading, and comparing (`equal`), which go through a text in blocks of bytes, beside std's. Every
-//! size that a string has is tested with a fault or a difference at each offset, so that one lies at
-//! each end of each block.
-use super::table::{agree, text_or_error};
-use arraystring::MaxString;
+//! Reading, which goes through bytes in blocks, beside std's: bytes of each size that a string has and
+//! a little more, with a fault or a character at each offset, so that one lies at each end of each
+//! block.
+ghost use Rattle.std.specs.Prelude.{◌<◌};
+
+use super::table::agree;
+use arraystring::utils::truncate_str;
+use arraystring::{Error, MaxString};
 use std::process::Abort;
 use std::str;
+use test_support::table::{column, rows};
 
-/// Asserts that the bytes are read as std reads them, and compared as std compares them.
-fn as_in_std(rt: &impl Abort, bytes: &[u8], others: &[u8]) {
-    let (text, read) = (str::from_utf8(bytes).ok(), MaxString::try_from_utf8(bytes));
-    let written = text_or_error(&read);
-    agree(rt, "read", written.as_str(), text.unwrap_or("Utf8"));
-    let (other, others) = (
-        str::from_utf8(others).ok(),
-        MaxString::try_from_utf8(others),
-    );
-    agree(rt, "compared", read == others, text == other);
-}
-
-/// Letters with a pair of bytes at each offset: a letter that differs, a byte that begins no character, a
-/// character, and one that is written too long. At the last offset the bytes end after the first of
-/// the pair. They are read beside as many letters, and beside a part.
-#[test]
-fn bytes_are_read_and_compared_as_in_std(rt: HostRuntime) {
-    let letters = [b'a'; 256];
-    let mut bytes = letters;
-    for pair in [[b'b', b'a'], [0x80, b'a'], [0xC3, 0xA9], [0xC0, 0x80]] {
-        for len in 0..256 {
-            for at in 0..len {
-                bytes[at] = pair[0];
-                bytes[at + 1] = pair[1];
-                as_in_std(&rt, &bytes[..len], &letters[..len]);
-                as_in_std(&rt, &bytes[..len], &bytes[..at]);
-                bytes[at] = b'a';
-                bytes[at + 1] = b'a';
+/// Asserts how bytes among letters are read. The columns of a row are
+///
+///     first byte | as far as this one | bytes behind it | read
+///
+/// in hexadecimal, if the last is `ok` or `Utf8`. At each offset of each size stands one of the first
+/// bytes in turn; one that has bytes behind it, at each eighth, which is another for the next size. If
+/// these do not fit, std says how all is read.
+fn check_reading(rt: &impl Abort, table: &str) {
+    let mut bytes = [b'a'; 264];
+    let mut turn = 0u8;
+    for row in rows(table) {
+        let (first, last) = (byte(rt, column(row, 0)), byte(rt, column(row, 1)));
+        let step = if column(row, 2).is_empty() { 1 } else { 8 };
+        for size in 1..258usize {
+            for at in 0..size {
+                if at % step != size % step {
+                    continue;
+                }
+                turn = if turn < first || turn >= last {
+                    first
+                } else {
+                    turn + 1
+                };
+                let end = put(rt, &mut bytes, at, turn, column(row, 2));
+                let given = &bytes[..size];
+                if end <= size {
+                    agree(
+                        rt,
+                        row,
+                        str::from_utf8(given).is_ok(),
+                        column(row, 3) == "ok",
+                    );
+                }
+                as_in_std(rt, row, given);
+                bytes[at..at + 4].copy_from_slice(b"aaaa");
             }
-            as_in_std(&rt, &bytes[..len], &letters[..len]);
         }
     }
+}
+
+/// A byte in hexadecimal.
+fn byte(rt: &impl Abort, digits: &str) -> u8 {
+    u8::from_str_radix(digits, 16).expect(rt, "a byte in the column")
+}
+
+/// Puts a byte and those behind it, and returns where they end.
+fn put(rt: &impl Abort, bytes: &mut [u8; 264], at: usize, first: u8, rest: &str) -> usize
+    requires { at < 264 }
+{
+    bytes[at] = first;
+    let mut end = at + 1;
+    for digits in rest.split_whitespace() {
+        if let Some(behind) = bytes.get_mut(end) {
+            *behind = byte(rt, digits);
+            end = end.wrapping_add(1);
+        }
+    }
+    end
+}
+
+/// Asserts that bytes are read whole and cut as std reads them.
+fn as_in_std(rt: &impl Abort, row: &str, bytes: &[u8]) {
+    let whole = MaxString::try_from_utf8(bytes);
+    let cut = MaxString::from_utf8(bytes);
+    match str::from_utf8(bytes) {
+        Ok(text) => {
+            let cut = cut.unwrap_or_default();
+            agree(rt, row, cut.as_str(), truncate_str(text, 255));
+            let wanted = if text.len() < 256 {
+                Ok(cut)
+            } else {
+                Err(Error::OutOfBounds)
+            };
+            agree(rt, row, whole, wanted);
+        }
+        Err(_) => agree(
+            rt,
+            row,
+            (whole.err(), cut.is_err()),
+            (Some(Error::Utf8), true),
+        ),
+    }
+}
+
+/// ASCII and the bytes past it, and the first and last of each form of a character, with the nearest that
+/// are none: of the Unicode Standard, table 3-7.
+#[test]
+fn bytes_are_read_as_in_std(rt: HostRuntime) {
+    check_reading(
+        &rt,
+        "
+        00 | 7F |          | ok
+        80 | 80 |          | Utf8
+        80 | FF |          | Utf8
+        C0 | C1 | BF       | Utf8
+        C2 | DF | 80       | ok
+        C2 | DF | C0       | Utf8
+        E0 | E0 | A0 80    | ok
+        E0 | E0 | 9F BF    | Utf8
+        E1 | EC | BF BF    | ok
+        ED | ED | 9F BF    | ok
+        ED | ED | A0 80    | Utf8
+        EE | EF | 80 80    | ok
+        F0 | F0 | 90 80 80 | ok
+        F0 | F0 | 8F BF BF | Utf8
+        F1 | F3 | BF BF BF | ok
+        F4 | F4 | 8F BF BF | ok
+        F4 | F4 | 90 80 80 | Utf8
+        F5 | FF | 80 80 80 | Utf8
+        ",
+    );
 }

@@ -1,0 +1,115 @@
+//! The order and the equality of texts, which go through them in blocks of bytes: texts of each size that
+//! a string has, which differ at each index.
+ghost use Rattle.std.specs.Prelude.{◌≤◌};
+
+use super::table::{MANY_LETTERS, agree};
+use arraystring::{ArrayString, CacheString};
+use std::process::Abort;
+use test_support::table::{LETTERS, column, rows};
+
+/// Asserts the order of pairs of texts in strings of one capacity. The columns of a row are
+///
+///     less | greater
+///
+/// if the less is no larger. Each pair stands at each index among letters, in texts of each size.
+fn check_orders<const N: usize>(rt: &impl Abort, table: &str)
+    requires { N ≤ 300 }
+{
+    for row in rows(table) {
+        for index in 0..ArrayString::<N>::capacity() as usize {
+            check_pair::<N>(rt, row, index);
+        }
+    }
+}
+
+/// Asserts the order of the pair of a row behind `index` letters. Behind it each byte says the opposite,
+/// and there are none behind the shortest. One text begins at offset 0, and the other does, or behind
+/// it. What is before the pair is less.
+fn check_pair<const N: usize>(rt: &impl Abort, row: &str, index: usize)
+    requires { N ≤ 300 }
+{
+    let (less, greater) = (column(row, 0), column(row, 1));
+    let capacity = ArrayString::<N>::capacity() as usize;
+    let Some(room) = capacity.checked_sub(index.saturating_add(greater.len())) else {
+        return;
+    };
+    let front = MANY_LETTERS.get(..index).unwrap_or_default();
+    let offset = index.wrapping_mul(7) % (room + 1);
+    let before = behind::<N>(offset, [front, "", ""]);
+    let shortest = behind::<N>(offset, [front, greater, ""]);
+    let mut low = behind::<N>(0, [front, less, LETTERS]);
+    let mut high = behind::<N>(0, [front, greater, MANY_LETTERS]);
+    let mut moved = behind::<N>(offset, [front, greater, MANY_LETTERS]);
+    is_less(rt, row, &low.as_str(), &high.as_str());
+    for cut in 0..room + 1 {
+        let size = capacity - cut;
+        let _ = low.truncate(size as u8);
+        let _ = high.truncate(size as u8);
+        let _ = moved.truncate(size as u8);
+        is_less(rt, row, &low, &high);
+        is_less(rt, row, &low, &moved);
+        is_less(rt, row, &low, &shortest);
+        is_less(rt, row, &before, &low);
+        agree(rt, row, high.cmp(&moved), high.len().cmp(&moved.len()));
+        agree(rt, row, high == moved, high.len() == moved.len());
+        if size < 64 {
+            of_other_types(rt, row, low, moved);
+        }
+    }
+}
+
+/// Asserts the same order of what is drained of two strings, and of their strings of 63 bytes.
+fn of_other_types<const N: usize>(
+    rt: &impl Abort,
+    row: &str,
+    mut less: ArrayString<N>,
+    mut greater: ArrayString<N>,
+)
+    requires { N ≤ 300 }
+{
+    let cached = CacheString::from_str_truncate(less.as_str());
+    let other = CacheString::from_str_truncate(greater.as_str());
+    is_less(rt, row, &cached, &other);
+    let drained = less.drain(..).unwrap_or_default();
+    let other = greater.drain(..).unwrap_or_default();
+    is_less(rt, row, &drained, &other);
+}
+
+/// The string of a text in parts, as much of it as fits, which begins at an offset.
+fn behind<const N: usize>(offset: usize, parts: [&str; 3]) -> ArrayString<N>
+    requires { N ≤ 300 }
+{
+    let mut string = ArrayString::from(LETTERS.get(..offset).unwrap_or_default());
+    let start = string.len();
+    string.push_str(parts[0]);
+    string.push_str(parts[1]);
+    string.push_str(parts[2]);
+    let _ = string.drain(..start);
+    string
+}
+
+/// Asserts that a value is less than another by each comparison.
+fn is_less<T: Ord>(rt: &impl Abort, row: &str, less: &T, greater: &T) {
+    let results = [
+        less < greater,
+        less != greater,
+        less.cmp(greater).is_lt(),
+        greater.cmp(less).is_gt(),
+    ];
+    agree(rt, row, results, [true; 4]);
+}
+
+#[test]
+fn texts_of_each_size_are_ordered(rt: HostRuntime) {
+    check_orders::<255>(
+        &rt,
+        "
+        a        | b
+        \u{7F}   | \u{80}
+        è        | é
+        \u{FFFF} | \u{10000}
+        ",
+    );
+    check_orders::<128>(&rt, "a | é");
+    check_orders::<63>(&rt, "\u{7F} | 🤔");
+}

@@ -1,0 +1,230 @@
+//! The tables that are told by the name of their player alone.
+
+use std::cmp::Ordering;
+
+use arraystring::error::Error;
+use arraystring::utf16::{Unit16, Units};
+use arraystring::utils::{Steps, is_boundary, truncate_str, truncate_str_counted};
+use arraystring::{ArrayString, CacheString, Drain, MaxString, SmallString};
+
+use crate::at_capacity;
+use crate::literals::{Table, tables};
+use crate::rows::{column, hash_of, parsed, returned, rows};
+
+/// The players, and how many rows they have at least.
+const PLAYERS: &[(&str, usize)] = &[
+    ("check_comparisons", 4),
+    ("check_cuts", 18),
+    ("check_orders", 6),
+    ("check_reading", 18),
+    ("check_units", 9),
+    ("check_walks", 7),
+];
+
+/// Plays a table, where its player is one of these, and returns whether it is.
+pub fn play(table: &Table) -> bool {
+    let text = table.text.as_str();
+    match table.player.as_str() {
+        "check_comparisons" => comparisons(text),
+        "check_cuts" => cuts(text),
+        "check_orders" => at_capacity!(table.capacity.unwrap_or(255), orders, text, 63 128 255),
+        "check_reading" => reading(text),
+        "check_units" => units(text),
+        "check_walks" => walks(text),
+        _ => return false,
+    }
+    true
+}
+
+#[test]
+fn each_player_has_its_rows() {
+    let found = tables(std::path::Path::new(crate::FOLDER));
+    for (player, least) in PLAYERS {
+        let count: usize =
+            found.iter().filter(|table| table.player == *player).map(|table| rows(&table.text).count()).sum();
+        assert!(count >= *least, "{count} rows of {player} were found, where at least {least} are due");
+    }
+}
+
+/// How bytes among letters are read. The columns are, in hexadecimal but for the last,
+///
+///     first byte | as far as this one | bytes behind it | read
+///
+/// At each offset of each size stands one of the first bytes in turn, with the bytes behind it. Where these do not fit, std says
+/// how all is read.
+fn reading(table: &str) {
+    std::thread::scope(|scope| {
+        for row in rows(table) {
+            scope.spawn(move || reading_of(row));
+        }
+    });
+}
+
+fn reading_of(row: &str) {
+    let byte = |digits: &str| u8::from_str_radix(digits, 16).expect("a byte");
+    let rest: Vec<u8> = column(row, 2).split_whitespace().map(byte).collect();
+    let mut turns = (byte(column(row, 0))..=byte(column(row, 1))).cycle();
+    let mut bytes = [b'a'; 264];
+    for size in 1..258 {
+        for at in 0..size {
+            let end = at + 1 + rest.len();
+            bytes[at] = turns.next().expect("a byte");
+            bytes[at + 1..end].copy_from_slice(&rest);
+            let given = &bytes[..size];
+            if end <= size {
+                assert_eq!(str::from_utf8(given).is_ok(), column(row, 3) == "ok", "{row}");
+            }
+            as_in_std(row, given);
+            bytes[at..end].fill(b'a');
+        }
+    }
+}
+
+/// Asserts that bytes are read whole and cut as std reads them.
+fn as_in_std(row: &str, bytes: &[u8]) {
+    let (whole, cut) = (MaxString::try_from_utf8(bytes), MaxString::from_utf8(bytes));
+    match str::from_utf8(bytes) {
+        Ok(text) => {
+            let cut = cut.expect("a text");
+            assert_eq!(cut.as_str(), &text[..text.floor_char_boundary(255)], "{row}");
+            assert_eq!(whole, if text.len() < 256 { Ok(cut) } else { Err(Error::OutOfBounds) }, "{row}");
+        }
+        Err(_) => assert_eq!((whole, cut.is_err()), (Err(Error::Utf8), true), "{row}"),
+    }
+}
+
+/// The order of pairs of texts. The columns are
+///
+///     less | greater
+///
+/// Each pair stands at each index among letters, in texts of each size.
+fn orders<const N: usize>(table: &str) {
+    for row in rows(table) {
+        for index in 0..N {
+            order_at::<N>(row, index);
+        }
+    }
+}
+
+/// The order of the pair of a row behind `index` letters. Behind it each byte says the opposite, and there are none behind the
+/// shortest. One text begins at offset 0, and the other does, or behind it. What is before the pair is less.
+fn order_at<const N: usize>(row: &str, index: usize) {
+    let (low, high) = ("abcde".repeat(60), "x".repeat(300));
+    let (less, greater, front) = (column(row, 0), column(row, 1), &low[..index]);
+    let end = index + greater.len();
+    let Some(room) = N.checked_sub(end) else { return };
+    let offset = index * 7 % (room + 1);
+    let behind = |offset: usize, parts: [&str; 3]| {
+        let mut string = ArrayString::<N>::from(&high[..offset]);
+        parts.iter().for_each(|part| string.push_str(part));
+        assert!(string.drain(..offset as u8).is_ok());
+        string
+    };
+    let (before, shortest) = (behind(offset, [front, "", ""]), behind(offset, [front, greater, ""]));
+    let (mut one, mut other) = (behind(0, [front, less, &high]), behind(0, [front, greater, &low]));
+    let mut moved = behind(offset, [front, greater, &low]);
+    is_less(row, one.as_str(), other.as_str());
+    for size in (end..=N).rev() {
+        for string in [&mut one, &mut other, &mut moved] {
+            assert_eq!(string.truncate(size as u8), Ok(()), "{row}");
+        }
+        is_less(row, &one, &other);
+        is_less(row, &one, &moved);
+        is_less(row, &one, &shortest);
+        is_less(row, &before, &one);
+        assert_eq!(Ord::cmp(&other, &moved), other.len().cmp(&moved.len()), "{row}");
+        assert_eq!(other == moved, other.len() == moved.len(), "{row}");
+        if size < 64 {
+            let cached = CacheString::from_str_truncate(one.as_str());
+            is_less(row, &cached, &CacheString::from_str_truncate(moved.as_str()));
+            is_less(row, &drained(one), &drained(moved));
+        }
+    }
+}
+
+fn drained<const N: usize>(mut string: ArrayString<N>) -> Drain<N> {
+    string.drain(..).expect("all of it")
+}
+
+/// Asserts that a value is less than another by each comparison.
+fn is_less<T: Ord + ?Sized>(row: &str, less: &T, greater: &T) {
+    assert!(less < greater && less != greater, "{row}");
+    assert_eq!((Ord::cmp(less, greater), Ord::cmp(greater, less)), (Ordering::Less, Ordering::Greater), "{row}");
+}
+
+/// What units are read as. The columns are units in hexadecimal, and characters and lone surrogates in hexadecimal. After the
+/// last of these nothing is read any more.
+fn units(table: &str) {
+    let unit = |digits: &str| u16::from_str_radix(digits, 16).expect("a unit");
+    for row in rows(table) {
+        let units: Vec<u16> = column(row, 0).split_whitespace().map(unit).collect();
+        let mut walk = Units::new(&units);
+        for word in column(row, 1).split_whitespace() {
+            let wanted = word.parse().map_or_else(|_| Unit16::Lone(unit(word)), Unit16::Char);
+            assert_eq!(walk.next(), Some(wanted), "{row}");
+        }
+        assert_eq!((walk.next(), walk.next()), (None, None), "{row}");
+    }
+}
+
+/// How texts are cut. The columns are a text, a size, and the text cut to it. The size is a boundary where the cut has it.
+fn cuts(table: &str) {
+    for row in rows(table) {
+        let (text, size, wanted) = (column(row, 0), parsed::<u8>(row, 1), column(row, 2));
+        assert_eq!(is_boundary(text, size as usize), wanted.len() == size as usize, "{row}");
+        let mut steps = Steps::new();
+        assert_eq!([truncate_str(text, size), truncate_str_counted(text, size, &mut steps)], [wanted; 2], "{row}");
+        assert!(steps.looked() <= 4 && steps.moved() == 0, "{row}");
+    }
+}
+
+/// Walks over texts, from the back where a choice has a bit. The columns are how many choices there are, and the text.
+fn walks(table: &str) {
+    for row in rows(table) {
+        let text = column(row, 1);
+        for choice in 0..parsed::<u32>(row, 0) {
+            let (mut drain, mut wanted) = (drained(SmallString::from(text)), text.chars());
+            for step in 0..text.chars().count() {
+                let debugged = format!("Drain({:?})", wanted.as_str());
+                assert_eq!((drain.as_str(), format!("{drain:?}")), (wanted.as_str(), debugged), "{row}");
+                let (given, due) = if choice >> step & 1 == 0 {
+                    (drain.next(), wanted.next())
+                } else {
+                    (drain.next_back(), wanted.next_back())
+                };
+                assert_eq!(given, due, "{row}");
+            }
+            assert_eq!(drain.as_str(), "", "{row}");
+            assert_eq!((drain.next(), drain.next_back()), (None, None), "{row}");
+        }
+    }
+}
+
+/// Comparisons of drains, of which `[ ]` has in it what is left after a step from each end. The columns are
+///
+///     one drain | `cmp` | | the other | order
+fn comparisons(table: &str) {
+    for row in rows(table) {
+        let (one, other) = (left(column(row, 0)), left(column(row, 3)));
+        let order = Ord::cmp(&one, &other);
+        returned(row, order);
+        assert_eq!(PartialOrd::partial_cmp(&one, &other), Some(order), "{row}");
+        assert_eq!((one == other, one != other), (order.is_eq(), order.is_ne()), "{row}");
+        let hash = hash_of(&one);
+        assert_eq!((hash == hash_of(&other), hash), (order.is_eq(), hash_of(one.as_str())), "{row}");
+    }
+}
+
+fn left(written: &str) -> Drain<8> {
+    let (before, rest) = written.split_once('[').expect("where it begins");
+    let (inside, after) = rest.split_once(']').expect("where it ends");
+    let mut drain = drained([before, inside, after].into_iter().collect());
+    if !before.is_empty() {
+        drain.next();
+    }
+    if !after.is_empty() {
+        drain.next_back();
+    }
+    assert_eq!(drain.as_str(), inside, "{written}");
+    drain
+}
