@@ -35,7 +35,7 @@ const LARGEST: usize = usize::MAX / 4;
 /// and writes a line for each reply and one for the last text.
 ///
 /// Nothing is written before the whole script was read and accepted and the run was made, and no
-/// memory is taken after that. A read or a write that was interrupted is tried again, a flush is not.
+/// memory is taken after that. A read or a write that was interrupted is tried again.
 ///
 /// # Errors
 ///
