@@ -6,25 +6,30 @@ use arraystring::ArrayString;
 use std::process::Abort;
 use test_support::table::{column, rows};
 
-/// The string of a text that begins at offset 2. At 8 a text of six bytes fills the array up to its
-/// end, and one of four leaves two bytes after it.
-fn behind(text: &str) -> ArrayString<8> {
-    let mut behind: ArrayString<8> = string("..");
+/// The string of a text that begins at an offset, or as near to it as leaves the text its room. Of the
+/// eight bytes as many as are left are after it.
+fn behind(text: &str, offset: usize) -> ArrayString<8> {
+    let room = 8usize.saturating_sub(text.len());
+    let before = "........".get(..offset.min(room)).unwrap_or_default();
+    let mut behind: ArrayString<8> = string(before);
     behind.push_str(text);
-    let _ = behind.drain(..2);
+    let _ = behind.drain(..before.len() as u8);
     behind
 }
 
-/// Makes the calls of a table on a string that was built anew from the text of its row, and on one
-/// whose text begins at offset 2, and asserts that each returns and leaves what its row says.
+/// Makes the calls of a table on a string that was built anew from the text of its row, and on those
+/// whose texts begin at each offset that there is, and asserts that each returns and leaves what its
+/// row says.
 fn check_wherever_it_begins(rt: &(impl Abort + AllocGlobal), table: &str) {
     check_rows::<8>(rt, table);
-    let mut text = behind("");
-    for row in rows(table) {
-        if !column(row, 0).is_empty() {
-            text = behind(column(row, 0));
+    for offset in 1..9usize {
+        let mut text = behind("", offset);
+        for row in rows(table) {
+            if !column(row, 0).is_empty() {
+                text = behind(column(row, 0), offset);
+            }
+            check_row(rt, &mut text, row);
         }
-        check_row(rt, &mut text, row);
     }
 }
 

@@ -49,15 +49,17 @@ pub fn at(capacity: usize, table: &str) {
     at_capacity!(capacity, hold, table);
 }
 
-/// Makes the calls of a table on strings of 8 bytes, and on such whose texts begin at offset 2 of the array.
+/// Makes the calls of a table on strings of 8 bytes whose texts begin at each offset of the array that leaves them their room.
 pub fn anywhere(table: &str) {
-    hold_from(table, |text| ArrayString::<8>::from(text));
-    hold_from(table, |text| {
-        let mut behind = ArrayString::<8>::from("..");
-        behind.push_str(text);
-        assert!(behind.drain(..2).is_ok());
-        behind
-    });
+    for offset in 0..9 {
+        hold_from(table, |text| {
+            let before = &"........"[..offset.min(8 - text.len())];
+            let mut behind = ArrayString::<8>::from(before);
+            behind.push_str(text);
+            assert!(behind.drain(..before.len() as u8).is_ok());
+            behind
+        });
+    }
 }
 
 fn hold_from<const N: usize>(table: &str, string: impl Fn(&str) -> ArrayString<N>) {
