@@ -162,7 +162,6 @@ pub const KNOWN: &[(&str, &str)] = &[
     ("moves::bytes_at", ""),
     ("moves::bytes_of", ""),
     ("moves::put_bytes", ""),
-    ("utils::encode", ""),
     ("utils::last_boundary", "within"),
     ("gap::try_fill_small", ""),
     ("gap::fill", ""),
@@ -195,10 +194,30 @@ pub enum Why {
     Follows(&'static str, &'static str),
 }
 
+const ONE_AT_LEAST: &str = "What `encode` requires here, of which a character takes one byte at least.";
 const NOT_ALL: &str = "The invariant has it at most the size, and the test above leaves where it is the size.";
 
 pub const AGAIN: &[Again] = &[
-    Again { call: "utils::encode", before: "all[at", clause: "", why: Why::Requires },
+    // Not in the branch of ASCII: the room that a caller has tested is enough there, and loops get slower by the clause.
+    Again { call: "utils::encode", before: "all[at..", clause: "", why: Why::Requires },
+    Again {
+        call: "ArrayString::compact_and_push",
+        before: "let len = encode(",
+        clause: "room",
+        why: Why::Follows("size < N", ONE_AT_LEAST),
+    },
+    Again {
+        call: "ArrayString::put_char",
+        before: "encode(",
+        clause: "room",
+        why: Why::Follows("text.offset + at < N", ONE_AT_LEAST),
+    },
+    Again {
+        call: "ArrayString::compact_and_insert",
+        before: "encode(",
+        clause: "room",
+        why: Why::Follows("at < N", ONE_AT_LEAST),
+    },
     Again {
         call: "utils::truncate_str_counted",
         before: "&text[..end]",
@@ -327,7 +346,7 @@ pub const BY_STD: &[ByStd] = &[
         imports: "use crate::arraystring_base::error::Utf8;\nuse core::str;",
         function: "read_utf8",
         docs: "Returns the text whose UTF-8 is `given`, or `Err(Utf8)` if `given` is not well-formed.",
-        body: "str::from_utf8(given).map_err(Utf8::from)",
+        body: "let (blocks, last) = (given.len() / 32 * 32, given.len().saturating_sub(32));\n    if given[..blocks].is_ascii() && given[last..].is_ascii() {\n        // SAFETY: ASCII is UTF-8.\n        return Ok(unsafe { str::from_utf8_unchecked(given) });\n    }\n    str::from_utf8(given).map_err(Utf8::from)",
         why: "std's vectors are the machine's, where those of `by_hand` are arrays",
     },
 ];

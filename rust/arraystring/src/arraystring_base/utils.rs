@@ -139,11 +139,9 @@ pub fn last_char(text: &str, steps: &mut Steps) -> Option<(usize, char)> {
 /// ```
 #[inline(always)]
 pub unsafe fn encode<const N: usize>(ch: char, array: &mut [u8; N], at: usize) -> usize {
-    known!(precondition: at + ch.len_utf8() <= N && at <= at + ch.len_utf8());
     let code = ch as u32;
     let all = &mut array[..];
     if code < 0x80 {
-        known!(precondition: at + ch.len_utf8() <= N && at <= at + ch.len_utf8());
         all[at] = code as u8;
         1
     } else if code < 0x800 {

@@ -5,7 +5,7 @@
 use crate::arraystring_core::ArrayString;
 use crate::arraystring_core::gap::{Span, compact_and_open_gap, open_gap};
 use crate::arraystring_base::error::OutOfBounds;
-use crate::arraystring_base::utils::{Steps, encode, is_boundary, shift, write_over};
+use crate::arraystring_base::utils::{Steps, encode, is_boundary, move_run, shift, write_over};
 
 impl<const N: usize> ArrayString<N> {
     /// Whether a character begins at `at`, or the text ends there.
@@ -78,8 +78,10 @@ impl<const N: usize> ArrayString<N> {
         known!(invariant: usize::from(self.start) + usize::from(self.size) <= usize::from(Self::capacity()));
         let (start, size) = (self.start as usize, self.size as usize);
         self.start = 0;
-        // SAFETY: the proof of `compact_and_push` in crates/arraystring_core/src/array_string/edit.rt shows `source` and `target` of `shift`.
-        unsafe { shift(&mut self.array, start, 0, size, &mut Steps::new()) };
+        // SAFETY: the proof of `compact_and_push` in crates/arraystring_core/src/array_string/edit.rt shows `source` and `target` of `move_run`.
+        unsafe { move_run(&mut self.array, start, 0, size) };
+        // What `encode` requires here, of which a character takes one byte at least.
+        known!(room: size < N);
         // SAFETY: the proof of `compact_and_push` in crates/arraystring_core/src/array_string/edit.rt shows the precondition of `encode`.
         let len = unsafe { encode(ch, &mut self.array, size) };
         self.size = (size + len) as u8;
@@ -217,6 +219,8 @@ impl<const N: usize> ArrayString<N> {
         self.size = (at + (len + (text.size - at))) as u8;
         // SAFETY: the proof of `put_char` in crates/arraystring_core/src/array_string/edit.rt shows `order`, `within`, `held` and `room` of `open_gap`.
         unsafe { open_gap(&mut self.array, text, at, at, len, &mut Steps::new()) };
+        // What `encode` requires here, of which a character takes one byte at least.
+        known!(room: text.offset + at < N);
         // SAFETY: the proof of `put_char` in crates/arraystring_core/src/array_string/edit.rt shows the precondition of `encode`.
         unsafe { encode(ch, &mut self.array, text.offset + at) };
     }
@@ -247,6 +251,8 @@ impl<const N: usize> ArrayString<N> {
         self.size = (at + (len + (text.size - at))) as u8;
         // SAFETY: the proof of `compact_and_insert` in crates/arraystring_core/src/array_string/edit.rt shows `order`, `within`, `held` and `room` of `compact_and_open_gap`.
         unsafe { compact_and_open_gap(&mut self.array, text, at, at, len, &mut Steps::new()) };
+        // What `encode` requires here, of which a character takes one byte at least.
+        known!(room: at < N);
         // SAFETY: the proof of `compact_and_insert` in crates/arraystring_core/src/array_string/edit.rt shows the precondition of `encode`.
         unsafe { encode(ch, &mut self.array, at) };
     }
