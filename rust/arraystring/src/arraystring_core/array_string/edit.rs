@@ -5,7 +5,7 @@
 use crate::arraystring_core::ArrayString;
 use crate::arraystring_core::gap::{Span, compact_and_open_gap, open_gap};
 use crate::arraystring_base::error::OutOfBounds;
-use crate::arraystring_base::utils::{Steps, encode, is_boundary, move_run, shift, write_over};
+use crate::arraystring_base::utils::{Steps, encode, is_boundary, shift, write_over};
 
 impl<const N: usize> ArrayString<N> {
     /// Whether a character begins at `at`, or the text ends there.
@@ -78,8 +78,8 @@ impl<const N: usize> ArrayString<N> {
         known!(invariant: usize::from(self.start) + usize::from(self.size) <= usize::from(Self::capacity()));
         let (start, size) = (self.start as usize, self.size as usize);
         self.start = 0;
-        // SAFETY: the proof of `compact_and_push` in crates/arraystring_core/src/array_string/edit.rt shows `source` and `target` of `move_run`.
-        unsafe { move_run(&mut self.array, start, 0, size) };
+        // SAFETY: the proof of `compact_and_push` in crates/arraystring_core/src/array_string/edit.rt shows `source` and `target` of `shift`.
+        unsafe { shift(&mut self.array, start, 0, size, &mut Steps::new()) };
         // What `encode` requires here, of which a character takes one byte at least.
         known!(room: size < N);
         // SAFETY: the proof of `compact_and_push` in crates/arraystring_core/src/array_string/edit.rt shows the precondition of `encode`.
