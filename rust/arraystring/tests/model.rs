@@ -1,16 +1,19 @@
-//! A million random calls, each beside a `String` that is cut and refused by the rules of the documentation.
+//! Random calls, each beside a `String` that is cut and refused by the rules of the documentation.
+//!
+//! The variable `ARRAYSTRING_CALLS` of the environment says how many calls are made at each capacity.
 
 use std::collections::hash_map::DefaultHasher;
 use std::fmt::Write;
 use std::hash::{Hash, Hasher};
 use std::ops::Bound;
+use std::panic::{AssertUnwindSafe, catch_unwind, resume_unwind};
 
 use arraystring::error::{OutOfBounds, Utf8};
-use arraystring::utils::is_char_boundary;
-use arraystring::{ArrayString, Error};
+use arraystring::utils::{Steps, is_char_boundary, truncate_str, truncate_str_counted};
+use arraystring::{ArrayString, Drain, Error};
 
-/// How many calls are made at each capacity: a million and more at all nine.
-const CALLS: usize = 112_000;
+/// How many calls are made at each capacity, if the environment does not say it.
+const CALLS: usize = 20_000;
 
 /// Numbers that look random and are the same in each run.
 struct Random(u64);
@@ -104,7 +107,10 @@ impl<const N: usize> Pair<N> {
 
     /// Makes one call of each kind in turn.
     fn call(&mut self, random: &mut Random, call: usize) {
-        match call % 8 {
+        if random.below(4) == 0 {
+            self.shifted(random);
+        }
+        match call % 12 {
             0 => self.added(random),
             1 => self.inserted(random),
             2 => self.taken_out(random),
@@ -112,9 +118,167 @@ impl<const N: usize> Pair<N> {
             4 => self.drained(random),
             5 => self.shown(random),
             6 => self.changed(random),
-            _ => self.made(random),
+            7 => self.made(random),
+            8 => self.counted(random),
+            9 => self.unchecked(random),
+            10 => self.panicked(random),
+            _ => self.collected(random),
         }
         self.agrees(call);
+    }
+
+    /// Puts the same text behind some bytes of the array that are not used.
+    fn shifted(&mut self, random: &mut Random) {
+        let before = random.below(self.room() + 1);
+        let mut string = ArrayString::<N>::from("x".repeat(before).as_str());
+        assert_eq!(string.try_push_str(&self.model), Ok(()));
+        assert!(string.drain(..before as u8).is_ok());
+        self.string = string;
+    }
+
+    /// The calls that count do what the others do, and count no more than they say.
+    fn counted(&mut self, random: &mut Random) {
+        let (index, text, mut steps) = (random.index(&self.model), random.text(5), Steps::new());
+        let (range, from, to) = self.range(random);
+        let mut plain = self.string;
+        let most = match random.below(7) {
+            0 => {
+                assert_eq!(self.string.pop_counted(&mut steps), plain.pop());
+                0
+            }
+            1 => {
+                plain.trim();
+                self.string.trim_counted(&mut steps);
+                0
+            }
+            2 => {
+                assert_eq!(self.string.remove_counted(index, &mut steps), plain.remove(index));
+                plain.len().saturating_sub(index)
+            }
+            3 => {
+                assert_eq!(self.string.try_insert_str_counted(index, &text, &mut steps), plain.try_insert_str(index, &text));
+                plain.len()
+            }
+            4 => {
+                assert_eq!(self.string.drain_counted(range, &mut steps), plain.drain(range));
+                if from == 0 { 0 } else { (self.model.len() as u8).saturating_sub(to as u8) }
+            }
+            5 => {
+                assert_eq!(self.string.replace_range_counted(range, &text, &mut steps), plain.replace_range(range, &text));
+                self.model.len() as u8
+            }
+            _ => {
+                assert_eq!(truncate_str_counted(&self.model, index, &mut steps), truncate_str(&self.model, index));
+                assert_eq!(truncate_str(&self.model, index), cut(&self.model, index as usize));
+                0
+            }
+        };
+        assert_eq!(self.string, plain);
+        assert!(steps.moved() <= u64::from(most), "{} moves of {most} at {N}", steps.moved());
+        // What the plain call does is asserted elsewhere.
+        self.model = plain.to_string();
+    }
+
+    /// The unchecked calls, where their conditions hold.
+    fn unchecked(&mut self, random: &mut Random) {
+        let (index, text, ch) = (random.index(&self.model), random.text(5), random.character());
+        let (Ok(at), true) = (self.at(index), text.len().max(ch.len_utf8()) <= self.room()) else { return };
+        // SAFETY: the index is a boundary, and what is given fits.
+        match random.below(6) {
+            0 => {
+                unsafe { self.string.push_unchecked(ch) };
+                self.model.push(ch);
+            }
+            1 => {
+                unsafe { self.string.push_str_unchecked(&text) };
+                self.model += &text;
+            }
+            2 => {
+                unsafe { self.string.insert_unchecked(index, ch) };
+                self.model.insert(at, ch);
+            }
+            3 => {
+                unsafe { self.string.insert_str_unchecked(index, &text) };
+                self.model.insert_str(at, &text);
+            }
+            4 => {
+                let pieces: Vec<_> = self.model.split_inclusive(' ').collect();
+                let others = unsafe {
+                    [
+                        ArrayString::<N>::from_str_unchecked(&self.model),
+                        ArrayString::from_chars_unchecked(self.model.chars()),
+                        ArrayString::from_iterator_unchecked(&pieces),
+                    ]
+                };
+                assert_eq!(others, [self.string; 3]);
+            }
+            _ => self.string = unsafe { ArrayString::from_utf8_unchecked(&self.model) },
+        }
+    }
+
+    /// Closures and iterators that panic leave what they kept or gave.
+    fn panicked(&mut self, random: &mut Random) {
+        let (text, answers) = (random.text(12), random.below(1 << 30));
+        let count = self.model.chars().count();
+        let keeps = |at: usize| answers >> (at % 30) & 1 == 0;
+        match random.below(3) {
+            0 => {
+                let stops = random.below(count + 1);
+                let mut at = 0;
+                let panicked = catch_unwind(AssertUnwindSafe(|| {
+                    self.string.retain(|_| {
+                        if at == stops {
+                            resume_unwind(Box::new(()));
+                        }
+                        at += 1;
+                        keeps(at - 1)
+                    });
+                }));
+                assert_eq!(panicked.is_err(), stops < count);
+                self.model = self.model.chars().take(stops).enumerate().filter(|(at, _)| keeps(*at)).map(|(_, ch)| ch).collect();
+            }
+            kind => {
+                let stops = random.below(text.chars().count() + 1);
+                let chars = || text.chars().enumerate().map(|(at, ch)| if at == stops { resume_unwind(Box::new(())) } else { ch });
+                let _ = catch_unwind(AssertUnwindSafe(|| match kind {
+                    1 => self.string.extend_chars(chars()),
+                    _ => self.string.extend_strs(chars().map(|ch| ch.to_string())),
+                }));
+                let given: String = text.chars().take(stops).collect();
+                let room = self.room();
+                self.model += cut(&given, room);
+            }
+        }
+    }
+
+    /// What is collected from characters and pieces is cut or refused, and drains are compared by what is left.
+    fn collected(&mut self, random: &mut Random) {
+        let most = if random.below(8) == 0 { 300 } else { 12 };
+        let text = random.text(most);
+        let (given, fits) = (cut(&text, self.capacity), text.len() <= self.capacity);
+        let pieces: Vec<_> = text.split_inclusive(|ch: char| ch.len_utf8() > 2).collect();
+        let cuts = [
+            ArrayString::<N>::from_str_truncate(&text),
+            ArrayString::from(text.as_str()),
+            ArrayString::from_chars(text.chars()),
+            ArrayString::from_iterator(&pieces),
+            text.chars().collect(),
+            pieces.iter().copied().collect(),
+        ];
+        assert!(cuts.iter().all(|made| made == given), "{cuts:?}");
+        let units: Vec<u16> = text.encode_utf16().collect();
+        let whole = [
+            ArrayString::<N>::try_from_chars(text.chars()).ok(),
+            ArrayString::try_from_iterator(&pieces).ok(),
+            text.parse().ok(),
+            ArrayString::try_from_utf8(&text).ok(),
+            ArrayString::try_from_utf16(&units).ok(),
+        ];
+        assert!(whole.iter().all(|made| made.is_some() == fits && made.is_none_or(|made| made == *text)), "{whole:?}");
+        let (mut one, mut other) = (cuts[0], self.string);
+        let (one, other) = (one.drain(..).expect("all of it"), other.drain(..).expect("all of it"));
+        assert_eq!((Ord::cmp(&one, &other), one == other), (given.cmp(self.model.as_str()), given == self.model));
+        assert_eq!((Drain::<N>::default().as_str(), one.as_str()), ("", given));
     }
 
     fn added(&mut self, random: &mut Random) {
@@ -321,8 +485,13 @@ impl<const N: usize> Pair<N> {
             4 => {
                 let (start, end) = (random.index(&self.model), random.index(&self.model));
                 if let Some(part) = self.model.get_mut(start as usize..end as usize) {
-                    self.string.make_ascii_uppercase_in(start..end);
-                    part.make_ascii_uppercase();
+                    if random.below(2) == 0 {
+                        self.string.make_ascii_uppercase_in(start..end);
+                        part.make_ascii_uppercase();
+                    } else {
+                        self.string.make_ascii_lowercase_in(start..end);
+                        part.make_ascii_lowercase();
+                    }
                 }
             }
             5 if random.below(20) == 0 => {
@@ -365,21 +534,39 @@ impl<const N: usize> Pair<N> {
 }
 
 /// Makes random calls at one capacity.
-fn play<const N: usize>() {
+fn play<const N: usize>(calls: usize) {
     let mut random = Random(N as u64);
     let mut pair = Pair::<N>::new();
-    for call in 0..CALLS {
+    for call in 0..calls {
         pair.call(&mut random, call);
     }
 }
 
 #[test]
-fn a_million_calls_beside_a_string() {
+fn random_calls_beside_a_string() {
+    let told = std::env::var("ARRAYSTRING_CALLS").ok();
+    let calls = told.map_or(CALLS, |told| told.parse().expect("ARRAYSTRING_CALLS is a number"));
+    let plays = [
+        play::<0>,
+        play::<1>,
+        play::<2>,
+        play::<3>,
+        play::<4>,
+        play::<7>,
+        play::<23>,
+        play::<63>,
+        play::<64>,
+        play::<65>,
+        play::<128>,
+        play::<129>,
+        play::<254>,
+        play::<255>,
+        play::<256>,
+        play::<300>,
+    ];
     std::thread::scope(|scope| {
-        let plays =
-            [play::<0>, play::<1>, play::<2>, play::<3>, play::<23>, play::<63>, play::<254>, play::<255>, play::<300>];
         for play in plays {
-            scope.spawn(play);
+            scope.spawn(move || play(calls));
         }
     });
 }
