@@ -14,7 +14,8 @@ use core::panic::PanicInfo;
 
 use arraystring::utils::{Steps, is_char_boundary, is_inside_boundary, truncate_str, truncate_str_counted};
 use arraystring::utf16::Units;
-use arraystring::{ArrayString, CacheString};
+use arraystring::error::{OutOfBounds, Utf8, Utf16};
+use arraystring::{ArrayString, CacheString, Error};
 
 #[link(name = "c")]
 unsafe extern "C" {}
@@ -54,7 +55,8 @@ fn shown<const N: usize>(string: &Text<N>, other: &Text<N>, at: u8, end: u8) -> 
     let text = string.as_str().len() + string.as_bytes().len() + string.len() as usize + sum.finish() as usize;
     let order = string.cmp(other) == Ordering::Less || string < other || string.partial_cmp(other).is_none();
     let is_part = string.get(at..end).is_some() || string.get(at..=end).is_some() || string.get(..).is_none();
-    order || is_part || string == other || string.is_empty() || text == 7 || is_char_boundary(string, at).is_ok()
+    let is_text = *string == *other.as_str() || **string == **other || AsRef::<[u8]>::as_ref(string).is_empty();
+    is_text || order || is_part || string == other || string.is_empty() || text == 7 || is_char_boundary(string, at).is_ok()
 }
 
 #[inline(never)]
@@ -88,6 +90,7 @@ fn added<const N: usize>(string: &mut Text<N>, text: &str, ch: char) -> bool {
     string.extend_strs([text, text]);
     string.extend(text.chars());
     string.extend([text]);
+    string.extend(&[ch, ch]);
     *string = *string + text;
     string.try_push(ch).is_ok() || string.try_push_str(text).is_ok() || string.write_str(text).is_ok()
 }
@@ -147,6 +150,23 @@ fn cased<const N: usize>(string: &mut Text<N>) {
     string.make_ascii_lowercase();
 }
 
+/// Where texts are printed.
+struct Out(usize);
+
+impl Write for Out {
+    fn write_str(&mut self, text: &str) -> core::fmt::Result {
+        self.0 = self.0.wrapping_add(text.len());
+        Ok(())
+    }
+}
+
+#[inline(never)]
+fn printed<const N: usize>(string: &Text<N>, cached: &CacheString, error: Error) -> usize {
+    let mut out = Out(0);
+    let is_whole = write!(out, "{string}{cached}{error}{Utf8}{Utf16}{OutOfBounds}").is_ok();
+    out.0 + usize::from(is_whole) + usize::from(error == Error::from(Utf8) || error == Error::from(Utf16))
+}
+
 #[inline(never)]
 fn of_no_string(text: &str, units: &[u16], at: u8, steps: &mut Steps) -> usize {
     let cut = truncate_str(text, at).len() + truncate_str_counted(text, at, steps).len();
@@ -160,6 +180,13 @@ fn cached(text: &str, bytes: &[u8], units: &[u16], at: u8) -> usize {
     let rest = string.split_off(at).map_or(0, |rest| usize::from(rest.0.len()));
     let strings = [
         CacheString::try_from_str(text).ok(),
+        CacheString::try_from_utf8(bytes).ok(),
+        CacheString::try_from_utf16(units).ok(),
+        CacheString::try_from_chars(text.chars()).ok(),
+        CacheString::try_from_iterator([text, text]).ok(),
+        Some(CacheString::from_iterator([text, text])),
+        text.parse().ok(),
+        Some(CacheString::default()),
         CacheString::from_utf8(bytes).ok(),
         CacheString::from_utf16(units).ok(),
         Some(CacheString::from_utf16_lossy(units)),
@@ -182,6 +209,7 @@ fn all_at<const N: usize>(text: &str, bytes: &[u8], units: &[u16], at: u8, end: 
     retained(&mut string, ch);
     cased(&mut string);
     told += usize::from(shown(&string, &other, at, end));
+    told += printed(&string, &black_box(CacheString::new()), black_box(Error::Utf8));
     told + removed(&mut string, at, &mut steps) as usize
 }
 
