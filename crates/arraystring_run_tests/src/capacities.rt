@@ -156,3 +156,30 @@ fn full_texts_at_each_word(rt: HostRuntime) {
         agree(&rt, word, output.as_slice(), wanted.as_bytes());
     }
 }
+
+/// Plays the script at a capacity of which 255 bytes fit.
+fn plays_at<const N: usize>(rt: &(impl Abort + AllocGlobal)) {
+    let script = filling_script(rt);
+    let mut input = script.as_bytes();
+    let mut output = Vec::new(rt.alloc());
+    let played = play::<N, &[u8], Vec<u8>>(rt.alloc(), &mut input, &mut output);
+    agree(rt, "what is returned", played, Ok(()));
+    let wanted = filling_printed(rt, 255);
+    agree(rt, "the output", output.as_slice(), wanted.as_bytes());
+}
+
+/// Larger arrays, round the powers of 2 and between them.
+#[test]
+fn scripts_at_larger_capacities(rt: HostRuntime) {
+    plays_at::<511>(&rt);
+    plays_at::<512>(&rt);
+    plays_at::<1000>(&rt);
+    plays_at::<4095>(&rt);
+    plays_at::<4096>(&rt);
+    plays_at::<4097>(&rt);
+    plays_at::<5000>(&rt);
+    plays_at::<10000>(&rt);
+    plays_at::<65535>(&rt);
+    plays_at::<65536>(&rt);
+    plays_at::<100000>(&rt);
+}

@@ -1,5 +1,6 @@
 //! Readers and writers that fail, are interrupted, or give and take little at a time.
 use super::player::{OUTPUT, SCRIPT};
+use super::program::WORDS;
 use super::table::agree;
 use arraystring_run::{PlayFault, play, serve};
 use std::alloc::Global;
@@ -162,6 +163,22 @@ fn short_and_interrupted_writes_are_gone_on_with(rt: HostRuntime) {
     }
 }
 
+/// Interrupted before the first byte, the second, the last and the end, as often as a byte can count, and
+/// that often before each later one too.
+#[test]
+fn long_interruptions_are_gone_on_with(rt: HostRuntime) {
+    for faults in 0..=255u8 {
+        for reads in [0, 1, SCRIPT.len().saturating_sub(1), SCRIPT.len()] {
+            reads_on(&rt, rt.alloc(), 1, reads, faults, 0);
+        }
+        for room in [0, 1, OUTPUT.len().saturating_sub(1)] {
+            writes_on(&rt, rt.alloc(), 1, room, faults, 0);
+        }
+    }
+    reads_on(&rt, rt.alloc(), 1, 0, 255, 255);
+    writes_on(&rt, rt.alloc(), 1, 0, 255, 255);
+}
+
 /// A flush that fails is a failed write, however many replies there are.
 #[test]
 fn a_failed_flush_is_reported(rt: HostRuntime) {
@@ -194,59 +211,83 @@ fn a_failed_flush_is_reported(rt: HostRuntime) {
     );
 }
 
+/// A read fails before each byte and before the end, and no word lets it pass.
 #[test]
-fn faults_are_served(rt: HostRuntime) {
-    let mut unreadable = FakeReader {
-        bytes: SCRIPT.as_bytes(),
-        step: 8,
-        reads: 2,
-        faults: 1,
-        again: 0,
-        kind: ErrorKind::Other,
-    };
-    let mut output = Vec::new(rt.alloc());
-    let mut errors = Vec::new(rt.alloc());
-    let word = Some("small");
-    let status = serve(rt.alloc(), word, &mut unreadable, &mut output, &mut errors);
-    agree(&rt, "the status", status, 4);
-    agree(&rt, "the output", output.len(), 0);
-    agree(
-        &rt,
-        "the errors",
-        errors.as_slice(),
-        b"read failed\n".as_slice(),
-    );
-    let mut full = FakeWriter::new(rt.alloc(), 9, Some(ErrorKind::Other));
-    errors.clear();
-    let mut input = SCRIPT.as_bytes();
-    let status = serve(rt.alloc(), word, &mut input, &mut full, &mut errors);
-    agree(&rt, "the status", status, 4);
-    agree(
-        &rt,
-        "the output",
-        full.taken.as_slice(),
-        &OUTPUT.as_bytes()[..9],
-    );
-    agree(
-        &rt,
-        "the errors",
-        errors.as_slice(),
-        b"write failed\n".as_slice(),
-    );
+fn failed_reads_are_served(rt: HostRuntime) {
+    for word in WORDS {
+        for reads in 0..=SCRIPT.len() {
+            let mut input = FakeReader {
+                bytes: SCRIPT.as_bytes(),
+                step: 1,
+                reads,
+                faults: 1,
+                again: 0,
+                kind: ErrorKind::Other,
+            };
+            let mut output = Vec::new(rt.alloc());
+            let mut errors = Vec::new(rt.alloc());
+            let status = serve(rt.alloc(), Some(word), &mut input, &mut output, &mut errors);
+            agree(&rt, word, (status, output.len()), (4, 0));
+            agree(&rt, word, errors.as_slice(), b"read failed\n".as_slice());
+        }
+    }
 }
 
-/// A fault of `errors` changes nothing but the line itself.
+/// A write fails before each byte, or the flush after the last.
+#[test]
+fn failed_writes_are_served(rt: HostRuntime) {
+    let whole = OUTPUT.as_bytes();
+    for word in WORDS {
+        for room in 0..=whole.len() {
+            for kind in [Some(ErrorKind::Other), None] {
+                let mut input = SCRIPT.as_bytes();
+                let mut output = FakeWriter::new(rt.alloc(), room, kind);
+                output.flushes = room < whole.len();
+                let mut errors = Vec::new(rt.alloc());
+                let status = serve(rt.alloc(), Some(word), &mut input, &mut output, &mut errors);
+                agree(&rt, word, status, 4);
+                agree(&rt, word, output.taken.as_slice(), &whole[..room]);
+                agree(&rt, word, errors.as_slice(), b"write failed\n".as_slice());
+            }
+        }
+    }
+}
+
+/// Serves `script` with a writer for errors that fails before byte `room` of the line, takes nothing
+/// there, or is interrupted. The line is cut there, or is whole.
+fn reports(rt: &impl Abort, alloc: Global, word: &str, script: &str, status: u8, line: &str) {
+    let line = line.as_bytes();
+    for room in 0..line.len() {
+        for kind in [Some(ErrorKind::Other), None, Some(ErrorKind::Interrupted)] {
+            let mut input = script.as_bytes();
+            let mut output = FakeWriter::new(alloc, 0, Some(ErrorKind::Other));
+            let mut errors = FakeWriter::new(alloc, room, kind);
+            let served = serve(alloc, Some(word), &mut input, &mut output, &mut errors);
+            let cut = if kind == Some(ErrorKind::Interrupted) {
+                line
+            } else {
+                &line[..room]
+            };
+            agree(rt, word, (served, output.taken.len()), (status, 0));
+            agree(rt, word, errors.taken.as_slice(), cut);
+        }
+    }
+}
+
+/// A fault of `errors` changes nothing but the line itself, whichever it is: for another word, for a bad
+/// line, however large its number, and for a write that fails.
 #[test]
 fn a_failed_line_is_let_go(rt: HostRuntime) {
-    let line = b"bad line 1\n";
-    for room in 0..line.len() {
-        let mut input: &[u8] = b"bad";
-        let mut output = Vec::new(rt.alloc());
-        let mut errors = FakeWriter::new(rt.alloc(), room, Some(ErrorKind::Other));
-        let word = Some("max");
-        let status = serve(rt.alloc(), word, &mut input, &mut output, &mut errors);
-        agree(&rt, "the status", status, 2);
-        agree(&rt, "the output", output.len(), 0);
-        agree(&rt, "the errors", errors.taken.as_slice(), &line[..room]);
+    let usage = "usage: arraystring_run small or cache or max\n";
+    reports(&rt, rt.alloc(), "", "len", 2, usage);
+    for word in WORDS {
+        reports(&rt, rt.alloc(), word, "len", 4, "write failed\n");
+        for before in [0usize, 1, 8, 9, 98, 99, 998, 999, 1000] {
+            let lines = "len\n".repeat(rt.alloc(), before).expect(&rt, "memory");
+            let script = format!(in rt.alloc(); "{lines}bad").expect(&rt, "memory");
+            let number = before.saturating_add(1);
+            let line = format!(in rt.alloc(); "bad line {number}\n").expect(&rt, "memory");
+            reports(&rt, rt.alloc(), word, &script, 2, &line);
+        }
     }
 }

@@ -1,13 +1,17 @@
 //! Tests of `arraystring_run`: what no contract says of commands, runs and scripts, on values worked out
-//! by hand. A module is named as the module that it tests. `capacities`, `devices` and `memory` play
-//! scripts at each capacity, on devices that fail, and with refused memory. `printing` prints for who
-//! writes code.
+//! by hand. A module is named as the module that it tests. `capacities`, `devices`, `kinds` and `memory`
+//! play scripts at each capacity, on devices that fail, with errors of each kind, and with refused memory.
+//! `words` are arguments that nearly name a capacity. `printing` prints for who writes code.
 #![tactic(auto)]
 
+#[cfg(test)]
+mod buffered;
 #[cfg(test)]
 mod capacities;
 #[cfg(test)]
 mod devices;
+#[cfg(test)]
+mod kinds;
 #[cfg(test)]
 mod line;
 #[cfg(test)]
@@ -24,3 +28,5 @@ mod runs;
 mod surface;
 #[cfg(test)]
 mod table;
+#[cfg(test)]
+mod words;

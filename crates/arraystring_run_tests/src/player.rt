@@ -113,6 +113,72 @@ fn long_scripts_are_played(rt: HostRuntime) {
     plays(&rt, rt.alloc(), &script, Err(PlayFault::BadLine(6001)), b"");
 }
 
+/// A script of one line, of each size from 64 bytes to 4 MiB that is a power of 2, one less or one more, or
+/// half as much again.
+#[test]
+fn long_lines_are_played(rt: HostRuntime) {
+    let letters = "a".repeat(rt.alloc(), 6 << 20).expect(&rt, "memory");
+    let whole = format!(in rt.alloc(); "push_str {letters}").expect(&rt, "memory");
+    let kept = letters.get(..23).unwrap_or("none");
+    let wanted = format!(in rt.alloc(); "done\nfinal {kept}\n").expect(&rt, "memory");
+    for shift in 6..=22u32 {
+        let power = 1usize.wrapping_shl(shift);
+        let (less, more) = (power.wrapping_sub(1), power.wrapping_add(1));
+        for size in [less, power, more, power.wrapping_add(power >> 1)] {
+            let script = whole.as_bytes().get(..size).unwrap_or(b"none");
+            plays(&rt, rt.alloc(), script, Ok(()), wanted.as_bytes());
+        }
+    }
+}
+
+/// Scripts of 3 MiB and a little more of lines of a size each, and then a bad one behind.
+#[test]
+fn scripts_of_three_mebibytes_are_played(rt: HostRuntime) {
+    let letters = "a".repeat(rt.alloc(), 100000).expect(&rt, "memory");
+    for (size, count) in [
+        (50usize, 62915usize),
+        (1000, 3146),
+        (8193, 384),
+        (100000, 32),
+    ] {
+        let text = letters.get(..size.saturating_sub(10)).unwrap_or("none");
+        let line = format!(in rt.alloc(); "push_str {text}\n").expect(&rt, "memory");
+        let mut script = line.repeat(rt.alloc(), count).expect(&rt, "memory");
+        let kept = letters.get(..23).unwrap_or("none");
+        let replies = "done\n".repeat(rt.alloc(), count).expect(&rt, "memory");
+        let wanted = format!(in rt.alloc(); "{replies}final {kept}\n").expect(&rt, "memory");
+        plays(
+            &rt,
+            rt.alloc(),
+            script.as_bytes(),
+            Ok(()),
+            wanted.as_bytes(),
+        );
+        script.push_str("pop ").expect(&rt, "memory");
+        let bad = Err(PlayFault::BadLine(count.saturating_add(1)));
+        plays(&rt, rt.alloc(), script.as_bytes(), bad, b"");
+    }
+}
+
+/// Of so many lines each in turn is the first that is bad, with other bad ones behind it.
+#[test]
+fn the_first_bad_line_is_reported(rt: HostRuntime) {
+    for number in 1..=300usize {
+        let before = number.saturating_sub(1);
+        let before = "len\n".repeat(rt.alloc(), before).expect(&rt, "memory");
+        for bad in ["Len\n", "\n", "len \n", "\0len\nlen\nLen\n", "pop"] {
+            let script = format!(in rt.alloc(); "{before}{bad}x").expect(&rt, "memory");
+            plays(
+                &rt,
+                rt.alloc(),
+                script.as_bytes(),
+                Err(PlayFault::BadLine(number)),
+                b"",
+            );
+        }
+    }
+}
+
 pub(super) const EXAMPLE: &str =
     "push_str ABCD🤔\ntry_insert 1 A\ntry_insert_str 2 B\ndrain_back 4 10\n\
     get 0 9\nremove 9\nas_str\n";

@@ -6,6 +6,7 @@ use arraystring_run::program::{BUFFER, given_word, serve_buffered};
 use std::alloc::Global;
 use std::env::{Env, FillError};
 use std::fmt::Write as _;
+use std::io;
 use std::io::{ErrorKind, Write as _};
 use std::process::Abort;
 use std::test::Fail;
@@ -14,8 +15,8 @@ use test_support::writer::FakeWriter;
 
 /// An environment that has arguments, the program's name the first, and nothing else.
 #[derive(Drop)]
-struct Arguments<'a> {
-    all: &'a [&'a [u8]],
+pub(super) struct Arguments<'a> {
+    pub(super) all: &'a [&'a [u8]],
 }
 
 impl Env for Arguments<'_> {
@@ -100,7 +101,7 @@ fn serves(
     assert_eq!(rt; errors.as_slice(), reported);
 }
 
-const USAGE: &[u8] = b"usage: arraystring_run small or cache or max\n";
+pub(super) const USAGE: &[u8] = b"usage: arraystring_run small or cache or max\n";
 
 #[test]
 fn words_are_served(rt: HostRuntime) {
@@ -144,7 +145,71 @@ fn words_are_judged_without_memory(rt: HostRuntime) -> Result<(), Fail> {
     Ok(())
 }
 
-const WORDS: [&str; 3] = ["small", "cache", "max"];
+/// Before it writes it takes memory: so many bytes, which it lets go again.
+#[derive(Drop)]
+struct Wanting {
+    alloc: Global,
+    wants: usize,
+    refused: bool,
+}
+
+impl io::Write for Wanting {
+    fn write(&mut self, buf: &[u8]) -> io::Result<usize> {
+        self.refused = Vec::<u8>::with_capacity(self.alloc, self.wants).is_err();
+        Ok(buf.len())
+    }
+
+    fn flush(&mut self) -> io::Result<()> {
+        Ok(())
+    }
+}
+
+/// While the line of a word is written that names no capacity, all memory is there; while that of a bad
+/// line is, the buffer has some of it.
+#[test]
+fn no_buffer_is_taken_for_another_word(rt: HostRuntime) -> Result<(), Fail> {
+    let alloc = rt.alloc();
+    let Some(mut scarce) = ScarceMemory::take(alloc)? else {
+        return Ok(());
+    };
+    scarce.leave(alloc, 20000)?;
+    let mut none_refused = true;
+    for word in [
+        None,
+        Some(""),
+        Some("big"),
+        Some("smal"),
+        Some("max "),
+        Some("Max"),
+    ] {
+        let (status, is_refused) = wants_while_served(alloc, word);
+        none_refused = none_refused && status == 2 && !is_refused;
+    }
+    let mut all_refused = true;
+    for word in WORDS {
+        let (status, is_refused) = wants_while_served(alloc, Some(word));
+        all_refused = all_refused && status == 2 && is_refused;
+    }
+    drop(scarce);
+    assert!(rt; none_refused);
+    assert!(rt; all_refused);
+    Ok(())
+}
+
+/// Serves a script of a bad line, and returns the status and whether memory was refused to the writer of
+/// errors, which wants 15,000 bytes.
+fn wants_while_served(alloc: Global, word: Option<&str>) -> (u8, bool) {
+    let mut input: &[u8] = b"bad\n";
+    let mut errors = Wanting {
+        alloc,
+        wants: 15000,
+        refused: false,
+    };
+    let (status, _) = serve_buffered(alloc, word, &mut input, io::sink(), &mut errors);
+    (status, errors.refused)
+}
+
+pub(super) const WORDS: [&str; 3] = ["small", "cache", "max"];
 
 /// How many replies the scripts have. The replies of the last are longer than the buffer.
 const COUNTS: [usize; 7] = [0, 1, 5, 6, 7, 100, MANY];
@@ -238,6 +303,49 @@ fn a_failed_flush_is_reported(rt: HostRuntime) {
             }
         }
     }
+}
+
+/// There is no memory for the buffer, and there is for the rest: each write goes through, and a flush
+/// that fails is reported.
+#[test]
+fn a_failed_flush_without_a_buffer_is_reported(rt: HostRuntime) -> Result<(), Fail> {
+    let alloc = rt.alloc();
+    let mut output = FakeWriter::new(alloc, usize::MAX, None);
+    output.taken = Vec::with_capacity(alloc, 1000)?;
+    output.flushes = false;
+    let mut errors = Vec::with_capacity(alloc, 1000)?;
+    let (lines, replies) = ("len\n".repeat(alloc, 8)?, "number 0\n".repeat(alloc, 8)?);
+    let Some(mut scarce) = ScarceMemory::take(alloc)? else {
+        return Ok(());
+    };
+    scarce.leave(alloc, 7000)?;
+    let is_refused = Vec::<u8>::with_capacity(alloc, BUFFER).is_err();
+    let mut served = 0usize;
+    for word in WORDS {
+        for count in 0..=8usize {
+            let mut input = lines.as_bytes().get(..count * 4).unwrap_or(b"none");
+            output.taken.clear();
+            errors.clear();
+            let (status, _) = serve_buffered(
+                alloc,
+                Some(word),
+                &mut input,
+                &mut output,
+                &mut errors,
+            );
+            let wanted = replies.as_bytes().get(..count * 9).unwrap_or(b"none");
+            if status == 4
+                && output.taken.strip_prefix(wanted) == Some(b"final \n".as_slice())
+                && errors.as_slice() == b"write failed\n".as_slice()
+            {
+                served = served.saturating_add(1);
+            }
+        }
+    }
+    drop(scarce);
+    assert!(rt; is_refused);
+    assert_eq!(rt; served, 27);
+    Ok(())
 }
 
 /// Serves a script with a writer that fails after each number of bytes, and after all. Of the two

@@ -5,6 +5,7 @@ use super::table::{agree, printed};
 use arraystring::ArrayString;
 use arraystring::error::Error::{OutOfBounds, Utf8};
 use arraystring_run::{Command, Outcome, Reply, command, play, run, run_both};
+use std::alloc::Global;
 use std::fmt::Write;
 use std::process::Abort;
 use test_support::table::{column, rows};
@@ -473,4 +474,42 @@ fn long_runs_are_made_on_both(rt: HostRuntime) {
     pushed(&rt, &large, 255);
     pushed(&rt, &small, 120);
     agree(&rt, "the size", (first.len(), second.len()), (255, 120));
+}
+
+/// Pushes as many letters as there are commands, on one string and on two.
+fn letters_are_pushed(rt: &impl Abort, alloc: Global, commands: &[Command<'_>]) {
+    let count = commands.len();
+    let mut text: ArrayString<255> = ArrayString::new();
+    let outcome = run(alloc, &mut text, commands).expect(rt, "memory");
+    agree(rt, "the replies", outcome.replies.len(), count);
+    agree(rt, "the text", text.len() as usize, count.min(255));
+    let (mut first, mut second) = (ArrayString::<23>::new(), ArrayString::<255>::new());
+    let (small, large) = run_both(alloc, &mut first, &mut second, commands).expect(rt, "memory");
+    agree(
+        rt,
+        "replies",
+        (small.replies.len(), large.replies.len()),
+        (count, count),
+    );
+    agree(rt, "the first text", first.len() as usize, count.min(23));
+    agree(rt, "the second text", second.len() as usize, count.min(255));
+}
+
+/// Each length up to 300, and those round the powers of 2 up to 65,536.
+#[test]
+fn runs_of_each_length_are_made(rt: HostRuntime) {
+    let mut commands = Vec::new(rt.alloc());
+    for _ in 0..65537u32 {
+        commands.push(Command::TryPush('a')).expect(&rt, "memory");
+    }
+    let all = commands.as_slice();
+    for count in 0..=300usize {
+        letters_are_pushed(&rt, rt.alloc(), all.get(..count).unwrap_or(all));
+    }
+    for shift in 9..=16u32 {
+        let power = 1usize.wrapping_shl(shift);
+        for count in [power.wrapping_sub(1), power, power.wrapping_add(1)] {
+            letters_are_pushed(&rt, rt.alloc(), all.get(..count).unwrap_or(all));
+        }
+    }
 }

@@ -1,0 +1,191 @@
+//! Each kind of error of a read, a write and a flush, at each position: an interrupted read or write is
+//! tried again, and all others are reported.
+use super::devices::FakeReader;
+use super::player::{OUTPUT, SCRIPT};
+use super::table::agree;
+use arraystring_run::buffered::Buffered;
+use arraystring_run::{PlayFault, play};
+use std::alloc::Global;
+use std::io;
+use std::io::{ErrorKind, Write};
+use std::process::Abort;
+use test_support::writer::FakeWriter;
+
+/// All kinds of errors that there are.
+const KINDS: [ErrorKind; 42] = [
+    ErrorKind::NotFound,
+    ErrorKind::PermissionDenied,
+    ErrorKind::ConnectionRefused,
+    ErrorKind::ConnectionReset,
+    ErrorKind::HostUnreachable,
+    ErrorKind::NetworkUnreachable,
+    ErrorKind::ConnectionAborted,
+    ErrorKind::NotConnected,
+    ErrorKind::AddrInUse,
+    ErrorKind::AddrNotAvailable,
+    ErrorKind::NetworkDown,
+    ErrorKind::BrokenPipe,
+    ErrorKind::AlreadyExists,
+    ErrorKind::WouldBlock,
+    ErrorKind::NotADirectory,
+    ErrorKind::IsADirectory,
+    ErrorKind::DirectoryNotEmpty,
+    ErrorKind::ReadOnlyFilesystem,
+    ErrorKind::FilesystemLoop,
+    ErrorKind::StaleNetworkFileHandle,
+    ErrorKind::InvalidInput,
+    ErrorKind::InvalidData,
+    ErrorKind::TimedOut,
+    ErrorKind::WriteZero,
+    ErrorKind::StorageFull,
+    ErrorKind::NotSeekable,
+    ErrorKind::QuotaExceeded,
+    ErrorKind::FileTooLarge,
+    ErrorKind::ResourceBusy,
+    ErrorKind::ExecutableFileBusy,
+    ErrorKind::Deadlock,
+    ErrorKind::CrossesDevices,
+    ErrorKind::TooManyLinks,
+    ErrorKind::InvalidFilename,
+    ErrorKind::ArgumentListTooLong,
+    ErrorKind::Interrupted,
+    ErrorKind::Unsupported,
+    ErrorKind::UnexpectedEof,
+    ErrorKind::OutOfMemory,
+    ErrorKind::InProgress,
+    ErrorKind::Other,
+    ErrorKind::Uncategorized,
+];
+
+/// Each kind has a place of its own, and no place is left.
+#[test]
+fn no_kind_is_left_out(rt: HostRuntime) {
+    for (place, kind) in KINDS.into_iter().enumerate() {
+        agree(&rt, "a place", kind as u8 as usize, place);
+    }
+    agree(&rt, "the last place", ErrorKind::Uncategorized as u8, 41);
+}
+
+/// A read fails with each kind before each byte, the first too, and before the end.
+#[test]
+fn reads_of_each_kind(rt: HostRuntime) {
+    for kind in KINDS {
+        for reads in 0..=SCRIPT.len() {
+            let mut input = FakeReader {
+                bytes: SCRIPT.as_bytes(),
+                step: 1,
+                reads,
+                faults: 1,
+                again: 0,
+                kind,
+            };
+            let mut output = Vec::new(rt.alloc());
+            let played = play::<23, FakeReader, Vec<u8>>(rt.alloc(), &mut input, &mut output);
+            let left = input.bytes.len();
+            if kind == ErrorKind::Interrupted {
+                agree(&rt, "a read", (played, left), (Ok(()), 0));
+                agree(&rt, "the output", output.as_slice(), OUTPUT.as_bytes());
+            } else {
+                let wanted = SCRIPT.len().saturating_sub(reads);
+                agree(
+                    &rt,
+                    "a read",
+                    (played, left),
+                    (Err(PlayFault::Read), wanted),
+                );
+                agree(&rt, "the output", output.len(), 0);
+            }
+        }
+    }
+}
+
+/// A writer of a script's output, before which there is a buffer of `room` bytes.
+fn plays_into(
+    rt: &impl Abort,
+    alloc: Global,
+    room: usize,
+    output: FakeWriter,
+) -> (Result<(), PlayFault>, FakeWriter) {
+    let waiting = Vec::with_capacity(alloc, room).expect(rt, "memory for a buffer");
+    let mut buffered = Buffered { output, waiting };
+    let mut input = SCRIPT.as_bytes();
+    let played = play::<23, &[u8], Buffered<FakeWriter>>(alloc, &mut input, &mut buffered);
+    (played, buffered.output)
+}
+
+/// A write fails with each kind before each byte; so it does behind a buffer.
+#[test]
+fn writes_of_each_kind(rt: HostRuntime) {
+    let whole = OUTPUT.as_bytes();
+    for kind in KINDS {
+        for taken in 0..whole.len() {
+            let (outcome, wanted) = if kind == ErrorKind::Interrupted {
+                (Ok(()), whole)
+            } else {
+                (Err(PlayFault::Write), &whole[..taken])
+            };
+            let mut input = SCRIPT.as_bytes();
+            let mut output = FakeWriter::new(rt.alloc(), taken, Some(kind));
+            let played = play::<23, &[u8], FakeWriter>(rt.alloc(), &mut input, &mut output);
+            agree(&rt, "a write", played, outcome);
+            agree(&rt, "the output", output.taken.as_slice(), wanted);
+            for room in [0, 1, 8, 20, whole.len()] {
+                let output = FakeWriter::new(rt.alloc(), taken, Some(kind));
+                let (played, output) = plays_into(&rt, rt.alloc(), room, output);
+                agree(&rt, "a buffered write", played, outcome);
+                agree(&rt, "the output", output.taken.as_slice(), wanted);
+            }
+        }
+    }
+}
+
+/// Takes all bytes, and fails at the first flush.
+#[derive(Drop)]
+struct Unflushed {
+    taken: Vec<u8>,
+    kind: ErrorKind,
+    flushes: u8,
+}
+
+impl Write for Unflushed {
+    fn write(&mut self, buf: &[u8]) -> io::Result<usize> {
+        self.taken.extend_from_slice(buf)?;
+        Ok(buf.len())
+    }
+
+    fn flush(&mut self) -> io::Result<()> {
+        self.flushes = self.flushes.saturating_add(1);
+        if self.flushes == 1 {
+            return Err(self.kind.into());
+        }
+        Ok(())
+    }
+}
+
+/// A flush that fails is not tried again, whatever the kind: the first and only one decides. So it is
+/// behind a buffer of each size, also if nothing waits in it.
+#[test]
+fn flushes_of_each_kind(rt: HostRuntime) {
+    for kind in KINDS {
+        for room in 0..=OUTPUT.len().saturating_add(1) {
+            let output = Unflushed {
+                taken: Vec::new(rt.alloc()),
+                kind,
+                flushes: 0,
+            };
+            let waiting = Vec::with_capacity(rt.alloc(), room).expect(&rt, "memory");
+            let mut buffered = Buffered { output, waiting };
+            let mut input = SCRIPT.as_bytes();
+            let played = play::<23, &[u8], Buffered<Unflushed>>(
+                rt.alloc(),
+                &mut input,
+                &mut buffered,
+            );
+            agree(&rt, "a flush", played, Err(PlayFault::Write));
+            let taken = buffered.output.taken.as_slice();
+            agree(&rt, "the output", taken, OUTPUT.as_bytes());
+            agree(&rt, "the flushes", buffered.output.flushes, 1);
+            agree(&rt, "what waits", buffered.waiting.len(), 0);
+        }
+    }
+}

@@ -1,0 +1,138 @@
+//! Words that nearly name a capacity: with more before or behind, with less, or in other letters. None is
+//! served; as the only argument each is given as it is.
+use super::program::{Arguments, USAGE, WORDS};
+use super::table::agree;
+use arraystring::MaxString;
+use arraystring_run::program::{given_word, serve_buffered};
+use arraystring_run::{names_capacity, serve};
+use std::process::Abort;
+
+/// What may stand before a word or behind it: white space, signs, quotes, zero, other letters, and
+/// characters that are not seen.
+const MORE: [&str; 24] = [
+    " ", "  ", "\t", "\n", "\r\n", "\u{B}", "\u{C}", "\0", "\u{A0}", "\u{2003}", "\u{3000}",
+    "\u{200B}", "\u{FEFF}", "\u{301}", "\u{7F}", "-", "--", "+", "=", "'", "\"", "a", "é", "🤔",
+];
+
+/// The word is none: as the only argument it is given as it is, no capacity has its name, and nothing is
+/// read or written for it.
+fn is_refused(rt: &(impl Abort + AllocGlobal), word: &str) {
+    let all: [&[u8]; 2] = [b"arraystring_run", word.as_bytes()];
+    let given = given_word(&Arguments { all: &all });
+    agree(rt, word, given.as_ref().map(MaxString::as_str), Some(word));
+    agree(rt, word, names_capacity(Some(word)), false);
+    let script: &[u8] = b"len\n";
+    for buffer in [false, true] {
+        let mut input = script;
+        let mut output = Vec::new(rt.alloc());
+        let mut errors = Vec::new(rt.alloc());
+        let status = if buffer {
+            serve_buffered(rt.alloc(), Some(word), &mut input, &mut output, &mut errors).0
+        } else {
+            serve(rt.alloc(), Some(word), &mut input, &mut output, &mut errors)
+        };
+        agree(rt, word, (status, input.len(), output.len()), (2, 4, 0));
+        agree(rt, word, errors.as_slice(), USAGE);
+    }
+}
+
+/// Before each of the words, behind it, on both sides and inside.
+#[test]
+fn words_with_more_are_refused(rt: HostRuntime) {
+    for word in WORDS {
+        for more in MORE {
+            for at in 0..=word.len() {
+                let (Some(front), Some(back)) = (word.get(..at), word.get(at..)) else {
+                    continue;
+                };
+                let given = format!(in rt.alloc(); "{front}{more}{back}").expect(&rt, "memory");
+                is_refused(&rt, &given);
+            }
+            let given = format!(in rt.alloc(); "{more}{word}{more}").expect(&rt, "memory");
+            is_refused(&rt, &given);
+        }
+        for other in WORDS {
+            let given = format!(in rt.alloc(); "{word}{other}").expect(&rt, "memory");
+            is_refused(&rt, &given);
+            let given = format!(in rt.alloc(); "{word} {other}").expect(&rt, "memory");
+            is_refused(&rt, &given);
+        }
+    }
+}
+
+/// Each part of a word but the whole.
+#[test]
+fn parts_of_words_are_refused(rt: HostRuntime) {
+    for word in WORDS {
+        for start in 0..=word.len() {
+            for end in start..=word.len() {
+                let part = word.get(start..end).unwrap_or(" ");
+                if part != word {
+                    is_refused(&rt, part);
+                }
+            }
+        }
+    }
+}
+
+/// A word with other letters: of `large` those in upper case whose bits are set, and at a place another
+/// letter.
+fn respelled(
+    rt: &(impl Abort + AllocGlobal),
+    word: &str,
+    large: u8,
+    other: Option<(usize, char)>,
+) -> String {
+    let mut given = String::new(rt.alloc());
+    for (at, letter) in word.chars().enumerate() {
+        let mut letter = letter;
+        if (large >> (at % 8)) & 1 == 1 {
+            letter = letter.to_ascii_uppercase();
+        }
+        if let Some((place, other)) = other {
+            if place == at {
+                letter = other;
+            }
+        }
+        given.push(letter).expect(rt, "memory");
+    }
+    given
+}
+
+/// Any of a word's letters large, and each letter another of the 128 of ASCII.
+#[test]
+fn words_in_other_letters_are_refused(rt: HostRuntime) {
+    for word in WORDS {
+        for large in 0..=255u8 {
+            let given = respelled(&rt, word, large, None);
+            if given.as_str() != word {
+                is_refused(&rt, &given);
+            }
+        }
+        for place in 0..word.len() {
+            for byte in 0..128u8 {
+                let given = respelled(&rt, word, 0, Some((place, byte as char)));
+                if given.as_str() != word {
+                    is_refused(&rt, &given);
+                }
+            }
+        }
+    }
+}
+
+/// No word at all.
+#[test]
+fn no_word_is_refused(rt: HostRuntime) {
+    agree(&rt, "no word", names_capacity(None), false);
+    let mut input: &[u8] = b"len\n";
+    let mut output = Vec::new(rt.alloc());
+    let mut errors = Vec::new(rt.alloc());
+    let (status, _) = serve_buffered(rt.alloc(), None, &mut input, &mut output, &mut errors);
+    agree(
+        &rt,
+        "no word",
+        (status, input.len(), output.len()),
+        (2, 4, 0),
+    );
+    agree(&rt, "no word", errors.as_slice(), USAGE);
+}
