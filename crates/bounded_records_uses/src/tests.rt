@@ -45,7 +45,7 @@ fn users_are_entered_renamed_and_struck_off(rt: HostRuntime) -> Result<(), Fail>
     Ok(())
 }
 
-/// How many users are entered if memory is refused.
+/// How many users are entered at most.
 const COUNT: u8 = 100;
 
 /// The user of a number. Their usernames ascend with the numbers.
@@ -66,6 +66,38 @@ fn check_first(rt: &impl Abort, users: &Directory, count: u8) {
         agree(rt, all.next(), Some(&numbered(number)));
     }
     agree(rt, all.next(), None);
+}
+
+/// In a directory of each size, each user is renamed to a free name, to a taken one, and back. All are
+/// dumped, and at last struck off.
+#[test]
+fn directories_of_each_size(rt: HostRuntime) {
+    let mut users = Directory::new(rt.alloc());
+    let free = numbered(COUNT).username;
+    for number in 0..COUNT {
+        let given = numbered(number);
+        let entered = enter(&mut users, given);
+        agree(&rt, entered, Ok(Some(given.role)));
+        for from in 0..=number {
+            let name = numbered(from).username;
+            let taken = rename(&mut users, &name, given.username);
+            agree(&rt, taken, Err(NotRenamed::Taken));
+            agree(&rt, rename(&mut users, &name, free), Ok(()));
+            let missing = rename(&mut users, &name, given.username);
+            agree(&rt, missing, Err(NotRenamed::Missing));
+            agree(&rt, rename(&mut users, &free, name), Ok(()));
+        }
+        check_first(&rt, &users, number + 1);
+        let all = dump(&users, rt.alloc()).expect(&rt, "memory for the users");
+        agree(&rt, all.len(), number as usize + 1);
+        agree(&rt, all.last(), Some(&given));
+    }
+    for number in 0..COUNT {
+        let name = numbered(number).username;
+        agree(&rt, strike_off(&mut users, &name), true);
+        agree(&rt, strike_off(&mut users, &name), false);
+    }
+    agree(&rt, users.is_empty(), true);
 }
 
 /// With ever more memory, from none up, each growth is refused in turn until it is met. If a user
