@@ -3,16 +3,7 @@ use super::calls::{check_row, check_table};
 use super::table::{agree, string};
 use arraystring::MaxString;
 use std::process::Abort;
-
-/// Each character with the property White_Space, in the order of the Unicode Standard's list.
-const WHITE_SPACE: &str = "\u{9}\u{A}\u{B}\u{C}\u{D}\u{20}\u{85}\u{A0}\u{1680}\
-    \u{2000}\u{2001}\u{2002}\u{2003}\u{2004}\u{2005}\u{2006}\u{2007}\
-    \u{2008}\u{2009}\u{200A}\u{2028}\u{2029}\u{202F}\u{205F}\u{3000}";
-
-/// The characters right below and right above each range of white space.
-const BESIDE: &str = "\u{8}\u{E}\u{1F}\u{21}\u{84}\u{86}\u{9F}\u{A1}\u{167F}\
-    \u{1681}\u{1FFF}\u{200B}\u{2027}\u{202A}\u{202E}\u{2030}\u{205E}\
-    \u{2060}\u{2FFF}\u{3001}";
+use test_support::table::{column, rows};
 
 #[test]
 fn trimmed_texts(rt: HostRuntime) {
@@ -102,21 +93,66 @@ fn trims(rt: &impl Abort, text: MaxString, is_trimmed: bool, is_trimmed_of_space
     agree(rt, text, left, (wanted, wanted_of_spaces));
 }
 
-/// Each character is after `a`, before it, and on both sides. `trim_spaces` trims the space alone.
+/// Asserts which characters are trimmed. The columns of a row are
+///
+///     first character | last character | calls that trim each
+///
+/// if the characters are in hexadecimal. Each is after `a`, before it, and on both sides.
+fn check_trims(rt: &impl Abort, table: &str) {
+    for row in rows(table) {
+        let (first, last) = (character_of(rt, row, 0), character_of(rt, row, 1));
+        let is_trimmed = !column(row, 2).is_empty();
+        let is_space = column(row, 2).ends_with("trim_spaces");
+        for end in (first..=last).into_iter() {
+            let mut text: MaxString = string("a");
+            let _ = text.try_push(end);
+            trims(rt, text, is_trimmed, is_space);
+            text = MaxString::new();
+            let _ = text.try_push(end);
+            text.push_str("a");
+            trims(rt, text, is_trimmed, is_space);
+            let _ = text.try_push(end);
+            trims(rt, text, is_trimmed, is_space);
+        }
+    }
+}
+
+/// The character of a number in hexadecimal.
+fn character_of(rt: &impl Abort, row: &str, at: usize) -> char {
+    let number = u32::from_str_radix(column(row, at), 16).expect(rt, "a number in the column");
+    char::from_u32(number).expect(rt, "a character of this number")
+}
+
+/// Each character with the property White_Space, in the order of the Unicode Standard's list, and all
+/// between them.
 #[test]
 fn each_white_space_is_trimmed_and_nothing_beside_it(rt: HostRuntime) {
-    let counts = (WHITE_SPACE.chars().count(), BESIDE.chars().count());
-    agree(&rt, "white space, and beside it", counts, (25, 20));
-    for end in WHITE_SPACE.chars().chain(BESIDE.chars()) {
-        let is_trimmed = WHITE_SPACE.contains(end);
-        let mut text: MaxString = string("a");
-        let _ = text.try_push(end);
-        trims(&rt, text, is_trimmed, end == ' ');
-        text = MaxString::new();
-        let _ = text.try_push(end);
-        text.push_str("a");
-        trims(&rt, text, is_trimmed, end == ' ');
-        let _ = text.try_push(end);
-        trims(&rt, text, is_trimmed, end == ' ');
-    }
+    check_trims(
+        &rt,
+        "
+        0     | 8     |
+        9     | D     | trim
+        E     | 1F    |
+        20    | 20    | trim and trim_spaces
+        21    | 84    |
+        85    | 85    | trim
+        86    | 9F    |
+        A0    | A0    | trim
+        A1    | 167F  |
+        1680  | 1680  | trim
+        1681  | 1FFF  |
+        2000  | 200A  | trim
+        200B  | 2027  |
+        2028  | 2029  | trim
+        202A  | 202E  |
+        202F  | 202F  | trim
+        2030  | 205E  |
+        205F  | 205F  | trim
+        2060  | 2FFF  |
+        3000  | 3000  | trim
+        3001  | 30FF  |
+        FEFF  | FEFF  |
+        E0020 | E0020 |
+        ",
+    );
 }

@@ -17,6 +17,7 @@ const PLAYERS: &[(&str, usize)] = &[
     ("check_cuts", 18),
     ("check_orders", 6),
     ("check_reading", 18),
+    ("check_trims", 23),
     ("check_units", 9),
     ("check_walks", 7),
 ];
@@ -29,6 +30,7 @@ pub fn play(table: &Table) -> bool {
         "check_cuts" => cuts(text),
         "check_orders" => at_capacity!(table.capacity.unwrap_or(255), orders, text, 63 128 255),
         "check_reading" => reading(text),
+        "check_trims" => trims(text),
         "check_units" => units(text),
         "check_walks" => walks(text),
         _ => return false,
@@ -227,4 +229,28 @@ fn left(written: &str) -> Drain<8> {
     }
     assert_eq!(drain.as_str(), inside, "{written}");
     drain
+}
+
+/// Which characters are trimmed. The columns are
+///
+///     first character | last character | calls that trim each
+///
+/// where the characters are in hexadecimal. Each is after `a`, before it, and on both sides.
+fn trims(table: &str) {
+    let character = |row: &str, at: usize| {
+        char::from_u32(u32::from_str_radix(column(row, at), 16).expect("a number")).expect("a character")
+    };
+    for row in rows(table) {
+        let calls = column(row, 2);
+        for ch in character(row, 0)..=character(row, 1) {
+            for text in [format!("a{ch}"), format!("{ch}a"), format!("{ch}a{ch}")] {
+                let [mut trimmed, mut without_spaces] = [SmallString::from(text.as_str()); 2];
+                trimmed.trim();
+                without_spaces.trim_spaces();
+                let left = |is_trimmed: bool| if is_trimmed { "a" } else { text.as_str() };
+                let wanted = (left(!calls.is_empty()), left(calls.ends_with("trim_spaces")));
+                assert_eq!((trimmed.as_str(), without_spaces.as_str()), wanted, "{ch:?}");
+            }
+        }
+    }
 }
