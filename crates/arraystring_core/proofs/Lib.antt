@@ -17,4 +17,5 @@ mod WalkedLemmas
 mod EqualLemmas
 mod OrderLemmas
 mod WordLemmas
+mod UnitLemmas
 mod WellFormedLemmas

@@ -1,11 +1,12 @@
 //! Strings from UTF-16.
-ghost use Rattle.std.specs.Prelude.{◌≡◌, [], List};
+ghost use Rattle.std.specs.Prelude.{◌≡◌, ◌+◌, ◌<◌, ◌≤◌, ◌++◌, [], ℕ, List, length, take, drop, slice_index};
 ghost use Rattle.arraystring_base.specs.declared.utf16.Unit16.{Unit16};
 ghost use Rattle.arraystring_base.specs.Text.{cap, cut};
 ghost use Rattle.arraystring_base.specs.Utf16.{IsReading, first_stop, shown, lossy_text};
 ghost use Rattle.arraystring_core.specs.FromUtf16.{GivesWhole, GivesPrefix, stop_at};
 
 use super::ArrayString;
+use crate::laws::text_fits;
 use arraystring_base::error::{Error, Utf16};
 use arraystring_base::laws::only_reading;
 use arraystring_base::utf16::{Unit16, Units};
@@ -63,7 +64,9 @@ impl<const N: usize> ArrayString<N> {
     {
         only_reading(units);
         let mut text = Self::new();
-        for item in Units::new(units) {
+        let run = text.push_ascii_units(units);
+        text_fits(&text);
+        for item in Units::new(&units[run..]) {
             match text.try_push(shown(item)) {
                 Ok(()) => {}
                 Err(_) => return text,
@@ -71,6 +74,39 @@ impl<const N: usize> ArrayString<N> {
         }
         text
     }
+
+    /// Appends the units before the first that is not ASCII, as far as there is room behind the
+    /// text. Returns how many.
+    #[inline(always)]
+    fn push_ascii_units(&mut self, units: &[u16]) -> usize
+        ensures within { result ≤ length units.now }
+        ensures text { self.new.text ≡ self.old.text ++ take result units.now }
+        ensures ascii { (i : ℕ) → i < result → slice_index units.now i < 0x80 }
+    {
+        let end = self.start as usize + self.size as usize;
+        let run = write_ascii(&mut self.array, end, units);
+        self.size = (self.size as usize + run) as u8;
+        run
+    }
+}
+
+/// Writes the units before the first that is not ASCII as bytes into the array, from `at` on, as far
+/// as there is room. Returns how many.
+#[inline(always)]
+fn write_ascii<const N: usize>(array: &mut [u8; N], at: usize, units: &[u16]) -> usize
+    requires { at ≤ cap N }
+    ensures within { result ≤ length units.now }
+    ensures room { at + result ≤ cap N }
+    ensures ascii { (i : ℕ) → i < result → slice_index units.now i < 0x80 }
+    ensures bytes { array.new ≡ take at array.old ++ (take result units.now ++ drop (at + result) array.old) }
+{
+    let most = units.len().min(ArrayString::<N>::capacity() as usize - at);
+    let mut run = 0;
+    while run < most && units[run] < 0x80 {
+        array[at + run] = units[run] as u8;
+        run += 1;
+    }
+    run
 }
 
 /// Adds to an empty string the longest prefix of characters of `units` that fits, and returns the
@@ -80,7 +116,10 @@ fn add_prefix<const N: usize>(prefix: &mut ArrayString<N>, units: &[u16]) -> Opt
     ensures { (items : List Unit16) → IsReading units.now items → first_stop items (cap N) ≡ stop_at result prefix.new.text }
 {
     only_reading(units);
-    for item in Units::new(units) {
+    // A run of ASCII first, at once: its units are its bytes.
+    let run = prefix.push_ascii_units(units);
+    text_fits(prefix);
+    for item in Units::new(&units[run..]) {
         match item {
             Unit16::Char(ch) => match prefix.try_push(ch) {
                 Ok(()) => {}

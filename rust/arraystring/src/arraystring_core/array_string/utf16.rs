@@ -2,7 +2,9 @@
 //! Strings from UTF-16.
 
 use super::ArrayString;
+use crate::arraystring_core::laws::text_fits;
 use crate::arraystring_base::error::{Error, Utf16};
+use crate::arraystring_base::laws::only_reading;
 use crate::arraystring_base::utf16::{Unit16, Units};
 use core::char;
 
@@ -26,8 +28,7 @@ impl<const N: usize> ArrayString<N> {
     pub fn try_from_utf16<B: AsRef<[u16]>>(units: B) -> Result<Self, Error> {
         let units = units.as_ref();
         let mut prefix = Self::new();
-        // SAFETY: the proof of `try_from_utf16` in crates/arraystring_core/src/array_string/utf16.rt shows the precondition of `add_prefix`.
-        match unsafe { add_prefix(&mut prefix, units) } {
+        match add_prefix(&mut prefix, units) {
             None => Ok(prefix),
             Some(Unit16::Lone(_)) => Err(Error::Utf16),
             Some(Unit16::Char(_)) => Err(Error::OutOfBounds),
@@ -59,8 +60,7 @@ impl<const N: usize> ArrayString<N> {
     pub fn from_utf16<B: AsRef<[u16]>>(units: B) -> Result<Self, Utf16> {
         let units = units.as_ref();
         let mut prefix = Self::new();
-        // SAFETY: the proof of `from_utf16` in crates/arraystring_core/src/array_string/utf16.rt shows the precondition of `add_prefix`.
-        match unsafe { add_prefix(&mut prefix, units) } {
+        match add_prefix(&mut prefix, units) {
             Some(Unit16::Lone(_)) => Err(Utf16),
             _ => Ok(prefix),
         }
@@ -77,8 +77,11 @@ impl<const N: usize> ArrayString<N> {
     #[inline]
     pub fn from_utf16_lossy<B: AsRef<[u16]>>(units: B) -> Self {
         let units = units.as_ref();
+        only_reading(units);
         let mut text = Self::new();
-        for item in Units::new(units) {
+        let run = text.push_ascii_units(units);
+        text_fits(&text);
+        for item in Units::new(&units[run..]) {
             match text.try_push(shown(item)) {
                 Ok(()) => {}
                 Err(_) => return text,
@@ -86,14 +89,51 @@ impl<const N: usize> ArrayString<N> {
         }
         text
     }
+
+    /// Appends the units before the first that is not ASCII, as far as there is room behind the
+    /// text. Returns how many.
+    ///
+    /// # Contract
+    ///
+    /// ```text
+    /// ensures within { result ≤ length units.now }
+    /// ensures text { self.new.text ≡ self.old.text ++ take result units.now }
+    /// ensures ascii { (i : ℕ) → i < result → slice_index units.now i < 0x80 }
+    /// ```
+    #[inline(always)]
+    fn push_ascii_units(&mut self, units: &[u16]) -> usize {
+        let end = self.start as usize + self.size as usize;
+        let run = write_ascii(&mut self.array, end, units);
+        self.size = (self.size as usize + run) as u8;
+        run
+    }
+}
+
+/// Writes the units before the first that is not ASCII as bytes into the array, from `at` on, as far
+/// as there is room. Returns how many.
+///
+/// # Contract
+///
+/// ```text
+/// requires { at ≤ cap N }
+/// ensures within { result ≤ length units.now }
+/// ensures room { at + result ≤ cap N }
+/// ensures ascii { (i : ℕ) → i < result → slice_index units.now i < 0x80 }
+/// ensures bytes { array.new ≡ take at array.old ++ (take result units.now ++ drop (at + result) array.old) }
+/// ```
+#[inline(always)]
+fn write_ascii<const N: usize>(array: &mut [u8; N], at: usize, units: &[u16]) -> usize {
+    let most = units.len().min(ArrayString::<N>::capacity() as usize - at);
+    let mut run = 0;
+    while run < most && units[run] < 0x80 {
+        array[at + run] = units[run] as u8;
+        run += 1;
+    }
+    run
 }
 
 /// Adds to an empty string the longest prefix of characters of `units` that fits, and returns the
 /// item right after it.
-///
-/// # Safety
-///
-/// Each clause `requires` of the contract must hold, but for those on counts, on iterators and on closures.
 ///
 /// # Contract
 ///
@@ -102,8 +142,12 @@ impl<const N: usize> ArrayString<N> {
 /// ensures { (items : List Unit16) → IsReading units.now items → first_stop items (cap N) ≡ stop_at result prefix.new.text }
 /// ```
 #[inline]
-unsafe fn add_prefix<const N: usize>(prefix: &mut ArrayString<N>, units: &[u16]) -> Option<Unit16> {
-    for item in Units::new(units) {
+fn add_prefix<const N: usize>(prefix: &mut ArrayString<N>, units: &[u16]) -> Option<Unit16> {
+    only_reading(units);
+    // A run of ASCII first, at once: its units are its bytes.
+    let run = prefix.push_ascii_units(units);
+    text_fits(prefix);
+    for item in Units::new(&units[run..]) {
         match item {
             Unit16::Char(ch) => match prefix.try_push(ch) {
                 Ok(()) => {}

@@ -1,4 +1,4 @@
-use Rattle.std.proofs.Common.{◌+◌, ◌≤◌, ◌<◌, [], ◌∷◌, ◌++◌, map, sym, ap, ◌∙◌, arith, append-nil, append_assoc, Some}
+use Rattle.std.proofs.Common.{◌+◌, ◌≤◌, ◌<◌, [], ◌∷◌, ◌++◌, map, sym, ap, ◌∙◌, arith, append-nil, append_assoc, take, Some}
 use Rattle.std.proofs.lemmas.List.{map-append}
 use Rattle.arraystring_base.specs.declared.utf16.Unit16.TheVariants.{Char}
 use Rattle.arraystring_base.specs.Text.{cap, size, width}
@@ -6,8 +6,15 @@ use Rattle.arraystring_base.proofs.TextLaws.{size-append}
 use Rattle.arraystring_base.specs.Utf16.{End, Fault, Full}
 use Rattle.arraystring_base.proofs.Utf16Laws.{stop-is}
 use Rattle.arraystring_core.specs.FromUtf16.{stop_at}
+use Rattle.arraystring_core.proofs.UnitLemmas.{run-reads, rest-whole}
 use Rattle.arraystring_core.proofs.EditLaws.{addition-made, addition-refused}
 use Rattle.arraystring_core.proofs.array_string.utf16.add_prefix.Goals as goal
+
+pub loop-item-init : goal.loop-item-init
+loop-item-init g c =
+    let run = take c.push_ascii_units-run.result c.args.units.now in
+    let whole = c.push_ascii_units-run.ensures.text ∙ ap (λ t. t ++ run) c.requires in
+    (omega (arith, c.text_fits.ensures), ap (λ t. map Char t ++ c.into_iter-item-iterator.result) (sym whole))
 
 pub loop-item-preserved : goal.loop-item-preserved
 loop-item-preserved g c =
@@ -32,8 +39,9 @@ returns-in-Err g c = λ items is.
     let left = c.next.new.self in
     let refused = addition-refused (ch ∷ []) (cap g.row.N) c.in-Err.ensures in
     let past : cap g.row.N < size prefix + width ch = omega (arith, refused.0) in
-    let same = c.only_reading.ensures.only items _ is c.new-item-items.ensures
-    ∙ sym c.into_iter-item-iterator.ensures.into_iter_gives ∙ inv.1 in
+    let same = c.only_reading.ensures.only items _ is
+    (run-reads c.push_ascii_units-run.result c.args.units.now _ c.push_ascii_units-run.ensures.ascii (rw (rest-whole c.push_ascii_units-run.result c.args.units.now) at c.new-item-items.ensures))
+    ∙ ap (λ l. map Char (take c.push_ascii_units-run.result c.args.units.now) ++ l) (sym c.into_iter-item-iterator.ensures.into_iter_gives) ∙ inv.1 in
     let first = c.in-Some.ensures.steps ∙ ap (λ item. item ∷ left) c.in-Char.is in
     stop-is items (cap g.row.N) (Full prefix) (ch, left, same ∙ ap (λ l. map Char prefix ++ l) first, inv.0, past)
     ∙ ap Full (sym refused.2)
@@ -44,8 +52,9 @@ returns-in-Lone g c = λ items is.
     let prefix = c.loop-item.prefix.text in
     let unit = c.in-Lone.field-0 in
     let left = c.next.new.self in
-    let same = c.only_reading.ensures.only items _ is c.new-item-items.ensures
-    ∙ sym c.into_iter-item-iterator.ensures.into_iter_gives ∙ inv.1 in
+    let same = c.only_reading.ensures.only items _ is
+    (run-reads c.push_ascii_units-run.result c.args.units.now _ c.push_ascii_units-run.ensures.ascii (rw (rest-whole c.push_ascii_units-run.result c.args.units.now) at c.new-item-items.ensures))
+    ∙ ap (λ l. map Char (take c.push_ascii_units-run.result c.args.units.now) ++ l) (sym c.into_iter-item-iterator.ensures.into_iter_gives) ∙ inv.1 in
     let first = c.in-Some.ensures.steps ∙ ap (λ item. item ∷ left) c.in-Lone.is in
     stop-is items (cap g.row.N) (Fault prefix) (unit, left, same ∙ ap (λ l. map Char prefix ++ l) first, inv.0)
     ∙ ap (λ item. stop_at (Some item) prefix) (sym c.in-Lone.is)
@@ -54,7 +63,8 @@ pub returns : goal.returns
 returns g c = λ items is.
     let inv = c.loop-item.invariant in
     let prefix = c.loop-item.prefix.text in
-    let same = c.only_reading.ensures.only items _ is c.new-item-items.ensures
-    ∙ sym c.into_iter-item-iterator.ensures.into_iter_gives ∙ inv.1 in
+    let same = c.only_reading.ensures.only items _ is
+    (run-reads c.push_ascii_units-run.result c.args.units.now _ c.push_ascii_units-run.ensures.ascii (rw (rest-whole c.push_ascii_units-run.result c.args.units.now) at c.new-item-items.ensures))
+    ∙ ap (λ l. map Char (take c.push_ascii_units-run.result c.args.units.now) ++ l) (sym c.into_iter-item-iterator.ensures.into_iter_gives) ∙ inv.1 in
     let whole = ap (λ l. map Char prefix ++ l) c.in-None.ensures.steps.0 ∙ append-nil (map Char prefix) in
     stop-is items (cap g.row.N) (End prefix) (same ∙ whole, inv.0)

@@ -1,0 +1,94 @@
+-- A run of ASCII in front of units of UTF-16: its bytes, and how it is read.
+use Rattle.std.proofs.Common.{◌≡◌, ℕ, ◌+◌, ◌<◌, ◌≤◌, List, [], ◌∷◌, ◌++◌, suc, zero, map, length, take, drop, get_or, slice_set, take_all, refl, sym, ap, ◌∙◌, arith, inl, inr, true, false, append_assoc, length-append, length-take-le, length-drop, ◌-◌}
+use Rattle.std.proofs.lemmas.Bool.{lt-ltb, cases_lt}
+use Rattle.std.proofs.lemmas.List.Elements.{All-cons}
+use Rattle.std.proofs.lemmas.Str.{IsUtf8-from_ascii, chars-IsAscii}
+use Rattle.std.specs.Prelude.{IsUtf8, chars, IsAscii}
+use Rattle.arraystring_base.specs.declared.utf16.Unit16.{Unit16}
+use Rattle.arraystring_base.specs.declared.utf16.Unit16.TheVariants.{Char, Lone}
+use Rattle.arraystring_base.specs.Utf16.{IsHigh, IsLow, utf16, joined_units, lossy_text, IsItem, NoPairApart, IsReading}
+
+abbrev pub AreAscii : List ℕ → ℕ → Type 0
+AreAscii units n = (i : ℕ) → i < n → get_or units i 0 < 0x80
+
+apart-behind : (u : ℕ) (items : List Unit16) → NoPairApart items → (before after : List Unit16) (high low : ℕ)
+    → Char u ∷ items ≡ before ++ Lone high ∷ Lone low ∷ after → IsHigh high → IsLow low → ⊥
+apart-behind u items apart [] after high low e up down = absurd (cc)
+apart-behind u items apart (x ∷ before) after high low e up down =
+    let rest : items ≡ before ++ Lone high ∷ Lone low ∷ after = cc in
+    apart before after high low rest up down
+
+one-unit : (u : ℕ) → u < 0x80 → utf16 u ≡ u ∷ []
+one-unit u small = let low : u < 0x1_0000 = omega arith in rw (lt-ltb u 0x1_0000 low) refl
+
+unit-reads : (u : ℕ) (units : List ℕ) (items : List Unit16) → u < 0x80 → IsReading units items → IsReading (u ∷ units) (Char u ∷ items)
+unit-reads u units items small part = record {
+  each_unit = All-cons (λ unit. unit < 0x1_0000) u units (omega (arith, small)) part.each_unit;
+  each_item = All-cons IsItem (Char u) items (inl (omega (arith, small))) part.each_item;
+  joined = ap (λ l. u ∷ l) part.joined ∙ ap (λ l. l ++ joined_units items) (sym (one-unit u small));
+  apart = λ before after high low e up down. apart-behind u items part.apart before after high low e up down;
+}
+
+-- what is read behind a run, and all of it
+pub run-reads : (n : ℕ) (units : List ℕ) (items : List Unit16) → AreAscii units n → IsReading (drop n units) items
+    → IsReading units (map Char (take n units) ++ items)
+run-reads zero units items ascii part = part
+run-reads (suc n) [] items ascii part = part
+run-reads (suc n) (u ∷ units) items ascii part =
+    unit-reads u units (map Char (take n units) ++ items) (ascii 0 (omega arith))
+    (run-reads n units items (λ i lt. ascii (suc i) (omega (arith, lt))) part)
+
+-- the bytes of a run are a text
+ascii-run : (n : ℕ) (units : List ℕ) → AreAscii units n → IsAscii (take n units)
+ascii-run zero units ascii i = omega arith
+ascii-run (suc n) [] ascii i = omega arith
+ascii-run (suc n) (u ∷ units) ascii zero = ascii 0 (omega arith)
+ascii-run (suc n) (u ∷ units) ascii (suc i) = ascii-run n units (λ j lt. ascii (suc j) (omega (arith, lt))) i
+
+pub run-utf8 : (n : ℕ) (units : List ℕ) → AreAscii units n → IsUtf8 (take n units)
+run-utf8 n units ascii = IsUtf8-from_ascii (take n units) (ascii-run n units ascii)
+
+pub run-chars : (n : ℕ) (units : List ℕ) → AreAscii units n → chars (take n units) ≡ take n units
+run-chars n units ascii = chars-IsAscii (take n units) (ascii-run n units ascii)
+
+-- one more unit is written behind a run
+set-behind : (front : List ℕ) (y x : ℕ) (rest : List ℕ) → slice_set (front ++ y ∷ rest) (length front) x ≡ front ++ x ∷ rest
+set-behind [] y x rest = refl
+set-behind (z ∷ front) y x rest = ap (λ l. z ∷ l) (set-behind front y x rest)
+
+split-at : (l : List ℕ) (i : ℕ) → i < length l → drop i l ≡ get_or l i 0 ∷ drop (suc i) l
+split-at [] i within = absurd (omega arith)
+split-at (y ∷ l) zero within = refl
+split-at (y ∷ l) (suc i) within = split-at l i (omega arith)
+
+take-one_more : (l : List ℕ) (i : ℕ) → i < length l → take (suc i) l ≡ take i l ++ get_or l i 0 ∷ []
+take-one_more [] i within = absurd (omega arith)
+take-one_more (y ∷ l) zero within = refl
+take-one_more (y ∷ l) (suc i) within = ap (λ r. y ∷ r) (take-one_more l i (omega arith))
+
+pub run-longer : (array units : List ℕ) (at n : ℕ) (now : List ℕ) → at + n < length array → n < length units
+    → now ≡ take at array ++ (take n units ++ drop (at + n) array)
+    → slice_set now (at + n) (get_or units n 0) ≡ take at array ++ (take (n + 1) units ++ drop (at + (n + 1)) array)
+run-longer array units at n now in_array in_units is =
+    let front = take at array ++ take n units in
+    let rest = drop (suc (at + n)) array in
+    let x = get_or units n 0 in
+    let y = get_or array (at + n) 0 in
+    let long : at + n ≡ length front = omega (arith, length-append (take at array) (take n units), length-take-le at array (omega (arith, in_array)), length-take-le n units (omega (arith, in_units))) in
+    let next : suc n ≡ n + 1 = omega arith in
+    let behind : suc (at + n) ≡ at + (n + 1) = omega arith in
+    let parts : now ≡ front ++ y ∷ rest =
+    is ∙ ap (λ l. take at array ++ (take n units ++ l)) (split-at array (at + n) in_array) ∙ sym (append_assoc (take at array) (take n units) (y ∷ rest)) in
+    ap (λ l. slice_set l (at + n) x) parts ∙ ap (λ k. slice_set (front ++ y ∷ rest) k x) long ∙ set-behind front y x rest
+    ∙ append_assoc (take at array) (take n units) (x ∷ rest)
+    ∙ ap (λ l. take at array ++ l) (sym (append_assoc (take n units) (x ∷ []) rest))
+    ∙ ap (λ l. take at array ++ (l ++ rest)) (sym (take-one_more units n in_units))
+    ∙ ap (λ k. take at array ++ (take k units ++ rest)) next
+    ∙ ap (λ k. take at array ++ (take (n + 1) units ++ drop k array)) behind
+
+pub rest-whole : (n : ℕ) (units : List ℕ) → take (length units - n) (drop n units) ≡ drop n units
+rest-whole n units = take_all (length units - n) (drop n units) (omega (arith, length-drop n units))
+
+pub lossy-behind : (run : List ℕ) (items : List Unit16) → lossy_text (map Char run ++ items) ≡ run ++ lossy_text items
+lossy-behind [] items = refl
+lossy-behind (c ∷ run) items = ap (λ l. c ∷ l) (lossy-behind run items)
