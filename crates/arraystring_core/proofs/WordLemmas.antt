@@ -42,7 +42,7 @@ value_small (x ∷ xs) bytes =
     omega (arith, less, pow-suc 256 (length xs))
 
 -- equal amounts change no order
-pub more_cmp : (k l v w : ℕ) → k ≡ l → nat_cmp (k + v) (l + w) ≡ nat_cmp v w
+more_cmp : (k l v w : ℕ) → k ≡ l → nat_cmp (k + v) (l + w) ≡ nat_cmp v w
 more_cmp k l v w same =
     elim (cases_lt v w) [
       | inl less ↦ sym (nat_cmp_is (k + v) (l + w) Less (omega (arith, same, less))) ∙ nat_cmp_is v w Less less
@@ -55,7 +55,7 @@ more_cmp k l v w same =
     ]
 
 -- a higher digit decides, whatever the lower ones are
-pub higher_decides : (x y p v w : ℕ) → x ≢ y → v < p → w < p → nat_cmp (x * p + v) (y * p + w) ≡ nat_cmp x y
+higher_decides : (x y p v w : ℕ) → x ≢ y → v < p → w < p → nat_cmp (x * p + v) (y * p + w) ≡ nat_cmp x y
 higher_decides x y p v w differ small other_small =
     elim (cases_lt x y) [
       | inl less ↦ sym (nat_cmp_is _ _ Less (higher x y p v w less small)) ∙ nat_cmp_is x y Less less
@@ -183,48 +183,25 @@ module _ (a b : List ℕ) (at : ℕ) (bytes : AreBytes a) (other_bytes : AreByte
 
   module _ (in_a : at + 4 ≤ length a) (in_b : at + 4 ≤ length b)
       (x y : ℕ) (one : x ≡ from_be_bytes w32 (take 4 (drop at a))) (other : y ≡ from_be_bytes w32 (take 4 (drop at b))) where
-    half_decides : x ≢ y → nat_cmp x y ≡ slice_cmp nat_cmp a b
+    pub half_decides : x ≢ y → nat_cmp x y ≡ slice_cmp nat_cmp a b
     half_decides differ =
         ap (λ n. nat_cmp n y) one ∙ ap (nat_cmp (from_be_bytes w32 (take 4 (drop at a)))) other
         ∙ number_cmp_4 (take 4 (drop at a)) (take 4 (drop at b)) (part-length 4 a b at in_a in_b before a in_a) (part-length 4 a b at in_a in_b before b in_b) (at_bytes 4 a bytes) (at_bytes 4 b other_bytes)
         ∙ sym (words_decide 4 a b at in_a in_b before (λ e. differ (one ∙ ap (from_be_bytes w32) e ∙ sym other)))
 
-    half_same : x ≡ y → take (at + 4) a ≡ take (at + 4) b
+    pub half_same : x ≡ y → take (at + 4) a ≡ take (at + 4) b
     half_same same =
         words_same 4 a b at in_a in_b before
         (sym (be_bytes_4 (take 4 (drop at a)) x (part-length 4 a b at in_a in_b before a in_a) (at_bytes 4 a bytes) one)
         ∙ ap (to_be_bytes w32) same
         ∙ be_bytes_4 (take 4 (drop at b)) y (part-length 4 a b at in_a in_b before b in_b) (at_bytes 4 b other_bytes) other)
 
--- the first four and the last four of n bytes, as one number
-module _ (a b : List ℕ) (n : ℕ) (least : 4 ≤ n) (most : n ≤ 8) (in_a : n ≤ length a) (in_b : n ≤ length b) (bytes : AreBytes a) (other_bytes : AreBytes b)
-    (h k l m : ℕ) (first : h ≡ from_be_bytes w32 (take 4 (drop 0 a))) (other_first : k ≡ from_be_bytes w32 (take 4 (drop 0 b)))
-    (last : l ≡ from_be_bytes w32 (take 4 (drop (n - 4) a))) (other_last : m ≡ from_be_bytes w32 (take 4 (drop (n - 4) b)))
-    (small : l < 2 ^ 32) (other_small : m < 2 ^ 32) where
-  front : h ≡ k → take (n - 4) a ≡ take (n - 4) b
-  front same =
-      shorter_same (n - 4) 4 a b (omega (arith, most)) (half_same a b 0 bytes other_bytes refl (omega (arith, least, in_a)) (omega (arith, least, in_b)) h k first other_first same)
+-- the last K of n bytes, behind the first K, which are equal
+pub last_before : (K : ℕ) (a b : List ℕ) (n : ℕ) → n ≤ K + K → take K a ≡ take K b → take (n - K) a ≡ take (n - K) b
+last_before K a b n most same = shorter_same (n - K) K a b (omega (arith, most)) same
 
-  tail_in : (o : ℕ) → n ≤ o → n - 4 + 4 ≤ o
-  tail_in o within = omega (arith, least, within)
-
-  pub halves_decide : h * 4294967296 + l ≢ k * 4294967296 + m → nat_cmp (h * 4294967296 + l) (k * 4294967296 + m) ≡ slice_cmp nat_cmp a b
-  halves_decide differ =
-      elim (eq_or_not h k) [
-        | inl same ↦
-            more_cmp (h * 4294967296) (k * 4294967296) l m (ap (λ x. x * 4294967296) same)
-            ∙ half_decides a b (n - 4) bytes other_bytes (front same) (tail_in _ in_a) (tail_in _ in_b) l m last other_last (λ e. differ (ap (λ x. x * 4294967296 + l) same ∙ ap (λ x. k * 4294967296 + x) e))
-        | inr apart ↦
-            higher_decides h k 4294967296 l m apart small other_small
-            ∙ half_decides a b 0 bytes other_bytes refl (omega (arith, least, in_a)) (omega (arith, least, in_b)) h k first other_first apart
-      ]
-
-  pub halves_same : h * 4294967296 + l ≡ k * 4294967296 + m → take n a ≡ take n b
-  halves_same same =
-      let high : h ≡ k = omega (arith, same, small, other_small) in
-      let low : l ≡ m = omega (arith, same, high) in
-      let whole : n - 4 + 4 ≡ n = omega (arith, least) in
-      rw whole at (half_same a b (n - 4) bytes other_bytes (front high) (tail_in _ in_a) (tail_in _ in_b) l m last other_last low)
+pub last_all : (K : ℕ) (a b : List ℕ) (n : ℕ) → K ≤ n → take (n - K + K) a ≡ take (n - K + K) b → take n a ≡ take n b
+last_all K a b n least same = let whole : n - K + K ≡ n = omega (arith, least) in rw whole at same
 
 -- one element after equal ones
 pub one_decides : (a b : List ℕ) (at : ℕ) → at < length a → at < length b → take at a ≡ take at b → get_or a at 0 ≢ get_or b at 0

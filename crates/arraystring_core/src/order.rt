@@ -1,6 +1,6 @@
 //! The order of two texts by words or by blocks of bytes, of which the last may overlap the one before
 //! it. No byte is read outside of the texts.
-ghost use Rattle.std.specs.Prelude.{◌≡◌, ◌≢◌, ◌+◌, ◌-◌, ◌*◌, ◌^◌, ◌<◌, ◌≤◌, min, length, take, drop, IfSome, IfNone};
+ghost use Rattle.std.specs.Prelude.{◌≡◌, ◌≢◌, ◌+◌, ◌<◌, ◌≤◌, min, length, take, drop, IfSome, IfNone};
 ghost use Rattle.std.specs.Cmp.Lexicographic.{slice_cmp};
 ghost use Rattle.std.specs.Int.{w32, w64, from_be_bytes};
 ghost use Rattle.std.specs.Ordering.{nat_cmp};
@@ -58,7 +58,7 @@ fn few_order(a: &[u8], b: &[u8], common: usize) -> Option<Ordering>
     order_by_words(a, b, common)
 }
 
-/// The same of 8 to 16 bytes: the first eight and the last eight.
+/// The same of 8 to 16 bytes.
 #[inline(always)]
 fn order_by_words(a: &[u8], b: &[u8], common: usize) -> Option<Ordering>
     requires least { 8 ≤ common }
@@ -68,13 +68,28 @@ fn order_by_words(a: &[u8], b: &[u8], common: usize) -> Option<Ordering>
     ensures some { IfSome result (λ order. order ≡ slice_cmp nat_cmp a.now b.now) }
     ensures none { IfNone result (take common a.now ≡ take common b.now) }
 {
-    if let Some(order) = word_order(a, b, 0) {
-        return Some(order);
-    }
-    word_order(a, b, common - 8)
+    let (one, other) = deciding_words(a, b, common);
+    order_of_numbers(one, other)
 }
 
-/// The same of 4 to 8 bytes: the first four and the last four, as one number.
+/// The numbers of the first eight bytes of both, or else, if these are equal, of the last eight.
+#[inline(always)]
+fn deciding_words(a: &[u8], b: &[u8], common: usize) -> (u64, u64)
+    requires least { 8 ≤ common }
+    requires most { common ≤ 16 }
+    requires one { common ≤ length a.now }
+    requires other { common ≤ length b.now }
+    ensures apart { result.0 ≢ result.1 → nat_cmp result.0 result.1 ≡ slice_cmp nat_cmp a.now b.now }
+    ensures same { result.0 ≡ result.1 → take common a.now ≡ take common b.now }
+{
+    let (one, other) = (word(a, 0), word(b, 0));
+    if one != other {
+        return (one, other);
+    }
+    (word(a, common - 8), word(b, common - 8))
+}
+
+/// The same of 4 to 8 bytes.
 #[inline(always)]
 fn order_by_halves(a: &[u8], b: &[u8], common: usize) -> Option<Ordering>
     requires least { 4 ≤ common }
@@ -84,10 +99,25 @@ fn order_by_halves(a: &[u8], b: &[u8], common: usize) -> Option<Ordering>
     ensures some { IfSome result (λ order. order ≡ slice_cmp nat_cmp a.now b.now) }
     ensures none { IfNone result (take common a.now ≡ take common b.now) }
 {
-    let last = common - 4;
-    let one = half_word(a, 0) * 0x1_0000_0000 + half_word(a, last);
-    let other = half_word(b, 0) * 0x1_0000_0000 + half_word(b, last);
+    let (one, other) = deciding_halves(a, b, common);
     order_of_numbers(one, other)
+}
+
+/// The numbers of the first four bytes of both, or else, if these are equal, of the last four.
+#[inline(always)]
+fn deciding_halves(a: &[u8], b: &[u8], common: usize) -> (u64, u64)
+    requires least { 4 ≤ common }
+    requires most { common ≤ 8 }
+    requires one { common ≤ length a.now }
+    requires other { common ≤ length b.now }
+    ensures apart { result.0 ≢ result.1 → nat_cmp result.0 result.1 ≡ slice_cmp nat_cmp a.now b.now }
+    ensures same { result.0 ≡ result.1 → take common a.now ≡ take common b.now }
+{
+    let (one, other) = (half_word(a, 0), half_word(b, 0));
+    if one != other {
+        return (one, other);
+    }
+    (half_word(a, common - 4), half_word(b, common - 4))
 }
 
 /// The same of few bytes, one after the other.
@@ -108,18 +138,6 @@ fn order_by_bytes(a: &[u8], b: &[u8], common: usize) -> Option<Ordering>
     None
 }
 
-/// The order, if the 8 bytes from `at` on settle it. Those before `at` are equal.
-#[inline(always)]
-fn word_order(a: &[u8], b: &[u8], at: usize) -> Option<Ordering>
-    requires one { at + 8 ≤ length a.now }
-    requires other { at + 8 ≤ length b.now }
-    requires before { take at a.now ≡ take at b.now }
-    ensures some { IfSome result (λ order. order ≡ slice_cmp nat_cmp a.now b.now) }
-    ensures none { IfNone result (take (at + 8) a.now ≡ take (at + 8) b.now) }
-{
-    order_of_numbers(word(a, at), word(b, at))
-}
-
 /// The number of which the 8 bytes from `at` on are the digits.
 #[inline(always)]
 fn word(bytes: &[u8], at: usize) -> u64
@@ -136,8 +154,7 @@ fn word(bytes: &[u8], at: usize) -> u64
 #[inline(always)]
 fn half_word(bytes: &[u8], at: usize) -> u64
     requires { at + 4 ≤ length bytes.now }
-    ensures value { result ≡ from_be_bytes w32 (take 4 (drop at bytes.now)) }
-    ensures small { result < 2 ^ 32 }
+    ensures { result ≡ from_be_bytes w32 (take 4 (drop at bytes.now)) }
 {
     let Some(digits) = bytes[at..].first_chunk::<4>() else {
         unreachable!();
