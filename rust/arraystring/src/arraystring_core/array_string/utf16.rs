@@ -2,9 +2,7 @@
 //! Strings from UTF-16.
 
 use super::ArrayString;
-use crate::arraystring_core::laws::text_fits;
 use crate::arraystring_base::error::{Error, Utf16};
-use crate::arraystring_base::laws::only_reading;
 use crate::arraystring_base::utf16::{Unit16, Units};
 use core::char;
 
@@ -28,7 +26,8 @@ impl<const N: usize> ArrayString<N> {
     pub fn try_from_utf16<B: AsRef<[u16]>>(units: B) -> Result<Self, Error> {
         let units = units.as_ref();
         let mut prefix = Self::new();
-        match add_prefix(&mut prefix, units) {
+        // SAFETY: the proof of `try_from_utf16` in crates/arraystring_core/src/array_string/utf16.rt shows the precondition of `add_prefix`.
+        match unsafe { add_prefix(&mut prefix, units) } {
             None => Ok(prefix),
             Some(Unit16::Lone(_)) => Err(Error::Utf16),
             Some(Unit16::Char(_)) => Err(Error::OutOfBounds),
@@ -60,7 +59,8 @@ impl<const N: usize> ArrayString<N> {
     pub fn from_utf16<B: AsRef<[u16]>>(units: B) -> Result<Self, Utf16> {
         let units = units.as_ref();
         let mut prefix = Self::new();
-        match add_prefix(&mut prefix, units) {
+        // SAFETY: the proof of `from_utf16` in crates/arraystring_core/src/array_string/utf16.rt shows the precondition of `add_prefix`.
+        match unsafe { add_prefix(&mut prefix, units) } {
             Some(Unit16::Lone(_)) => Err(Utf16),
             _ => Ok(prefix),
         }
@@ -77,10 +77,8 @@ impl<const N: usize> ArrayString<N> {
     #[inline]
     pub fn from_utf16_lossy<B: AsRef<[u16]>>(units: B) -> Self {
         let units = units.as_ref();
-        only_reading(units);
         let mut text = Self::new();
         let run = text.push_ascii_units(units);
-        text_fits(&text);
         for item in Units::new(&units[run..]) {
             match text.try_push(shown(item)) {
                 Ok(()) => {}
@@ -103,7 +101,8 @@ impl<const N: usize> ArrayString<N> {
     #[inline(always)]
     fn push_ascii_units(&mut self, units: &[u16]) -> usize {
         let end = self.start as usize + self.size as usize;
-        let run = write_ascii(&mut self.array, end, units);
+        // SAFETY: the proof of `push_ascii_units` in crates/arraystring_core/src/array_string/utf16.rt shows the precondition of `write_ascii`.
+        let run = unsafe { write_ascii(&mut self.array, end, units) };
         self.size = (self.size as usize + run) as u8;
         run
     }
@@ -111,6 +110,10 @@ impl<const N: usize> ArrayString<N> {
 
 /// Writes the units before the first that is not ASCII as bytes into the array, from `at` on, as far
 /// as there is room. Returns how many.
+///
+/// # Safety
+///
+/// Each clause `requires` of the contract must hold, but for those on counts, on iterators and on closures.
 ///
 /// # Contract
 ///
@@ -122,7 +125,7 @@ impl<const N: usize> ArrayString<N> {
 /// ensures bytes { array.new ≡ take at array.old ++ (take result units.now ++ drop (at + result) array.old) }
 /// ```
 #[inline(always)]
-fn write_ascii<const N: usize>(array: &mut [u8; N], at: usize, units: &[u16]) -> usize {
+unsafe fn write_ascii<const N: usize>(array: &mut [u8; N], at: usize, units: &[u16]) -> usize {
     let most = units.len().min(ArrayString::<N>::capacity() as usize - at);
     let mut run = 0;
     while run < most && units[run] < 0x80 {
@@ -135,6 +138,10 @@ fn write_ascii<const N: usize>(array: &mut [u8; N], at: usize, units: &[u16]) ->
 /// Adds to an empty string the longest prefix of characters of `units` that fits, and returns the
 /// item right after it.
 ///
+/// # Safety
+///
+/// Each clause `requires` of the contract must hold, but for those on counts, on iterators and on closures.
+///
 /// # Contract
 ///
 /// ```text
@@ -142,11 +149,9 @@ fn write_ascii<const N: usize>(array: &mut [u8; N], at: usize, units: &[u16]) ->
 /// ensures { (items : List Unit16) → IsReading units.now items → first_stop items (cap N) ≡ stop_at result prefix.new.text }
 /// ```
 #[inline]
-fn add_prefix<const N: usize>(prefix: &mut ArrayString<N>, units: &[u16]) -> Option<Unit16> {
-    only_reading(units);
+unsafe fn add_prefix<const N: usize>(prefix: &mut ArrayString<N>, units: &[u16]) -> Option<Unit16> {
     // A run of ASCII first, at once: its units are its bytes.
     let run = prefix.push_ascii_units(units);
-    text_fits(prefix);
     for item in Units::new(&units[run..]) {
         match item {
             Unit16::Char(ch) => match prefix.try_push(ch) {
