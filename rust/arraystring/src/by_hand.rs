@@ -4,7 +4,7 @@
 //! - `convert`: the traits of the Rust crate that the language of the sources can't have.
 //! - `known!`: tells rustc a clause that is proved; and `look`, which is told that it looks at a byte that is there.
 //! - `retain`: what is left where a closure panics, since the language of the sources does not unwind.
-//! - `simd`: the vectors of the sources, as arrays.
+//! - `simd`: the vectors of the sources, as arrays and words.
 //!
 //! `count_tests` are the tests of `steps` that set its counts.
 #![deny(unsafe_code)]

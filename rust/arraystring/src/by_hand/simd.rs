@@ -1,22 +1,45 @@
-//! Vectors of `K` bytes, as arrays: what the sources use of `std::simd`, which stable Rust does not have.
+//! Vectors of `K` bytes: what the sources use of `std::simd`, which stable Rust does not have.
 
-/// `K` bytes.
+use core::marker::PhantomData;
+
+/// `K` bytes, of which there are at most 64. Few are held as they are, and many as words, which the compiler keeps in registers
+/// where an array of bytes would go through the stack.
 #[derive(Clone, Copy)]
-pub(crate) struct Simd<T, const K: usize>([T; K]);
+pub(crate) struct Simd<T, const K: usize> {
+    bytes: [u8; K],
+    words: [u64; 8],
+    lanes: PhantomData<[T; K]>,
+}
 
 impl<const K: usize> Simd<u8, K> {
+    /// Whether the bytes are held as words.
+    const IN_WORDS: bool = K > 32 && K % 8 == 0;
+
     /// The first `K` bytes of a slice. It panics where there are fewer.
     #[inline(always)]
     pub(crate) fn from_slice(slice: &[u8]) -> Self {
-        let mut bytes = [0; K];
-        bytes.copy_from_slice(&slice[..K]);
-        Simd(bytes)
+        const { assert!(K <= 64) };
+        let (mut bytes, mut words) = ([0; K], [0; 8]);
+        if Self::IN_WORDS {
+            for (word, eight) in words.iter_mut().zip(slice[..K].as_chunks::<8>().0) {
+                *word = u64::from_le_bytes(*eight);
+            }
+        } else {
+            bytes.copy_from_slice(&slice[..K]);
+        }
+        Simd { bytes, words, lanes: PhantomData }
     }
 
     /// Writes over the first `K` bytes of a slice. It panics where there are fewer.
     #[inline(always)]
     pub(crate) fn copy_to_slice(self, slice: &mut [u8]) {
-        slice[..K].copy_from_slice(&self.0);
+        if Self::IN_WORDS {
+            for (eight, word) in slice[..K].as_chunks_mut::<8>().0.iter_mut().zip(self.words) {
+                *eight = word.to_le_bytes();
+            }
+        } else {
+            slice[..K].copy_from_slice(&self.bytes);
+        }
     }
 }
 
@@ -35,6 +58,10 @@ mod tests {
             $test::<12>();
             $test::<16>();
             $test::<32>();
+            $test::<33>();
+            $test::<40>();
+            $test::<48>();
+            $test::<63>();
             $test::<64>();
         };
     }
@@ -45,7 +72,6 @@ mod tests {
         for start in 0..=80 - K {
             for end in start + K..=80 {
                 let vector = Simd::<u8, K>::from_slice(&source[start..end]);
-                assert_eq!(vector.0, source[start..start + K]);
                 let mut written = [1; 80];
                 vector.copy_to_slice(&mut written[start..end]);
                 assert_eq!(written[start..start + K], source[start..start + K]);
@@ -59,16 +85,20 @@ mod tests {
         at_each_size!(read_and_written);
     }
 
-    #[test]
-    fn each_byte_is_read_in_each_lane() {
-        for lane in 0..64 {
+    /// Each byte in each lane is written as it was read.
+    fn each_byte_in_each_lane<const K: usize>() {
+        for lane in 0..K {
             for byte in 0..=255 {
-                let mut bytes = [7; 64];
+                let (mut bytes, mut written) = ([7; K], [0; K]);
                 bytes[lane] = byte;
-                let mut written = [0; 64];
-                Simd::<u8, 64>::from_slice(&bytes).copy_to_slice(&mut written);
+                Simd::<u8, K>::from_slice(&bytes).copy_to_slice(&mut written);
                 assert_eq!(written, bytes);
             }
         }
+    }
+
+    #[test]
+    fn each_byte_is_read_in_each_lane() {
+        at_each_size!(each_byte_in_each_lane);
     }
 }
