@@ -173,6 +173,7 @@ pub const KNOWN: &[(&str, &str)] = &[
     ("ascii::lowercase_bytes", "within"),
     ("ArrayString::char_at", "boundary"),
     ("ArrayString::char_at", "before_end"),
+    ("utf16::write_ascii", ""),
 ];
 
 /// What is known once more in the middle of a body, where the compiler knows which branch was taken.
@@ -223,6 +224,24 @@ pub const AGAIN: &[Again] = &[
         before: "&text[..end]",
         clause: "boundary",
         why: Why::Ensures("utils::last_boundary", "IsCharBoundary text.now result", "text.is_char_boundary(end)"),
+    },
+    Again {
+        call: "utf16::add_prefix",
+        before: "for item in",
+        clause: "within",
+        why: Why::Ensures("ArrayString::push_ascii_units", "result ≤ length units.now", "run <= units.len()"),
+    },
+    Again {
+        call: "ArrayString::from_utf16_lossy",
+        before: "for item in",
+        clause: "within",
+        why: Why::Ensures("ArrayString::push_ascii_units", "result ≤ length units.now", "run <= units.len()"),
+    },
+    Again {
+        call: "utf16::write_ascii",
+        before: "array[at + run]",
+        clause: "",
+        why: Why::Follows("at + run < N", "The precondition, and the test of the loop: `run` is below what there is behind `at`."),
     },
     Again {
         call: "retain::retain_at",

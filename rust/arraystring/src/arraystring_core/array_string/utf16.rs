@@ -79,6 +79,8 @@ impl<const N: usize> ArrayString<N> {
         let units = units.as_ref();
         let mut text = Self::new();
         let run = text.push_ascii_units(units);
+        // What `push_ascii_units` ensures.
+        known!(within: run <= units.len());
         for item in Units::new(&units[run..]) {
             match text.try_push(shown(item)) {
                 Ok(()) => {}
@@ -126,9 +128,12 @@ impl<const N: usize> ArrayString<N> {
 /// ```
 #[inline(always)]
 unsafe fn write_ascii<const N: usize>(array: &mut [u8; N], at: usize, units: &[u16]) -> usize {
+    known!(precondition: at <= usize::from(crate::ArrayString::<N>::capacity()));
     let most = units.len().min(ArrayString::<N>::capacity() as usize - at);
     let mut run = 0;
     while run < most && units[run] < 0x80 {
+        // The precondition, and the test of the loop: `run` is below what there is behind `at`.
+        known!(precondition: at + run < N);
         array[at + run] = units[run] as u8;
         run += 1;
     }
@@ -152,6 +157,8 @@ unsafe fn write_ascii<const N: usize>(array: &mut [u8; N], at: usize, units: &[u
 unsafe fn add_prefix<const N: usize>(prefix: &mut ArrayString<N>, units: &[u16]) -> Option<Unit16> {
     // A run of ASCII first, at once: its units are its bytes.
     let run = prefix.push_ascii_units(units);
+    // What `push_ascii_units` ensures.
+    known!(within: run <= units.len());
     for item in Units::new(&units[run..]) {
         match item {
             Unit16::Char(ch) => match prefix.try_push(ch) {
