@@ -1,6 +1,6 @@
 -- A run of ASCII in front of units of UTF-16: its bytes, and how it is read.
-use Rattle.std.proofs.Common.{◌≡◌, ℕ, ◌+◌, ◌<◌, ◌≤◌, List, [], ◌∷◌, ◌++◌, suc, zero, map, length, take, drop, get_or, slice_set, take_all, refl, sym, ap, ◌∙◌, arith, inl, inr, true, false, append_assoc, length-append, length-take-le, length-drop, ◌-◌}
-use Rattle.std.proofs.lemmas.Bool.{lt-ltb, cases_lt}
+use Rattle.std.proofs.Common.{◌≡◌, ℕ, ◌+◌, ◌<◌, List, [], ◌∷◌, ◌++◌, suc, zero, map, length, take, drop, get_or, slice_set, take_all, refl, sym, ap, ◌∙◌, arith, inl, append_assoc, length-append, length-take-le, length-drop, ◌-◌}
+use Rattle.std.proofs.lemmas.Bool.{lt-ltb}
 use Rattle.std.proofs.lemmas.List.Elements.{All-cons}
 use Rattle.std.proofs.lemmas.Str.{IsUtf8-from_ascii, chars-IsAscii}
 use Rattle.std.specs.Prelude.{IsUtf8, chars, IsAscii}

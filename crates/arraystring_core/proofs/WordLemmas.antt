@@ -1,6 +1,6 @@
 -- The number of which bytes are the digits, and the order of lists that such numbers are read from.
 use Rattle.std.specs.Option.{IfNone}
-use Rattle.std.proofs.Common.{Option, None, Some, ◌≡◌, ◌≢◌, ℕ, Less, Equal, Greater, Ordering, ◌+◌, ◌-◌, ◌*◌, ◌^◌, ◌<◌, ◌≤◌, ◌++◌, List, [], ◌∷◌, suc, zero, length, take, drop, get_or, length-take-le, length-drop, take-append-drop, mul-le-mul_right, suc-mul, pow-suc, refl, sym, ap, ◌∙◌, arith, inl, inr, ◌⊎◌, w32, w64}
+use Rattle.std.proofs.Common.{Option, None, Some, ◌≡◌, ◌≢◌, ℕ, Less, Equal, Greater, ◌+◌, ◌-◌, ◌*◌, ◌^◌, ◌<◌, ◌≤◌, ◌++◌, List, [], ◌∷◌, suc, zero, length, take, drop, get_or, length-take-le, length-drop, take-append-drop, mul-le-mul_right, suc-mul, pow-suc, refl, sym, ap, ◌∙◌, arith, inl, inr, ◌⊎◌, w32, w64}
 use Rattle.std.proofs.lemmas.Bool.{cases_lt}
 use Rattle.std.proofs.lemmas.List.{get_or-drop}
 use Rattle.std.proofs.lemmas.Nat.{be_bytes_4, be_bytes_8}
