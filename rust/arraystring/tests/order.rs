@@ -124,6 +124,8 @@ fn texts_that_differ_at_one_place() {
                 }
                 let (one, other) = (with(&text, place, less), with(&text, place, more));
                 at::<255>((&one, &other));
+                // The longer of the two is less.
+                at::<255>((&(one + "z"), &other));
             }
         }
     });
@@ -164,6 +166,8 @@ fn characters_of_two_widths() {
             let (mut one, mut other) = (letters(len), letters(len));
             one.push(*less);
             other.push(*more);
+            at_some_capacities((&one, &other));
+            one += "zzzzz";
             at_some_capacities((&one, &other));
         }
     }

@@ -365,7 +365,7 @@ pub const BY_STD: &[ByStd] = &[
         imports: "use crate::arraystring_base::error::Utf8;\nuse core::str;",
         function: "read_utf8",
         docs: "Returns the text whose UTF-8 is `given`, or `Err(Utf8)` if `given` is not well-formed.",
-        body: "let (blocks, last) = (given.len() / 32 * 32, given.len().saturating_sub(32));\n    if given[..blocks].is_ascii() && given[last..].is_ascii() {\n        // SAFETY: ASCII is UTF-8.\n        return Ok(unsafe { str::from_utf8_unchecked(given) });\n    }\n    str::from_utf8(given).map_err(Utf8::from)",
+        body: "let (blocks, last) = (given.len() / 32 * 32, given.len().saturating_sub(32));\n    if given[..blocks].is_ascii() && given[last..].is_ascii() {\n        // SAFETY: the blocks of 32 bytes in front and the last 32 bytes are all of them, and ASCII is UTF-8.\n        return Ok(unsafe { str::from_utf8_unchecked(given) });\n    }\n    str::from_utf8(given).map_err(Utf8::from)",
         why: "std's vectors are the machine's, where those of `by_hand` are arrays",
     },
 ];
