@@ -9,32 +9,36 @@ use std::str;
 
 /// Calls `f` once with each character of a text, in order, and moves those for which it returns
 /// true together. The text is the `size` bytes of the array from `offset` on, and keeps
-/// its offset. Returns how many bytes are kept. Each kept character is moved on its own, and only to
-/// the left.
+/// its offset; `kept` becomes the size of what is kept. Each kept character is moved on its own, and
+/// only to the left. At each call of `f` the `kept` bytes from `offset` on are those of the
+/// characters that were kept so far: they are what a closure leaves that ends the loop.
 pub(crate) fn retain_at<const N: usize, F: FnMut(char) -> bool + Drop>(
     array: &mut [u8; N],
+    kept: &mut u8,
     offset: usize,
     size: usize,
     mut f: F,
-) -> usize
+)
     requires held { offset + size ≤ N }
+    requires small { size ≤ 255 }
     requires text { IsUtf8 (take size (drop offset array.old)) }
     requires callable { IsCallableInTurn F.pre F.step f (chars (take size (drop offset array.old))) }
     ensures len { length array.new ≡ N }
-    ensures at_most { result ≤ size }
-    ensures text { IsUtf8 (take result (drop offset array.new)) }
-    ensures filtered { IsFiltered F.step f (chars (take size (drop offset array.old))) (chars (take result (drop offset array.new))) }
+    ensures at_most { kept.new ≤ size }
+    ensures text { IsUtf8 (take kept.new (drop offset array.new)) }
+    ensures filtered { IsFiltered F.step f (chars (take size (drop offset array.old))) (chars (take kept.new (drop offset array.new))) }
 {
-    // The first `kept` bytes are those of the kept characters, and from `read` on none was moved.
-    let mut kept = 0;
+    // From `read` on no byte was moved.
+    *kept = 0;
     let mut read = 0;
     while read < size {
         // A byte of ASCII is its character; others take the decoder.
         let first = array[offset + read];
         if first < 0x80 {
             if f(first as char) {
-                shift(array, offset + read, offset + kept, 1, &mut Steps::new());
-                kept += 1;
+                let to = offset + *kept as usize;
+                shift(array, offset + read, to, 1, &mut Steps::new());
+                *kept += 1;
             }
             read += 1;
         } else {
@@ -43,17 +47,11 @@ pub(crate) fn retain_at<const N: usize, F: FnMut(char) -> bool + Drop>(
             let text = unsafe { str::from_utf8_unchecked(&all[offset + read..offset + size]) };
             let (ch, width) = first_char(text);
             if f(ch) {
-                shift(
-                    array,
-                    offset + read,
-                    offset + kept,
-                    width,
-                    &mut Steps::new(),
-                );
-                kept += width;
+                let to = offset + *kept as usize;
+                shift(array, offset + read, to, width, &mut Steps::new());
+                *kept += width as u8;
             }
             read += width;
         }
     }
-    kept
 }

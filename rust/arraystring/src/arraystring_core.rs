@@ -10,7 +10,7 @@ mod gap;
 pub mod laws;
 mod order;
 mod range_ends;
-pub(crate) mod retain;
+mod retain;
 pub mod utils;
 mod well_formed;
 

@@ -1,9 +1,8 @@
-//! What Rust asks beyond erasure: nothing here is proved. `retain` and `look` are `unsafe` to call, as what they stand for is
-//! by its precondition, and the rest has no `unsafe`; but `retain`, `simd` and `known!` could break UTF-8 all the same.
+//! What Rust asks beyond erasure: nothing here is proved. `look` is `unsafe` to call, as what it stands for is by its
+//! precondition, and the rest has no `unsafe`; but `simd` and `known!` could break UTF-8 all the same.
 //!
 //! - `convert`: the traits of the Rust crate that the language of the sources can't have.
 //! - `known!`: tells rustc a clause that is proved; and `look`, which is told that it looks at a byte that is there.
-//! - `retain`: what is left where a closure panics, since the language of the sources does not unwind.
 //! - `simd`: the vectors of the sources, as arrays and words.
 //!
 //! `count_tests` are the tests of `steps` that set its counts.
@@ -23,10 +22,7 @@ macro_rules! known {
 }
 
 mod convert;
-mod retain;
 pub(crate) mod simd;
-
-pub(crate) use retain::retain_at;
 
 use crate::utils::Steps;
 

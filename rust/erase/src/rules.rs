@@ -513,22 +513,4 @@ pub const REPLACED: &[Replaced] = &[
         to: "&self.as_str()[start..end]",
         why: "no precondition bounds the range of `slice`, which panics as the index of `str` does",
     },
-    Replaced {
-        file: "arraystring_core/src/lib.rt",
-        from: "mod retain;",
-        to: "pub(crate) mod retain;",
-        why: "`by_hand` calls `retain_at`",
-    },
-    Replaced {
-        file: "arraystring_core/src/array_string/remove.rt",
-        from: "use crate::retain::retain_at;",
-        to: "use crate::by_hand::retain_at;",
-        why: "a closure may panic",
-    },
-    Replaced {
-        file: "arraystring_core/src/array_string/remove.rt",
-        from: "self.size = retain_at(&mut self.array, offset, size, f) as u8;",
-        to: "retain_at(&mut self.array, &mut self.size, offset, size, f);",
-        why: "a closure may panic",
-    },
 ];

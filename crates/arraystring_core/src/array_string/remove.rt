@@ -104,7 +104,7 @@ impl<const N: usize> ArrayString<N> {
         ensures { IsFiltered F.step f self.old.text self.new.text }
     {
         let (offset, size) = (self.start as usize, self.size as usize);
-        self.size = retain_at(&mut self.array, offset, size, f) as u8;
+        retain_at(&mut self.array, &mut self.size, offset, size, f);
     }
 
     /// Removes all characters.

@@ -3,7 +3,7 @@
 
 use crate::arraystring_core::ArrayString;
 use crate::arraystring_core::decode::first_char;
-use crate::by_hand::retain_at;
+use crate::arraystring_core::retain::retain_at;
 use crate::arraystring_base::error::{Error, Utf8};
 use crate::arraystring_base::utils::Steps;
 
@@ -133,7 +133,7 @@ impl<const N: usize> ArrayString<N> {
     #[inline]
     pub fn retain<F: FnMut(char) -> bool>(&mut self, f: F) {
         let (offset, size) = (self.start as usize, self.size as usize);
-        // SAFETY: the proof of `retain` in crates/arraystring_core/src/array_string/remove.rt shows `held` and `text` of `retain_at`.
+        // SAFETY: the proof of `retain` in crates/arraystring_core/src/array_string/remove.rt shows `held`, `small` and `text` of `retain_at`.
         unsafe { retain_at(&mut self.array, &mut self.size, offset, size, f) };
     }
 
