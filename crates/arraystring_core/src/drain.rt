@@ -104,6 +104,7 @@ impl<const N: usize> Iterator for Drain<N> {
         if self.front == self.size {
             return None;
         }
+        prove!(self.front < self.size);
         // A byte of ASCII is its character; others take the decoder.
         let first = self.array[self.start as usize + self.front as usize];
         if first < 0x80 {
@@ -128,6 +129,7 @@ impl<const N: usize> DoubleEndedIterator for Drain<N> {
         if self.size == self.front {
             return None;
         }
+        prove!(self.front < self.size);
         let last = self.array[self.start as usize + self.size as usize - 1];
         if last < 0x80 {
             self.size -= 1;

@@ -32,6 +32,7 @@ pub(crate) fn retain_at<const N: usize, F: FnMut(char) -> bool + Drop>(
     *kept = 0;
     let mut read = 0;
     while read < size {
+        prove!(offset + read < N);
         // A byte of ASCII is its character; others take the decoder.
         let first = array[offset + read];
         if first < 0x80 {

@@ -53,6 +53,7 @@ impl<const N: usize> ArrayString<N> {
         let (start, size) = (self.start as usize, self.size as usize);
         self.start = 0;
         shift(&mut self.array, start, 0, size, &mut Steps::new());
+        prove!(size < N);
         let len = encode(ch, &mut self.array, size);
         self.size = (size + len) as u8;
     }
@@ -146,6 +147,7 @@ impl<const N: usize> ArrayString<N> {
         }
         self.size = (at + (len + (text.size - at))) as u8;
         open_gap(&mut self.array, text, at, at, len, &mut Steps::new());
+        prove!(text.offset + at < N);
         encode(ch, &mut self.array, text.offset + at);
     }
 
@@ -165,6 +167,7 @@ impl<const N: usize> ArrayString<N> {
         self.start = 0;
         self.size = (at + (len + (text.size - at))) as u8;
         compact_and_open_gap(&mut self.array, text, at, at, len, &mut Steps::new());
+        prove!(at < N);
         encode(ch, &mut self.array, at);
     }
 

@@ -103,6 +103,7 @@ fn write_ascii<const N: usize>(array: &mut [u8; N], at: usize, units: &[u16]) ->
     let most = units.len().min(ArrayString::<N>::capacity() as usize - at);
     let mut run = 0;
     while run < most && units[run] < 0x80 {
+        prove!(at + run < N);
         array[at + run] = units[run] as u8;
         run += 1;
     }

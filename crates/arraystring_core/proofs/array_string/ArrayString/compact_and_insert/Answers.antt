@@ -2,7 +2,7 @@ use Rattle.std.proofs.Common.{◌≡◌, ◌+◌, ◌-◌, ◌≤◌, ◌++◌, 
 use Rattle.std.proofs.lemmas.Str.{IsUtf8-encode}
 use Rattle.std.proofs.lemmas.List.{append-nil}
 use Rattle.arraystring_base.specs.Text.{utf8, width, size, cap, front, back}
-use Rattle.arraystring_base.proofs.TextLaws.{chars-bytes, utf8-is, width-is, length-utf8}
+use Rattle.arraystring_base.proofs.TextLaws.{chars-bytes, utf8-is, width-is, width-bounds, length-utf8}
 use Rattle.arraystring_base.proofs.BoundaryLaws.{boundary-within}
 use Rattle.arraystring_core.proofs.StoredLaws.{opened-size}
 use Rattle.arraystring_core.proofs.SpanLemmas.{Lies, moved_to_start}
@@ -64,3 +64,9 @@ returns g c =
     let u : IsUtf8 (utf8 ch) = rw (utf8-is ch) (IsUtf8-encode ch (search rules)) in
     let one : chars (utf8 ch) ≡ ch ∷ [] = chars-bytes u (sym (append-nil (utf8 ch))) in
     (written g c).shown ∙ ap (λ l. front t c.args.at ++ (l ++ back t c.args.at)) one
+
+pub prove-unreachable-requires : goal.prove-unreachable-requires
+prove-unreachable-requires g c =
+    let within = boundary-within c.args.self.now.text c.args.at c.requires.boundary in
+    let wide = width-bounds c.args.ch in
+    omega (arith, within, c.requires.room, wide.0, c.if-prove.true)

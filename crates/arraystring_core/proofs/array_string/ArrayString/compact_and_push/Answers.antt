@@ -2,7 +2,7 @@ use Rattle.std.proofs.Common.{◌≡◌, ◌+◌, ◌≤◌, ◌++◌, ◌∷◌
 use Rattle.std.proofs.lemmas.Str.{IsUtf8-encode}
 use Rattle.std.proofs.lemmas.List.{append-nil}
 use Rattle.arraystring_base.specs.Text.{utf8, width, cap}
-use Rattle.arraystring_base.proofs.TextLaws.{chars-bytes, utf8-is, length-utf8}
+use Rattle.arraystring_base.proofs.TextLaws.{chars-bytes, utf8-is, length-utf8, width-bounds}
 use Rattle.arraystring_core.proofs.StoredLaws.{opened-size}
 use Rattle.arraystring_core.proofs.SpanLemmas.{Lies, appended_at_start}
 use Rattle.arraystring_core.proofs.array_string.ArrayString.compact_and_push.Given as given
@@ -39,3 +39,8 @@ returns g c =
     let u : IsUtf8 (utf8 c.args.ch) = rw (utf8-is c.args.ch) (IsUtf8-encode c.args.ch (search rules)) in
     let one : chars (utf8 c.args.ch) ≡ c.args.ch ∷ [] = chars-bytes u (sym (append-nil (utf8 c.args.ch))) in
     (written g c).shown ∙ ap (λ l. c.args.self.now.text ++ l) one
+
+pub prove-unreachable-requires : goal.prove-unreachable-requires
+prove-unreachable-requires g c =
+    let wide = width-bounds c.args.ch in
+    omega (arith, opened-size g.row.N _ _ _ c.self.invariant _ c.self.view_is, c.requires, wide.0, c.if-prove.true)

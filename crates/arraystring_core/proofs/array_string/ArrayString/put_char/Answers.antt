@@ -69,3 +69,9 @@ returns g c =
     let u : IsUtf8 (utf8 ch) = rw (utf8-is ch) (IsUtf8-encode ch (search rules)) in
     let one : chars (utf8 ch) ≡ ch ∷ [] = chars-bytes u (sym (append-nil (utf8 ch))) in
     (written g c).shown ∙ ap (λ l. front t c.args.at ++ (l ++ back t c.args.at)) one
+
+pub prove-unreachable-requires : goal.prove-unreachable-requires
+prove-unreachable-requires g c =
+    let within = boundary-within c.args.self.now.text c.args.at c.requires.boundary in
+    let long = opened-size g.row.N _ _ _ c.self.invariant _ c.self.view_is in
+    omega (arith, long, within, c.if-text-len.false, c.capacity.ensures, c.len_utf8-len.ensures.lower_bound, c.if-prove.true)

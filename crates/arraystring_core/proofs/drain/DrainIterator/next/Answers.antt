@@ -72,3 +72,7 @@ pub returns-clause-goes : goal.returns-clause-goes
 returns-clause-goes g c =
     let shorter = returns-clause-steps g c in
     record { on = λ _. (tt, tt, omega (arith, ap length shorter)); keeps = tt; rests = λ _. tt }
+
+pub prove-unreachable-requires : goal.prove-unreachable-requires
+prove-unreachable-requires g c =
+    omega (arith, given-within g.row.N _ _ _ _ c.self.invariant.0 c.self.invariant.1, c.if-self.false, c.if-prove.true)
