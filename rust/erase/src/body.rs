@@ -17,6 +17,8 @@ pub struct Here<'a> {
     pub call: &'a str,
     /// Whether a line that was put into it tests its precondition.
     pub is_tested: bool,
+    /// Whether what `prove!` says in it is a fact in Rust: no clause that its proof may need is given up.
+    pub proves: bool,
 }
 
 /// Rewrites a body, which is given by its tokens.
@@ -28,6 +30,14 @@ pub fn rewrite(source: &str, tokens: &[Token], here: &Here, edits: &mut Edits, t
         if PROOFS_ALONE.contains(&body.text(at)) && body.text(at + 1) == "(" {
             body.leave_out(at, edits)?;
             tally.count("calls for the proof alone");
+        } else if [0, 1, 2].map(|next| body.text(at + next)) == ["prove", "!", "("] {
+            if !here.proves {
+                let why = format!("a `prove!` in `{}`, of which Rust gives up a clause", here.call);
+                return Err(Fault::new(tokens[at].at.start, why));
+            }
+            edits.replace(tokens[at].at.clone(), "known");
+            edits.insert(tokens[at + 2].at.end, "proved: ");
+            tally.count("tests that are proved, and known");
         } else if body.text(at) == "unsafe" && body.text(at + 1) == "{" {
             safe_until = body.closing(at + 1)?;
             if at < inner_until {

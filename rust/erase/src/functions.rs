@@ -8,7 +8,7 @@ use crate::cursor::{Cursor, Fault, Token};
 use crate::erase::Source;
 use crate::items::{File, Inside, Lead};
 use crate::known::{Names, test_of};
-use crate::rules::{AGAIN, BEHIND, BODIES, FATES, Fate, INVARIANTS, KNOWN, LEFT_OUT, PRIVATE, WALK, WIDER, Why};
+use crate::rules::{AGAIN, BEHIND, BODIES, FATES, Fate, INVARIANTS, KNOWN, LEFT_OUT, PRIVATE, PROVED, WALK, WIDER, Why};
 
 /// A function as it was read.
 struct Function {
@@ -57,8 +57,11 @@ impl<'a> File<'a, '_> {
             return Ok(());
         }
         let Source { krate, path, .. } = *self.source;
-        let is_tested = FATES.iter().any(|(call, fate)| *call == function.call && matches!(fate, Fate::Panics(_, Some(_))));
-        let here = Here { krate, path, owner: inside.owner, call: &function.call, is_tested };
+        let fate = FATES.iter().find(|(call, _)| *call == function.call).map(|(_, fate)| fate);
+        let is_tested = matches!(fate, Some(Fate::Panics(_, Some(_))));
+        let gives_up = matches!(fate, Some(Fate::Panics(..))) || function.preconditions.iter().any(Clause::is_given_up);
+        let proves = !gives_up || PROVED.iter().any(|(call, _)| *call == function.call);
+        let here = Here { krate, path, owner: inside.owner, call: &function.call, is_tested, proves };
         body::rewrite(self.text, &function.tokens, &here, &mut self.edits, self.tally)
     }
 
@@ -196,7 +199,6 @@ impl<'a> File<'a, '_> {
                     let name = callee.rsplit("::").next().unwrap_or_default();
                     (test.to_string(), format!("// What `{name}` ensures.\n"))
                 }
-                Why::Follows(test, why) => (test.to_string(), format!("// {why}\n")),
             };
             let name = if rule.clause.is_empty() { "precondition" } else { rule.clause };
             let body = &self.text[function.body..function.end];

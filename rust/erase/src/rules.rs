@@ -131,6 +131,10 @@ pub const GIVEN_UP: &[&str] = &[
     "IsAlwaysCallable",
 ];
 
+/// The functions that give up a clause, and whose `prove!` are facts all the same, with the reason.
+pub const PROVED: &[(&str, &str)] =
+    &[("retain::retain_at", "that an index is below N follows from `held`, and not from what the closure may be asked")];
+
 /// What stands under `# Safety` of a private function.
 pub const PRIVATE: &str = "Each clause `requires` of the contract must hold, but for those on counts, on iterators and on closures.";
 
@@ -191,34 +195,11 @@ pub enum Why {
     Requires,
     /// A callee ensures the clause in these words, which are this test of what the body names.
     Ensures(&'static str, &'static str, &'static str),
-    /// This test follows, for these reasons.
-    Follows(&'static str, &'static str),
 }
-
-const ONE_AT_LEAST: &str = "What `encode` requires here, of which a character takes one byte at least.";
-const NOT_ALL: &str = "The invariant has it at most the size, and the test above leaves where it is the size.";
 
 pub const AGAIN: &[Again] = &[
     // Not in the branch of ASCII: the room that a caller has tested is enough there, and loops get slower by the clause.
     Again { call: "utils::encode", before: "all[at..", clause: "", why: Why::Requires },
-    Again {
-        call: "ArrayString::compact_and_push",
-        before: "let len = encode(",
-        clause: "room",
-        why: Why::Follows("size < N", ONE_AT_LEAST),
-    },
-    Again {
-        call: "ArrayString::put_char",
-        before: "encode(",
-        clause: "room",
-        why: Why::Follows("text.offset + at < N", ONE_AT_LEAST),
-    },
-    Again {
-        call: "ArrayString::compact_and_insert",
-        before: "encode(",
-        clause: "room",
-        why: Why::Follows("at < N", ONE_AT_LEAST),
-    },
     Again {
         call: "utils::truncate_str_counted",
         before: "&text[..end]",
@@ -236,33 +217,6 @@ pub const AGAIN: &[Again] = &[
         before: "for item in",
         clause: "within",
         why: Why::Ensures("ArrayString::push_ascii_units", "result ≤ length units.now", "run <= units.len()"),
-    },
-    Again {
-        call: "utf16::write_ascii",
-        before: "array[at + run]",
-        clause: "",
-        why: Why::Follows("at + run < N", "The precondition, and the test of the loop: `run` is below what there is behind `at`."),
-    },
-    Again {
-        call: "retain::retain_at",
-        before: "let first =",
-        clause: "held",
-        why: Why::Follows(
-            "offset + size <= N && offset + read < offset + size",
-            "The clause `held`, and the test of the loop.",
-        ),
-    },
-    Again {
-        call: "Drain::next",
-        before: "let first =",
-        clause: "invariant",
-        why: Why::Follows("self.front < self.size", NOT_ALL),
-    },
-    Again {
-        call: "Drain::next_back",
-        before: "let last =",
-        clause: "invariant",
-        why: Why::Follows("self.front < self.size", NOT_ALL),
     },
 ];
 

@@ -232,6 +232,15 @@ fn a_clause_that_is_given_up_is_never_known() {
 }
 
 #[test]
+fn what_is_proved_in_a_body_is_known_unless_a_clause_is_given_up() {
+    let body = |requires: &str| format!("fn find(at: usize)\n    requires {{ {requires} }}\n{{\n    prove!(at < 3);\n    f();\n}}\n");
+    let made = made_as("arraystring_base/src/sample.rt", &body("at < 3")).unwrap();
+    assert!(made.contains("\n    known!(proved: at < 3);\n"), "{made}");
+    let why = made_as("arraystring_base/src/sample.rt", &body("steps.old.moved < at")).unwrap_err();
+    assert_eq!(why, "a `prove!` in `sample::find`, of which Rust gives up a clause");
+}
+
+#[test]
 fn a_call_that_panics_is_safe_and_knows_nothing() {
     let text = "\
 /// Looks.

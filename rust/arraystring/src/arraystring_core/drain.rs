@@ -118,9 +118,8 @@ impl<const N: usize> Iterator for Drain<N> {
         if self.front == self.size {
             return None;
         }
+        known!(proved: self.front < self.size);
         // A byte of ASCII is its character; others take the decoder.
-        // The invariant has it at most the size, and the test above leaves where it is the size.
-        known!(invariant: self.front < self.size);
         let first = self.array[self.start as usize + self.front as usize];
         if first < 0x80 {
             self.front += 1;
@@ -150,8 +149,7 @@ impl<const N: usize> DoubleEndedIterator for Drain<N> {
         if self.size == self.front {
             return None;
         }
-        // The invariant has it at most the size, and the test above leaves where it is the size.
-        known!(invariant: self.front < self.size);
+        known!(proved: self.front < self.size);
         let last = self.array[self.start as usize + self.size as usize - 1];
         if last < 0x80 {
             self.size -= 1;

@@ -40,9 +40,8 @@ pub(crate) unsafe fn retain_at<const N: usize, F: FnMut(char) -> bool>(
     *kept = 0;
     let mut read = 0;
     while read < size {
+        known!(proved: offset + read < N);
         // A byte of ASCII is its character; others take the decoder.
-        // The clause `held`, and the test of the loop.
-        known!(held: offset + size <= N && offset + read < offset + size);
         let first = array[offset + read];
         if first < 0x80 {
             if f(first as char) {

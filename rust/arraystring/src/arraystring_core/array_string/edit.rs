@@ -80,8 +80,7 @@ impl<const N: usize> ArrayString<N> {
         self.start = 0;
         // SAFETY: the proof of `compact_and_push` in crates/arraystring_core/src/array_string/edit.rt shows `source` and `target` of `shift`.
         unsafe { shift(&mut self.array, start, 0, size, &mut Steps::new()) };
-        // What `encode` requires here, of which a character takes one byte at least.
-        known!(room: size < N);
+        known!(proved: size < N);
         // SAFETY: the proof of `compact_and_push` in crates/arraystring_core/src/array_string/edit.rt shows the precondition of `encode`.
         let len = unsafe { encode(ch, &mut self.array, size) };
         self.size = (size + len) as u8;
@@ -219,8 +218,7 @@ impl<const N: usize> ArrayString<N> {
         self.size = (at + (len + (text.size - at))) as u8;
         // SAFETY: the proof of `put_char` in crates/arraystring_core/src/array_string/edit.rt shows `order`, `within`, `held` and `room` of `open_gap`.
         unsafe { open_gap(&mut self.array, text, at, at, len, &mut Steps::new()) };
-        // What `encode` requires here, of which a character takes one byte at least.
-        known!(room: text.offset + at < N);
+        known!(proved: text.offset + at < N);
         // SAFETY: the proof of `put_char` in crates/arraystring_core/src/array_string/edit.rt shows the precondition of `encode`.
         unsafe { encode(ch, &mut self.array, text.offset + at) };
     }
@@ -251,8 +249,7 @@ impl<const N: usize> ArrayString<N> {
         self.size = (at + (len + (text.size - at))) as u8;
         // SAFETY: the proof of `compact_and_insert` in crates/arraystring_core/src/array_string/edit.rt shows `order`, `within`, `held` and `room` of `compact_and_open_gap`.
         unsafe { compact_and_open_gap(&mut self.array, text, at, at, len, &mut Steps::new()) };
-        // What `encode` requires here, of which a character takes one byte at least.
-        known!(room: at < N);
+        known!(proved: at < N);
         // SAFETY: the proof of `compact_and_insert` in crates/arraystring_core/src/array_string/edit.rt shows the precondition of `encode`.
         unsafe { encode(ch, &mut self.array, at) };
     }

@@ -132,8 +132,7 @@ unsafe fn write_ascii<const N: usize>(array: &mut [u8; N], at: usize, units: &[u
     let most = units.len().min(ArrayString::<N>::capacity() as usize - at);
     let mut run = 0;
     while run < most && units[run] < 0x80 {
-        // The precondition, and the test of the loop: `run` is below what there is behind `at`.
-        known!(precondition: at + run < N);
+        known!(proved: at + run < N);
         array[at + run] = units[run] as u8;
         run += 1;
     }
