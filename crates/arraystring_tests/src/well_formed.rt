@@ -122,3 +122,21 @@ fn bytes_are_read_as_in_std(rt: HostRuntime) {
         ",
     );
 }
+
+/// A byte from 80 to FF among ASCII is refused, at each offset of each size that a string has.
+#[test]
+fn each_byte_past_ascii_is_refused(rt: HostRuntime) {
+    let mut bytes = [b'a'; 255];
+    for size in 1..256usize {
+        for at in 0..size {
+            let mut refused = 0u32;
+            for byte in 0x80..=0xFFu8 {
+                bytes[at] = byte;
+                let is_refused = MaxString::from_utf8(&bytes[..size]).is_err();
+                refused = refused.wrapping_add(is_refused as u32);
+            }
+            agree(&rt, "bytes past ASCII", refused, 128);
+            bytes[at] = b'a';
+        }
+    }
+}
