@@ -169,7 +169,7 @@ impl io::Write for Wanting {
 #[test]
 fn no_buffer_is_taken_for_another_word(rt: HostRuntime) -> Result<(), Fail> {
     let alloc = rt.alloc();
-    let Some(mut scarce) = ScarceMemory::take(alloc)? else {
+    let Some(mut scarce) = ScarceMemory::take(&rt)? else {
         return Ok(());
     };
     scarce.leave(alloc, 20000)?;
@@ -315,7 +315,7 @@ fn a_failed_flush_without_a_buffer_is_reported(rt: HostRuntime) -> Result<(), Fa
     output.flushes = false;
     let mut errors = Vec::with_capacity(alloc, 1000)?;
     let (lines, replies) = ("len\n".repeat(alloc, 8)?, "number 0\n".repeat(alloc, 8)?);
-    let Some(mut scarce) = ScarceMemory::take(alloc)? else {
+    let Some(mut scarce) = ScarceMemory::take(&rt)? else {
         return Ok(());
     };
     scarce.leave(alloc, 7000)?;
