@@ -314,7 +314,7 @@ fn a_failed_flush_without_a_buffer_is_reported(rt: HostRuntime) -> Result<(), Fa
     output.taken = Vec::with_capacity(alloc, 1000)?;
     output.flushes = false;
     let mut errors = Vec::with_capacity(alloc, 1000)?;
-    let (lines, replies) = ("len\n".repeat(alloc, 8)?, "number 0\n".repeat(alloc, 8)?);
+    let (lines, replies) = ("len\n".repeat(alloc, 2)?, "number 0\n".repeat(alloc, 2)?);
     let Some(mut scarce) = ScarceMemory::take(&rt)? else {
         return Ok(());
     };
@@ -322,7 +322,7 @@ fn a_failed_flush_without_a_buffer_is_reported(rt: HostRuntime) -> Result<(), Fa
     let is_refused = Vec::<u8>::with_capacity(alloc, BUFFER).is_err();
     let mut served = 0usize;
     for word in WORDS {
-        for count in 0..=8usize {
+        for count in 0..=2usize {
             let mut input = lines.as_bytes().get(..count * 4).unwrap_or(b"none");
             output.taken.clear();
             errors.clear();
@@ -344,7 +344,7 @@ fn a_failed_flush_without_a_buffer_is_reported(rt: HostRuntime) -> Result<(), Fa
     }
     drop(scarce);
     assert!(rt; is_refused);
-    assert_eq!(rt; served, 27);
+    assert_eq!(rt; served, 9);
     Ok(())
 }
 
