@@ -1,8 +1,10 @@
 //! What Rust asks beyond erasure: nothing here is proved. `look` is `unsafe` to call, as what it stands for is by its
 //! precondition, and the rest has no `unsafe`; but `simd` and `known!` could break UTF-8 all the same.
 //!
+//! - `compare`: `==`, `<` and `+=` with a `str`, and `owned`, behind the feature `alloc`, the traits that name `String`.
 //! - `convert`: the traits of the Rust crate that the language of the sources can't have.
 //! - `known!`: tells rustc a clause that is proved; and `look`, which is told that it looks at a byte that is there.
+//! - `read`: the room that is left, and what Rust prints, hashes and makes by default of small values.
 //! - `simd`: the vectors of the sources, as arrays and words.
 //!
 //! `count_tests` are the tests of `steps` that set its counts.
@@ -21,7 +23,11 @@ macro_rules! known {
     };
 }
 
+mod compare;
 mod convert;
+#[cfg(feature = "alloc")]
+mod owned;
+mod read;
 pub(crate) mod simd;
 
 use crate::utils::Steps;

@@ -5,7 +5,9 @@ use std::fs;
 use std::path::{Path, PathBuf};
 
 use crate::erase::{Source, Tally, erase, line_of};
-use crate::rules::{AGAIN, BODIES, BY_HAND, BY_STD, CRATES, FATES, INSIDE, INVARIANTS, Invariant, KNOWN, LEFT_OUT, REPLACED, TESTED, WIDER};
+use crate::rules::{
+    ADDED, AGAIN, BODIES, BY_HAND, BY_STD, CONSTANT, CRATES, FATES, INSIDE, INVARIANTS, Invariant, KNOWN, LEFT_OUT, REPLACED, TESTED, WIDER,
+};
 
 /// Each file of the Rust crate that is made, by its path in `src`.
 pub type Made = BTreeMap<String, String>;
@@ -70,6 +72,8 @@ fn all_used(tally: &Tally) -> Result<(), String> {
     let names = names.chain(KNOWN.iter().map(|(call, clause)| format!("known {call} {clause}")));
     let names = names.chain(AGAIN.iter().map(|rule| format!("again {} {}", rule.call, rule.before)));
     let names = names.chain(BODIES.iter().map(|rule| format!("body {}", rule.call)));
+    let names = names.chain(CONSTANT.iter().map(|call| format!("constant {call}")));
+    let names = names.chain(ADDED.iter().map(|rule| format!("added {}", rule.head)));
     let names = names.chain(INSIDE.iter().map(|rule| format!("inside {}", rule.call)));
     let invariants = INVARIANTS.iter().flat_map(|rule| rule.calls);
     let names = names.chain(invariants.map(|call| format!("invariant {call}")));

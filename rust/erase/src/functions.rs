@@ -8,7 +8,7 @@ use crate::cursor::{Cursor, Fault, Token};
 use crate::erase::Source;
 use crate::items::{File, Inside, Lead};
 use crate::known::{Names, test_of};
-use crate::rules::{AGAIN, BEHIND, BODIES, FATES, Fate, INVARIANTS, KNOWN, LEFT_OUT, PRIVATE, PROVED, WALK, WIDER, Why};
+use crate::rules::{AGAIN, BEHIND, BODIES, CONSTANT, FATES, Fate, INVARIANTS, KNOWN, LEFT_OUT, PRIVATE, PROVED, WALK, WIDER, Why};
 
 /// A function as it was read.
 struct Function {
@@ -48,6 +48,7 @@ impl<'a> File<'a, '_> {
         self.tally.contracts.note(&function.call, &function.preconditions, &function.postconditions);
         self.head(function.head.clone());
         self.wider(&function)?;
+        self.constant(&function);
         let has_words = self.precondition(&function, lead, inside)?;
         self.known(&function)?;
         self.again(&function)?;
@@ -287,6 +288,15 @@ impl<'a> File<'a, '_> {
         };
         self.words(lead.docs_end, title, words, lead.has_docs);
         Ok(())
+    }
+
+    /// Makes a call `const`, if a rule says so.
+    fn constant(&mut self, function: &Function) {
+        if CONSTANT.contains(&function.call.as_str()) {
+            self.edits.insert(function.head.start, "const ");
+            self.tally.count("calls that are `const` in Rust");
+            self.tally.used.insert(format!("constant {}", function.call));
+        }
     }
 
     /// Makes a call take more types.

@@ -7,7 +7,7 @@ use crate::body;
 use crate::cursor::{Cursor, Fault, Kind, Token};
 use crate::edits::Edits;
 use crate::erase::{Source, Tally};
-use crate::rules::{LEFT_OUT, PROOFS_ALONE};
+use crate::rules::{ADDED, LEFT_OUT, PROOFS_ALONE};
 
 /// Where items are read.
 pub struct Inside<'a> {
@@ -199,6 +199,7 @@ impl<'a, 't> File<'a, 't> {
         let inside = Inside { owner: &owner, of_trait: !of.is_empty(), is_block: true };
         let start = cursor.at;
         let ghosts = self.items(cursor, &inside)?;
+        self.added(&head, self.line_start(cursor.at));
         let members: Vec<_> = ghosts.iter().filter(|at| !at.is_empty()).map(|at| self.dedented(at.clone())).collect();
         if is_model {
             let Some(&(docs_end, true)) = self.types.get(&owner) else {
@@ -211,6 +212,16 @@ impl<'a, 't> File<'a, 't> {
             self.section(lead.docs_end, "Contract", &members.join("\n"), lead.has_docs);
         }
         Ok(())
+    }
+
+    /// Puts the lines into an impl that it has beyond its source, before its last line, which begins at `end`.
+    fn added(&mut self, head: &Range<usize>, end: usize) {
+        for rule in ADDED.iter().filter(|rule| rule.file == self.source.path && rule.head == &self.text[head.clone()]) {
+            let lines: String = rule.lines.iter().map(|line| format!("\n    {line}")).collect();
+            self.edits.insert(end, format!("{lines}\n"));
+            self.tally.count("functions beyond the source");
+            self.tally.used.insert(format!("added {}", rule.head));
+        }
     }
 
     /// Reads an item that is no impl and no import.

@@ -64,6 +64,9 @@ fn run(root: &std::path::Path, is_check: bool) -> Result<(), String> {
     for rule in rules::BODIES {
         println!("another body: `{}`: {}", rule.call, rule.why);
     }
+    for rule in rules::ADDED {
+        println!("more lines: {}: `{}`: {}", rule.file, rule.head, rule.why);
+    }
     for rule in rules::BY_STD {
         println!("by std: {}: `{}`: {}", rule.file, rule.body, rule.why);
     }

@@ -227,10 +227,57 @@ pub struct Body {
     pub why: &'static str,
 }
 
-pub const BODIES: &[Body] = &[Body {
-    call: "ArrayString::get",
-    lines: &["let (start, end) = plain_ends(range, self.len());", "self.as_str().get(start..end)"],
-    why: "std makes the same tests, and the index behind them makes none again",
+const BY_SPLIT: &str = "stable Rust has no index of a slice in a constant";
+
+pub const BODIES: &[Body] = &[
+    Body {
+        call: "ArrayString::get",
+        lines: &["let (start, end) = plain_ends(range, self.len());", "self.as_str().get(start..end)"],
+        why: "std makes the same tests, and the index behind them makes none again",
+    },
+    Body {
+        call: "ArrayString::as_str",
+        lines: &[
+            "let (size, start) = (self.size as usize, self.start as usize);",
+            "let (_, text) = self.array.split_at(start + size).0.split_at(start);",
+            "// SAFETY: the type's `invariant`: the `size` bytes from `start` on are UTF-8.",
+            "unsafe { str::from_utf8_unchecked(text) }",
+        ],
+        why: BY_SPLIT,
+    },
+    Body {
+        call: "ArrayString::as_bytes",
+        lines: &[
+            "let (size, start) = (self.size as usize, self.start as usize);",
+            "self.array.split_at(start + size).0.split_at(start).1",
+        ],
+        why: BY_SPLIT,
+    },
+];
+
+/// Calls that are `const` here, which their sources are not.
+pub const CONSTANT: &[&str] = &["ArrayString::as_str", "ArrayString::as_bytes"];
+
+/// Lines that an impl has beyond its source.
+pub struct Added {
+    pub file: &'static str,
+    pub head: &'static str,
+    pub lines: &'static [&'static str],
+    pub why: &'static str,
+}
+
+pub const ADDED: &[Added] = &[Added {
+    file: "arraystring_core/src/drain.rt",
+    head: "impl<const N: usize> Iterator for Drain<N>",
+    lines: &[
+        "/// The bytes that are left bound the characters, which take one to four each.",
+        "#[inline]",
+        "fn size_hint(&self) -> (usize, Option<usize>) {",
+        "    let len = self.as_str().len();",
+        "    (len.div_ceil(4), Some(len))",
+        "}",
+    ],
+    why: "callers that make room ask for it",
 }];
 
 /// Calls of what is public, safe and panics, which bodies make by a function of `by_hand` that knows a clause instead.
@@ -256,7 +303,7 @@ pub const INVARIANTS: &[Invariant] = &[
             "arraystring_core/specs/Stored.antt",
             "IsStored array_size array start n = (start + n ≤ cap array_size) × (length array ≡ array_size) × ∥ IsUtf8 (take n (drop start array)) ∥₁",
         ),
-        tests: &["usize::from(self.start) + usize::from(self.size) <= usize::from(Self::capacity())"],
+        tests: &["self.start as usize + self.size as usize <= Self::capacity() as usize"],
         calls: &[
             "ArrayString::as_str",
             "ArrayString::as_bytes",
@@ -443,6 +490,12 @@ pub struct Replaced {
 }
 
 pub const REPLACED: &[Replaced] = &[
+    Replaced {
+        file: "arraystring_base/src/utf16.rt",
+        from: "pub struct Units<'a> {",
+        to: "#[derive(Clone, Debug)]\npub struct Units<'a> {",
+        why: "a walk is cloned and printed in Rust, as each of std's is",
+    },
     Replaced {
         file: "arraystring/src/lib.rt",
         from: "//! Its tests are in `crates/arraystring_tests`.",

@@ -23,6 +23,7 @@ pub enum Unit16 {
 /// ghost Value = { List Unit16 };
 /// ghost view = { λ units. reading units.rest.now };
 /// ```
+#[derive(Clone, Debug)]
 pub struct Units<'a> {
     rest: &'a [u16],
 }

@@ -125,12 +125,12 @@ impl<const N: usize> ArrayString<N> {
     /// ensures fits { size self.now.text ≤ cap N }
     /// ```
     #[inline]
-    pub fn as_str(&self) -> &str {
-        known!(invariant: usize::from(self.start) + usize::from(self.size) <= usize::from(Self::capacity()));
+    pub const fn as_str(&self) -> &str {
+        known!(invariant: self.start as usize + self.size as usize <= Self::capacity() as usize);
         let (size, start) = (self.size as usize, self.start as usize);
-        let all = &self.array[..];
+        let (_, text) = self.array.split_at(start + size).0.split_at(start);
         // SAFETY: the type's `invariant`: the `size` bytes from `start` on are UTF-8.
-        unsafe { str::from_utf8_unchecked(&all[start..start + size]) }
+        unsafe { str::from_utf8_unchecked(text) }
     }
 
     /// Returns the bytes of the text, borrowed without a copy. There are as many as `len` returns.
@@ -145,11 +145,10 @@ impl<const N: usize> ArrayString<N> {
     /// ensures fits { size self.now.text ≤ cap N }
     /// ```
     #[inline]
-    pub fn as_bytes(&self) -> &[u8] {
-        known!(invariant: usize::from(self.start) + usize::from(self.size) <= usize::from(Self::capacity()));
-        let start = self.start as usize;
-        let all = &self.array[..];
-        &all[start..start + self.size as usize]
+    pub const fn as_bytes(&self) -> &[u8] {
+        known!(invariant: self.start as usize + self.size as usize <= Self::capacity() as usize);
+        let (size, start) = (self.size as usize, self.start as usize);
+        self.array.split_at(start + size).0.split_at(start).1
     }
 
     /// Appends `ch`.

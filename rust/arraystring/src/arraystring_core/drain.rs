@@ -130,6 +130,13 @@ impl<const N: usize> Iterator for Drain<N> {
         self.front = self.size - left.as_str().len() as u8;
         Some(ch)
     }
+
+    /// The bytes that are left bound the characters, which take one to four each.
+    #[inline]
+    fn size_hint(&self) -> (usize, Option<usize>) {
+        let len = self.as_str().len();
+        (len.div_ceil(4), Some(len))
+    }
 }
 
 /// The characters that are left, from the back.

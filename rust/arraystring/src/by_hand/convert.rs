@@ -77,50 +77,59 @@ macro_rules! as_text {
                 self.as_str() == *other
             }
         }
+
+        /// As `from_chars`.
+        impl<$($generics)*> FromIterator<char> for $string {
+            fn from_iter<I: IntoIterator<Item = char>>(characters: I) -> Self {
+                Self::from_chars(characters)
+            }
+        }
+
+        /// As `from_chars`.
+        impl<'a, $($generics)*> FromIterator<&'a char> for $string {
+            fn from_iter<I: IntoIterator<Item = &'a char>>(characters: I) -> Self {
+                Self::from_chars(characters.into_iter().copied())
+            }
+        }
+
+        /// As `from_iterator`.
+        impl<'a, $($generics)*> FromIterator<&'a str> for $string {
+            fn from_iter<I: IntoIterator<Item = &'a str>>(pieces: I) -> Self {
+                Self::from_iterator(pieces)
+            }
+        }
+
+        /// As `extend_chars`.
+        impl<$($generics)*> Extend<char> for $string {
+            fn extend<I: IntoIterator<Item = char>>(&mut self, characters: I) {
+                self.extend_chars(characters);
+            }
+        }
+
+        /// As `extend_chars`.
+        impl<'a, $($generics)*> Extend<&'a char> for $string {
+            fn extend<I: IntoIterator<Item = &'a char>>(&mut self, characters: I) {
+                self.extend_chars(characters.into_iter().copied());
+            }
+        }
+
+        /// As `extend_strs`.
+        impl<'a, $($generics)*> Extend<&'a str> for $string {
+            fn extend<I: IntoIterator<Item = &'a str>>(&mut self, pieces: I) {
+                self.extend_strs(pieces);
+            }
+        }
     )*};
 }
 
 as_text!((const N: usize) ArrayString<N>, () CacheString);
 
-/// As `from_chars`.
-impl<const N: usize> FromIterator<char> for ArrayString<N> {
-    fn from_iter<I: IntoIterator<Item = char>>(characters: I) -> Self {
-        Self::from_chars(characters)
-    }
-}
-
-/// As `from_chars`.
-impl<'a, const N: usize> FromIterator<&'a char> for ArrayString<N> {
-    fn from_iter<I: IntoIterator<Item = &'a char>>(characters: I) -> Self {
-        Self::from_chars(characters.into_iter().copied())
-    }
-}
-
-/// As `from_iterator`.
-impl<'a, const N: usize> FromIterator<&'a str> for ArrayString<N> {
-    fn from_iter<I: IntoIterator<Item = &'a str>>(pieces: I) -> Self {
-        Self::from_iterator(pieces)
-    }
-}
-
-/// As `extend_chars`.
-impl<const N: usize> Extend<char> for ArrayString<N> {
-    fn extend<I: IntoIterator<Item = char>>(&mut self, characters: I) {
-        self.extend_chars(characters);
-    }
-}
-
-/// As `extend_chars`.
-impl<'a, const N: usize> Extend<&'a char> for ArrayString<N> {
-    fn extend<I: IntoIterator<Item = &'a char>>(&mut self, characters: I) {
-        self.extend_chars(characters.into_iter().copied());
-    }
-}
-
-/// As `extend_strs`.
-impl<'a, const N: usize> Extend<&'a str> for ArrayString<N> {
-    fn extend<I: IntoIterator<Item = &'a str>>(&mut self, pieces: I) {
-        self.extend_strs(pieces);
+/// As `from_str_truncate`: it keeps the longest prefix of whole characters that fits. `parse` and `try_from_str` refuse what
+/// does not fit.
+impl From<&str> for CacheString {
+    #[inline]
+    fn from(string: &str) -> Self {
+        Self::from_str_truncate(string)
     }
 }
 

@@ -75,7 +75,7 @@ impl<const N: usize> ArrayString<N> {
     #[cold]
     #[inline(never)]
     pub(super) unsafe fn compact_and_push(&mut self, ch: char) {
-        known!(invariant: usize::from(self.start) + usize::from(self.size) <= usize::from(Self::capacity()));
+        known!(invariant: self.start as usize + self.size as usize <= Self::capacity() as usize);
         let (start, size) = (self.start as usize, self.size as usize);
         self.start = 0;
         // SAFETY: the proof of `compact_and_push` in crates/arraystring_core/src/array_string/edit.rt shows `source` and `target` of `shift`.
@@ -129,7 +129,7 @@ impl<const N: usize> ArrayString<N> {
     /// ```
     #[inline(always)]
     pub(super) unsafe fn splice(&mut self, start: usize, end: usize, given: &str, steps: &mut Steps) {
-        known!(invariant: usize::from(self.start) + usize::from(self.size) <= usize::from(Self::capacity()));
+        known!(invariant: self.start as usize + self.size as usize <= Self::capacity() as usize);
         let text = Span {
             offset: self.start as usize,
             size: self.size as usize,
@@ -176,7 +176,7 @@ impl<const N: usize> ArrayString<N> {
         given: &str,
         steps: &mut Steps,
     ) {
-        known!(invariant: usize::from(self.start) + usize::from(self.size) <= usize::from(Self::capacity()));
+        known!(invariant: self.start as usize + self.size as usize <= Self::capacity() as usize);
         let text = Span {
             offset: self.start as usize,
             size: self.size as usize,
@@ -205,7 +205,7 @@ impl<const N: usize> ArrayString<N> {
     /// ```
     #[inline(always)]
     pub(super) unsafe fn put_char(&mut self, at: usize, ch: char) {
-        known!(invariant: usize::from(self.start) + usize::from(self.size) <= usize::from(Self::capacity()));
+        known!(invariant: self.start as usize + self.size as usize <= Self::capacity() as usize);
         let text = Span {
             offset: self.start as usize,
             size: self.size as usize,
@@ -239,7 +239,7 @@ impl<const N: usize> ArrayString<N> {
     #[cold]
     #[inline(never)]
     pub(super) unsafe fn compact_and_insert(&mut self, at: usize, ch: char) {
-        known!(invariant: usize::from(self.start) + usize::from(self.size) <= usize::from(Self::capacity()));
+        known!(invariant: self.start as usize + self.size as usize <= Self::capacity() as usize);
         let text = Span {
             offset: self.start as usize,
             size: self.size as usize,
@@ -276,7 +276,7 @@ impl<const N: usize> ArrayString<N> {
     /// ```
     #[inline]
     pub(super) unsafe fn take_out(&mut self, start: usize, end: usize, steps: &mut Steps) {
-        known!(invariant: usize::from(self.start) + usize::from(self.size) <= usize::from(Self::capacity()));
+        known!(invariant: self.start as usize + self.size as usize <= Self::capacity() as usize);
         if start == 0 {
             // SAFETY: the proof of `take_out` in crates/arraystring_core/src/array_string/edit.rt shows the precondition of `drop_front`.
             return unsafe { self.drop_front(end) };

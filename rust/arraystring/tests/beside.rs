@@ -1,0 +1,300 @@
+//! The calls by hand that stand beside those of the sources: strings beside texts on either side of a sign, the room that is left,
+//! what is collected, and what small values print, hash and bound. The expected values are those of `String` and `str`.
+
+use std::collections::hash_map::DefaultHasher;
+use std::hash::{Hash, Hasher};
+
+use arraystring::error::{Error, OutOfBounds, Utf8, Utf16};
+use arraystring::utf16::Units;
+use arraystring::utils::Steps;
+use arraystring::{ArrayString, CacheString, MaxString};
+
+/// Calls a generic test at each capacity on which something could depend.
+macro_rules! at_capacities {
+    ($test:ident) => {
+        $test::<0>();
+        $test::<1>();
+        $test::<2>();
+        $test::<3>();
+        $test::<4>();
+        $test::<7>();
+        $test::<8>();
+        $test::<16>();
+        $test::<23>();
+        $test::<63>();
+        $test::<64>();
+        $test::<127>();
+        $test::<254>();
+        $test::<255>();
+        $test::<256>();
+        $test::<300>();
+    };
+}
+
+/// Characters of each width, the least and the greatest of each, and some between.
+const CHARS: [char; 11] =
+    ['\0', 'a', 'b', '\u{7F}', '\u{80}', 'é', '\u{7FF}', '\u{800}', '\u{FFFF}', '\u{10000}', '\u{10FFFF}'];
+
+/// Texts of each length up to a size in bytes, with each character at the front, in the middle and at the end.
+fn texts(size: usize) -> Vec<String> {
+    let mut texts = vec![String::new()];
+    for len in 0..size {
+        let ch = CHARS[len % CHARS.len()];
+        for text in [format!("{ch}{}", "m".repeat(len)), format!("{}{ch}", "m".repeat(len))] {
+            texts.push(text);
+        }
+        texts.push(format!("{}{ch}{}", "m".repeat(len / 2), "m".repeat(len - len / 2)));
+    }
+    texts.extend(CHARS.iter().flat_map(|one| CHARS.iter().map(move |other| format!("{one}{other}"))));
+    texts.retain(|text| text.len() <= size);
+    texts
+}
+
+/// A string whose text begins behind so many bytes of its array, where there is room for them.
+fn behind<const N: usize>(offset: usize, text: &str) -> ArrayString<N> {
+    let offset = offset.min(N.min(255) - text.len());
+    let mut string = ArrayString::<N>::from("~".repeat(offset).as_str());
+    string.try_push_str(text).expect("room");
+    string.drain(..offset as u8).expect("a part");
+    string
+}
+
+/// Asserts each sign between a string and a text, on either side, to be as between their texts.
+macro_rules! is_beside {
+    ($string:expr, $text:expr, $other:expr) => {{
+        let (string, text, other): (_, &str, &str) = ($string, $text, $other);
+        assert_eq!(
+            (string == *other, string == other, *other == string, other == string),
+            (text == other, text == other, text == other, text == other),
+        );
+        assert_eq!((string != *other, *other != string, other != string), (text != other, text != other, text != other));
+        assert_eq!((string < *other, string < other, *other < string), (text < other, text < other, other < text));
+        assert_eq!((other < string, string <= other, other <= string), (other < text, text <= other, other <= text));
+        assert_eq!((string > other, other > string, *other >= string), (text > other, other > text, other >= text));
+        assert_eq!((string >= *other, string > *other, *other > string), (text >= other, text > other, other > text));
+        assert_eq!(
+            [string.partial_cmp(other), string.partial_cmp(&other)].map(|order| order.map(|order| order.reverse())),
+            [str::partial_cmp(other, string.as_str()), other.partial_cmp(&string)],
+        );
+        assert_eq!(other.partial_cmp(&string), Some(other.cmp(text)));
+    }};
+}
+
+#[test]
+fn strings_and_texts_are_compared_on_either_side() {
+    fn at<const N: usize>() {
+        let texts = texts(N.min(17));
+        for text in &texts {
+            for offset in [0, 1, 3] {
+                let string = behind::<N>(offset, text);
+                for other in &texts {
+                    is_beside!(string, text, other);
+                }
+            }
+        }
+    }
+    at_capacities!(at);
+}
+
+#[test]
+fn long_texts_differ_at_each_place() {
+    fn at<const N: usize>() {
+        for len in 0..=N.min(255) {
+            let text = "m".repeat(len);
+            let string = ArrayString::<N>::from(text.as_str());
+            is_beside!(string, &text, &text);
+            is_beside!(string, &text, &format!("{text}m"));
+            for place in 0..len {
+                for other in ["a", "z"] {
+                    let mut other_text = text.clone();
+                    other_text.replace_range(place..=place, other);
+                    is_beside!(string, &text, &other_text);
+                }
+                is_beside!(string, &text, &text[..place]);
+            }
+        }
+    }
+    at_capacities!(at);
+}
+
+#[test]
+fn cache_strings_are_compared_on_either_side() {
+    let texts = texts(12);
+    for text in &texts {
+        let string = CacheString::from(text.as_str());
+        for other in &texts {
+            is_beside!(string, text, other);
+        }
+    }
+    for len in 0..=63 {
+        let text = "m".repeat(len);
+        for other in 0..=64 {
+            is_beside!(CacheString::from(text.as_str()), &text, &"m".repeat(other));
+        }
+    }
+}
+
+/// The longest prefix of whole characters that takes at most so many bytes.
+fn cut(text: &str, size: usize) -> &str {
+    let end = text.char_indices().map(|(at, ch)| at + ch.len_utf8()).take_while(|end| *end <= size).last();
+    &text[..end.unwrap_or(0)]
+}
+
+#[test]
+fn what_is_added_is_cut_to_the_room() {
+    fn at<const N: usize>() {
+        let capacity = N.min(255);
+        for len in 0..=capacity {
+            for offset in [0, 1, capacity - len] {
+                for ch in CHARS {
+                    for added in [String::new(), format!("{ch}"), format!("a{ch}{ch}"), ch.to_string().repeat(capacity + 1)] {
+                        let text = "m".repeat(len);
+                        let mut string = behind::<N>(offset, &text);
+                        string += &added;
+                        assert_eq!(string.as_str(), text.clone() + cut(&added, capacity - len), "{N} {len} {added}");
+                    }
+                }
+            }
+        }
+    }
+    at_capacities!(at);
+    for len in 0..=63 {
+        for ch in CHARS {
+            let added = ch.to_string().repeat(64);
+            let mut string = CacheString::from("m".repeat(len).as_str());
+            string += &added;
+            assert_eq!(string.as_str(), "m".repeat(len) + cut(&added, 63 - len));
+        }
+    }
+}
+
+#[test]
+fn a_cache_string_is_made_of_a_text_and_of_items() {
+    for ch in CHARS {
+        for len in 0..=130 {
+            let text = "m".repeat(len) + &ch.to_string().repeat(len % 5);
+            let kept = cut(&text, 63);
+            assert_eq!(CacheString::from(text.as_str()).as_str(), kept);
+            let chars: Vec<char> = text.chars().collect();
+            let pieces: Vec<&str> = text.split_inclusive(|_| true).collect();
+            let made: [CacheString; 3] =
+                [chars.iter().collect(), chars.iter().copied().collect(), pieces.iter().copied().collect()];
+            assert_eq!(made.map(|made| made.to_string()), [kept; 3]);
+            let half = chars.len() / 2;
+            let front: String = chars[..half].iter().collect();
+            let mut made = [CacheString::from(front.as_str()); 3];
+            Extend::extend(&mut made[0], &chars[half..]);
+            Extend::extend(&mut made[1], chars[half..].iter().copied());
+            Extend::extend(&mut made[2], pieces[half..].iter().copied());
+            assert_eq!(made.map(|made| made.to_string()), [kept; 3]);
+        }
+    }
+    let (vowels, others): (CacheString, CacheString) = "abcde".chars().partition(|ch| "aeiou".contains(*ch));
+    assert_eq!((vowels.as_str(), others.as_str()), ("ae", "bcd"));
+}
+
+#[test]
+fn the_room_that_is_left() {
+    fn at<const N: usize>() {
+        let capacity = N.min(255);
+        for len in 0..=capacity {
+            for offset in [0, 1, capacity - len] {
+                let string = behind::<N>(offset, &"m".repeat(len));
+                assert_eq!((string.remaining_capacity() as usize, string.is_full()), (capacity - len, len == capacity));
+                for ch in ['a', 'é', '€', '🤔'] {
+                    let fits = string.clone().try_push(ch).is_ok();
+                    assert_eq!(fits, ch.len_utf8() <= string.remaining_capacity().into(), "{N} {len}");
+                }
+            }
+        }
+    }
+    at_capacities!(at);
+    const EMPTY: ArrayString<3> = ArrayString::new();
+    const NONE: ArrayString<0> = ArrayString::new();
+    const ROOM: [(u8, bool); 2] =
+        [(EMPTY.remaining_capacity(), EMPTY.is_full()), (NONE.remaining_capacity(), NONE.is_full())];
+    assert_eq!(ROOM, [(3, false), (0, true)]);
+    let cached = CacheString::from("aé");
+    assert_eq!((cached.remaining_capacity(), cached.is_full()), (60, false));
+}
+
+#[test]
+fn a_text_is_read_in_a_constant() {
+    const STRING: MaxString = MaxString::new();
+    const READ: (&str, &[u8]) = (STRING.as_str(), STRING.as_bytes());
+    const CACHED: CacheString = CacheString::new();
+    const READ_OF_CACHED: (&str, &[u8]) = (CACHED.0.as_str(), CACHED.0.as_bytes());
+    assert_eq!((READ, READ_OF_CACHED), (("", &[][..]), ("", &[][..])));
+}
+
+#[test]
+fn counters_print_their_counts_and_begin_at_none() {
+    let mut steps = Steps::default();
+    assert_eq!((steps.looked(), steps.moved(), format!("{steps:?}")), (0, 0, "Steps { looked: 0, moved: 0 }".into()));
+    for at in 0..=200 {
+        let mut string = MaxString::from("m".repeat(200).as_str());
+        string.try_insert_str_counted(at, "-", &mut steps).unwrap();
+        string.trim_counted(&mut steps);
+        assert_eq!(format!("{steps:?}"), format!("Steps {{ looked: {}, moved: {} }}", steps.looked(), steps.moved()));
+    }
+    assert!(steps.looked() != steps.moved() && steps.moved() > 0);
+}
+
+fn hash_of<T: Hash + ?Sized>(value: &T) -> u64 {
+    let mut state = DefaultHasher::new();
+    value.hash(&mut state);
+    state.finish()
+}
+
+#[test]
+fn errors_hash_as_their_case() {
+    assert_eq!(hash_of(&OutOfBounds), hash_of(&Error::OutOfBounds));
+    assert_eq!((hash_of(&Utf8), hash_of(&Utf16)), (hash_of(&Error::Utf8), hash_of(&Error::Utf16)));
+    assert_eq!(hash_of(&OutOfBounds), hash_of("OutOfBounds"));
+    assert!(hash_of(&OutOfBounds) != hash_of(&Utf8) && hash_of(&Utf8) != hash_of(&Utf16));
+}
+
+#[test]
+fn a_walk_over_units_is_cloned_and_printed() {
+    let units = [0x61, 0xD83E, 0xDD14, 0xDC00, 0xD800, 0x20AC];
+    for start in 0..=units.len() {
+        for taken in 0..=units.len() {
+            let mut walk = Units::new(&units[start..]);
+            let rest: Vec<_> = Units::new(&units[start..]).skip(taken).collect();
+            for _ in 0..taken {
+                walk.next();
+            }
+            let clone = walk.clone();
+            assert_eq!((walk.collect::<Vec<_>>(), clone.collect::<Vec<_>>()), (rest.clone(), rest));
+        }
+    }
+    assert_eq!(format!("{:?}", Units::new(&units[4..])), "Units { rest: [55296, 8364] }");
+}
+
+#[test]
+fn the_size_hint_of_a_drain_bounds_what_is_left() {
+    let of_width = ["m", "é", "€", "🤔"];
+    for len in 0..=60 {
+        let mixed: String = (0..len).map(|at| of_width[at * 7 % 4]).collect();
+        for text in of_width.map(|ch| ch.repeat(len)).into_iter().chain([mixed]) {
+            for backs in 0..3 {
+                let mut string = MaxString::from(format!("é{text}z").as_str());
+                let kept = string.len() - 1;
+                let mut drain = string.drain(2..kept).expect("a part");
+                let mut left = drain.as_str().chars().count();
+                loop {
+                    let (size, hint) = (drain.as_str().len(), drain.size_hint());
+                    assert_eq!(hint, (size.div_ceil(4), Some(size)));
+                    assert_eq!(hint, drain.as_str().chars().size_hint());
+                    assert!(hint.0 <= left && Some(left) <= hint.1 && drain.clone().count() == left);
+                    let given = if left % 3 < backs { drain.next_back() } else { drain.next() };
+                    if given.is_none() {
+                        break;
+                    }
+                    left -= 1;
+                }
+                assert_eq!((left, drain.size_hint()), (0, (0, Some(0))));
+            }
+        }
+    }
+}
