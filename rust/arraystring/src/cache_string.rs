@@ -2,8 +2,8 @@
 //! `CacheString`: a string of at most 63 bytes under a name of its own. Each call is that of the
 //! string inside.
 
-use crate::error::{Error, OutOfBounds, Utf8, Utf16};
 use crate::arraystring_core::ArrayString;
+use crate::error::{Error, OutOfBounds, Utf8, Utf16};
 use core::fmt;
 use core::ops::Add;
 use core::str::FromStr;
@@ -119,9 +119,7 @@ impl CacheString {
     ///     → IsWholeOrRefused (joined all) 63 (from_out_of_bounds (held result)) }
     /// ```
     #[inline]
-    pub fn try_from_iterator<U: AsRef<str>, I: IntoIterator<Item = U>>(
-        pieces: I,
-    ) -> Result<Self, OutOfBounds> {
+    pub fn try_from_iterator<U: AsRef<str>, I: IntoIterator<Item = U>>(pieces: I) -> Result<Self, OutOfBounds> {
         Ok(CacheString(ArrayString::try_from_iterator(pieces)?))
     }
 
@@ -204,9 +202,7 @@ impl CacheString {
     ///     → IsWholeOrRefused all 63 (from_out_of_bounds (held result)) }
     /// ```
     #[inline]
-    pub fn try_from_chars<I: IntoIterator<Item = char>>(
-        characters: I,
-    ) -> Result<Self, OutOfBounds> {
+    pub fn try_from_chars<I: IntoIterator<Item = char>>(characters: I) -> Result<Self, OutOfBounds> {
         Ok(CacheString(ArrayString::try_from_chars(characters)?))
     }
 

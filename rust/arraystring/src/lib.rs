@@ -29,8 +29,7 @@ pub type MaxString = ArrayString<255>;
 /// Boundaries, cuts and moves of bytes. Sizes and indices count bytes of UTF-8.
 pub mod utils {
     pub use crate::arraystring_base::utils::{
-        Steps, encode, is_boundary, is_inside_boundary, look, shift, truncate_str,
-        truncate_str_counted,
+        Steps, encode, is_boundary, is_inside_boundary, look, shift, truncate_str, truncate_str_counted,
     };
     pub use crate::arraystring_core::utils::is_char_boundary;
 }

@@ -67,7 +67,10 @@ macro_rules! is_beside {
             (string == *other, string == other, *other == string, other == string),
             (text == other, text == other, text == other, text == other),
         );
-        assert_eq!((string != *other, *other != string, other != string), (text != other, text != other, text != other));
+        assert_eq!(
+            (string != *other, *other != string, other != string),
+            (text != other, text != other, text != other)
+        );
         assert_eq!((string < *other, string < other, *other < string), (text < other, text < other, other < text));
         assert_eq!((other < string, string <= other, other <= string), (other < text, text <= other, other <= text));
         assert_eq!((string > other, other > string, *other >= string), (text > other, other > text, other >= text));
@@ -147,7 +150,9 @@ fn what_is_added_is_cut_to_the_room() {
         for len in 0..=capacity {
             for offset in [0, 1, capacity - len] {
                 for ch in CHARS {
-                    for added in [String::new(), format!("{ch}"), format!("a{ch}{ch}"), ch.to_string().repeat(capacity + 1)] {
+                    for added in
+                        [String::new(), format!("{ch}"), format!("a{ch}{ch}"), ch.to_string().repeat(capacity + 1)]
+                    {
                         let text = "m".repeat(len);
                         let mut string = behind::<N>(offset, &text);
                         string += &added;
@@ -180,13 +185,14 @@ fn a_cache_string_is_made_of_a_text_and_of_items() {
             let made: [CacheString; 3] =
                 [chars.iter().collect(), chars.iter().copied().collect(), pieces.iter().copied().collect()];
             assert_eq!(made.map(|made| made.to_string()), [kept; 3]);
-            let half = chars.len() / 2;
-            let front: String = chars[..half].iter().collect();
-            let mut made = [CacheString::from(front.as_str()); 3];
-            Extend::extend(&mut made[0], &chars[half..]);
-            Extend::extend(&mut made[1], chars[half..].iter().copied());
-            Extend::extend(&mut made[2], pieces[half..].iter().copied());
-            assert_eq!(made.map(|made| made.to_string()), [kept; 3]);
+            for half in [0, 1, chars.len() / 3, chars.len() / 2].map(|half| half.min(chars.len())) {
+                let front: String = chars[..half].iter().collect();
+                let mut made = [CacheString::from(front.as_str()); 3];
+                Extend::extend(&mut made[0], &chars[half..]);
+                Extend::extend(&mut made[1], chars[half..].iter().copied());
+                Extend::extend(&mut made[2], pieces[half..].iter().copied());
+                assert_eq!(made.map(|made| made.to_string()), [kept; 3]);
+            }
         }
     }
     let (vowels, others): (CacheString, CacheString) = "abcde".chars().partition(|ch| "aeiou".contains(*ch));
@@ -286,7 +292,7 @@ fn the_size_hint_of_a_drain_bounds_what_is_left() {
                     let (size, hint) = (drain.as_str().len(), drain.size_hint());
                     assert_eq!(hint, (size.div_ceil(4), Some(size)));
                     assert_eq!(hint, drain.as_str().chars().size_hint());
-                    assert!(hint.0 <= left && Some(left) <= hint.1 && drain.clone().count() == left);
+                    assert!(hint.0 <= left && Some(left) <= hint.1 && { drain }.count() == left);
                     let given = if left % 3 < backs { drain.next_back() } else { drain.next() };
                     if given.is_none() {
                         break;

@@ -156,7 +156,10 @@ impl<const N: usize> Pair<N> {
                 plain.len().saturating_sub(index)
             }
             3 => {
-                assert_eq!(self.string.try_insert_str_counted(index, &text, &mut steps), plain.try_insert_str(index, &text));
+                assert_eq!(
+                    self.string.try_insert_str_counted(index, &text, &mut steps),
+                    plain.try_insert_str(index, &text)
+                );
                 plain.len()
             }
             4 => {
@@ -164,7 +167,10 @@ impl<const N: usize> Pair<N> {
                 if from == 0 { 0 } else { (self.model.len() as u8).saturating_sub(to as u8) }
             }
             5 => {
-                assert_eq!(self.string.replace_range_counted(range, &text, &mut steps), plain.replace_range(range, &text));
+                assert_eq!(
+                    self.string.replace_range_counted(range, &text, &mut steps),
+                    plain.replace_range(range, &text)
+                );
                 self.model.len() as u8
             }
             _ => {
@@ -235,11 +241,14 @@ impl<const N: usize> Pair<N> {
                     });
                 }));
                 assert_eq!(panicked.is_err(), stops < count);
-                self.model = self.model.chars().take(stops).enumerate().filter(|(at, _)| keeps(*at)).map(|(_, ch)| ch).collect();
+                self.model =
+                    self.model.chars().take(stops).enumerate().filter(|(at, _)| keeps(*at)).map(|(_, ch)| ch).collect();
             }
             kind => {
                 let stops = random.below(text.chars().count() + 1);
-                let chars = || text.chars().enumerate().map(|(at, ch)| if at == stops { resume_unwind(Box::new(())) } else { ch });
+                let chars = || {
+                    text.chars().enumerate().map(|(at, ch)| if at == stops { resume_unwind(Box::new(())) } else { ch })
+                };
                 let _ = catch_unwind(AssertUnwindSafe(|| match kind {
                     1 => self.string.extend_chars(chars()),
                     _ => self.string.extend_strs(chars().map(|ch| ch.to_string())),

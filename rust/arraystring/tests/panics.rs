@@ -41,7 +41,9 @@ macro_rules! as_str_does {
     ($string:expr, $text:expr, $range:expr, $wide:expr) => {{
         let (string, text): (&ArrayString<12>, &str) = ($string, $text);
         match text.get($wide) {
-            Some(part) => assert_eq!((string.slice($range), &string[$range], string.get($range)), (part, part, Some(part))),
+            Some(part) => {
+                assert_eq!((string.slice($range), &string[$range], string.get($range)), (part, part, Some(part)))
+            }
             None => {
                 let wanted = words(|| drop(text[$wide].to_string()));
                 assert_eq!(words(|| drop(string[$range].to_string())), wanted);

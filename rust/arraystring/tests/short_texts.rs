@@ -6,7 +6,7 @@ use arraystring::ArrayString;
 /// A string of the text that begins at an offset of its array.
 fn behind<const N: usize>(offset: usize, text: &str) -> ArrayString<N> {
     let mut string = ArrayString::<N>::new();
-    assert!(string.try_push_str(&"~".repeat(offset)).is_ok());
+    assert!(string.try_push_str("~".repeat(offset)).is_ok());
     assert!(string.try_push_str(text).is_ok());
     assert!(string.drain(..offset as u8).is_ok());
     assert_eq!(string.as_str(), text);

@@ -175,7 +175,7 @@ fn texts_of_other_types_are_taken() {
         [Ok(Name::from("aé")); 3]
     );
     assert_eq!(Name::from_iterator([owned.clone(), owned.clone()]), "aéaé");
-    assert_eq!(Name::try_from_iterator(&[owned.as_str(), "b"]), Ok(Name::from("aéb")));
+    assert_eq!(Name::try_from_iterator([owned.as_str(), "b"]), Ok(Name::from("aéb")));
     assert_eq!(
         (Name::try_from_utf8(owned.clone()), Name::from_utf8(vec![b'a'])),
         (Ok(Name::from("aé")), Ok(Name::from("a")))

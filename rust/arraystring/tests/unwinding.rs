@@ -239,7 +239,7 @@ fn size_hints_that_lie_change_nothing() {
 #[test]
 fn an_iterator_without_an_end_is_cut() {
     assert_eq!(std::iter::repeat('é').collect::<ArrayString<5>>(), "éé");
-    assert_eq!(ArrayString::<5>::try_from_chars(std::iter::repeat('é')).is_err(), true);
+    assert!(ArrayString::<5>::try_from_chars(std::iter::repeat('é')).is_err());
     assert_eq!(std::iter::repeat("abc").collect::<ArrayString<5>>(), "abcab");
 }
 

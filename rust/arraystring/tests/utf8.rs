@@ -95,8 +95,8 @@ fn each_two_bytes_at_some_places() {
 /// The bytes at which the rows of the table of well-formed bytes begin and end, and their neighbours (the Unicode Standard,
 /// section 3.9).
 const EDGES: &[u8] = &[
-    0x00, 0x7F, 0x80, 0x8F, 0x90, 0x9F, 0xA0, 0xBF, 0xC0, 0xC1, 0xC2, 0xDF, 0xE0, 0xE1, 0xEC, 0xED, 0xEE, 0xEF, 0xF0, 0xF1,
-    0xF3, 0xF4, 0xF5, 0xFF,
+    0x00, 0x7F, 0x80, 0x8F, 0x90, 0x9F, 0xA0, 0xBF, 0xC0, 0xC1, 0xC2, 0xDF, 0xE0, 0xE1, 0xEC, 0xED, 0xEE, 0xEF, 0xF0,
+    0xF1, 0xF3, 0xF4, 0xF5, 0xFF,
 ];
 
 #[test]
@@ -140,7 +140,10 @@ fn a_cache_string_takes_the_same() {
             assert_eq!(cut.as_bytes(), &bytes[..len.min(63)]);
             for fault in [0x80, 0xBF, 0xC0, 0xFF] {
                 bytes[at] = fault;
-                assert_eq!((CacheString::from_utf8(&bytes), CacheString::try_from_utf8(&bytes)), (Err(Utf8), Err(Error::Utf8)));
+                assert_eq!(
+                    (CacheString::from_utf8(&bytes), CacheString::try_from_utf8(&bytes)),
+                    (Err(Utf8), Err(Error::Utf8))
+                );
             }
         }
     }

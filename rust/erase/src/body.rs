@@ -72,7 +72,12 @@ pub fn rewrite(source: &str, tokens: &[Token], here: &Here, edits: &mut Edits, t
             }
             let name = here.call.rsplit("::").next().unwrap_or_default();
             let tested = if here.is_tested { "by what the index above tests, " } else { "" };
-            body.say(start, &format!("{tested}the proof of `{name}` in crates/{} shows {shown}.", here.path), edits, tally);
+            body.say(
+                start,
+                &format!("{tested}the proof of `{name}` in crates/{} shows {shown}.", here.path),
+                edits,
+                tally,
+            );
         }
     }
     Ok(())
@@ -81,7 +86,7 @@ pub fn rewrite(source: &str, tokens: &[Token], here: &Here, edits: &mut Edits, t
 /// Rewrites the paths that begin with the name of a crate.
 pub fn paths(source: &str, tokens: &[Token], krate: &str, edits: &mut Edits, tally: &mut Tally) {
     let body = Body { source, tokens };
-    for at in 0..tokens.len() {
+    for (at, token) in tokens.iter().enumerate() {
         let is_path = body.text(at + 1) == ":" && body.text(at + 2) == ":";
         if !is_path || (at > 1 && body.text(at - 1) == ":" && body.text(at - 2) == ":") {
             continue;
@@ -95,7 +100,7 @@ pub fn paths(source: &str, tokens: &[Token], krate: &str, edits: &mut Edits, tal
             name if CRATES.contains(&name) => format!("crate::{name}"),
             _ => continue,
         };
-        edits.replace(tokens[at].at.clone(), put);
+        edits.replace(token.at.clone(), put);
         tally.count("paths");
     }
 }

@@ -156,7 +156,11 @@ fn text_length(rest: &str) -> Option<usize> {
 fn quoted_length(rest: &str) -> usize {
     let mut chars = rest.char_indices().skip(1);
     match chars.next() {
-        Some((_, '\\')) => rest[3..].find('\'').map_or(rest.len(), |end| end + 4),
+        Some((_, '\\')) => {
+            // What is escaped may be a quote itself.
+            chars.next();
+            chars.find(|(_, ch)| *ch == '\'').map_or(rest.len(), |(at, _)| at + 1)
+        }
         _ => match chars.next() {
             Some((at, '\'')) => at + 1,
             _ => 1 + run_length(&rest[1..]),

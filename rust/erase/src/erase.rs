@@ -85,8 +85,15 @@ fn by_std(source: &Source, made: String, tally: &mut Tally) -> Result<String, Fa
     let head = made.lines().next().unwrap_or_default();
     tally.used.insert(format!("by std {}", rule.file));
     tally.count("files whose work std does");
-    Ok(format!("{head}\n//! {}\n\n{}\n\n/// {}\n///\n{} {{\n    {}\n}}\n", rule.module, rule.imports, rule.docs, &made[contract..body], rule.body)
-        .replace("\n\n\n", "\n"))
+    Ok(format!(
+        "{head}\n//! {}\n\n{}\n\n/// {}\n///\n{} {{\n    {}\n}}\n",
+        rule.module,
+        rule.imports,
+        rule.docs,
+        &made[contract..body],
+        rule.body
+    )
+    .replace("\n\n\n", "\n"))
 }
 
 /// The lines that put tests by hand into a module.

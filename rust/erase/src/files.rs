@@ -2,11 +2,14 @@
 
 use std::collections::{BTreeMap, BTreeSet};
 use std::fs;
+use std::io::Write;
 use std::path::{Path, PathBuf};
+use std::process::{Command, Stdio};
 
 use crate::erase::{Source, Tally, erase, line_of};
 use crate::rules::{
-    ADDED, AGAIN, BODIES, BY_HAND, BY_STD, CONSTANT, CRATES, FATES, INSIDE, INVARIANTS, Invariant, KNOWN, LEFT_OUT, REPLACED, TESTED, WIDER,
+    ADDED, AGAIN, BODIES, BY_HAND, BY_STD, CONSTANT, CRATES, FATES, INSIDE, INVARIANTS, Invariant, KNOWN, LEFT_OUT,
+    REPLACED, TESTED, WIDER,
 };
 
 /// Each file of the Rust crate that is made, by its path in `src`.
@@ -125,10 +128,46 @@ pub fn write(made: &Made, target: &Path) -> Result<(), String> {
     Ok(())
 }
 
-/// Whether the files are there, each as it is made, and no others but those by hand.
-pub fn compare(made: &Made, target: &Path) -> Result<(), String> {
+/// Formats the files by rustfmt, as its settings in a folder say. Returns whether it is there to do so.
+pub fn format(made: &mut Made, settings: &Path) -> Result<bool, String> {
+    let is_there = Command::new("rustfmt").arg("--version").output().is_ok_and(|told| told.status.success());
+    if is_there {
+        for (path, text) in made {
+            *text = formatted(text, settings).map_err(|why| format!("rustfmt: rust/arraystring/src/{path}: {why}"))?;
+        }
+    }
+    Ok(is_there)
+}
+
+/// What rustfmt makes of a text.
+fn formatted(text: &str, settings: &Path) -> Result<String, String> {
+    let mut rustfmt = Command::new("rustfmt");
+    rustfmt.args(["--edition", "2024", "--config-path"]).arg(settings);
+    rustfmt.stdin(Stdio::piped()).stdout(Stdio::piped()).stderr(Stdio::piped());
+    let mut running = rustfmt.spawn().map_err(|error| error.to_string())?;
+    // Dropped behind the line, so that rustfmt sees the end.
+    let sent = running.stdin.take().map(|mut to| to.write_all(text.as_bytes()));
+    let told = running.wait_with_output().map_err(|error| error.to_string())?;
+    match (sent, told.status.success()) {
+        (Some(Ok(())), true) => String::from_utf8(told.stdout).map_err(|error| error.to_string()),
+        _ => Err(String::from_utf8_lossy(&told.stderr).trim().to_string()),
+    }
+}
+
+/// The words of a text in alphabetic order: what rustfmt keeps.
+pub fn words(text: &str) -> Vec<&str> {
+    let mut words: Vec<_> = text.split(|ch: char| !ch.is_alphanumeric() && ch != '_').collect();
+    words.retain(|word| !word.is_empty());
+    words.sort_unstable();
+    words
+}
+
+/// Whether the files are there, each as it is made, and no others but those by hand. Where rustfmt is not there, what it keeps
+/// is compared.
+pub fn compare(made: &Made, target: &Path, is_formatted: bool) -> Result<(), String> {
     for (path, text) in made {
-        if read(&target.join(path))? != *text {
+        let found = read(&target.join(path))?;
+        if if is_formatted { found != *text } else { words(&found) != words(text) } {
             return Err(format!("rust/arraystring/src/{path} is not as its source says: run rust/erase/run"));
         }
     }

@@ -8,7 +8,9 @@ use crate::cursor::{Cursor, Fault, Token};
 use crate::erase::Source;
 use crate::items::{File, Inside, Lead};
 use crate::known::{Names, test_of};
-use crate::rules::{AGAIN, BEHIND, BODIES, CONSTANT, FATES, Fate, INVARIANTS, KNOWN, LEFT_OUT, PRIVATE, PROVED, WALK, WIDER, Why};
+use crate::rules::{
+    AGAIN, BEHIND, BODIES, CONSTANT, FATES, Fate, INVARIANTS, KNOWN, LEFT_OUT, PRIVATE, PROVED, WALK, WIDER, Why,
+};
 
 /// A function as it was read.
 struct Function {
@@ -26,6 +28,9 @@ struct Function {
     end: usize,
     tokens: Vec<Token>,
 }
+
+/// The clauses of a function: where they are, its preconditions and its postconditions.
+type Clauses = (Option<Range<usize>>, [Vec<Clause>; 2]);
 
 impl<'a> File<'a, '_> {
     /// Reads a function and erases it. The word is its `fn`.
@@ -87,7 +92,7 @@ impl<'a> File<'a, '_> {
 
     /// Reads the clauses of a function up to its body, whose bracket is taken. Returns where they are, the
     /// preconditions and the postconditions.
-    fn clauses(&mut self, cursor: &mut Cursor<'a>) -> Result<(Option<Range<usize>>, [Vec<Clause>; 2]), Fault> {
+    fn clauses(&mut self, cursor: &mut Cursor<'a>) -> Result<Clauses, Fault> {
         let start = cursor.at;
         let (mut found, mut clauses): (Option<Range<usize>>, _) = (None, [Vec::new(), Vec::new()]);
         loop {
@@ -142,7 +147,9 @@ impl<'a> File<'a, '_> {
         let has_precondition = !function.preconditions.is_empty();
         let rests = self.tally.contracts.is_unsafe(call);
         let why = match fate {
-            Some(Fate::Safe(_)) if rests => format!("`{call}` has a precondition on which something rests, and is to be safe"),
+            Some(Fate::Safe(_)) if rests => {
+                format!("`{call}` has a precondition on which something rests, and is to be safe")
+            }
             Some(Fate::Unsafe(_)) if !rests => format!("`{call}` has no precondition on which something rests"),
             Some(fate) if function.is_public && has_precondition => {
                 self.fate(function, fate, lead)?;
@@ -204,7 +211,9 @@ impl<'a> File<'a, '_> {
             let name = if rule.clause.is_empty() { "precondition" } else { rule.clause };
             let body = &self.text[function.body..function.end];
             let lines = body.match_indices('\n').map(|(at, _)| function.body + at + 1);
-            for at in lines.filter(|at| self.text[*at..].trim_start_matches(' ').starts_with(rule.before)).collect::<Vec<_>>() {
+            for at in
+                lines.filter(|at| self.text[*at..].trim_start_matches(' ').starts_with(rule.before)).collect::<Vec<_>>()
+            {
                 let indent = self.indent(at);
                 let comment = if comment.is_empty() { String::new() } else { format!("{indent}{comment}") };
                 self.edits.insert(at, format!("{comment}{indent}known!({name}: {test});\n"));

@@ -45,10 +45,11 @@ fn main() -> ExitCode {
 
 /// Makes or compares the files of the crate, and tells what was erased.
 fn run(root: &std::path::Path, is_check: bool) -> Result<(), String> {
-    let (made, tally) = files::made(&root.join("crates"))?;
+    let (mut made, tally) = files::made(&root.join("crates"))?;
+    let is_formatted = files::format(&mut made, &root.join("rust"))?;
     let target = root.join("rust/arraystring/src");
     if is_check {
-        files::compare(&made, &target)?;
+        files::compare(&made, &target, is_formatted)?;
     } else {
         files::write(&made, &target)?;
     }
@@ -72,6 +73,9 @@ fn run(root: &std::path::Path, is_check: bool) -> Result<(), String> {
     }
     for rule in rules::TESTED {
         println!("tests by hand: {} has {}: {}", rule.file, rule.path, rule.why);
+    }
+    if !is_formatted {
+        println!("rustfmt is not there: no file was formatted, and files are compared by their words alone");
     }
     println!("{} files {} rust/arraystring/src", made.len(), if is_check { "are as in" } else { "written to" });
     Ok(())

@@ -132,11 +132,14 @@ pub const GIVEN_UP: &[&str] = &[
 ];
 
 /// The functions that give up a clause, and whose `prove!` are facts all the same, with the reason.
-pub const PROVED: &[(&str, &str)] =
-    &[("retain::retain_at", "that an index is below N follows from `held`, and not from what the closure may be asked")];
+pub const PROVED: &[(&str, &str)] = &[(
+    "retain::retain_at",
+    "that an index is below N follows from `held`, and not from what the closure may be asked",
+)];
 
 /// What stands under `# Safety` of a private function.
-pub const PRIVATE: &str = "Each clause `requires` of the contract must hold, but for those on counts, on iterators and on closures.";
+pub const PRIVATE: &str =
+    "Each clause `requires` of the contract must hold, but for those on counts, on iterators and on closures.";
 
 /// The clauses that stand at the start of a body as known, by their function and their name, if they have one. They are few,
 /// since each costs the compiler time and some cost speed: `rust/bench/run` tells.

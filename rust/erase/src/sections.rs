@@ -9,7 +9,7 @@ impl File<'_, '_> {
     pub fn example(&mut self, doc: &str, token: &Token) {
         let before = &self.text[..token.at.end];
         let fences = before.rsplit("\n\n").next().unwrap_or(before).matches("/// ```\n").count();
-        if doc == "/// ```" && fences % 2 == 0 {
+        if doc == "/// ```" && fences.is_multiple_of(2) {
             let put = format!("\n{}/// # use arraystring::ArrayString;", self.indent(token.at.start));
             self.edits.insert(token.at.end, put);
             self.tally.count("examples");

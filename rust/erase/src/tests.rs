@@ -166,7 +166,13 @@ fn count(steps: &mut Steps)
             // SAFETY: the proof of `put` in crates/arraystring_base/src/sample.rt shows `well_formed`, `first` and `fits` of `spelled`.
             unsafe { self.push(Self::spelled(str::from_utf8_unchecked(s))) };\n";
     assert!(text.contains(nested), "{text}");
-    for line in ["        Other::spelled(shift);\n", "    unsafe fn push(", "\nunsafe fn shift(", "\nfn count(", "    count(steps);\n"] {
+    for line in [
+        "        Other::spelled(shift);\n",
+        "    unsafe fn push(",
+        "\nunsafe fn shift(",
+        "\nfn count(",
+        "    count(steps);\n",
+    ] {
         assert!(text.contains(line), "{line}: {text}");
     }
 }
@@ -213,7 +219,8 @@ fn a_clause_of_the_list_is_known_at_the_start_of_its_body() {
         );
         made_as("arraystring_base/src/moves.rt", &text)
     };
-    let known = "given: &[u8]) {\n    known!(precondition: at + given.len() <= N && at <= at + given.len());\n    write(array";
+    let known =
+        "given: &[u8]) {\n    known!(precondition: at + given.len() <= N && at <= at + given.len());\n    write(array";
     let text = write_over("{ at + length given.now ≤ N }").unwrap();
     assert!(text.contains(known), "{text}");
     let name = "`moves::write_over`: it has no clause `` that could be known";
@@ -233,7 +240,9 @@ fn a_clause_that_is_given_up_is_never_known() {
 
 #[test]
 fn what_is_proved_in_a_body_is_known_unless_a_clause_is_given_up() {
-    let body = |requires: &str| format!("fn find(at: usize)\n    requires {{ {requires} }}\n{{\n    prove!(at < 3);\n    f();\n}}\n");
+    let body = |requires: &str| {
+        format!("fn find(at: usize)\n    requires {{ {requires} }}\n{{\n    prove!(at < 3);\n    f();\n}}\n")
+    };
     let made = made_as("arraystring_base/src/sample.rt", &body("at < 3")).unwrap();
     assert!(made.contains("\n    known!(proved: at < 3);\n"), "{made}");
     let why = made_as("arraystring_base/src/sample.rt", &body("steps.old.moved < at")).unwrap_err();
@@ -251,7 +260,10 @@ pub fn slice(&self, from: usize) -> &str
 }
 ";
     let made = made_as("arraystring_base/src/sample.rt", &format!("impl ArrayString {{\n{text}}}\n")).unwrap();
-    assert!(made.contains("\npub fn slice(") && made.contains("\n    self.slice(from)\n") && !made.contains("known!"), "{made}");
+    assert!(
+        made.contains("\npub fn slice(") && made.contains("\n    self.slice(from)\n") && !made.contains("known!"),
+        "{made}"
+    );
 }
 
 #[test]

@@ -36,7 +36,7 @@ fn main() -> Result<(), Box<dyn StdError>> {
 
     // It is written to, collected and walked.
     let mut row = SmallString::new();
-    write!(row, "{}={}", "zoé", 7)?;
+    write!(row, "{}={}", SmallString::from("zoé"), 7)?;
     assert_eq!((row.as_str(), row.find('=')), ("zoé=7", Some(4)));
     let digits: ArrayString<4> = ('0'..='9').collect();
     assert_eq!(digits, "0123");

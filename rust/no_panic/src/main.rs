@@ -12,9 +12,9 @@ use core::hash::{Hash, Hasher};
 use core::hint::black_box;
 use core::panic::PanicInfo;
 
-use arraystring::utils::{Steps, is_char_boundary, is_inside_boundary, truncate_str, truncate_str_counted};
-use arraystring::utf16::Units;
 use arraystring::error::{OutOfBounds, Utf8, Utf16};
+use arraystring::utf16::Units;
+use arraystring::utils::{Steps, is_char_boundary, is_inside_boundary, truncate_str, truncate_str_counted};
 use arraystring::{ArrayString, CacheString, Error};
 
 #[link(name = "c")]
@@ -56,7 +56,16 @@ fn shown<const N: usize>(string: &Text<N>, other: &Text<N>, at: u8, end: u8) -> 
     let order = string.cmp(other) == Ordering::Less || string < other || string.partial_cmp(other).is_none();
     let is_part = string.get(at..end).is_some() || string.get(at..=end).is_some() || string.get(..).is_none();
     let is_text = *string == *other.as_str() || **string == **other || AsRef::<[u8]>::as_ref(string).is_empty();
-    is_text || order || is_part || string == other || string.is_empty() || text == 7 || is_char_boundary(string, at).is_ok()
+    let beside = *string < *other.as_str() || other.as_str() < string || other.as_str() == *string || string.is_full();
+    is_text
+        || beside
+        || string.remaining_capacity() == 7
+        || order
+        || is_part
+        || string == other
+        || string.is_empty()
+        || text == 7
+        || is_char_boundary(string, at).is_ok()
 }
 
 #[inline(never)]
@@ -91,7 +100,8 @@ fn added<const N: usize>(string: &mut Text<N>, text: &str, ch: char) -> bool {
     string.extend(text.chars());
     string.extend([text]);
     string.extend(&[ch, ch]);
-    *string = *string + text;
+    *string = core::ops::Add::add(*string, text);
+    *string += text;
     string.try_push(ch).is_ok() || string.try_push_str(text).is_ok() || string.write_str(text).is_ok()
 }
 
@@ -110,7 +120,8 @@ fn replaced<const N: usize>(string: &mut Text<N>, at: u8, end: u8, text: &str, s
 
 #[inline(never)]
 fn removed<const N: usize>(string: &mut Text<N>, at: u8, steps: &mut Steps) -> u32 {
-    let chars = [string.pop(), string.pop_counted(steps), string.remove(at).ok(), string.remove_counted(at, steps).ok()];
+    let chars =
+        [string.pop(), string.pop_counted(steps), string.remove(at).ok(), string.remove_counted(at, steps).ok()];
     string.trim();
     string.trim_counted(steps);
     string.trim_spaces();
@@ -136,6 +147,7 @@ fn drained<const N: usize>(string: &mut Text<N>, at: u8, end: u8, steps: &mut St
     }
     if let Ok(mut drain) = string.drain_counted(at..=end, steps) {
         let copy = drain;
+        sum = sum.wrapping_add(drain.size_hint().0 as u32);
         while let Some(ch) = drain.next_back() {
             sum = sum.wrapping_add(ch as u32 + u32::from(copy < drain) + u32::from(copy == drain));
         }
@@ -192,8 +204,16 @@ fn cached(text: &str, bytes: &[u8], units: &[u16], at: u8) -> usize {
         Some(CacheString::from_utf16_lossy(units)),
         Some(CacheString::from_chars(text.chars())),
         Some(string + text),
+        Some(text.into()),
+        Some(text.chars().collect()),
+        Some([text, text].into_iter().collect()),
     ];
-    rest + strings.iter().flatten().filter(|made| **black_box(made) < string || **made == string).count()
+    string += text;
+    rest + strings
+        .iter()
+        .flatten()
+        .filter(|made| **black_box(made) < string || **made == string || text < **made)
+        .count()
 }
 
 /// Makes all calls at a capacity, on values that the compiler knows nothing of.

@@ -171,12 +171,7 @@ unsafe fn move_any_run<const N: usize>(array: &mut [u8; N], from: usize, to: usi
 /// ensures { array.new ≡ take to array.old ++ (take len (drop from array.old) ++ drop (to + len) array.old) }
 /// ```
 #[inline(always)]
-unsafe fn move_ends<const N: usize, const K: usize>(
-    array: &mut [u8; N],
-    from: usize,
-    to: usize,
-    len: usize,
-) {
+unsafe fn move_ends<const N: usize, const K: usize>(array: &mut [u8; N], from: usize, to: usize, len: usize) {
     known!(source: from + len <= N && from <= from + len);
     known!(target: to + len <= N && to <= to + len);
     known!(least: K <= len);
@@ -207,12 +202,7 @@ unsafe fn move_ends<const N: usize, const K: usize>(
 /// ensures { array.new ≡ take to array.old ++ (take len (drop from array.old) ++ drop (to + len) array.old) }
 /// ```
 #[inline(always)]
-unsafe fn move_pairs<const N: usize, const K: usize>(
-    array: &mut [u8; N],
-    from: usize,
-    to: usize,
-    len: usize,
-) {
+unsafe fn move_pairs<const N: usize, const K: usize>(array: &mut [u8; N], from: usize, to: usize, len: usize) {
     known!(source: from + len <= N && from <= from + len);
     known!(target: to + len <= N && to <= to + len);
     known!(least: K + K <= len && K <= K + K);

@@ -28,10 +28,7 @@ impl Steps {
     /// ```
     #[inline]
     pub const fn new() -> Self {
-        Steps {
-            looked: 0,
-            moved: 0,
-        }
+        Steps { looked: 0, moved: 0 }
     }
 
     /// Returns how many looks were counted.

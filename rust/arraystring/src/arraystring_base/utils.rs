@@ -191,13 +191,7 @@ pub unsafe fn encode<const N: usize>(ch: char, array: &mut [u8; N], at: usize) -
 /// ensures looked { steps.new.looked ≡ steps.old.looked }
 /// ```
 #[inline(always)]
-pub unsafe fn shift<const N: usize>(
-    array: &mut [u8; N],
-    from: usize,
-    to: usize,
-    len: usize,
-    steps: &mut Steps,
-) {
+pub unsafe fn shift<const N: usize>(array: &mut [u8; N], from: usize, to: usize, len: usize, steps: &mut Steps) {
     if from != to {
         // SAFETY: the proof of `shift` in crates/arraystring_base/src/utils.rt shows `source` and `target` of `move_run`.
         unsafe { move_run(array, from, to, len) };

@@ -9,9 +9,9 @@
 //! hold. All calls but the unchecked ones stop at the first item that does not fit: their
 //! contracts say that no item after it matters, and a test shows that they take none.
 
-use crate::arraystring_core::equal::equal;
 use crate::arraystring_base::error::OutOfBounds;
 use crate::arraystring_base::utils::{Steps, encode, last_char, truncate_str, write_over};
+use crate::arraystring_core::equal::equal;
 use core::{fmt, str};
 
 mod ascii;
@@ -70,11 +70,7 @@ impl<const N: usize> ArrayString<N> {
     /// ```
     #[inline(always)]
     pub const fn new() -> Self {
-        ArrayString {
-            array: [0; N],
-            start: 0,
-            size: 0,
-        }
+        ArrayString { array: [0; N], start: 0, size: 0 }
     }
 
     /// Returns the capacity in bytes: the lesser of `N` and 255.
@@ -362,16 +358,12 @@ impl<const N: usize> PartialEq for ArrayString<N> {
 /// ```text
 /// ghost laws = { on_equiv (λ s. s.text) nat_list_eq_equiv };
 /// ```
-impl<const N: usize> Eq for ArrayString<N> {
-}
+impl<const N: usize> Eq for ArrayString<N> {}
 
 /// `ArrayString { array: "abc", size: 3 }` for the text `abc`; the size counts bytes of UTF-8.
 impl<const N: usize> fmt::Debug for ArrayString<N> {
     #[inline]
     fn fmt(&self, f: &mut fmt::Formatter<'_>) -> fmt::Result {
-        f.debug_struct("ArrayString")
-            .field("array", &self.as_str())
-            .field("size", &self.size)
-            .finish()
+        f.debug_struct("ArrayString").field("array", &self.as_str()).field("size", &self.size).finish()
     }
 }

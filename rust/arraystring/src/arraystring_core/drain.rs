@@ -54,12 +54,7 @@ impl<const N: usize> Drain<N> {
     /// ```
     #[inline(always)]
     pub(crate) unsafe fn new(array: [u8; N], start: u8, size: u8) -> Self {
-        Drain {
-            front: 0,
-            start,
-            size,
-            array,
-        }
+        Drain { front: 0, start, size, array }
     }
 
     /// Returns the characters that are left as a `&str`, borrowed without a copy.

@@ -1,8 +1,8 @@
 // Made from crates/arraystring_core/src/gap.rt by rust/erase. A change goes there.
 //! Gaps in an array, into which a text is put, and how a new array is filled.
 
-use crate::arraystring_core::ArrayString;
 use crate::arraystring_base::utils::{Steps, shift, write_over};
+use crate::arraystring_core::ArrayString;
 
 /// Where a text lies in its array: the `size` bytes from the offset `offset` on.
 #[derive(Clone, Copy)]
@@ -45,13 +45,7 @@ pub(crate) unsafe fn open_gap<const N: usize>(
 ) {
     let tail = text.size - end;
     // SAFETY: the proof of `open_gap` in crates/arraystring_core/src/gap.rt shows `source` and `target` of `shift`.
-    unsafe { shift(
-        array,
-        text.offset + end,
-        text.offset + (start + len),
-        tail,
-        steps,
-    ) };
+    unsafe { shift(array, text.offset + end, text.offset + (start + len), tail, steps) };
 }
 
 /// The same for a text that moves to the start of the array. Each byte moves at most once.

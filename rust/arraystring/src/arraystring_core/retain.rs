@@ -1,8 +1,8 @@
 // Made from crates/arraystring_core/src/retain.rt by rust/erase. A change goes there.
 //! Which characters of a text are kept is decided by a closure.
 
-use crate::arraystring_core::decode::first_char;
 use crate::arraystring_base::utils::{Steps, shift};
+use crate::arraystring_core::decode::first_char;
 use core::str;
 
 /// Calls `f` once with each character of a text, in order, and moves those for which it returns

@@ -21,8 +21,10 @@ impl<const K: usize> Simd<u8, K> {
         const { assert!(K <= 64) };
         let (mut bytes, mut words) = ([0; K], [0; 8]);
         if Self::IN_WORDS {
-            for (word, eight) in words.iter_mut().zip(slice[..K].as_chunks::<8>().0) {
-                *word = u64::from_le_bytes(*eight);
+            for (word, eight) in words.iter_mut().zip(slice[..K].chunks_exact(8)) {
+                let mut bytes = [0; 8];
+                bytes.copy_from_slice(eight);
+                *word = u64::from_le_bytes(bytes);
             }
         } else {
             bytes.copy_from_slice(&slice[..K]);
@@ -34,8 +36,8 @@ impl<const K: usize> Simd<u8, K> {
     #[inline(always)]
     pub(crate) fn copy_to_slice(self, slice: &mut [u8]) {
         if Self::IN_WORDS {
-            for (eight, word) in slice[..K].as_chunks_mut::<8>().0.iter_mut().zip(self.words) {
-                *eight = word.to_le_bytes();
+            for (eight, word) in slice[..K].chunks_exact_mut(8).zip(self.words) {
+                eight.copy_from_slice(&word.to_le_bytes());
             }
         } else {
             slice[..K].copy_from_slice(&self.bytes);

@@ -27,8 +27,7 @@ impl PartialEq for CacheString {
 /// ```text
 /// ghost laws = { on_equiv (λ s. s.0.text) nat_list_eq_equiv };
 /// ```
-impl Eq for CacheString {
-}
+impl Eq for CacheString {}
 
 /// Always `Some` of what `cmp` returns.
 ///

@@ -114,7 +114,7 @@ fn quiet<const N: usize>(text: &mut ArrayString<N>, call: &str, row: &str) {
         "retain_without" => drop(retained(text, "", given)),
         "make_ascii_uppercase" => text.make_ascii_uppercase(),
         "make_ascii_lowercase" => text.make_ascii_lowercase(),
-        "add" => *text = *text + given,
+        "add" => *text = std::ops::Add::add(*text, given),
         "len" => assert_eq!(text.len(), parsed(row, 6), "{row}"),
         _ => assert_eq!(ArrayString::<N>::capacity(), parsed(row, 6), "{row}"),
     }

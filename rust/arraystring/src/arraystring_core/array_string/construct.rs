@@ -2,10 +2,10 @@
 //! The constructors: from a `&str`, from pieces, from characters and from bytes of UTF-8.
 
 use super::ArrayString;
-use crate::arraystring_core::gap::{fill, try_fill};
-use crate::arraystring_core::well_formed::read_utf8;
 use crate::arraystring_base::error::{Error, OutOfBounds, Utf8};
 use crate::arraystring_base::utils::truncate_str;
+use crate::arraystring_core::gap::{fill, try_fill};
+use crate::arraystring_core::well_formed::read_utf8;
 use core::str::{self, FromStr};
 
 impl<const N: usize> ArrayString<N> {
@@ -26,11 +26,7 @@ impl<const N: usize> ArrayString<N> {
         // One path for both outcomes, so that the string is copied into the result once.
         let mut array = [0; N];
         let (refused, size) = try_fill(&mut array, string.as_bytes());
-        let mut result = Ok(ArrayString {
-            array,
-            start: 0,
-            size,
-        });
+        let mut result = Ok(ArrayString { array, start: 0, size });
         if refused {
             result = Err(OutOfBounds);
         }
@@ -73,11 +69,7 @@ impl<const N: usize> ArrayString<N> {
         let mut array = [0; N];
         // SAFETY: the proof of `from_str_unchecked` in crates/arraystring_core/src/array_string/construct.rt shows the precondition of `fill`.
         unsafe { fill(&mut array, string.as_bytes()) };
-        ArrayString {
-            array,
-            start: 0,
-            size: string.len() as u8,
-        }
+        ArrayString { array, start: 0, size: string.len() as u8 }
     }
 
     /// Creates a string from all pieces, joined.
@@ -106,9 +98,7 @@ impl<const N: usize> ArrayString<N> {
     ///     → IsWholeOrRefused (joined all) (cap N) (from_out_of_bounds result) }
     /// ```
     #[inline]
-    pub fn try_from_iterator<U: AsRef<str>, I: IntoIterator<Item = U>>(
-        pieces: I,
-    ) -> Result<Self, OutOfBounds> {
+    pub fn try_from_iterator<U: AsRef<str>, I: IntoIterator<Item = U>>(pieces: I) -> Result<Self, OutOfBounds> {
         let mut made = Self::new();
         made.add_strs(pieces)?;
         Ok(made)
@@ -200,9 +190,7 @@ impl<const N: usize> ArrayString<N> {
     ///     → IsWholeOrRefused all (cap N) (from_out_of_bounds result) }
     /// ```
     #[inline]
-    pub fn try_from_chars<I: IntoIterator<Item = char>>(
-        characters: I,
-    ) -> Result<Self, OutOfBounds> {
+    pub fn try_from_chars<I: IntoIterator<Item = char>>(characters: I) -> Result<Self, OutOfBounds> {
         let mut made = Self::new();
         made.add_chars(characters)?;
         Ok(made)

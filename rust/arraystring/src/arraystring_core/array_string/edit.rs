@@ -2,10 +2,10 @@
 //! The private calls that change the text where it lies in the array: those that put something in, take
 //! something out, or move the text to the start of the array for it.
 
-use crate::arraystring_core::ArrayString;
-use crate::arraystring_core::gap::{Span, compact_and_open_gap, open_gap};
 use crate::arraystring_base::error::OutOfBounds;
 use crate::arraystring_base::utils::{Steps, encode, is_boundary, shift, write_over};
+use crate::arraystring_core::ArrayString;
+use crate::arraystring_core::gap::{Span, compact_and_open_gap, open_gap};
 
 impl<const N: usize> ArrayString<N> {
     /// Whether a character begins at `at`, or the text ends there.
@@ -130,10 +130,7 @@ impl<const N: usize> ArrayString<N> {
     #[inline(always)]
     pub(super) unsafe fn splice(&mut self, start: usize, end: usize, given: &str, steps: &mut Steps) {
         known!(invariant: self.start as usize + self.size as usize <= Self::capacity() as usize);
-        let text = Span {
-            offset: self.start as usize,
-            size: self.size as usize,
-        };
+        let text = Span { offset: self.start as usize, size: self.size as usize };
         let len = given.len();
         let tail = text.size - end;
         if text.offset + (start + (len + tail)) > Self::capacity() as usize {
@@ -169,18 +166,9 @@ impl<const N: usize> ArrayString<N> {
     /// ```
     #[cold]
     #[inline(never)]
-    pub(super) unsafe fn compact_and_splice(
-        &mut self,
-        start: usize,
-        end: usize,
-        given: &str,
-        steps: &mut Steps,
-    ) {
+    pub(super) unsafe fn compact_and_splice(&mut self, start: usize, end: usize, given: &str, steps: &mut Steps) {
         known!(invariant: self.start as usize + self.size as usize <= Self::capacity() as usize);
-        let text = Span {
-            offset: self.start as usize,
-            size: self.size as usize,
-        };
+        let text = Span { offset: self.start as usize, size: self.size as usize };
         let len = given.len();
         self.start = 0;
         self.size = (start + (len + (text.size - end))) as u8;
@@ -206,10 +194,7 @@ impl<const N: usize> ArrayString<N> {
     #[inline(always)]
     pub(super) unsafe fn put_char(&mut self, at: usize, ch: char) {
         known!(invariant: self.start as usize + self.size as usize <= Self::capacity() as usize);
-        let text = Span {
-            offset: self.start as usize,
-            size: self.size as usize,
-        };
+        let text = Span { offset: self.start as usize, size: self.size as usize };
         let len = ch.len_utf8();
         if text.offset + text.size + len > Self::capacity() as usize {
             // SAFETY: the proof of `put_char` in crates/arraystring_core/src/array_string/edit.rt shows `boundary` and `room` of `compact_and_insert`.
@@ -240,10 +225,7 @@ impl<const N: usize> ArrayString<N> {
     #[inline(never)]
     pub(super) unsafe fn compact_and_insert(&mut self, at: usize, ch: char) {
         known!(invariant: self.start as usize + self.size as usize <= Self::capacity() as usize);
-        let text = Span {
-            offset: self.start as usize,
-            size: self.size as usize,
-        };
+        let text = Span { offset: self.start as usize, size: self.size as usize };
         let len = ch.len_utf8();
         self.start = 0;
         self.size = (at + (len + (text.size - at))) as u8;

@@ -68,10 +68,7 @@ impl<const N: usize> ArrayString<N> {
     ///     × (self.new.text ≡ self.old.text ++ cut taken (cap N - size self.old.text)) }
     /// ```
     #[inline]
-    pub(super) fn add_chars<I: IntoIterator<Item = char>>(
-        &mut self,
-        characters: I,
-    ) -> Result<(), OutOfBounds> {
+    pub(super) fn add_chars<I: IntoIterator<Item = char>>(&mut self, characters: I) -> Result<(), OutOfBounds> {
         for ch in characters {
             if let Err(refusal) = self.try_push(ch) {
                 return Err(refusal);
@@ -92,10 +89,7 @@ impl<const N: usize> ArrayString<N> {
     ///     × (self.new.text ≡ self.old.text ++ cut (joined_pieces taken) (cap N - size self.old.text)) }
     /// ```
     #[inline]
-    pub(super) fn add_strs<U: AsRef<str>, I: IntoIterator<Item = U>>(
-        &mut self,
-        pieces: I,
-    ) -> Result<(), OutOfBounds> {
+    pub(super) fn add_strs<U: AsRef<str>, I: IntoIterator<Item = U>>(&mut self, pieces: I) -> Result<(), OutOfBounds> {
         for piece in pieces {
             let piece = piece.as_ref();
             if let Err(refusal) = self.try_push_str(piece) {

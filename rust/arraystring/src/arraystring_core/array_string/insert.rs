@@ -1,9 +1,9 @@
 // Made from crates/arraystring_core/src/array_string/insert.rt by rust/erase. A change goes there.
 //! Texts and characters that are inserted at an index.
 
-use crate::arraystring_core::ArrayString;
 use crate::arraystring_base::error::Error;
 use crate::arraystring_base::utils::{Steps, truncate_str};
+use crate::arraystring_core::ArrayString;
 
 impl<const N: usize> ArrayString<N> {
     /// Inserts `ch` at the byte index `index`.
@@ -110,12 +110,7 @@ impl<const N: usize> ArrayString<N> {
     /// ensures looked { steps.new.looked ≡ steps.old.looked }
     /// ```
     #[inline]
-    pub fn try_insert_str_counted(
-        &mut self,
-        index: u8,
-        string: &str,
-        steps: &mut Steps,
-    ) -> Result<(), Error> {
+    pub fn try_insert_str_counted(&mut self, index: u8, string: &str, steps: &mut Steps) -> Result<(), Error> {
         if index > self.len() {
             return Err(Error::OutOfBounds);
         }

@@ -3,10 +3,10 @@
 //! methods return. If `has_bounds` holds of the range, they are its own; else no contract says
 //! which they are.
 
-use crate::arraystring_core::range_ends::{plain_ends, saturating_ends};
-use crate::arraystring_core::{ArrayString, Drain};
 use crate::arraystring_base::error::Error;
 use crate::arraystring_base::utils::Steps;
+use crate::arraystring_core::range_ends::{plain_ends, saturating_ends};
+use crate::arraystring_core::{ArrayString, Drain};
 use core::ops::RangeBounds;
 
 impl<const N: usize> ArrayString<N> {
@@ -143,11 +143,7 @@ impl<const N: usize> ArrayString<N> {
     /// ensures looked { steps.new.looked ≡ steps.old.looked }
     /// ```
     #[inline(always)]
-    pub fn drain_counted<R: RangeBounds<u8>>(
-        &mut self,
-        range: R,
-        steps: &mut Steps,
-    ) -> Result<Drain<N>, Error> {
+    pub fn drain_counted<R: RangeBounds<u8>>(&mut self, range: R, steps: &mut Steps) -> Result<Drain<N>, Error> {
         let (from, to) = saturating_ends(range, self.len());
         self.is_part(from, to)?;
         // SAFETY: the proof of `drain_counted` in crates/arraystring_core/src/array_string/range.rt shows the precondition of `new`.
@@ -185,11 +181,7 @@ impl<const N: usize> ArrayString<N> {
     ///     Makes (replacement t (saturated_start start) (saturated_end end (size t)) (chars with.now) (cap N)) t result self.new.text) }
     /// ```
     #[inline]
-    pub fn replace_range<S: AsRef<str>, R: RangeBounds<u8>>(
-        &mut self,
-        range: R,
-        with: S,
-    ) -> Result<(), Error> {
+    pub fn replace_range<S: AsRef<str>, R: RangeBounds<u8>>(&mut self, range: R, with: S) -> Result<(), Error> {
         let with = with.as_ref();
         self.replace_range_counted(range, with, &mut Steps::new())
     }
@@ -333,13 +325,7 @@ impl<const N: usize> ArrayString<N> {
     /// ensures looked { steps.new.looked ≡ steps.old.looked }
     /// ```
     #[inline]
-    fn replace_between(
-        &mut self,
-        start: u8,
-        end: u8,
-        with: &str,
-        steps: &mut Steps,
-    ) -> Result<(), Error> {
+    fn replace_between(&mut self, start: u8, end: u8, with: &str, steps: &mut Steps) -> Result<(), Error> {
         self.can_replace(start, end, with)?;
         let (from, to) = (start as usize, end as usize);
         // SAFETY: the proof of `replace_between` in crates/arraystring_core/src/array_string/range.rt shows `order`, `start`, `end` and `room` of `splice`.

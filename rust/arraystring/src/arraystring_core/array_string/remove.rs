@@ -1,11 +1,11 @@
 // Made from crates/arraystring_core/src/array_string/remove.rt by rust/erase. A change goes there.
 //! What is removed from a string.
 
+use crate::arraystring_base::error::{Error, Utf8};
+use crate::arraystring_base::utils::Steps;
 use crate::arraystring_core::ArrayString;
 use crate::arraystring_core::decode::first_char;
 use crate::arraystring_core::retain::retain_at;
-use crate::arraystring_base::error::{Error, Utf8};
-use crate::arraystring_base::utils::Steps;
 
 impl<const N: usize> ArrayString<N> {
     /// Shortens the text to its first `size` bytes. Nothing changes if it has no more.

@@ -1,8 +1,8 @@
 // Made from crates/arraystring_core/src/array_string/trim.rt by rust/erase. A change goes there.
 //! Trimming at both ends.
 
-use crate::arraystring_core::ArrayString;
 use crate::arraystring_base::utils::{Steps, last_char};
+use crate::arraystring_core::ArrayString;
 
 impl<const N: usize> ArrayString<N> {
     /// Removes all white space at both ends, and nothing else. As in `str::trim`, white space is

@@ -27,8 +27,7 @@ impl<const N: usize> PartialEq for Drain<N> {
 /// ```text
 /// ghost laws = { on_equiv (λ s. s.left) nat_list_eq_equiv };
 /// ```
-impl<const N: usize> Eq for Drain<N> {
-}
+impl<const N: usize> Eq for Drain<N> {}
 
 /// Always `Some` of what `cmp` returns.
 ///
