@@ -100,6 +100,24 @@ fn strings_and_texts_are_compared_on_either_side() {
 }
 
 #[test]
+fn a_text_and_its_bytes_are_read_at_each_offset() {
+    fn at<const N: usize>() {
+        for len in 0..=N.min(255) {
+            let letters: String = (0..len).map(|at| (b'!' + (at % 90) as u8) as char).collect();
+            for offset in 0..=N.min(255) - len {
+                let string = behind::<N>(offset, &letters);
+                assert_eq!(
+                    (string.as_str(), string.as_bytes()),
+                    (letters.as_str(), letters.as_bytes()),
+                    "{N} {offset}"
+                );
+            }
+        }
+    }
+    at_capacities!(at);
+}
+
+#[test]
 fn long_texts_differ_at_each_place() {
     fn at<const N: usize>() {
         for len in 0..=N.min(255) {

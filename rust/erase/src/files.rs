@@ -67,7 +67,7 @@ fn target(krate: &str, module: &str) -> String {
 }
 
 /// Each rule has matched.
-fn all_used(tally: &Tally) -> Result<(), String> {
+pub fn all_used(tally: &Tally) -> Result<(), String> {
     let names = FATES.iter().map(|(name, _)| name.to_string());
     let names = names.chain(WIDER.iter().map(|rule| format!("wider {}", rule.call)));
     let names = names.chain(REPLACED.iter().map(|rule| format!("line {}", rule.from)));

@@ -2,6 +2,13 @@
 
 use super::*;
 
+#[path = "tests/odd.rs"]
+mod odd;
+#[path = "tests/refused.rs"]
+mod refused;
+#[path = "tests/ruled.rs"]
+mod ruled;
+
 /// What comes of a file of the lowest crate.
 fn made(text: &str) -> Result<String, String> {
     let source = Source { krate: "arraystring_base", path: "arraystring_base/src/sample.rt", text };

@@ -1,0 +1,282 @@
+//! A sample for each kind of rule.
+
+use super::*;
+
+/// Asserts that what comes of a file has each of these parts.
+fn has(path: &str, source: &str, parts: &[&str]) {
+    let made = made_as(path, source).unwrap();
+    for part in parts {
+        assert!(made.contains(part), "{part}\n--- is not in:\n{made}");
+    }
+}
+
+const STEPS: &str = "\
+impl Steps {
+    fn count_moves(&mut self, len: usize) {
+        self.moved += len as u64;
+    }
+}
+
+/// Looks.
+pub fn look(at: usize, steps: &mut Steps) -> u8
+    requires in_bounds { at < 3 }
+{
+    steps.looked += 1;
+    bytes[at]
+}
+";
+
+#[test]
+fn a_line_is_another_one_and_tests_by_hand_lie_in_a_module() {
+    let parts = [
+        "        self.moved = self.moved.saturating_add(len as u64);\n",
+        "    steps.looked = steps.looked.saturating_add(1);\n",
+        "/// # Panics\n///\n/// Where the index is not below the length.\n///\n/// # Contract",
+        "\npub fn look(at: usize",
+        "\n#[cfg(test)]\n#[path = \"../by_hand/count_tests.rs\"]\nmod tests;\n",
+    ];
+    has("arraystring_base/src/steps.rt", STEPS, &parts);
+    let twice = format!("{STEPS}fn f() {{\n    steps.looked += 1;\n}}\n");
+    let why = made_as("arraystring_base/src/steps.rt", &twice).unwrap_err();
+    assert_eq!(why, "the line `steps.looked += 1;` is there 2 times");
+}
+
+#[test]
+fn a_derive_is_put_before_a_type() {
+    let source = "/// A walk.\n#[derive(Drop)]\npub struct Units<'a> {\n    rest: &'a [u16],\n}\n";
+    has("arraystring_base/src/utf16.rt", source, &["/// A walk.\n#[derive(Clone, Debug)]\npub struct Units<'a> {\n"]);
+}
+
+#[test]
+fn what_is_left_out_goes_with_its_imports() {
+    let source = "\
+use crate::a::{between, json_reads_back, other};
+
+mod integration;
+mod kept;
+
+/// The part.
+fn between(at: usize) -> usize {
+    at
+}
+
+#[cfg(test)]
+mod tests;
+";
+    let made = made_as("arraystring_base/src/sample.rt", source).unwrap();
+    assert!(made.ends_with("\nuse crate::arraystring_base::a::{other};\n\nmod kept;\n"), "{made}");
+}
+
+#[test]
+fn a_clause_is_known_once_more_in_the_middle_of_a_body() {
+    let encode = "\
+/// Writes.
+pub fn encode<const N: usize>(ch: char, all: &mut [u8; N], at: usize)
+    requires { at + width ch ≤ N }
+{
+    if ch.is_ascii() {
+        all[at] = 1;
+    }
+    all[at..].fill(2);
+}
+";
+    let known =
+        "    known!(precondition: at + ch.len_utf8() <= N && at <= at + ch.len_utf8());\n    all[at..].fill(2);\n";
+    let safety = "/// # Safety\n///\n/// What is written must lie in the array.\n";
+    has("arraystring_base/src/utils.rt", encode, &[known, safety, "\npub unsafe fn encode<", "        all[at] = 1;\n"]);
+}
+
+/// A callee that ensures a clause in these words, and what knows it behind the call.
+fn cut(ensured: &str) -> String {
+    format!(
+        "\
+/// Cuts.
+pub fn truncate_str_counted<'a>(text: &'a str, size: u8, steps: &mut Steps) -> &'a str
+    requires {{ steps.old.looked ≤ 3 }}
+{{
+    let end = last_boundary(text, size);
+    &text[..end]
+}}
+
+fn last_boundary(text: &str, size: u8) -> usize
+    requires within {{ size ≤ 3 }}
+    ensures boundary {{ {ensured} }}
+{{
+    size as usize
+}}
+"
+    )
+}
+
+#[test]
+fn what_a_callee_ensures_is_known_behind_the_call() {
+    let says = "IsCharBoundary text.now result";
+    let parts = [
+        "    // What `last_boundary` ensures.\n    known!(boundary: text.is_char_boundary(end));\n    &text[..end]\n",
+        "/// # In Rust\n///\n/// No precondition is left here: a count that would pass 2^64 - 1 stays there.\n",
+        "\npub fn truncate_str_counted<'a>(",
+        "shows `within` of `last_boundary`.\n    let end = unsafe { last_boundary(text, size) };\n",
+        "    known!(within: usize::from(size) <= 3);\n    size as usize\n",
+    ];
+    has("arraystring_base/src/utils.rt", &cut(says), &parts);
+    for (ensured, is_there) in [(says, true), ("IsCharBoundary text.now size", false)] {
+        let text = cut(ensured);
+        let source = Source { krate: "arraystring_base", path: "arraystring_base/src/utils.rt", text: &text };
+        let mut tally = Tally::default();
+        let _ = erase(&source, &mut tally);
+        tally.contracts.is_whole = true;
+        let why = erase(&source, &mut tally).err().map(|fault| fault.why);
+        let wanted = "`utils::truncate_str_counted`: `utils::last_boundary` does not ensure \
+                      `boundary { IsCharBoundary text.now result }`";
+        assert_eq!(why, (!is_there).then(|| wanted.to_string()));
+    }
+}
+
+const STRING: &str = "\
+impl<const N: usize> ArrayString<N> {
+    /// The text.
+    pub fn as_str(&self) -> &str
+        ensures { result ≡ x }
+    {
+        &self.array[..]
+    }
+
+    /// A part.
+    pub fn get(&self, range: R) -> Option<&str> {
+        self.between(range)
+    }
+}
+";
+
+#[test]
+fn a_body_is_another_one_and_a_call_is_constant_and_knows_the_invariant() {
+    let parts = [
+        "    pub const fn as_str(&self) -> &str {\n        known!(invariant: self.start as usize + self.size as usize \
+         <= Self::capacity() as usize);\n        let (size, start) =",
+        "        // SAFETY: the type's `invariant`: the `size` bytes from `start` on are UTF-8.\n        unsafe { str",
+        "    pub fn get(&self, range: R) -> Option<&str> {\n        let (start, end) = plain_ends(range, self.len());\n        \
+         self.as_str().get(start..end)\n    }\n",
+    ];
+    has("arraystring_core/src/array_string.rt", STRING, &parts);
+    let made = made_as("arraystring_core/src/array_string.rt", STRING).unwrap();
+    assert!(!made.contains("self.array[..]") && !made.contains("between"), "{made}");
+}
+
+#[test]
+fn an_impl_has_lines_beyond_its_source() {
+    let source = "\
+impl<const N: usize> Iterator for Drain<N> {
+    type Item = char;
+
+    fn next(&mut self) -> Option<char> {
+        None
+    }
+}
+
+impl<const N: usize> FusedIterator for Drain<N> {}
+";
+    let added = "        None\n    }\n\n    /// The bytes that are left bound the characters, which take one to four each.\n    \
+                 #[inline]\n    fn size_hint(&self) -> (usize, Option<usize>) {\n        let len = self.as_str().len();\n        \
+                 (len.div_ceil(4), Some(len))\n    }\n}\n\nimpl<const N: usize> FusedIterator for Drain<N> {}\n";
+    has("arraystring_core/src/drain.rt", source, &[added]);
+    let elsewhere = made_as("arraystring_core/src/other.rt", source).unwrap();
+    assert!(!elsewhere.contains("size_hint"), "{elsewhere}");
+}
+
+#[test]
+fn a_body_looks_by_hand() {
+    let source = "fn first(bytes: &[u8], steps: &mut Steps) -> u8 {\n    look(bytes, 0, steps)\n}\n";
+    let made = "    // SAFETY: the proof of `first` in crates/arraystring_base/src/sample.rt shows `in_bounds` of `look`.\n    \
+                unsafe { crate::by_hand::look(bytes, 0, steps) }\n";
+    has("arraystring_base/src/sample.rt", source, &[made]);
+}
+
+#[test]
+fn a_call_takes_more_types() {
+    let source = "\
+impl<const N: usize> ArrayString<N> {
+    /// Adds.
+    pub fn push_str(&mut self, string: &str) {
+        add(string);
+    }
+
+    /// In its place.
+    pub fn replace_range<R: RangeBounds<u8>>(&mut self, range: R, with: &str) {
+        put(range, with);
+    }
+
+    /// From pieces.
+    pub fn from_iterator<'a, I: IntoIterator<Item = &'a str>>(pieces: I) -> Self
+        requires { IsFiniteIterable pieces }
+    {
+        for piece in pieces {
+            add(piece);
+        }
+    }
+}
+";
+    let parts = [
+        "    pub fn push_str<S: AsRef<str>>(&mut self, string: S) {\n        let string = string.as_ref();\n        add(string);\n",
+        "    pub fn replace_range<S: AsRef<str>, R: RangeBounds<u8>>(&mut self, range: R, with: S) {\n        \
+         let with = with.as_ref();\n",
+        "    pub fn from_iterator<U: AsRef<str>, I: IntoIterator<Item = U>>(pieces: I) -> Self {\n        \
+         for piece in pieces {\n            let piece = piece.as_ref();\n            add(piece);\n",
+    ];
+    has("arraystring_core/src/array_string/sample.rt", source, &parts);
+    let other = "impl ArrayString {\n    fn push_str(&mut self, text: &str) {\n        add(text);\n    }\n}\n";
+    let why = made_as("arraystring_core/src/sample.rt", other).unwrap_err();
+    assert_eq!(why, "`ArrayString::push_str` does not have `string: &str` once");
+}
+
+#[test]
+fn a_call_that_panics_tests_its_range_first() {
+    let source = |line: &str| {
+        format!(
+            "\
+impl<const N: usize> ArrayString<N> {{
+    /// In the other case.
+    pub fn make_ascii_uppercase_in(&mut self, range: R)
+        requires order {{ from < 3 }}
+    {{
+        {line}
+        shift(start, end);
+    }}
+}}
+
+fn shift(start: usize, end: usize)
+    requires room {{ start < 3 }}
+{{}}
+"
+        )
+    };
+    let found = source("let (start, end) = plain_ends(range, self.len());");
+    let parts = [
+        "        let (start, end) = plain_ends(range, self.len());\n        let _ = &self.as_str()[start..end];\n",
+        "        // SAFETY: by what the index above tests, the proof of `make_ascii_uppercase_in` in \
+         crates/arraystring_core/src/ascii.rt shows `room` of `shift`.\n        unsafe { shift(start, end) };\n",
+        "    /// # Panics\n",
+    ];
+    has("arraystring_core/src/ascii.rt", &found, &parts);
+    let why = made_as("arraystring_core/src/ascii.rt", &source("f();")).unwrap_err();
+    assert_eq!(why, "the line `let (start, end) = plain_ends(range, self.len());` is not there once");
+}
+
+#[test]
+fn a_function_that_gives_up_a_clause_proves_only_by_its_rule() {
+    let source = "fn retain_at(at: usize)\n    requires held { at < 3 }\n    requires { IsCallableInTurn f }\n{\n    prove!(at < 3);\n}\n";
+    has(
+        "arraystring_core/src/retain.rt",
+        source,
+        &["    known!(held: at < 3);\n    known!(proved: at < 3);\n", "\nunsafe fn retain_at("],
+    );
+}
+
+#[test]
+fn the_root_has_its_modules_behind_its_documentation() {
+    let source = "//! The root.\n//! Its tests are in `crates/arraystring_tests`.\n\nmod cache_string;\n";
+    let parts =
+        ["//! The root.\n//! Its tests are in `tests`, beside `src`.\n//!\n#![doc = include_str!", "#![no_std]\n"];
+    has("arraystring/src/lib.rt", source, &parts);
+    let why = made_as("arraystring/src/lib.rt", &source.replace("//! The root.\n", "\n")).unwrap_err();
+    assert_eq!(why, "a root without documentation");
+}
