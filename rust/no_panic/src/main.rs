@@ -175,14 +175,18 @@ impl Write for Out {
 #[inline(never)]
 fn printed<const N: usize>(string: &Text<N>, cached: &CacheString, error: Error) -> usize {
     let mut out = Out(0);
+    let mut sum = Sum(0);
+    (Utf8, Utf16, OutOfBounds).hash(&mut sum);
+    out.0 = sum.finish() as usize;
     let is_whole = write!(out, "{string}{cached}{error}{Utf8}{Utf16}{OutOfBounds}").is_ok();
-    out.0 + usize::from(is_whole) + usize::from(error == Error::from(Utf8) || error == Error::from(Utf16))
+    out.0.wrapping_add(usize::from(is_whole)) + usize::from(error == Error::from(Utf8) || error == Error::from(Utf16))
 }
 
 #[inline(never)]
 fn of_no_string(text: &str, units: &[u16], at: u8, steps: &mut Steps) -> usize {
     let cut = truncate_str(text, at).len() + truncate_str_counted(text, at, steps).len();
-    let lone = Units::new(units).count();
+    let walk = Units::new(units);
+    let lone = walk.clone().count() + walk.count();
     cut + lone + usize::from(is_inside_boundary(at, 7u8).is_ok())
 }
 
@@ -240,7 +244,7 @@ extern "C" fn main(count: i32) -> i32 {
     let told = all_at::<23>(text, bytes, units, at, end, ch)
         + all_at::<63>(text, bytes, units, at, end, ch)
         + all_at::<255>(text, bytes, units, at, end, ch)
-        + of_no_string(text, units, at, &mut Steps::new())
+        + of_no_string(text, units, at, &mut Steps::default())
         + cached(text, bytes, units, at);
     black_box(told);
     0
