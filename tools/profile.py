@@ -1,8 +1,7 @@
-#!/usr/bin/env python3
 """Prints where a first check of a crate spends its time: the shares of the stages, the dearest functions, the dearest modules
 of specs/ and proofs/, and what the check makes for functions, by kind.
 
-.ci/profile CRATE.. [--top N]     from the top of the repository; N is 10 if it is not given
+tools/run profile CRATE.. [--top N]     N is 10 if it is not given
 
 Each crate is checked from nothing by one job, in a copy of the repository among the temporary files, so the crates below
 it should be proved already. A function's seconds are those between its line and the one before. They include the modules
@@ -13,13 +12,12 @@ them. `rt check --only PATH` in such a copy tells what one function takes.
 import re
 import shutil
 import subprocess
-import sys
-import tempfile
 import time
 from collections import Counter
-from pathlib import Path
 
-ROOT = Path(__file__).resolve().parent.parent
+import repository
+from repository import read
+
 STAGES = {"front-end": "reading the sources", "session": "checking and searching"}
 
 
@@ -35,7 +33,7 @@ def from_nothing(copy, crate):
     """A folder of the crate of which no check on this machine kept anything: its text is new, and its out/ is empty."""
     folder = copy / "crates" / crate
     root = next(it for it in [folder / "src" / "lib.rt", folder / "src" / "main.rt"] if it.exists())
-    root.write_text(root.read_text(encoding="utf-8") + f"// {time.time_ns()}\n", encoding="utf-8")
+    root.write_text(read(root) + f"// {time.time_ns()}\n", encoding="utf-8")
     shutil.rmtree(folder / "out", ignore_errors=True)
     (folder / "out" / "incremental").mkdir(parents=True)
     return folder
@@ -67,13 +65,14 @@ def dearest(seconds_by_name, top):
 
 
 def profile(copy, crate, top):
+    """Prints the tables of a crate; what it returns is why it can't."""
     folder = from_nothing(copy, crate)
     stages = copy / "stages.txt"
     lines, status = timed_lines(["rt", "check", "--jobs", "1", "--stage-times", str(stages)], folder)
     if status:
-        return f"profile: {crate} was not proved: {lines[-1][1] if lines else 'nothing was said'}"
+        return f"{crate} was not proved: {lines[-1][1] if lines else 'nothing was said'}"
     told = functions(lines)
-    times = {name: float(seconds) for name, seconds in re.findall(r"(?m)^stage (\S+) (\S+)", stages.read_text())}
+    times = {name: float(seconds) for name, seconds in re.findall(r"(?m)^stage (\S+) (\S+)", read(stages))}
     whole = sum(times.values())
     print(f"\n{crate}: {whole:.0f} s, of which before the first function ends {told[0][0]:.0f} s")
     parts = {STAGES.get(name, "making and the rest"): 0.0 for name in [*STAGES, ""]}
@@ -91,18 +90,13 @@ def profile(copy, crate, top):
     return None
 
 
-def main(words):
-    top = 10
-    if "--top" in words:
-        at = words.index("--top")
-        top, words = int(words[at + 1]), words[:at] + words[at + 2:]
-    unknown = [it for it in words if not (ROOT / "crates" / it / "src").is_dir()]
-    if not words or unknown:
-        return f"profile: no crate is named {unknown[0]}" if unknown else "profile: name a crate"
-    with tempfile.TemporaryDirectory(prefix="profile-") as room:
-        leave_out = shutil.ignore_patterns(".git", "out")
-        copy = Path(shutil.copytree(ROOT, Path(room, "copy"), ignore=leave_out, symlinks=True))
-        return next(filter(None, (profile(copy, crate, top) for crate in words)), None)
-
-
-sys.exit(main(sys.argv[1:]))
+def main(arguments, root):
+    top, names = 10, list(arguments)
+    if "--top" in names:
+        at = names.index("--top")
+        top, names = int(names[at + 1]), names[:at] + names[at + 2:]
+    fault = repository.unknown_crate(root, names) if names else "name a crate"
+    if fault:
+        return fault
+    with repository.copied(root, "out") as copy:
+        return next(filter(None, (profile(copy, crate, top) for crate in names)), None)

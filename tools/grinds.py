@@ -1,27 +1,19 @@
-#!/usr/bin/env python3
 """Prints the goals of crates that have no answer and that `search` does not find, by function. `grind` finds them, and takes
 up to some seconds for each; an answer that names the facts takes next to none.
 
-.ci/grinds CRATE..     from the top of the repository
+tools/run grinds CRATE..
 
 In a copy of the repository among the temporary files each goal without an answer gets the answer `search rules`. Those that a
 check then refuses are printed. It takes two whole checks of each crate; the crates below it should be proved already.
 """
 import re
-import shutil
-import subprocess
-import sys
-import tempfile
-from pathlib import Path
 
-ROOT = Path(__file__).resolve().parent.parent
+import repository
+import rt
+from repository import read
+
 # A goal that is tried by one tactic after the other, as `--generated` writes it: in a module if the function is generic.
 TRIED = re.compile(r"^( *)(\S+)((?: \S+)*) =\s(?:\s*let .* in\s)*\s*first_of \(", re.M)
-
-
-def checked(folder, *flags):
-    run = subprocess.run(["rt", "check", "--jobs", "1", *flags], cwd=folder, capture_output=True, text=True)
-    return run.stdout + run.stderr
 
 
 def unanswered(proof, answers):
@@ -37,8 +29,8 @@ def answer_all(folder, proofs):
     for proof in made.rglob("Proof.antt"):
         path = proof.relative_to(made).parent
         file = folder / "proofs" / path / "Answers.antt"
-        answers = file.read_text(encoding="utf-8") if file.exists() else ""
-        goals = list(unanswered(proof.read_text(encoding="utf-8"), answers))
+        answers = read(file) if file.exists() else ""
+        goals = list(unanswered(read(proof), answers))
         if goals:
             goal = f"Rattle.{folder.name}.proofs.{'.'.join(path.parts)}.Goals as tried"
             lines = [f"pub {name} : tried.{name}\n{name} {' '.join(given)} = search tried_rules\n" for name, given in goals]
@@ -47,21 +39,18 @@ def answer_all(folder, proofs):
             file.write_text("\n".join([head + answers, *lines]), encoding="utf-8")
 
 
-def main(names):
-    unknown = [it for it in names if not (ROOT / "crates" / it / "src").is_dir()]
-    if not names or unknown:
-        return f"grinds: no crate is named {unknown[0]}" if unknown else "grinds: name a crate"
-    with tempfile.TemporaryDirectory(prefix="grinds-") as room:
-        copy = Path(shutil.copytree(ROOT, Path(room, "copy"), ignore=shutil.ignore_patterns(".git", "out"), symlinks=True))
-        for name in names:
-            folder, proofs = copy / "crates" / name, Path(room, name)
-            said = checked(folder, "--generated", str(proofs))
+def main(arguments, root):
+    fault = repository.unknown_crate(root, arguments) if arguments else "name a crate"
+    if fault:
+        return fault
+    with repository.copied(root, "out") as copy:
+        for name in arguments:
+            folder, proofs = copy / "crates" / name, copy.parent / name
+            _, said = rt.check(folder, "--jobs", "1", "--generated", str(proofs))
             if not proofs.is_dir():
-                return f"grinds: {name} was not read: {said.splitlines()[-1]}"
+                return f"{name} was not read: {rt.first_message(said)}"
             answer_all(folder, proofs)
-            found = re.findall(r"\./proofs/(\S+)/Answers\.antt:\S+ (?:error: )?`(\S+)`: `search`: no proof", checked(folder))
+            _, said = rt.check(folder, "--jobs", "1")
+            found = re.findall(r"\./proofs/(\S+)/Answers\.antt:\S+ (?:error: )?`(\S+)`: `search`: no proof", said)
             print(f"{name}: {len(found)} goals are left to grind", *(f"  {path} {goal}" for path, goal in sorted(found)), sep="\n", flush=True)
     return None
-
-
-sys.exit(main(sys.argv[1:]))

@@ -1,28 +1,25 @@
-#!/usr/bin/env python3
-"""Fails where a sentence of a page is too long. Call: .ci/sentences, from the top of the repository.
-
-The pages are the Markdown files of the repository. A sentence has at most LONGEST words; what has no letter and no digit is no
-word. It ends where `.`, `!` or `?` comes before a space, but not inside of `code`, and with its paragraph, item of a list or cell
-of a table. Blocks of code, headings and the separator rows of tables have no sentences. The paragraph of the README that begins
-with HEADLINE may have longer ones.
-"""
+"""What a Markdown page is made of: sections, inline code, and blocks of text with their sentences."""
 import re
-import subprocess
-import sys
-from pathlib import Path
-
-LONGEST = 40
-HEADLINE = "At every capacity, over every run of commands"
 
 ITEM = re.compile(r"^ *(?:[-*+]|\d+[.)]) +")
 CODE = re.compile(r"(?s)(`+).+?\1")
 END = re.compile(r"[.!?][)\"'*_]*$")
 
 
-def pages():
-    """The pages by their paths, in order, each with its text."""
-    listed = subprocess.run(["git", "ls-files", "*.md"], check=True, stdout=subprocess.PIPE, text=True).stdout
-    return {Path(name): Path(name).read_text(encoding="utf-8") for name in listed.splitlines()}
+def section(text, heading):
+    """The lines of a page below a heading, up to the next of its rank."""
+    found = re.search(rf"(?ms)^## {re.escape(heading)}$(.*?)(?=^## |\Z)", text)
+    return found[1] if found else ""
+
+
+def inline_code(text):
+    """What stands between backticks, without the blocks of code."""
+    return re.findall(r"`([^`\n]+)`", re.sub(r"(?ms)^```.*?^```$", "", text))
+
+
+def fenced_blocks(text):
+    """The blocks of code, each with the line before it."""
+    return re.findall(r"([^\n]*)\n+```\w+\n(.*?)\n```", text, re.S)
 
 
 def cells_of(row):
@@ -64,23 +61,3 @@ def sentences_of(number, lines):
                 yield first, count
                 count = 0
     yield first, count
-
-
-def faults_of(page, text):
-    """The sentences of a page that are too long."""
-    for number, lines in blocks_of(text):
-        if page == Path("README.md") and lines[0].startswith(HEADLINE):
-            continue
-        for first, count in sentences_of(number, lines):
-            if count > LONGEST:
-                yield f"{page}:{first}: a sentence has {count} words, more than {LONGEST}"
-
-
-def main():
-    texts = pages()
-    faults = [fault for page, text in texts.items() for fault in faults_of(page, text)]
-    print("\n".join(faults) or f"no sentence of {len(texts)} pages has more than {LONGEST} words")
-    sys.exit(1 if faults or not texts else 0)
-
-
-main()

@@ -1,6 +1,4 @@
-#!/usr/bin/env python3
-"""Fails where no page names a public call of the string, or a trait by which it is called. Call: .ci/calls, from the top of
-the repository.
+"""Fails where no page names a public call of the string, or a trait by which it is called.
 
 The calls are each `pub fn` of crates/arraystring, and of the `impl ArrayString` blocks in crates/arraystring_core. Names are the
 words in inline code of LIST, the section of README.md, and of PAGES. A call whose name ends in one of the SUFFIXES is named by the
@@ -10,8 +8,9 @@ The traits are those that TYPES have by an impl or a derive, in the same crates,
 one with arguments whole, such as `From<&str>`.
 """
 import re
-import sys
-from pathlib import Path
+
+import pages
+from repository import read
 
 LIST = ("README.md", "The calls")
 PAGES = ["crates/arraystring/CALLING.md", "crates/arraystring/LAWS.md", "crates/bounded_records/CALLING.md"]
@@ -25,35 +24,23 @@ IMPL = re.compile(rf"(?m)^impl(?:<[^>]*>)? (?:\w+::)*(\S.*) for (?:{'|'.join(TYP
 DERIVE = re.compile(rf"(?m)^#\[derive\((.*)\)\]\n(?:#.*\n)*pub struct (?:{'|'.join(TYPES)})\b")
 
 
-def sources(crate):
+def texts_of(root, crate):
     """The texts of the files of a crate's src/."""
-    return [it.read_text(encoding="utf-8") for it in sorted(Path("crates", crate, "src").glob("**/*.rt"))]
+    return [read(it) for it in sorted((root / "crates" / crate / "src").glob("**/*.rt"))]
 
 
-def public_calls():
+def public_calls(root):
     """The names of the public calls of the string."""
-    blocks = [block for source in sources("arraystring_core") for block in STRING.findall(source)]
-    return {name for text in [*sources("arraystring"), *blocks] for name in FUNCTION.findall(text)}
+    blocks = [block for text in texts_of(root, "arraystring_core") for block in STRING.findall(text)]
+    return {name for text in [*texts_of(root, "arraystring"), *blocks] for name in FUNCTION.findall(text)}
 
 
-def traits():
+def traits(root):
     """The traits of the string types, without lifetimes."""
-    texts = [text for crate in ("arraystring", "arraystring_core") for text in sources(crate)]
+    texts = [text for crate in ("arraystring", "arraystring_core") for text in texts_of(root, crate)]
     found = {re.sub(r"'\w+ ", "", name) for text in texts for name in IMPL.findall(text)}
     found |= {name for text in texts for names in DERIVE.findall(text) for name in names.split(", ")}
     return found - UNCALLED
-
-
-def section(page, heading):
-    """The lines of a page below a heading, up to the next of its rank."""
-    text = Path(page).read_text(encoding="utf-8")
-    found = re.search(rf"(?ms)^## {re.escape(heading)}$(.*?)(?=^## |\Z)", text)
-    return found[1] if found else ""
-
-
-def inline_code(text):
-    """What stands between backticks, without the blocks of code."""
-    return re.findall(r"`([^`\n]+)`", re.sub(r"(?ms)^```.*?^```$", "", text))
 
 
 def is_named(call, code):
@@ -62,14 +49,12 @@ def is_named(call, code):
     return call.endswith(tuple(rules)) or any(call in re.findall(r"\w+", it) for it in code)
 
 
-def main():
-    pages = [section(*LIST), *(Path(page).read_text(encoding="utf-8") for page in PAGES)]
-    code = [it for page in pages for it in inline_code(page)]
-    calls, called_by = sorted(public_calls()), sorted(traits())
+def main(arguments, root):
+    page, heading = LIST
+    listed = pages.inline_code(pages.section(read(root / page), heading))
+    code = [*listed, *(it for other in PAGES for it in pages.inline_code(read(root / other)))]
+    calls, called_by = sorted(public_calls(root)), sorted(traits(root))
     faults = [f"no page names {call}" for call in calls if not is_named(call, code)]
-    faults += [f"{LIST[0]} does not name {trait}" for trait in called_by if trait not in inline_code(pages[0])]
+    faults += [f"{page} does not name {trait}" for trait in called_by if trait not in listed]
     print("\n".join(faults) or f"the pages name {len(calls)} public calls and {len(called_by)} traits")
-    sys.exit(1 if faults or not calls or not called_by else 0)
-
-
-main()
+    return bool(faults) or not calls or not called_by

@@ -1,0 +1,130 @@
+"""Tries the controls: right bodies of the form of wrong ones, which prove where those must not.
+
+tools/run controls [CRATE..]         those without a fresh line; with no name, of every crate
+tools/run controls --all [CRATE..]   also those that have one
+tools/run controls --check           tries none, and fails where a control has no fresh line or a line no control
+
+A control is crates/CRATE/controls/NAME.edit, written as the edit crates/CRATE/must-fail/NAME.edit is. Each is put into
+a copy of the repository among the temporary files, checked there with what earlier checks kept in out/, and taken out
+again. Of each that proves .ci/controls.txt gets a line: its name and a checksum of what was tried. That is the control,
+its wrong body, the files that it changes, the stored proofs of the functions that it changes and of those that call them,
+and the logic that `rt version` names. The line is fresh while the checksum is the same. Nothing else of the repository is
+written. It fails where a control is refused, cannot be read, or has no edit. No other `rt` may write in out/ while the copy
+is made.
+"""
+import hashlib
+
+import edits
+import repository
+import rt
+import sources
+
+RECORD = ".ci/controls.txt"
+
+
+def controls_of(root, names):
+    """The controls of some crates, as CRATE/NAME."""
+    return [f"{crate}/{it.stem}" for crate in names for it in sorted((root / "crates" / crate).glob("controls/*.edit"))]
+
+
+def recorded(root):
+    """The checksums that were written, by the name of the control."""
+    file = root / RECORD
+    return dict(line.split(" ") for line in repository.read(file).splitlines()) if file.exists() else {}
+
+
+def record(root, control, checksum):
+    """Writes the checksum of a control, or takes its line out where there is none, and lines that have no control."""
+    known = {**recorded(root), control: checksum}
+    there = set(controls_of(root, repository.crates(root)))
+    lines = [f"{it} {known[it]}\n" for it in sorted(known) if known[it] and it in there]
+    (root / RECORD).write_text("".join(lines), encoding="utf-8")
+
+
+def stored_proofs(folder, places):
+    """The files of proofs/ for the functions that an edit changes, and for those that call them."""
+    everything = [(file, it) for file, of_file in sources.functions(folder).items() for it in of_file]
+    changed = {it.name for file, it in everything for at, line in places if at == file and line in it.place}
+    names = changed | {it.name for _, it in everything if any(it.calls(name) for name in changed)}
+    return [it for it in sorted(folder.glob("proofs/**/*.antt")) if it.parent.name in names]
+
+
+def checksum_of(root, control, logic):
+    """The checksum of what the control depends on; None where it cannot be applied."""
+    crate, _, name = control.partition("/")
+    folder = root / "crates" / crate
+    files = [folder / "controls" / f"{name}.edit", folder / "must-fail" / f"{name}.edit"]
+    digest = hashlib.sha256(logic.encode())
+    try:
+        texts, places = edits.applied(files[0], folder)
+        for file in [*files, *texts, *stored_proofs(folder, places)]:
+            digest.update(hashlib.sha256(file.read_bytes()).digest())
+    except (OSError, edits.BadEdit):
+        return None
+    return digest.hexdigest()[:16]
+
+
+def fault(root, control):
+    """What is wrong with the control in this copy of the repository; None where it proves."""
+    crate, _, name = control.partition("/")
+    folder = root / "crates" / crate
+    if not (folder / "must-fail" / f"{name}.edit").is_file():
+        return "NO EDIT of its name is in must-fail"
+    try:
+        texts, _ = edits.applied(folder / "controls" / f"{name}.edit", folder)
+    except (OSError, edits.BadEdit) as error:
+        return f"BAD CONTROL: {error}"
+    before = {path: path.read_bytes() for path in texts}
+    for path, text in texts.items():
+        path.write_text(text, encoding="utf-8")
+    is_proved, said = rt.check(folder)
+    for path, kept in before.items():
+        path.write_bytes(kept)
+    return None if is_proved else f"REFUSED: {rt.first_message(said)}"
+
+
+def stale(root, controls, logic):
+    """Those that have no fresh line."""
+    known = recorded(root)
+    return [it for it in controls if known.get(it) is None or known[it] != checksum_of(root, it, logic)]
+
+
+def compare(root):
+    """Compares the lines with the controls, and names each that differs."""
+    controls = controls_of(root, repository.crates(root))
+    known = recorded(root)
+    faults = [f"{it}: {'not as it was when it proved' if it in known else 'not tried'}" for it in stale(root, controls, rt.logic())]
+    faults += [f"{it}: there is no such control" for it in sorted(known.keys() - controls)]
+    faults += ["try these: tools/run controls"] if faults else []
+    print("\n".join(faults) or f"{len(controls)} controls are as they were when they proved")
+    return bool(faults)
+
+
+def attempt(root, controls, logic):
+    """Tries controls over a copy of the repository, and writes a line of each that proves."""
+    if not controls:
+        print("there is nothing to try")
+        return False
+    failed = 0
+    with repository.copied(root) as copy:
+        for control in controls:
+            checksum = checksum_of(copy, control, logic)
+            why = fault(copy, control)
+            record(root, control, None if why else checksum)
+            failed += why is not None
+            print(f"controls {control}: {why or 'proves'}", flush=True)
+    print(f"{len(controls) - failed} prove, {failed} do not")
+    return failed > 0
+
+
+def main(arguments, root):
+    if arguments == ["--check"]:
+        return compare(root)
+    names = [it for it in arguments if it != "--all"]
+    unknown = repository.unknown_crate(root, names)
+    if unknown:
+        return unknown
+    controls, logic = controls_of(root, names or repository.crates(root)), rt.logic()
+    # (lines that have no control go, also where nothing is tried)
+    record(root, "", None)
+    return attempt(root, controls if "--all" in arguments else stale(root, controls, logic), logic)

@@ -1,0 +1,140 @@
+"""Fails where a page and the files that it quotes differ.
+
+tools/run quotes [PAGE..]           the pages, or PAGES if none is given
+tools/run quotes --write [PAGE..]   writes anew what can be: what a command prints, and the lines of definitions
+
+Two kinds of block are compared with files:
+- a block after a line that ends in "From `PATH`:". Its lines stand in the file one after the other;
+- a block of contracts, which begins with a line that is the path of a `.rt` file. Each signature is in the last file that
+  was named, and each clause below it belongs to that function, in this order. There `S` is the text at the call
+  (`self.old.text`, `self.now.text`), `S'` the text at the return, and clauses may be left out.
+
+Two more things are compared:
+- a block after a line that ends in "Printed by `tools/run COMMAND`:" is what that prints;
+- a table below a heading with the path of a file of specs/ has as its second column the lines of the definitions that the
+  first one names.
+
+The examples in doc comments are compared too: their lines stand in EXAMPLES, where tests run them, one after the other.
+"""
+import re
+import subprocess
+
+import pages
+from repository import read
+
+PAGES = ["README.md", "docs/definitions.md", "crates/arraystring/CALLING.md", "crates/bounded_records/CALLING.md"]
+EXAMPLES = "crates/arraystring_tests/src/examples.rt"
+DEFINITION = r"\s*(?:(?:abbrev|unfoldable)(?: pub)?|(?:pub )?(?:data|record)) {}\s"
+
+
+def squeezed(source):
+    """The file on one line, with the words of the page."""
+    line = re.sub(r"\s+", " ", re.sub(r"(?m)^\s*//.*$", "", source))
+    line = line.replace("( ", "(").replace(", )", ")")
+    line = re.sub(r"self\.(old|now)\.text", "S", line)
+    return line.replace("self.new.text", "S'")
+
+
+def is_quoted(lines, text):
+    """Whether the text has these lines one after the other."""
+    return "\n" + "\n".join(lines) + "\n" in "\n" + text
+
+
+def wrong_contracts(root, lines):
+    """The lines that are not in the files named above them."""
+    file, contract, wrong = "", "", []
+    for line in filter(str.strip, lines):
+        if line.endswith(".rt"):
+            file = squeezed(read(root / line))
+        elif line.startswith("fn "):
+            _, found, rest = file.partition(f" {line} ")
+            contract = rest.split(" fn ")[0].split(" impl")[0] if found else ""
+            wrong += [] if found else [line]
+        else:
+            kind, _, claim = line.strip().partition(": ")
+            _, found, rest = contract.partition(f"{kind} {{ {claim} }}")
+            contract = rest if found else contract
+            wrong += [] if found else [line]
+    return wrong
+
+
+def with_printed(root, text):
+    """The text of a page with what commands print."""
+    def block(found):
+        printed = subprocess.run(found[2].split(), cwd=root, stdout=subprocess.PIPE, stderr=subprocess.DEVNULL, encoding="utf-8").stdout
+        return f"{found[1]}{printed}```"
+    return re.sub(r"(Printed by `(tools/run [^`]+)`:\n+```\w+\n)(?:.*\n)*?```", block, text)
+
+
+def line_of(name, file):
+    """The line of a definition in a file of specs/; none where there is none."""
+    begin = re.compile(DEFINITION.format(re.escape(name)))
+    lines = read(file).split("\n") if file.is_file() else []
+    return next((str(number) for number, line in enumerate(lines, 1) if begin.match(line)), None)
+
+
+def with_lines(root, text, faults):
+    """The text of a page with the lines of definitions; what is not defined where it says goes to the faults."""
+    rows, path = [], None
+    for row in text.split("\n"):
+        if row.startswith("#"):
+            found = re.search(r"`(crates/\S+/specs/\S+\.antt)`", row)
+            path = found and found[1]
+        cells = path and re.fullmatch(r"\|(`.*?`)\|([\d, ]*)\|(.*)", row)
+        if cells:
+            names = re.findall(r"`([^\s`]+)[^`]*`", cells[1])
+            numbers = [line_of(name, root / path) for name in names]
+            missing = [name for name, number in zip(names, numbers) if not number]
+            faults += [not_defined(root, path, name) for name in missing]
+            if not missing:
+                row = f"|{cells[1]}|{', '.join(numbers)}|{cells[3]}"
+        rows.append(row)
+    return "\n".join(rows)
+
+
+def not_defined(root, path, name):
+    others = [str(it.relative_to(root)) for it in sorted(root.glob("crates/*/specs/*.antt")) if line_of(name, it)]
+    return f"{path} does not define {name}; these do: {', '.join(others) or 'none'}"
+
+
+def faults_of_blocks(root, page, text):
+    """The blocks of a page that are not in the files that they quote, and how many quote one."""
+    faults, compared = [], 0
+    for before, block in pages.fenced_blocks(text):
+        source, lines = re.search(r"From `(\S+)`:$", before), block.split("\n")
+        compared += bool(source or lines[0].endswith(".rt") or re.search(r"Printed by `[^`]+`:$", before))
+        if source and not is_quoted(lines, read(root / source[1])):
+            faults.append(f"{page}: {source[1]} does not have these lines: {lines[0]} ..")
+        if lines[0].endswith(".rt"):
+            faults += [f"{page}: not in the source: {line}" for line in wrong_contracts(root, lines)]
+    return faults, compared
+
+
+def faults_of_examples(root):
+    """The examples in doc comments that no test runs, and how many there are."""
+    faults, compared = [], 0
+    tested = read(root / EXAMPLES) if (root / EXAMPLES).exists() else ""
+    for source in sorted(root.glob("crates/*/src/**/*.rt")):
+        for block in re.findall(r"(?m)^ *///? ```\n((?: *///.*\n)+?) *///? ```$", read(source)):
+            lines = [re.sub(r"^ */// ?", "    ", line) for line in block.rstrip("\n").split("\n")]
+            compared += 1
+            if not is_quoted(lines, tested):
+                faults.append(f"{source.relative_to(root)}: {EXAMPLES} does not have these lines: {lines[0].strip()} ..")
+    return faults, compared
+
+
+def main(arguments, root):
+    is_writing = arguments[:1] == ["--write"]
+    faults, compared = faults_of_examples(root)
+    for page in arguments[is_writing:] or PAGES:
+        text = read(root / page)
+        now = with_lines(root, with_printed(root, text), faults)
+        if is_writing:
+            (root / page).write_text(now, encoding="utf-8")
+        elif now != text:
+            changed = (row for old, row in zip(text.split("\n"), now.split("\n")) if old != row)
+            faults += [f"{page}: tools/run quotes --write would write: {row}" for row in changed]
+        others, blocks = faults_of_blocks(root, page, now if is_writing else text)
+        faults, compared = faults + others, compared + blocks
+    print("\n".join(faults) or f"{compared} blocks are as in the files")
+    return bool(faults) or not compared

@@ -1,0 +1,44 @@
+"""The repository: its crates, their sources, its pages, and copies of it."""
+import re
+import shutil
+import subprocess
+import tempfile
+from contextlib import contextmanager
+from pathlib import Path
+
+ROOT = Path(__file__).resolve().parent.parent
+
+
+def read(path):
+    return path.read_text(encoding="utf-8")
+
+
+def crates(root):
+    """The names in crates.txt, in order."""
+    return re.findall(r"(?m)^\w+", read(root / "crates.txt"))
+
+
+def sources(folder):
+    """The files of a crate's src/, without those of tests."""
+    files = sorted(folder.glob("src/**/*.rt"))
+    return [it for it in files if "tests" not in it.relative_to(folder).with_suffix("").parts]
+
+
+def pages(root):
+    """The Markdown files that git knows, in order."""
+    listed = subprocess.run(["git", "ls-files", "*.md"], cwd=root, check=True, stdout=subprocess.PIPE, encoding="utf-8").stdout
+    return [root / name for name in listed.splitlines()]
+
+
+@contextmanager
+def copied(root, *left_out):
+    """A copy of the repository among the temporary files, without what is left out, for as long as it is needed."""
+    with tempfile.TemporaryDirectory(prefix="arraystring-") as room:
+        ignored = shutil.ignore_patterns(".git", *left_out)
+        yield Path(shutil.copytree(root, Path(room, "copy"), ignore=ignored, symlinks=True))
+
+
+def unknown_crate(root, names):
+    """What is wrong with the names of crates that a call gives; None where nothing is."""
+    unknown = sorted(set(names) - set(crates(root)))
+    return f"no crate is named {unknown[0]}" if unknown else None

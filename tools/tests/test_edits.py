@@ -1,0 +1,31 @@
+"""How an edit is read and applied."""
+import edits
+from tests.trees import TreeTest
+
+
+class Edits(TreeTest):
+    FILES = {"src/lib.rt": "fn one() {\n    1\n}\n\nfn two() {\n    2\n}\n"}
+
+    def applied(self, text):
+        self.write("it.edit", text)
+        return edits.applied(self.root / "it.edit", self.root)
+
+    def assert_bad(self, wanted, text):
+        with self.assertRaisesRegex(edits.BadEdit, wanted):
+            self.applied(text)
+
+    def test_each_replacement_is_made_on_what_the_ones_before_made(self):
+        texts, places = self.applied("file: src/lib.rt\nold:     1\nnew:     3\nold:     3\nnew:     4\n")
+        file = self.root / "src/lib.rt"
+        self.assertEqual(texts[file].count("    4"), 1)
+        self.assertEqual(places, [(file, 1), (file, 1)])
+        self.assertIn("    1", file.read_text(encoding="utf-8"))
+
+    def test_an_old_text_stands_once(self):
+        self.assert_bad("does not have this once", "file: src/lib.rt\nold: fn\nnew: f\n")
+        self.assert_bad("does not have this once", "file: src/lib.rt\nold: three\nnew: 3\n")
+
+    def test_what_is_no_edit_is_refused(self):
+        for text in ("old: 1\nnew: 2\n", "file: src/lib.rt\nnew: 2\n", "file: src/lib.rt\nwhat: 1\n"):
+            self.assert_bad("no line of an edit", text)
+        self.assert_bad("there is no file", "file: src/other.rt\nold: 1\nnew: 2\n")

@@ -1,0 +1,94 @@
+"""Which blocks of a page have to be as the files that they quote."""
+import quotes
+from tests.trees import TreeTest
+
+PAGE = """\
+From `src/greet.rt`:
+```rust
+fn greet() {
+    hello()
+}
+```
+
+```text
+src/greet.rt
+fn add(&mut self) -> u8
+    requires: S ≡ []
+    ensures: S' ≡ S
+```
+
+## `crates/base/specs/Words.antt`
+
+|Definition|Line|What|
+|---|---|---|
+|`IsShort t`|4|short|
+"""
+SOURCE = """\
+fn greet() {
+    hello()
+}
+
+fn add(&mut self) -> u8
+    requires { self.old.text ≡ [] }
+    ensures { self.new.text ≡ self.old.text }
+{
+    0
+}
+"""
+WORDS = "-- words\n\n-- a text is short\nabbrev pub IsShort : Text → Type 0\nIsShort t = length t < 3\n"
+EXAMPLE = "/// Adds one.\n///\n/// ```\n/// assert_eq!(one(), 1);\n/// ```\npub fn one() {}\n"
+TESTED = "fn examples() {\n    assert_eq!(one(), 1);\n}\n"
+
+
+class Quotes(TreeTest):
+    FILES = {
+        "page.md": PAGE,
+        "src/greet.rt": SOURCE,
+        "crates/base/specs/Words.antt": WORDS,
+        "crates/base/src/lib.rt": EXAMPLE,
+        quotes.EXAMPLES: TESTED,
+    }
+
+    def assert_told(self, wanted):
+        self.assert_fails(wanted, quotes, "page.md")
+
+    def test_what_is_as_in_the_files_passes(self):
+        self.assertIn("3 blocks are as in the files", self.assert_passes(quotes, "page.md"))
+
+    def test_a_line_that_the_file_lacks_is_told(self):
+        self.replace("src/greet.rt", "    hello()", "    good_day()")
+        self.assert_told("page.md: src/greet.rt does not have these lines: fn greet() {")
+
+    def test_a_clause_belongs_to_its_function(self):
+        self.replace("page.md", "    ensures: S' ≡ S", "    ensures: S' ≡ []")
+        self.assert_told("not in the source:     ensures: S' ≡ []")
+        self.write("page.md", PAGE.replace("fn add(&mut self) -> u8", "fn sub(&mut self) -> u8"))
+        self.assert_told("not in the source: fn sub(&mut self) -> u8")
+
+    def test_a_definition_stands_at_its_line(self):
+        self.replace("page.md", "|4|", "|5|")
+        self.assert_told("would write: |`IsShort t`|4|short|")
+        self.assert_passes(quotes, "--write", "page.md")
+        self.assertEqual((self.root / "page.md").read_text(encoding="utf-8"), PAGE)
+
+    def test_a_definition_that_is_gone_is_told_with_its_place(self):
+        self.write("crates/base/specs/Words.antt", "-- none\n")
+        self.write("crates/base/specs/Others.antt", WORDS)
+        self.assert_told("does not define IsShort; these do: crates/base/specs/Others.antt")
+
+    def test_what_a_command_prints_is_compared_and_written(self):
+        self.write("tools/run", "#!/bin/sh\necho 3 definitions\n")
+        (self.root / "tools/run").chmod(0o755)
+        self.write("page.md", PAGE + "\nPrinted by `tools/run trusted`:\n```text\n2 definitions\n```\n")
+        self.assert_told("would write: 3 definitions")
+        self.assert_passes(quotes, "--write", "page.md")
+        self.assert_passes(quotes, "page.md")
+
+    def test_an_example_is_run_by_a_test(self):
+        self.replace(quotes.EXAMPLES, "    assert_eq!(one(), 1);", "    assert_eq!(one(), 2);")
+        self.assert_told(f"{quotes.EXAMPLES} does not have these lines: assert_eq!(one(), 1);")
+
+    def test_a_page_without_a_quote_is_told(self):
+        self.write("crates/base/src/lib.rt", "")
+        self.write("page.md", "nothing\n")
+        self.assert_told("0 blocks")
