@@ -43,9 +43,10 @@ def record(root, control, checksum):
 
 def stored_proofs(folder, places):
     """The files of proofs/ for the functions that an edit changes, and for those that call them."""
-    everything = [(file, it) for file, of_file in sources.functions(folder).items() for it in of_file]
-    changed = {it.name for file, it in everything for at, line in places if at == file and line in it.place}
-    names = changed | {it.name for _, it in everything if any(it.calls(name) for name in changed)}
+    functions = sources.functions(folder)
+    changed = [it for file, line in places for it in functions.get(file, []) if line in it.place]
+    callers = [it for of_file in functions.values() for it in of_file if any(it.mentions(other) for other in changed)]
+    names = {it.name for it in changed + callers}
     return [it for it in sorted(folder.glob("proofs/**/*.antt")) if it.parent.name in names]
 
 

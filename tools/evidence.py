@@ -1,13 +1,16 @@
-"""Fails where no wrong body touches a public function or impl.
+"""Fails where a public function or impl has no wrong body of its name, and where a wrong body has another name than it should.
 
-A wrong body, crates/CRATE/must-fail/NAME.edit, touches the function in which its old text stands, or the impl of a trait.
-It touches a second one too that is only a door to that: at most three lines without a branch, of which the last names a
-function of the crate that is private, or has the same name with `_counted`.
+A wrong body is crates/CRATE/must-fail/FUNCTION.WHAT_IS_WRONG.edit. FUNCTION is the name of a function of the crate, as
+`pop`. It has the type in front if two have that name, as `Drain.next_back`, and the trait in the function's place if that
+does not tell them apart, as `Error.Display` and `Error.From.Utf8`. The wrong body touches that function, which is the one in
+which its old text stands, or a function that it names, directly or by others: what breaks in a private function is named for
+the public one.
 
 Every public function that has a body is asked for, each function of a trait's impl that has clauses or ghost members and
 whose type is public, and of a program all functions but `main`; tests, what a trait declares and the crates FOR_TESTS are
-not. A function is named by its crate and its path in Rust, such as `arraystring_base <Error as Hash>::hash`. EXCEPTIONS says
-why one needs no wrong body of its own. An exception whose function is touched or gone fails too.
+not. None is asked for a door to a function that a wrong body touches: at most three lines without a branch, of which the last
+names a function of the crate that is private, or has the same name with `_counted`. EXCEPTIONS says why another one needs
+none. An exception whose function has one or is gone fails too.
 """
 import edits
 import repository
@@ -15,39 +18,45 @@ import sources
 
 FOR_TESTS = {"test_support"}  # only tests call it: a wrong body there is seen by its own tests and theirs
 EXCEPTIONS = {
-    "arraystring_core ArrayString::get": "get_saturates stands in plain_ends, by which it reads its range",
-    "arraystring_core ArrayString::from_chars": "from_chars_takes_a_later_shorter_character stands in add_chars, which does its work",
-    "arraystring_core ArrayString::from_iterator": "extend_strs_drops_the_part_that_fits stands in add_strs, which does its work",
-    "arraystring_uses log_line": "line_is_cut_too_early stands in push_marked, which does its work",
+    "arraystring_core from_chars": "extend_chars.takes_a_later_shorter_character stands in add_chars, which does its work",
+    "arraystring_core from_iterator": "extend_strs.drops_the_part_that_fits stands in add_strs, which does its work",
 }
 
 
-def changed_places(folder, faults):
-    """Where the wrong bodies of a crate change it; what is wrong with one goes to the faults."""
+def asked_and_tried(folder, faults):
+    """The functions of a crate for which a wrong body is asked, by their names, each with whether it is tried; what is wrong
+    with the name or the text of a wrong body goes to the faults."""
+    functions = sources.functions(folder)
+    everything = [it for of_file in functions.values() for it in of_file]
+    asked = sources.named([it for it in everything if it.is_asked])
+    touched, tried = [], set()
     for edit in sorted(folder.glob("must-fail/*.edit")):
         try:
-            yield from edits.applied(edit, folder)[1]
+            places = edits.applied(edit, folder)[1]
         except edits.BadEdit as error:
-            faults.append(f"{edit}: {error}")
-
-
-def asked_and_touched(folder, faults):
-    """The functions of a crate for which a wrong body is asked, each with whether one touches it."""
-    functions = sources.functions(folder)
-    places = set(changed_places(folder, faults))
-    touched = [it for file, line in places for it in functions.get(file, []) if line in it.place]
-    everything = [it for of_file in functions.values() for it in of_file]
+            faults.append(f"{edit.name}: {error}")
+            continue
+        touches = [it for file, line in places for it in functions.get(file, []) if line in it.place]
+        touched += touches
+        name = max((it for it in asked if edit.name.startswith(f"{it}.")), key=len, default=None)
+        if not name:
+            faults.append(f"{folder.name} {edit.name}: no public function has this name")
+        elif not any(it in touches for it in sources.reached(asked[name], everything)):
+            faults.append(f"{folder.name} {edit.name}: it does not touch {name}, nor what that names")
+        else:
+            tried.add(name)
     for _ in range(3):
         touched += [it for it in everything if it not in touched and any(it.is_door_to(other) for other in touched)]
-    return {f"{folder.name} {it.path}": it in touched for it in everything if it.is_asked}
+    return {name: name in tried or it in touched and bool(it.named) for name, it in asked.items()}
 
 
 def main(arguments, root, exceptions=EXCEPTIONS):
     found, faults = {}, []
     for crate in repository.crates(root):
         if crate not in FOR_TESTS:
-            found |= asked_and_touched(root / "crates" / crate, faults)
-    faults += [f"no wrong body touches {name}" for name, touched in found.items() if not touched and name not in exceptions]
-    faults += [f"an exception that is touched or gone: {name}" for name in exceptions if found.get(name, True)]
-    print("\n".join(faults) or f"wrong bodies touch {sum(found.values())} functions; {len(exceptions)} are exceptions")
+            told = asked_and_tried(root / "crates" / crate, faults)
+            found |= {f"{crate} {name}": is_tried for name, is_tried in told.items()}
+    faults += [f"no wrong body of {name}" for name, is_tried in found.items() if not is_tried and name not in exceptions]
+    faults += [f"an exception that has one or is gone: {name}" for name in exceptions if found.get(name, True)]
+    print("\n".join(faults) or f"wrong bodies try {sum(found.values())} functions; {len(exceptions)} are exceptions")
     return bool(faults) or not found

@@ -1,5 +1,6 @@
 """The functions of source files, which are laid out as `rt fmt` does."""
 import re
+from collections import Counter
 
 from repository import read, sources
 
@@ -22,9 +23,20 @@ class Function:
         """Whether this one only hands on to the other: at most three lines without a branch, of which the last names it."""
         return other.name in self.named and (other.is_private or other.name == f"{self.name}_counted")
 
-    def calls(self, name):
-        """Whether the body calls a function of this name."""
-        return bool(re.search(rf"\b{re.escape(name)}(::<[^>]*>)?\(", "\n".join(self.body)))
+    def mentions(self, other):
+        """Whether the body has the name of the other function."""
+        return bool(re.search(rf"\b{other.name}\b", "\n".join(self.body)))
+
+    def names(self):
+        """By what the function can be called, the shortest first: `next`, `Drain.next`, `Drain.Iterator`, `Error.From.Utf8`."""
+        trait = re.fullmatch(r"<(\w+) as (?:\w+::)*(\w+)(<.*>)?>::\w+", self.path)
+        kind = trait[1] if trait else self.path.rpartition("::")[0]
+        yield self.name
+        if kind:
+            yield f"{kind}.{self.name}"
+        if trait:
+            yield f"{kind}.{trait[2]}"
+            yield ".".join([kind, trait[2], *re.findall(r"\w+", trait[3] or "")])
 
 
 def type_and_trait(header):
@@ -73,3 +85,20 @@ def functions(folder):
     """The functions of a crate, by the files of its src/."""
     public = public_types(folder)
     return {file: list(functions_of(file, public)) for file in sources(folder)}
+
+
+def named(functions):
+    """Some functions by the shortest name that each has alone among them."""
+    counts = Counter(name for function in functions for name in set(function.names()))
+    return {next(name for name in function.names() if counts[name] == 1): function for function in functions}
+
+
+def reached(function, everything):
+    """The function and what it names, directly or by others."""
+    found, rest = [], [function]
+    while rest:
+        one = rest.pop()
+        if one not in found:
+            found.append(one)
+            rest += [it for it in everything if it is not one and one.mentions(it)]
+    return found

@@ -1,4 +1,4 @@
-"""Which functions a wrong body is asked for, and which it touches."""
+"""Which functions a wrong body is asked for, how it is named, and what it touches."""
 import evidence
 from tests.trees import TreeTest
 
@@ -33,35 +33,67 @@ class Evidence(TreeTest):
         "crates.txt": "# numbers\nnumbers:\n",
         "crates/numbers/src/lib.rt": SOURCE,
         "crates/numbers/src/tests.rt": "pub fn tried() {\n    1\n}\n",
-        "crates/numbers/must-fail/twice_is_once.edit": "file: src/lib.rt\nold:     value + value\nnew:     value + 0\n",
-        "crates/numbers/must-fail/default_is_one.edit": "file: src/lib.rt\nold:         Number { value: 0 }\nnew:         Number { value: 1 }\n",
+        "crates/numbers/must-fail/doubled.is_once.edit": "file: src/lib.rt\nold:     value + value\nnew:     value + 0\n",
+        "crates/numbers/must-fail/default.is_one.edit": "file: src/lib.rt\nold:         Number { value: 0 }\nnew:         Number { value: 1 }\n",
     }
 
-    def test_a_wrong_body_touches_its_function_and_a_door_to_it(self):
-        self.assertIn("touch 2 functions", self.assert_passes(evidence, exceptions={}))
+    def rename(self, name, other):
+        folder = self.root / "crates/numbers/must-fail"
+        (folder / f"{name}.edit").rename(folder / f"{other}.edit")
 
-    def test_a_function_that_none_touches_is_named(self):
-        (self.root / "crates/numbers/must-fail/twice_is_once.edit").unlink()
-        self.assert_fails("no wrong body touches numbers Number::doubled", evidence, exceptions={})
-        self.assert_passes(evidence, exceptions={"numbers Number::doubled": "it is tried elsewhere"})
+    def test_a_wrong_body_of_its_name_touches_the_function_or_what_it_names(self):
+        self.assertIn("try 2 functions", self.assert_passes(evidence, exceptions={}))
 
-    def test_an_impl_that_none_touches_is_named(self):
-        (self.root / "crates/numbers/must-fail/default_is_one.edit").unlink()
-        self.assert_fails("no wrong body touches numbers <Number as Default>::default", evidence, exceptions={})
+    def test_a_function_without_one_is_named(self):
+        (self.root / "crates/numbers/must-fail/doubled.is_once.edit").unlink()
+        self.assert_fails("no wrong body of numbers doubled", evidence, exceptions={})
+        self.assert_passes(evidence, exceptions={"numbers doubled": "it is tried elsewhere"})
 
-    def test_a_function_with_a_branch_is_no_door(self):
-        self.replace("crates/numbers/src/lib.rt", "        twice(self.value)", "        if true { twice(self.value) } else { 0 }")
-        self.assert_fails("no wrong body touches numbers Number::doubled", evidence, exceptions={})
+    def test_an_impl_without_one_is_named(self):
+        (self.root / "crates/numbers/must-fail/default.is_one.edit").unlink()
+        self.assert_fails("no wrong body of numbers default", evidence, exceptions={})
 
-    def test_an_exception_that_is_touched_or_gone_is_named(self):
-        for name in ("Number::doubled", "Number::tripled"):
-            self.assert_fails(f"touched or gone: numbers {name}", evidence, exceptions={f"numbers {name}": ""})
+    def test_a_name_belongs_to_a_public_function(self):
+        for other in ("twice.is_once", "tripled.is_once", "is_once"):
+            self.rename("doubled.is_once", other)
+            self.assert_fails(f"{other}.edit: no public function has this name", evidence, exceptions={})
+            self.rename(other, "doubled.is_once")
+
+    def test_a_wrong_body_touches_what_it_is_named_for(self):
+        self.rename("default.is_one", "doubled.is_one")
+        self.assert_fails("doubled.is_one.edit: it does not touch doubled, nor what that names", evidence, exceptions={})
+
+    def test_a_door_to_what_is_touched_needs_none(self):
+        source = SOURCE.replace("fn twice", "pub fn doubled_again(value: u8) -> u8 {\n    twice(value)\n}\n\nfn twice")
+        self.write("crates/numbers/src/lib.rt", source)
+        self.assertIn("try 3 functions", self.assert_passes(evidence, exceptions={}))
+        self.write("crates/numbers/src/lib.rt", source.replace("{\n    twice(value)", "{\n    if true { twice(value) } else { 0 }"))
+        self.assert_fails("no wrong body of numbers doubled_again", evidence, exceptions={})
+
+    def test_the_type_and_the_trait_tell_equal_names_apart(self):
+        text = self.FILES["crates/numbers/src/lib.rt"]
+        letter = text.replace("Number", "Letter").replace("fn twice(value: u8) -> u8 {\n    value + value\n}\n", "")
+        self.write("crates/numbers/src/letter.rt", letter)
+        self.assert_fails("doubled.is_once.edit: no public function has this name", evidence, exceptions={})
+        self.rename("doubled.is_once", "Number.doubled.is_once")
+        self.rename("default.is_one", "Number.default.is_one")
+        self.assert_fails("no wrong body of numbers Letter.default", evidence, exceptions={})
+        self.write("crates/numbers/must-fail/Letter.default.is_one.edit",
+                   "file: src/letter.rt\nold:         Letter { value: 0 }\nnew:         Letter { value: 1 }\n")
+        self.assert_passes(evidence, exceptions={})
+        shown = "".join(f"impl {it} for Number {{\n    ghost output = {{ 0 }};\n    fn fmt() {{\n        {it}\n    }}\n}}\n\n" for it in ("Debug", "Display"))
+        self.write("crates/numbers/src/shown.rt", shown)
+        self.assert_fails("no wrong body of numbers Number.Display", evidence, exceptions={})
+
+    def test_an_exception_that_has_one_or_is_gone_is_named(self):
+        for name in ("doubled", "tripled"):
+            self.assert_fails(f"has one or is gone: numbers {name}", evidence, exceptions={f"numbers {name}": ""})
 
     def test_a_wrong_body_that_cannot_be_applied_is_named(self):
-        self.write("crates/numbers/must-fail/twice_is_once.edit", "file: src/lib.rt\nold: three\nnew: 3\n")
-        self.assert_fails("twice_is_once.edit: src/lib.rt does not have this once", evidence, exceptions={})
+        self.write("crates/numbers/must-fail/doubled.is_once.edit", "file: src/lib.rt\nold: three\nnew: 3\n")
+        self.assert_fails("doubled.is_once.edit: src/lib.rt does not have this once", evidence, exceptions={})
 
     def test_of_a_program_all_but_main_is_asked_for(self):
         self.write("crates.txt", "numbers:\nprogram:\n")
         self.write("crates/program/src/main.rt", "fn main() {\n    print()\n}\n\nfn print() {\n    1\n}\n")
-        self.assert_fails("no wrong body touches program print", evidence, exceptions={})
+        self.assert_fails("no wrong body of program print", evidence, exceptions={})
