@@ -38,17 +38,23 @@ pub enum Called<'a> {
 pub struct Contracts {
     /// The preconditions on which something rests in Rust, as comments call them.
     requires: BTreeMap<String, Vec<String>>,
-    /// The name and the text of each postcondition.
-    ensures: BTreeMap<String, Vec<(String, String)>>,
+    /// The head of each function, and the name and the text of each of its postconditions.
+    ensures: BTreeMap<String, (String, Vec<(String, String)>)>,
+    /// The declaration of each type.
+    declared: BTreeMap<String, String>,
+    /// The invariant of each type that has one.
+    invariants: BTreeMap<String, String>,
+    /// The definitions by which invariants are read, by their name.
+    definitions: BTreeMap<String, String>,
     /// Whether all functions were read.
     pub is_whole: bool,
 }
 
 impl Contracts {
     /// Notes the clauses of a function.
-    pub fn note(&mut self, call: &str, preconditions: &[Clause], postconditions: &[Clause]) {
+    pub fn note(&mut self, call: &str, head: &str, preconditions: &[Clause], postconditions: &[Clause]) {
         let ensured = postconditions.iter().map(|clause| (clause.name.clone(), clause.text.clone())).collect();
-        self.ensures.insert(call.to_string(), ensured);
+        self.ensures.insert(call.to_string(), (head.to_string(), ensured));
         let clauses: Vec<_> = preconditions.iter().filter(|clause| !clause.is_given_up()).map(Clause::told).collect();
         if !clauses.is_empty() && !FATES.iter().any(|(name, fate)| *name == call && matches!(fate, Fate::Panics(..))) {
             self.requires.insert(call.to_string(), clauses);
@@ -60,10 +66,33 @@ impl Contracts {
         self.requires.contains_key(call)
     }
 
-    /// Whether a function ensures a clause of this name with these words.
-    pub fn ensures(&self, call: &str, name: &str, says: &str) -> bool {
-        let clauses = self.ensures.get(call).map(Vec::as_slice).unwrap_or_default();
-        clauses.iter().any(|(of, text)| of == name && text == says)
+    /// Notes the declaration of a type.
+    pub fn declare(&mut self, name: &str, declaration: &str) {
+        self.declared.insert(name.to_string(), declaration.to_string());
+    }
+
+    /// Notes the invariant of a type, given by the member of its model: `ghost invariant = { .. };`.
+    pub fn note_invariant(&mut self, owner: &str, member: &str) {
+        let text = member.strip_prefix("ghost invariant = {").and_then(|rest| rest.strip_suffix("};"));
+        self.invariants.extend(text.map(|text| (owner.to_string(), text.trim().to_string())));
+    }
+
+    /// Notes a definition by which an invariant is read.
+    pub fn define(&mut self, name: &str, definition: &str) {
+        self.definitions.insert(name.to_string(), definition.to_string());
+    }
+
+    /// The declaration of a type, its invariant, and the definition with which that begins.
+    pub fn invariant_of(&self, owner: &str) -> Option<(&str, &str, &str)> {
+        let invariant = self.invariants.get(owner)?;
+        let definition = self.definitions.get(invariant.split(' ').nth(2)?)?;
+        Some((self.declared.get(owner)?, invariant, definition))
+    }
+
+    /// The head of a function, and the text of the postcondition of this name.
+    pub fn ensured(&self, call: &str, name: &str) -> Option<(&str, &str)> {
+        let (head, clauses) = self.ensures.get(call)?;
+        clauses.iter().find(|(of, _)| of == name).map(|(_, text)| (head.as_str(), text.as_str()))
     }
 
     /// What a call has to show, in words, if what it calls is `unsafe` in Rust.

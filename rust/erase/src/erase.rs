@@ -31,6 +31,8 @@ pub struct Erased {
 pub struct Tally {
     pub counts: BTreeMap<&'static str, usize>,
     pub used: BTreeSet<String>,
+    /// The lines that `by_hand` has to have.
+    pub by_hand: BTreeSet<String>,
     /// What was read of all functions before.
     pub contracts: Contracts,
 }

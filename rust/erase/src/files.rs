@@ -8,7 +8,7 @@ use std::process::{Command, Stdio};
 
 use crate::erase::{Source, Tally, erase, line_of};
 use crate::rules::{
-    ADDED, AGAIN, BODIES, BY_HAND, BY_STD, CONSTANT, CRATES, FATES, INSIDE, INVARIANTS, Invariant, KNOWN, LEFT_OUT,
+    ADDED, AGAIN, BODIES, BY_HAND, BY_STD, CONSTANT, CRATES, DEFINITIONS, FATES, INSIDE, INVARIANTS, KNOWN, LEFT_OUT,
     REPLACED, TESTED, WIDER,
 };
 
@@ -28,10 +28,11 @@ pub fn made(crates: &Path) -> Result<(Made, Tally), String> {
 /// Makes all files by what is known of the contracts.
 fn read_all(crates: &Path, mut tally: Tally) -> Result<(Made, Tally), String> {
     let mut made = Made::new();
-    for Invariant { defined: (file, line), .. } in INVARIANTS {
-        if !read(&crates.join(file))?.lines().any(|found| found == *line) {
-            return Err(format!("crates/{file}: the definition `{line}` of an invariant is not there"));
-        }
+    for (file, name) in DEFINITIONS {
+        let text = read(&crates.join(file))?;
+        let is_definition = |line: &&str| line.starts_with(&format!("{name} ")) && line.contains(" = ");
+        let line = text.lines().find(is_definition);
+        tally.contracts.define(name, line.ok_or(format!("crates/{file}: the definition of `{name}` is not there"))?);
     }
     for krate in CRATES {
         let mut left = sources(&crates.join(krate).join("src"))?;
@@ -78,8 +79,7 @@ pub fn all_used(tally: &Tally) -> Result<(), String> {
     let names = names.chain(CONSTANT.iter().map(|call| format!("constant {call}")));
     let names = names.chain(ADDED.iter().map(|rule| format!("added {}", rule.head)));
     let names = names.chain(INSIDE.iter().map(|rule| format!("inside {}", rule.call)));
-    let invariants = INVARIANTS.iter().flat_map(|rule| rule.calls);
-    let names = names.chain(invariants.map(|call| format!("invariant {call}")));
+    let names = names.chain(INVARIANTS.iter().map(|call| format!("invariant {call}")));
     let names = names.chain(TESTED.iter().map(|rule| format!("tests {}", rule.path)));
     let mut names = names.chain(LEFT_OUT.iter().map(|rule| rule.name.to_string()));
     match names.find(|name| !tally.used.contains(name)) {
@@ -112,6 +112,15 @@ fn read(path: &Path) -> Result<String, String> {
 
 fn is_by_hand(path: &str) -> bool {
     BY_HAND.iter().any(|by_hand| path == *by_hand || (by_hand.ends_with('/') && path.starts_with(by_hand)))
+}
+
+/// The file `by_hand.rs` has each of these lines.
+pub fn by_hand_has<'a>(lines: impl IntoIterator<Item = &'a String>, target: &Path) -> Result<(), String> {
+    let text = read(&target.join("by_hand.rs"))?;
+    match lines.into_iter().find(|line| !text.lines().any(|found| found.trim() == *line)) {
+        Some(line) => Err(format!("rust/arraystring/src/by_hand.rs does not have the line `{line}`")),
+        None => Ok(()),
+    }
 }
 
 /// Writes the files, and takes out those that are no longer made.

@@ -7,9 +7,10 @@ use crate::contracts::Clause;
 use crate::cursor::{Cursor, Fault, Token};
 use crate::erase::Source;
 use crate::items::{File, Inside, Lead};
-use crate::known::{Names, test_of};
+use crate::known::{Names, test_of, test_of_invariant};
 use crate::rules::{
-    AGAIN, BEHIND, BODIES, CONSTANT, FATES, Fate, INVARIANTS, KNOWN, LEFT_OUT, PRIVATE, PROVED, WALK, WIDER, Why,
+    AGAIN, BEHIND, BODIES, CONSTANT, FATES, Fate, INSIDE, INVARIANTS, KNOWN, LEFT_OUT, PRIVATE, PROVED, WALK, WIDER,
+    Why,
 };
 
 /// A function as it was read.
@@ -50,7 +51,9 @@ impl<'a> File<'a, '_> {
             self.tally.used.insert(name.to_string());
             return Ok(());
         }
-        self.tally.contracts.note(&function.call, &function.preconditions, &function.postconditions);
+        let head = &self.text[function.head.clone()];
+        self.tally.contracts.note(&function.call, head, &function.preconditions, &function.postconditions);
+        self.by_hand(&function)?;
         self.head(function.head.clone());
         self.wider(&function)?;
         self.constant(&function);
@@ -173,11 +176,9 @@ impl<'a> File<'a, '_> {
     fn known(&mut self, function: &Function) -> Result<(), Fault> {
         let Function { call, body, .. } = function;
         let mut tests = Vec::new();
-        for (name, invariant) in INVARIANTS.iter().flat_map(|rule| rule.calls.iter().map(move |call| (call, rule))) {
-            if name == call {
-                tests.extend(invariant.tests.iter().map(|test| ("invariant", test.to_string())));
-                self.tally.used.insert(format!("invariant {call}"));
-            }
+        if INVARIANTS.contains(&call.as_str()) {
+            tests.extend(self.invariant(function)?.map(|test| ("invariant", test)));
+            self.tally.used.insert(format!("invariant {call}"));
         }
         for (_, clause) in KNOWN.iter().filter(|(name, _)| name == call) {
             let name = if clause.is_empty() { "precondition" } else { *clause };
@@ -199,13 +200,21 @@ impl<'a> File<'a, '_> {
             let fault = |why: String| Fault::new(function.head.start, format!("`{}`: {why}", rule.call));
             let (test, comment) = match &rule.why {
                 Why::Requires => (self.test(function, rule.clause)?, String::new()),
-                Why::Ensures(callee, says, test) => {
+                Why::Ensures(callee, result) => {
                     let contracts = &self.tally.contracts;
-                    if contracts.is_whole && !contracts.ensures(callee, rule.clause, says) {
-                        return Err(fault(format!("`{callee}` does not ensure `{} {{ {says} }}`", rule.clause)));
-                    }
+                    let Some((head, says)) = contracts.ensured(callee, rule.clause) else {
+                        if contracts.is_whole {
+                            return Err(fault(format!("`{callee}` does not ensure a clause `{}`", rule.clause)));
+                        }
+                        continue;
+                    };
+                    let test = test_of(says, &Names { head, result: Some(*result) }).map_err(fault)?;
                     let name = callee.rsplit("::").next().unwrap_or_default();
-                    (test.to_string(), format!("// What `{name}` ensures.\n"))
+                    let named = named_in(says, head);
+                    if !self.has_result(function, result, name, &named) {
+                        return Err(fault(format!("`{result}` is not what `{name}` returns of the same names")));
+                    }
+                    (test, format!("// What `{name}` ensures.\n"))
                 }
             };
             let name = if rule.clause.is_empty() { "precondition" } else { rule.clause };
@@ -224,6 +233,42 @@ impl<'a> File<'a, '_> {
         Ok(())
     }
 
+    /// Notes the line by which a function of `by_hand` knows a clause of this one.
+    fn by_hand(&mut self, function: &Function) -> Result<(), Fault> {
+        let Some(rule) = INSIDE.iter().find(|rule| rule.of == function.call) else { return Ok(()) };
+        let fault = |why: String| Fault::new(function.head.start, format!("`{}`: {why}", rule.of));
+        let found = function.preconditions.iter().find(|clause| clause.name == rule.clause && !clause.is_given_up());
+        let found = found.ok_or_else(|| fault(format!("it has no clause `{}` that could be known", rule.clause)))?;
+        let names = Names { head: &self.text[function.head.clone()], result: None };
+        let test = test_of(&found.text, &names).map_err(fault)?;
+        self.tally.by_hand.insert(format!("known!({}: {test});", rule.clause));
+        Ok(())
+    }
+
+    /// Whether a body has the line `let RESULT = NAME(..);`, with each of these arguments.
+    fn has_result(&self, function: &Function, result: &str, name: &str, arguments: &[&str]) -> bool {
+        let given = |line: &'a str| -> Option<Vec<&'a str>> {
+            let call = line.trim().strip_prefix(&format!("let {result} = "))?.strip_suffix(");")?;
+            let (before, given) = call.split_once(&format!("{name}("))?;
+            (before.is_empty() || before.ends_with('.')).then(|| given.split(", ").collect())
+        };
+        let given = self.text[function.body..function.end].lines().find_map(given);
+        given.is_some_and(|given| arguments.iter().all(|argument| given.contains(argument)))
+    }
+
+    /// The test of the first clause of the invariant of a function's type, once the type was read.
+    fn invariant(&self, function: &Function) -> Result<Option<String>, Fault> {
+        let Function { call, head, .. } = function;
+        let owner = call.split("::").next().unwrap_or_default();
+        let contracts = &self.tally.contracts;
+        let Some((declared, invariant, definition)) = contracts.invariant_of(owner) else {
+            let why = || Fault::new(head.start, format!("`{owner}` has no invariant by a definition that is read"));
+            return if contracts.is_whole { Err(why()) } else { Ok(None) };
+        };
+        let test = test_of_invariant(invariant, definition, &Names { head: declared, result: None });
+        test.map(Some).map_err(|why| Fault::new(head.start, format!("`{call}`: {why}")))
+    }
+
     /// The test of a clause that a function requires, and that something in Rust may rest on.
     fn test(&self, function: &Function, clause: &str) -> Result<String, Fault> {
         let Function { call, head, preconditions, .. } = function;
@@ -233,7 +278,7 @@ impl<'a> File<'a, '_> {
         if found.is_given_up() || !self.tally.contracts.is_unsafe(call) {
             return Err(fault(format!("`{clause}` is no fact in Rust, since safe calls do not show it")));
         }
-        test_of(&found.text, &Names { head: &self.text[head.clone()] }).map_err(fault)
+        test_of(&found.text, &Names { head: &self.text[head.clone()], result: None }).map_err(fault)
     }
 
     /// Puts another body in the place of that of a function, if a rule has one.
@@ -348,4 +393,10 @@ impl<'a> File<'a, '_> {
         self.tally.count("lines put into bodies");
         Ok(())
     }
+}
+
+/// The parameters of a function that a clause of it names.
+fn named_in<'a>(clause: &'a str, head: &str) -> Vec<&'a str> {
+    let words = clause.split([' ', '(', ')']).map(|word| word.split('.').next().unwrap_or(word));
+    words.filter(|word| head.contains(&format!("{word}: "))).collect()
 }

@@ -202,6 +202,7 @@ impl<'a, 't> File<'a, 't> {
         self.added(&head, self.line_start(cursor.at));
         let members: Vec<_> = ghosts.iter().filter(|at| !at.is_empty()).map(|at| self.dedented(at.clone())).collect();
         if is_model {
+            members.iter().for_each(|member| self.tally.contracts.note_invariant(&owner, member));
             let Some(&(docs_end, true)) = self.types.get(&owner) else {
                 return Err(Fault::new(start, format!("a model of `{owner}`, which is not documented above it")));
             };
@@ -253,7 +254,8 @@ impl<'a, 't> File<'a, 't> {
     /// Reads a type.
     fn declared(&mut self, cursor: &mut Cursor<'a>, lead: &Lead, first: &Token) -> Result<(), Fault> {
         let Some(name) = cursor.next_code()? else { return Err(Fault::new(first.at.start, "a type without its name")) };
-        self.types.insert(cursor.text(&name).to_string(), (lead.docs_end, lead.has_docs));
+        let name = cursor.text(&name);
+        self.types.insert(name.to_string(), (lead.docs_end, lead.has_docs));
         let mut depth = 0;
         loop {
             let Some(token) = cursor.next_code()? else {
@@ -268,6 +270,7 @@ impl<'a, 't> File<'a, 't> {
                 _ => {}
             }
         }
+        self.tally.contracts.declare(name, &self.text[first.at.start..cursor.at]);
         self.head(first.at.start..cursor.at);
         Ok(())
     }

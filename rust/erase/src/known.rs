@@ -3,10 +3,12 @@
 //! Clauses speak of numbers without an upper bound. So a sum on the left of a comparison is tested not to wrap, and a
 //! difference stops at 0, as it does in a clause. What can't be read so is refused.
 
-/// What the names of a clause are in its function.
+/// What the names of a clause are in its function, or in its type.
 pub struct Names<'a> {
-    /// From `fn` to the clauses.
+    /// From `fn` to the clauses, or the declaration of the type.
     pub head: &'a str,
+    /// What has the name `result`.
+    pub result: Option<&'a str>,
 }
 
 /// The test of a clause.
@@ -20,9 +22,30 @@ pub fn test_of(clause: &str, names: &Names) -> Result<String, String> {
     }
 }
 
+/// The test of the first clause of an invariant: of `λ s. IsStored N s.array s.start s.size`, by the definition
+/// `IsStored array_size array start n = (start + n ≤ cap array_size) × ..`, that of `s.start + s.size ≤ cap N`.
+pub fn test_of_invariant(invariant: &str, definition: &str, names: &Names) -> Result<String, String> {
+    let fault = || format!("the invariant `{invariant}` by the definition `{definition}`");
+    let (value, applied) = invariant.strip_prefix("λ ").and_then(|rest| rest.split_once(". ")).ok_or_else(fault)?;
+    let (head, clauses) = definition.split_once(" = (").ok_or_else(fault)?;
+    let (clause, _) = clauses.split_once(") × ").ok_or_else(fault)?;
+    let parameters: Vec<_> = head.split(' ').collect();
+    let arguments: Vec<_> = applied.split(' ').take(parameters.len()).collect();
+    if arguments.len() != parameters.len() || arguments[0] != parameters[0] {
+        return Err(fault());
+    }
+    let put = |word: String| match parameters.iter().position(|parameter| *parameter == word) {
+        Some(at) => arguments[at].replacen(&format!("{value}."), "self.", 1),
+        None => word,
+    };
+    test_of(&words(clause).into_iter().map(put).collect::<Vec<_>>().join(" "), names)
+}
+
 /// A number that a clause names.
 enum Number {
     Plain(String),
+    /// A byte as a number. No sum of bytes wraps.
+    Byte(String),
     Sum(Vec<Number>),
     Difference(Box<Number>, Box<Number>),
 }
@@ -31,7 +54,7 @@ impl Number {
     /// The number as an expression that may stand before a call. A sum stands here only where it can't wrap.
     fn written(&self) -> Result<String, String> {
         match self {
-            Number::Plain(text) => Ok(text.clone()),
+            Number::Plain(text) | Number::Byte(text) => Ok(text.clone()),
             Number::Difference(from, less) => Ok(format!("{}.saturating_sub({})", from.written()?, less.written()?)),
             Number::Sum(_) => Err("a sum that could wrap".to_string()),
         }
@@ -49,10 +72,12 @@ impl Number {
 /// `a + b ≤ c` as `a + b <= c && a <= a + b`, and so with more parts: the sum, and that no part of it wraps.
 fn at_most(sum: Number, sign: &str, limit: &str) -> Result<String, String> {
     let (mut total, mut wraps) = (String::new(), String::new());
-    for part in sum.parts() {
+    let parts = sum.parts();
+    let is_short = parts.iter().all(|part| matches!(part, Number::Byte(_)));
+    for part in parts {
         let part = part.written()?;
         let more = if total.is_empty() { part } else { format!("{total} + {part}") };
-        if !total.is_empty() {
+        if !total.is_empty() && !is_short {
             wraps += &format!(" && {total} <= {more}");
         }
         total = more;
@@ -94,8 +119,10 @@ impl Reader<'_> {
     }
 
     fn fact(&mut self) -> Result<String, String> {
-        if self.words.first().is_some_and(|word| word == "IsTrue") {
-            return self.boundary();
+        match self.words.first().map(String::as_str) {
+            Some("IsTrue") => return self.boundary(),
+            Some("IsCharBoundary") => return self.char_boundary(),
+            _ => {}
         }
         let left = self.number()?;
         let sign = match self.next()? {
@@ -120,6 +147,14 @@ impl Reader<'_> {
         let at = self.number()?.written()?;
         self.expect(")")?;
         Ok(format!("self.as_str().is_char_boundary({at})"))
+    }
+
+    /// `IsCharBoundary text.now i`.
+    fn char_boundary(&mut self) -> Result<String, String> {
+        self.expect("IsCharBoundary")?;
+        let text = self.place()?;
+        let at = self.number()?.written()?;
+        Ok(format!("{text}.is_char_boundary({at})"))
     }
 
     /// A sum or a difference.
@@ -152,10 +187,10 @@ impl Reader<'_> {
             "width" => format!("{}.len_utf8()", self.place()?),
             "cap" => {
                 self.expect("N")?;
-                "usize::from(crate::ArrayString::<N>::capacity())".to_string()
+                return Ok(Number::Byte("crate::ArrayString::<N>::capacity() as usize".to_string()));
             }
             "size" if self.words.get(self.at).is_some_and(|next| next == "(" || next.contains('.')) => self.size()?,
-            word => self.name(word)?,
+            word => return self.name(word),
         };
         Ok(Number::Plain(plain))
     }
@@ -182,15 +217,21 @@ impl Reader<'_> {
     }
 
     /// A number that has a name, or is written.
-    fn name(&self, word: &str) -> Result<String, String> {
+    fn name(&self, word: &str) -> Result<Number, String> {
         let (first, field) = word.split_once('.').unwrap_or((word, ""));
         let is_known = |kind: &str| self.names.head.contains(&format!("{first}: {kind}"));
         let is_constant = first.chars().all(|ch| ch.is_ascii_uppercase()) && is_known("usize");
-        match field {
-            "" if word.chars().all(|ch| ch.is_ascii_digit()) => Ok(word.to_string()),
-            "" if is_constant || is_known("usize") || word == "N" => Ok(word.to_string()),
-            "" if is_known("u8") => Ok(format!("usize::from({word})")),
-            "offset" | "size" if is_known("Span") => Ok(word.to_string()),
+        let plain = || Ok(Number::Plain(word.to_string()));
+        match (first, field, self.names.result) {
+            ("result", "", Some(name)) => Ok(Number::Plain(name.to_string())),
+            (_, "", _) if word.chars().all(|ch| ch.is_ascii_digit()) => plain(),
+            (_, "", _) if is_constant || is_known("usize") || word == "N" => plain(),
+            (_, "", _) if is_known("u8") => Ok(Number::Byte(format!("usize::from({word})"))),
+            // In a call that is `const`, too.
+            ("self", field, _) if self.names.head.contains(&format!("\n    {field}: u8,\n")) => {
+                Ok(Number::Byte(format!("{word} as usize")))
+            }
+            (_, "offset" | "size", _) if is_known("Span") => plain(),
             _ => Err(format!("`{word}` in a clause that is to be known")),
         }
     }
@@ -203,12 +244,59 @@ mod tests {
     fn told(clause: &str) -> Result<String, String> {
         let head = "fn f<const N: usize, const K: usize>(&mut self, from: usize, to: usize, len: usize, at: u8, \
                     given: &[u8], ch: char, text: Span, size: usize)";
-        test_of(clause, &Names { head })
+        test_of(clause, &Names { head, result: Some("end") })
+    }
+
+    const STORED: &str =
+        "IsStored array_size array start n = (start + n ≤ cap array_size) × (length array ≡ array_size)";
+
+    fn of_type(invariant: &str, definition: &str) -> Result<String, String> {
+        let head = "struct S<const N: usize> {\n    start: u8,\n    size: u8,\n    len: usize,\n    array: [u8; N],\n}";
+        test_of_invariant(invariant, definition, &Names { head, result: None })
+    }
+
+    #[test]
+    fn the_first_clause_of_an_invariant_is_read_off_its_definition() {
+        let invariant = "λ s. IsStored N s.array s.start s.size";
+        let capacity = "crate::ArrayString::<N>::capacity() as usize";
+        let sum = "self.start as usize + self.size as usize";
+        for (invariant, definition, test) in [
+            (invariant, STORED.to_string(), format!("{sum} <= {capacity}")),
+            (&format!("{invariant} × IsDrained N s.start"), STORED.to_string(), format!("{sum} <= {capacity}")),
+            ("λ of. IsStored N of.array of.size of.start", STORED.to_string(), {
+                format!("self.size as usize + self.start as usize <= {capacity}")
+            }),
+            (invariant, STORED.replace("cap array_size", "array_size"), format!("{sum} <= N")),
+            (invariant, STORED.replace("start + n ≤", "n <"), format!("self.size as usize < {capacity}")),
+            (invariant, STORED.replace("start + n", "start + 1 + n"), {
+                let more = "self.start as usize + 1";
+                format!(
+                    "{more} + self.size as usize <= {capacity} && self.start as usize <= {more} \
+                     && {more} <= {more} + self.size as usize"
+                )
+            }),
+        ] {
+            assert_eq!(of_type(invariant, &definition), Ok(test), "{invariant}: {definition}");
+        }
+        for (invariant, definition) in [
+            ("λ s. IsKept N s.array s.start s.size", STORED),
+            ("λ s. IsStored N s.array s.start", STORED),
+            ("IsStored N s.array s.start s.size", STORED),
+            ("λ s. IsStored N s.array s.start s.len", STORED),
+            ("λ s. IsStored N s.array s.start s.array", STORED),
+            ("λ s. IsStored N s.array (s.start + 1) s.size", STORED),
+            ("λ s. IsStored N s.array t.start s.size", STORED),
+            ("λ s. IsStored 7 s.array s.start s.size", STORED),
+            (invariant, "IsStored array_size array start n = ∥ IsUtf8 (take n (drop start array)) ∥₁"),
+            (invariant, "IsStored array_size array start n = (IsUtf8 array) × (start + n ≤ cap array_size)"),
+        ] {
+            assert!(of_type(invariant, definition).is_err(), "{invariant}: {:?}", of_type(invariant, definition));
+        }
     }
 
     #[test]
     fn sums_do_not_wrap() {
-        let capacity = "usize::from(crate::ArrayString::<N>::capacity())";
+        let capacity = "crate::ArrayString::<N>::capacity() as usize";
         for (clause, test) in [
             ("from + len ≤ N", "from + len <= N && from <= from + len".to_string()),
             (
@@ -218,6 +306,9 @@ mod tests {
             ("from + width ch ≤ N", "from + ch.len_utf8() <= N && from <= from + ch.len_utf8()".to_string()),
             ("at < length given.now", "usize::from(at) < given.len()".to_string()),
             ("K ≤ 64", "K <= 64".to_string()),
+            ("at + at ≤ cap N", format!("usize::from(at) + usize::from(at) <= {capacity}")),
+            ("result ≤ length given.now", "end <= given.len()".to_string()),
+            ("IsCharBoundary given.now result", "given.is_char_boundary(end)".to_string()),
             ("from + size ≤ N", "from + size <= N && from <= from + size".to_string()),
             ("length given.now - K ≤ K", "given.len().saturating_sub(K) <= K".to_string()),
             ("length given.now ≡ K", "given.len() == K".to_string()),
@@ -255,6 +346,9 @@ mod tests {
             "from ≤ N N",
             "(from ≤ N",
             "length self.old.text ≤ N",
+            "self.size ≤ N",
+            "result.0 ≤ N",
+            "IsCharBoundary self.old.text from",
         ] {
             assert!(told(clause).is_err(), "{clause}: {:?}", told(clause));
         }

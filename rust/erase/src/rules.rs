@@ -196,8 +196,8 @@ pub struct Again {
 pub enum Why {
     /// The function requires the clause, and what it names is not changed in the body.
     Requires,
-    /// A callee ensures the clause in these words, which are this test of what the body names.
-    Ensures(&'static str, &'static str, &'static str),
+    /// A callee ensures the clause, and this is the name of its result.
+    Ensures(&'static str, &'static str),
 }
 
 pub const AGAIN: &[Again] = &[
@@ -207,19 +207,19 @@ pub const AGAIN: &[Again] = &[
         call: "utils::truncate_str_counted",
         before: "&text[..end]",
         clause: "boundary",
-        why: Why::Ensures("utils::last_boundary", "IsCharBoundary text.now result", "text.is_char_boundary(end)"),
+        why: Why::Ensures("utils::last_boundary", "end"),
     },
     Again {
         call: "utf16::add_prefix",
         before: "for item in",
         clause: "within",
-        why: Why::Ensures("ArrayString::push_ascii_units", "result ≤ length units.now", "run <= units.len()"),
+        why: Why::Ensures("ArrayString::push_ascii_units", "run"),
     },
     Again {
         call: "ArrayString::from_utf16_lossy",
         before: "for item in",
         clause: "within",
-        why: Why::Ensures("ArrayString::push_ascii_units", "result ≤ length units.now", "run <= units.len()"),
+        why: Why::Ensures("ArrayString::push_ascii_units", "run"),
     },
 ];
 
@@ -283,51 +283,35 @@ pub const ADDED: &[Added] = &[Added {
     why: "callers that make room ask for it",
 }];
 
-/// Calls of what is public, safe and panics, which bodies make by a function of `by_hand` that knows a clause instead.
+/// Calls of what is public, safe and panics, which bodies make by a function of `by_hand` that knows a clause instead, by the
+/// line that comes of that clause.
 pub struct Inside {
+    pub of: &'static str,
     pub call: &'static str,
     pub by_hand: &'static str,
     pub clause: &'static str,
 }
 
-pub const INSIDE: &[Inside] = &[Inside { call: "look", by_hand: "crate::by_hand::look", clause: "in_bounds" }];
+pub const INSIDE: &[Inside] =
+    &[Inside { of: "steps::look", call: "look", by_hand: "crate::by_hand::look", clause: "in_bounds" }];
 
-/// Calls in which the invariant of their type stands as known: the part of it that is arithmetic.
-pub struct Invariant {
-    /// The definition of which the tests are a part, and its file in the folder of crates.
-    pub defined: (&'static str, &'static str),
-    pub tests: &'static [&'static str],
-    pub calls: &'static [&'static str],
-}
-
-pub const INVARIANTS: &[Invariant] = &[
-    Invariant {
-        defined: (
-            "arraystring_core/specs/Stored.antt",
-            "IsStored array_size array start n = (start + n ≤ cap array_size) × (length array ≡ array_size) × ∥ IsUtf8 (take n (drop start array)) ∥₁",
-        ),
-        tests: &["self.start as usize + self.size as usize <= Self::capacity() as usize"],
-        calls: &[
-            "ArrayString::as_str",
-            "ArrayString::as_bytes",
-            "ArrayString::compact_and_push",
-            "ArrayString::splice",
-            "ArrayString::compact_and_splice",
-            "ArrayString::put_char",
-            "ArrayString::compact_and_insert",
-            "ArrayString::take_out",
-        ],
-    },
-    // A boundary is at most the size of its text, which is what the compiler is told of it.
-    Invariant {
-        defined: ("arraystring_core/specs/Drained.antt", "  pub at : IsTrue (boundary removed.text i)"),
-        tests: &[
-            "self.front <= self.size",
-            "usize::from(self.start) + usize::from(self.size) <= usize::from(crate::ArrayString::<N>::capacity())",
-        ],
-        calls: &["Drain::as_str", "Drain::next", "Drain::next_back"],
-    },
+/// Calls in which the first clause of the invariant of their type stands as known: what is stored ends within the capacity.
+pub const INVARIANTS: &[&str] = &[
+    "ArrayString::as_str",
+    "ArrayString::as_bytes",
+    "ArrayString::compact_and_push",
+    "ArrayString::splice",
+    "ArrayString::compact_and_splice",
+    "ArrayString::put_char",
+    "ArrayString::compact_and_insert",
+    "ArrayString::take_out",
+    "Drain::as_str",
+    "Drain::next",
+    "Drain::next_back",
 ];
+
+/// The definitions by which invariants are read, with their file in the folder of crates.
+pub const DEFINITIONS: &[(&str, &str)] = &[("arraystring_core/specs/Stored.antt", "IsStored")];
 
 /// A file in which std does what a function of the source does.
 pub struct ByStd {

@@ -212,9 +212,17 @@ fn f(text: &Text) {
 
 /// What comes of a file of the lowest crate that has a name of its own.
 fn made_as(path: &str, text: &str) -> Result<String, String> {
+    made_with(path, text, false)
+}
+
+/// What comes of a file, where all functions are in it or not.
+fn made_with(path: &str, text: &str, is_whole: bool) -> Result<String, String> {
     let source = Source { krate: "arraystring_base", path, text };
     let mut tally = Tally::default();
+    let stored = "IsStored array_size array start n = (start + n ≤ cap array_size) × (length array ≡ array_size)";
+    tally.contracts.define("IsStored", stored);
     let _ = erase(&source, &mut tally);
+    tally.contracts.is_whole = is_whole;
     erase(&source, &mut tally).map(|erased| erased.text).map_err(|fault| fault.why)
 }
 

@@ -18,8 +18,8 @@ impl Steps {
 }
 
 /// Looks.
-pub fn look(at: usize, steps: &mut Steps) -> u8
-    requires in_bounds { at < 3 }
+pub fn look(bytes: &[u8], at: usize, steps: &mut Steps) -> u8
+    requires in_bounds { at < length bytes.now }
 {
     steps.looked += 1;
     bytes[at]
@@ -32,7 +32,7 @@ fn a_line_is_another_one_and_tests_by_hand_lie_in_a_module() {
         "        self.moved = self.moved.saturating_add(len as u64);\n",
         "    steps.looked = steps.looked.saturating_add(1);\n",
         "/// # Panics\n///\n/// Where the index is not below the length.\n///\n/// # Contract",
-        "\npub fn look(at: usize",
+        "\npub fn look(bytes: &[u8], at: usize",
         "\n#[cfg(test)]\n#[path = \"../by_hand/count_tests.rs\"]\nmod tests;\n",
     ];
     has("arraystring_base/src/steps.rt", STEPS, &parts);
@@ -119,20 +119,36 @@ fn what_a_callee_ensures_is_known_behind_the_call() {
         "    known!(within: usize::from(size) <= 3);\n    size as usize\n",
     ];
     has("arraystring_base/src/utils.rt", &cut(says), &parts);
-    for (ensured, is_there) in [(says, true), ("IsCharBoundary text.now size", false)] {
-        let text = cut(ensured);
-        let source = Source { krate: "arraystring_base", path: "arraystring_base/src/utils.rt", text: &text };
-        let mut tally = Tally::default();
-        let _ = erase(&source, &mut tally);
-        tally.contracts.is_whole = true;
-        let why = erase(&source, &mut tally).err().map(|fault| fault.why);
-        let wanted = "`utils::truncate_str_counted`: `utils::last_boundary` does not ensure \
-                      `boundary { IsCharBoundary text.now result }`";
-        assert_eq!(why, (!is_there).then(|| wanted.to_string()));
+    let why = |text: &str| made_with("arraystring_base/src/utils.rt", text, true).err();
+    let of = |why: &str| Some(format!("`utils::truncate_str_counted`: {why}"));
+    assert_eq!(why(&cut(says)), None);
+    assert_eq!(why(&cut("result ≤ length text.now")), None);
+    assert_eq!(why(&cut("IsCharBoundary text.now limit")), of("`limit` in a clause that is to be known"));
+    let other = cut(says).replace("ensures boundary", "ensures other");
+    assert_eq!(why(&other), of("`utils::last_boundary` does not ensure a clause `boundary`"));
+    let no_result = of("`end` is not what `last_boundary` returns of the same names");
+    for (line, other) in [
+        ("last_boundary(text, size);", "last_boundary(rest, size);"),
+        ("last_boundary(text, size);", "last_boundary(text, size) + 1;"),
+        ("last_boundary(text, size);", "not_last_boundary(text, size);"),
+        ("let end =", "let to ="),
+    ] {
+        assert_eq!(why(&cut(says).replace(line, other)), no_result, "{other}");
     }
 }
 
 const STRING: &str = "\
+/// A string.
+pub struct ArrayString<const N: usize> {
+    start: u8,
+    size: u8,
+    array: [u8; N],
+}
+
+impl<const N: usize> Model for ArrayString<N> {
+    ghost invariant = { λ s. IsStored N s.array s.start s.size };
+}
+
 impl<const N: usize> ArrayString<N> {
     /// The text.
     pub fn as_str(&self) -> &str
@@ -152,7 +168,7 @@ impl<const N: usize> ArrayString<N> {
 fn a_body_is_another_one_and_a_call_is_constant_and_knows_the_invariant() {
     let parts = [
         "    pub const fn as_str(&self) -> &str {\n        known!(invariant: self.start as usize + self.size as usize \
-         <= Self::capacity() as usize);\n        let (size, start) =",
+         <= crate::ArrayString::<N>::capacity() as usize);\n        let (size, start) =",
         "        // SAFETY: the type's `invariant`: the `size` bytes from `start` on are UTF-8.\n        unsafe { str",
         "    pub fn get(&self, range: R) -> Option<&str> {\n        let (start, end) = plain_ends(range, self.len());\n        \
          self.as_str().get(start..end)\n    }\n",
@@ -160,6 +176,14 @@ fn a_body_is_another_one_and_a_call_is_constant_and_knows_the_invariant() {
     has("arraystring_core/src/array_string.rt", STRING, &parts);
     let made = made_as("arraystring_core/src/array_string.rt", STRING).unwrap();
     assert!(!made.contains("self.array[..]") && !made.contains("between"), "{made}");
+    let of_bytes = STRING.replace("size: u8", "size: u16");
+    let why = made_as("arraystring_core/src/array_string.rt", &of_bytes).unwrap_err();
+    assert_eq!(why, "`ArrayString::as_str`: `self.size` in a clause that is to be known");
+    let other = STRING.replace("IsStored", "IsKept");
+    let made = made_as("arraystring_core/src/array_string.rt", &other).unwrap();
+    assert!(!made.contains("known!"), "{made}");
+    let why = made_with("arraystring_core/src/array_string.rt", &other, true).unwrap_err();
+    assert_eq!(why, "`ArrayString` has no invariant by a definition that is read");
 }
 
 #[test]
@@ -189,6 +213,28 @@ fn a_body_looks_by_hand() {
     let made = "    // SAFETY: the proof of `first` in crates/arraystring_base/src/sample.rt shows `in_bounds` of `look`.\n    \
                 unsafe { crate::by_hand::look(bytes, 0, steps) }\n";
     has("arraystring_base/src/sample.rt", source, &[made]);
+}
+
+#[test]
+fn by_hand_has_the_line_of_the_clause_that_it_knows() {
+    let known = |clause: &str| {
+        let text = STEPS.replace("in_bounds { at < length bytes.now }", clause);
+        let source = Source { krate: "arraystring_base", path: "arraystring_base/src/steps.rt", text: &text };
+        let mut tally = Tally::default();
+        let why = erase(&source, &mut tally).err().map(|fault| fault.why);
+        why.map_or(Ok(tally.by_hand.into_iter().collect::<Vec<_>>()), Err)
+    };
+    let is_there = |line: &str| {
+        let target = concat!(env!("CARGO_MANIFEST_DIR"), "/../arraystring/src");
+        crate::files::by_hand_has([&line.to_string()], std::path::Path::new(target))
+    };
+    let (line, other) = ("known!(in_bounds: at < bytes.len());", "known!(in_bounds: at <= bytes.len());");
+    let missing = format!("rust/arraystring/src/by_hand.rs does not have the line `{other}`");
+    assert_eq!(known("in_bounds { at < length bytes.now }"), Ok(vec![line.to_string()]));
+    assert_eq!(known("in_bounds { at ≤ length bytes.now }"), Ok(vec![other.to_string()]));
+    assert_eq!((is_there(line), is_there(other)), (Ok(()), Err(missing)));
+    let none = "`steps::look`: it has no clause `in_bounds` that could be known";
+    assert_eq!(known("within { at < length bytes.now }"), Err(none.to_string()));
 }
 
 #[test]
