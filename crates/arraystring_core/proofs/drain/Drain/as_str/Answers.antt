@@ -28,3 +28,7 @@ returns-clause-text g c =
 pub returns-clause-fits : goal.returns-clause-fits
 returns-clause-fits g c =
     subst (λ d. size d.left ≤ cap g.row.N) c.self.view_is (left-fits g.row.N _ _ _ _ c.self.invariant.0 c.self.invariant.1)
+
+pub prove-unreachable-requires : goal.prove-unreachable-requires
+prove-unreachable-requires g c =
+    omega (arith, given-within g.row.N _ _ _ _ c.self.invariant.0 c.self.invariant.1, c.if-prove.true)
