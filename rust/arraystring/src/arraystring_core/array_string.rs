@@ -122,7 +122,7 @@ impl<const N: usize> ArrayString<N> {
     /// ```
     #[inline]
     pub const fn as_str(&self) -> &str {
-        known!(invariant: self.start as usize + self.size as usize <= Self::capacity() as usize);
+        known!(invariant: self.start as usize + self.size as usize <= crate::ArrayString::<N>::capacity() as usize);
         let (size, start) = (self.size as usize, self.start as usize);
         let (_, text) = self.array.split_at(start + size).0.split_at(start);
         // SAFETY: the type's `invariant`: the `size` bytes from `start` on are UTF-8.
@@ -142,7 +142,7 @@ impl<const N: usize> ArrayString<N> {
     /// ```
     #[inline]
     pub const fn as_bytes(&self) -> &[u8] {
-        known!(invariant: self.start as usize + self.size as usize <= Self::capacity() as usize);
+        known!(invariant: self.start as usize + self.size as usize <= crate::ArrayString::<N>::capacity() as usize);
         let (size, start) = (self.size as usize, self.start as usize);
         self.array.split_at(start + size).0.split_at(start).1
     }

@@ -68,8 +68,8 @@ impl<const N: usize> Drain<N> {
     /// ```
     #[inline]
     pub fn as_str(&self) -> &str {
-        known!(invariant: self.front <= self.size);
-        known!(invariant: usize::from(self.start) + usize::from(self.size) <= usize::from(crate::ArrayString::<N>::capacity()));
+        known!(invariant: self.start as usize + self.size as usize <= crate::ArrayString::<N>::capacity() as usize);
+        known!(proved: self.front <= self.size);
         let all = &self.array[..];
         let start = self.start as usize;
         let (front, end) = (start + self.front as usize, start + self.size as usize);
@@ -108,8 +108,7 @@ impl<const N: usize> Iterator for Drain<N> {
     /// after that.
     #[inline(always)]
     fn next(&mut self) -> Option<char> {
-        known!(invariant: self.front <= self.size);
-        known!(invariant: usize::from(self.start) + usize::from(self.size) <= usize::from(crate::ArrayString::<N>::capacity()));
+        known!(invariant: self.start as usize + self.size as usize <= crate::ArrayString::<N>::capacity() as usize);
         if self.front == self.size {
             return None;
         }
@@ -146,8 +145,7 @@ impl<const N: usize> DoubleEndedIterator for Drain<N> {
     /// after that.
     #[inline(always)]
     fn next_back(&mut self) -> Option<char> {
-        known!(invariant: self.front <= self.size);
-        known!(invariant: usize::from(self.start) + usize::from(self.size) <= usize::from(crate::ArrayString::<N>::capacity()));
+        known!(invariant: self.start as usize + self.size as usize <= crate::ArrayString::<N>::capacity() as usize);
         if self.size == self.front {
             return None;
         }
