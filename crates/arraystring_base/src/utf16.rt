@@ -71,7 +71,7 @@ impl<'a> Iterator for Units<'a> {
 impl<'a> FusedIterator for Units<'a> {}
 
 /// The character of the pair that `high` begins, and the units after the pair.
-fn pair<'a>(high: u16, rest: &'a [u16]) -> Option<(char, &'a [u16])>
+fn pair(high: u16, rest: &[u16]) -> Option<(char, &[u16])>
     ensures some { IfSome result (λ p. (low : ℕ) × IsHigh high × IsLow low × (p.0 ≡ pair_character high low) × (rest.now ≡ low ∷ p.1.now)) }
     ensures none { IfNone result ((low : ℕ) (more : List ℕ) → rest.now ≡ low ∷ more → IsHigh high → IsLow low → ⊥) }
 {
@@ -91,14 +91,14 @@ fn pair<'a>(high: u16, rest: &'a [u16]) -> Option<(char, &'a [u16])>
 fn is_high(unit: u16) -> bool
     ensures { IsTrue result ↔ IsHigh unit }
 {
-    unit >= 0xD800 && unit < 0xDC00
+    matches!(unit, 0xD800..=0xDBFF)
 }
 
 /// Whether a unit is a surrogate that ends a pair.
 fn is_low(unit: u16) -> bool
     ensures { IsTrue result ↔ IsLow unit }
 {
-    unit >= 0xDC00 && unit < 0xE000
+    matches!(unit, 0xDC00..=0xDFFF)
 }
 
 /// The item of a unit that is no part of a pair.

@@ -154,7 +154,7 @@ pub fn shift<const N: usize>(
 fn continues(byte: u8) -> bool
     ensures { IsTrue result ↔ ((128 ≤ byte) × (byte < 192)) }
 {
-    byte >= 0x80 && byte < 0xC0
+    matches!(byte, 0x80..=0xBF)
 }
 
 /// The last boundary that is not past `limit`. It looks once at each byte from `limit` back to it,
