@@ -80,7 +80,7 @@ impl<'a> FusedIterator for Units<'a> {}
 /// ensures none { IfNone result ((low : ℕ) (more : List ℕ) → rest.now ≡ low ∷ more → IsHigh high → IsLow low → ⊥) }
 /// ```
 #[inline]
-fn pair<'a>(high: u16, rest: &'a [u16]) -> Option<(char, &'a [u16])> {
+fn pair(high: u16, rest: &[u16]) -> Option<(char, &[u16])> {
     if !is_high(high) {
         return None;
     }
@@ -102,7 +102,7 @@ fn pair<'a>(high: u16, rest: &'a [u16]) -> Option<(char, &'a [u16])> {
 /// ```
 #[inline]
 fn is_high(unit: u16) -> bool {
-    unit >= 0xD800 && unit < 0xDC00
+    matches!(unit, 0xD800..=0xDBFF)
 }
 
 /// Whether a unit is a surrogate that ends a pair.
@@ -114,7 +114,7 @@ fn is_high(unit: u16) -> bool {
 /// ```
 #[inline]
 fn is_low(unit: u16) -> bool {
-    unit >= 0xDC00 && unit < 0xE000
+    matches!(unit, 0xDC00..=0xDFFF)
 }
 
 /// The item of a unit that is no part of a pair.

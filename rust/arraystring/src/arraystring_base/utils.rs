@@ -208,7 +208,7 @@ pub unsafe fn shift<const N: usize>(array: &mut [u8; N], from: usize, to: usize,
 /// ```
 #[inline]
 fn continues(byte: u8) -> bool {
-    byte >= 0x80 && byte < 0xC0
+    matches!(byte, 0x80..=0xBF)
 }
 
 /// The last boundary that is not past `limit`. It looks once at each byte from `limit` back to it,
