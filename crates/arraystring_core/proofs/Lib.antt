@@ -15,6 +15,7 @@ mod DrainLemmas
 mod BackLemmas
 mod WalkedLemmas
 mod EqualLemmas
+mod ApartLemmas
 mod OrderLemmas
 mod WordLemmas
 mod UnitLemmas

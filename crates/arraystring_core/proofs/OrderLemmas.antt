@@ -1,5 +1,5 @@
 -- Where two lists first differ, found by blocks, and their order.
-use Rattle.std.proofs.Common.{◌≡◌, ◌≢◌, ℕ, min, Less, Equal, Greater, ◌+◌, ◌-◌, ◌/◌, ◌%◌, ◌^◌, ◌<◌, ◌≤◌, ◌++◌, Bool, true, false, not, cond, eqb, eqb-true, List, [], ◌∷◌, suc, zero, map, length, take, drop, get_or, take_all, length-take-le, length-drop, refl, sym, ap, ◌∙◌, arith, inl, inr, w8, w64, take-take}
+use Rattle.std.proofs.Common.{◌≡◌, ◌≢◌, ℕ, min, Less, Equal, Greater, ◌+◌, ◌-◌, ◌/◌, ◌%◌, ◌^◌, ◌<◌, ◌≤◌, ◌++◌, Bool, true, false, not, cond, eqb, eqb-true, List, [], ◌∷◌, suc, zero, map, length, take, drop, get_or, take_all, length-take-le, length-drop, refl, sym, ap, ◌∙◌, arith, inl, inr, w8, w64, take-take, replicate, bit_xor}
 use Rattle.std.proofs.Math.Seq.{take-add}
 use Rattle.std.proofs.lemmas.Bool.{eq-eqb, cases_lt, both_ways}
 use Rattle.std.proofs.lemmas.List.{get_or-take, get_or-drop, drop-take}
@@ -12,6 +12,7 @@ use Rattle.std.specs.Int.{trailing_zeros}
 use Rattle.std.specs.Ordering.{nat_cmp}
 use Rattle.std.specs.Simd.Lanes.{zip2, mask_l}
 use lib.Lanes.{top}
+use Rattle.arraystring_core.proofs.ApartLemmas.{xor_apart, xor_equal, block_read, block_long}
 use Rattle.arraystring_core.proofs.EqualLemmas.{apart, none_apart}
 
 -- the first elements that differ decide
@@ -184,6 +185,45 @@ module _ (K : ℕ) (few : K ≤ 64) (a b : List ℕ) (at : ℕ) (in_a : at + K �
     block_greater past =
         let more : get_or b (at + first) 0 < get_or a (at + first) 0 = omega (arith, apart_there) in
         nat_cmp_is _ _ Greater more ∙ sym block_decides
+
+  -- the same, told by a vector of which a lane is zero where the bytes are equal
+  module _ (vector : List ℕ) (is : vector ≡ zip2 bit_xor (take K (drop at a)) (take K (drop at b))) (some : vector ≢ replicate K 0) where
+    abbrev told : ℕ
+    told = mask_l (map (top 7) (zip2 (λ x y. cond (apart x y) 255 0) vector (replicate K 0))) % 2 ^ 64
+
+    lanes-are : zip2 apart vector (replicate K 0) ≡ zip2 apart (take K (block a)) (take K (block b))
+    lanes-are =
+        ap (λ l. zip2 apart l (replicate K 0)) is
+        ∙ xor_apart K (take K (drop at a)) (take K (drop at b)) (block_long K at a in_a) (block_long K at b in_b)
+        ∙ sym (ap (λ l. zip2 apart l (take K (block b))) (block_read K at a) ∙ ap (zip2 apart (take K (drop at a))) (block_read K at b))
+
+    told-is : told ≡ mask
+    told-is =
+        ap (λ lanes. mask_l lanes % 2 ^ 64)
+        (tops_compared w8 apart vector (replicate K 0) ∙ lanes-are ∙ sym (tops_compared w8 apart (take K (block a)) (take K (block b))))
+
+    some-set : 0 < mask
+    some-set =
+        elim (cases_lt 0 mask) [
+          | inl set ↦ set
+          | inr none ↦
+              let zero_mask : mask ≡ 0 = omega (arith, none) in
+              let same : take K (drop at a) ≡ take K (drop at b) =
+              sym (block-is a) ∙ none_apart (block a) (block b) long (sym mask-is ∙ zero_mask) ∙ block-is b in
+              absurd (some (is ∙ ap (λ l. zip2 bit_xor l (take K (drop at b))) same ∙ xor_equal K (take K (drop at b)) (block_long K at b in_b)))
+        ]
+
+    pub told-in_a : at + trailing_zeros w64 told < length a
+    told-in_a = rw told-is (first-in_a some-set)
+
+    pub told-in_b : at + trailing_zeros w64 told < length b
+    told-in_b = rw told-is (first-in_b some-set)
+
+    pub told_less : get_or a (at + trailing_zeros w64 told) 0 < get_or b (at + trailing_zeros w64 told) 0 → Less ≡ slice_cmp nat_cmp a b
+    told_less less = block_less some-set (rw told-is at less)
+
+    pub told_greater : get_or b (at + trailing_zeros w64 told) 0 ≤ get_or a (at + trailing_zeros w64 told) 0 → Greater ≡ slice_cmp nat_cmp a b
+    told_greater past = block_greater some-set (rw told-is at past)
 
 -- one list begins the other
 pub prefix_decides : (a b : List ℕ) (n : ℕ) → n ≡ min (length a) (length b) → take n a ≡ take n b

@@ -3,21 +3,21 @@ use Rattle.arraystring_core.proofs.OrderLemmas.{block_same, first-in_a, first-in
 use Rattle.arraystring_core.proofs.order.block_order.Goals as goal
 
 pub returns-then-mask-eq0-clause-none : goal.returns-then-mask-eq0-clause-none
-returns-then-mask-eq0-clause-none c =
-    block_same 16 (omega arith) c.args.a.now c.args.b.now c.args.at c.requires.one c.requires.other c.requires.before c.if-mask-eq0.true
+returns-then-mask-eq0-clause-none g c =
+    block_same g.row.K c.requires.lanes c.args.a.now c.args.b.now c.args.at c.requires.one c.requires.other c.requires.before c.if-mask-eq0.true
 
 pub bounds-a-first : goal.bounds-a-first
-bounds-a-first c =
-    first-in_a 16 (omega arith) c.args.a.now c.args.b.now c.args.at c.requires.one c.requires.other c.requires.before (omega (arith, c.if-mask-eq0.false))
+bounds-a-first g c =
+    first-in_a g.row.K c.requires.lanes c.args.a.now c.args.b.now c.args.at c.requires.one c.requires.other c.requires.before (omega (arith, c.if-mask-eq0.false))
 
 pub bounds-b-first : goal.bounds-b-first
-bounds-b-first c =
-    first-in_b 16 (omega arith) c.args.a.now c.args.b.now c.args.at c.requires.one c.requires.other c.requires.before (omega (arith, c.if-mask-eq0.false))
+bounds-b-first g c =
+    first-in_b g.row.K c.requires.lanes c.args.a.now c.args.b.now c.args.at c.requires.one c.requires.other c.requires.before (omega (arith, c.if-mask-eq0.false))
 
 pub returns-then-a-first-clause-some : goal.returns-then-a-first-clause-some
-returns-then-a-first-clause-some c =
-    block_less 16 (omega arith) c.args.a.now c.args.b.now c.args.at c.requires.one c.requires.other c.requires.before (omega (arith, c.if-mask-eq0.false)) c.if-a-first.true
+returns-then-a-first-clause-some g c =
+    block_less g.row.K c.requires.lanes c.args.a.now c.args.b.now c.args.at c.requires.one c.requires.other c.requires.before (omega (arith, c.if-mask-eq0.false)) c.if-a-first.true
 
 pub returns-clause-some : goal.returns-clause-some
-returns-clause-some c =
-    block_greater 16 (omega arith) c.args.a.now c.args.b.now c.args.at c.requires.one c.requires.other c.requires.before (omega (arith, c.if-mask-eq0.false)) (omega (arith, c.if-a-first.false))
+returns-clause-some g c =
+    block_greater g.row.K c.requires.lanes c.args.a.now c.args.b.now c.args.at c.requires.one c.requires.other c.requires.before (omega (arith, c.if-mask-eq0.false)) (omega (arith, c.if-a-first.false))

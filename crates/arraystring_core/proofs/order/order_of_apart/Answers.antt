@@ -1,0 +1,19 @@
+use Rattle.std.proofs.Common.{arith}
+use Rattle.arraystring_core.proofs.OrderLemmas.{told-in_a, told-in_b, told_less, told_greater}
+use Rattle.arraystring_core.proofs.order.order_of_apart.Goals as goal
+
+pub bounds-a-first : goal.bounds-a-first
+bounds-a-first c =
+    told-in_a 16 (omega arith) c.args.a.now c.args.b.now c.args.at c.requires.one c.requires.other c.requires.before c.args.apart c.requires.tells c.requires.some
+
+pub bounds-b-first : goal.bounds-b-first
+bounds-b-first c =
+    told-in_b 16 (omega arith) c.args.a.now c.args.b.now c.args.at c.requires.one c.requires.other c.requires.before c.args.apart c.requires.tells c.requires.some
+
+pub returns-then-a-first : goal.returns-then-a-first
+returns-then-a-first c =
+    told_less 16 (omega arith) c.args.a.now c.args.b.now c.args.at c.requires.one c.requires.other c.requires.before c.args.apart c.requires.tells c.requires.some c.if-a-first.true
+
+pub returns : goal.returns
+returns c =
+    told_greater 16 (omega arith) c.args.a.now c.args.b.now c.args.at c.requires.one c.requires.other c.requires.before c.args.apart c.requires.tells c.requires.some (omega (arith, c.if-a-first.false))
