@@ -20,6 +20,7 @@ impl<const N: usize> PartialOrd for ArrayString<N> {
 
     ghost laws = { on_po (λ s. s.text) texts_po };
 
+    #[inline(always)]
     fn partial_cmp(&self, other: &Self) -> Option<Ordering> {
         Some(self.cmp(other))
     }
@@ -36,6 +37,7 @@ impl<const N: usize> Ord for ArrayString<N> {
 
     /// Compares the texts lexicographically, by the scalar values of their characters. A prefix of
     /// a longer text is less than it. The order of the bytes of UTF-8 is the same.
+    #[inline(always)]
     fn cmp(&self, other: &Self) -> Ordering
         ensures order { result ≡ slice_cmp nat_cmp self.now.text other.now.text }
         ensures of_bytes { result ≡ slice_cmp nat_cmp (bytes self.now.text) (bytes other.now.text) }

@@ -33,6 +33,7 @@ impl<const N: usize> PartialOrd for Drain<N> {
 
     ghost laws = { on_po (λ s. s.left) texts_po };
 
+    #[inline(always)]
     fn partial_cmp(&self, other: &Self) -> Option<Ordering> {
         Some(self.cmp(other))
     }
@@ -49,6 +50,7 @@ impl<const N: usize> Ord for Drain<N> {
 
     /// Compares what is left lexicographically, by the scalar values of the characters. The order
     /// of the bytes of UTF-8 is the same.
+    #[inline(always)]
     fn cmp(&self, other: &Self) -> Ordering
         ensures order { result ≡ slice_cmp nat_cmp self.now.left other.now.left }
         ensures of_bytes { result ≡ slice_cmp nat_cmp (bytes self.now.left) (bytes other.now.left) }

@@ -1,6 +1,6 @@
 use Rattle.std.proofs.Common.{◌∙◌, arith}
 use Rattle.arraystring_core.proofs.WordLemmas.{one_decides}
-use Rattle.arraystring_core.proofs.order.order_by_bytes.Goals as goal
+use Rattle.arraystring_core.proofs.order.numbers_by_bytes.Goals as goal
 
 pub returns-in-Some-clause-some : goal.returns-in-Some-clause-some
 returns-in-Some-clause-some c =
