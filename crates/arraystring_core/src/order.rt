@@ -21,7 +21,7 @@ pub(crate) fn order<const N: usize>(text: &str, other: &str) -> Ordering
         Some(numbers) => numbers,
         None => numbers_by_groups(common, a, b),
     };
-    one.cmp(&other)
+    order_of_numbers(one, other)
 }
 
 /// Two numbers that are ordered as the texts are, but for sizes that are left to a loop. The shorter text has
@@ -53,42 +53,30 @@ fn numbers_of_few(a: &[u8], b: &[u8], common: usize) -> (u64, u64)
     requires lesser { common ≡ min (length a.now) (length b.now) }
     ensures { nat_cmp result.0 result.1 ≡ slice_cmp nat_cmp a.now b.now }
 {
-    match few_numbers(a, b, common) {
-        Some(numbers) => numbers,
-        None => lengths(a, b),
+    let (one, other) = few_numbers(a, b, common);
+    if one == other {
+        return lengths(a, b);
     }
+    (one, other)
 }
 
-/// Such numbers, if the first `common` bytes settle the order, of which there are at most 16.
+/// Such numbers, if the first `common` bytes settle the order, of which there are at most 16. The numbers
+/// are equal if they don't.
 #[inline(always)]
-fn few_numbers(a: &[u8], b: &[u8], common: usize) -> Option<(u64, u64)>
+fn few_numbers(a: &[u8], b: &[u8], common: usize) -> (u64, u64)
     requires few { common ≤ 16 }
     requires one { common ≤ length a.now }
     requires other { common ≤ length b.now }
-    ensures some { IfSome result (λ pair. nat_cmp pair.0 pair.1 ≡ slice_cmp nat_cmp a.now b.now) }
-    ensures none { IfNone result (take common a.now ≡ take common b.now) }
+    ensures apart { result.0 ≢ result.1 → nat_cmp result.0 result.1 ≡ slice_cmp nat_cmp a.now b.now }
+    ensures same { result.0 ≡ result.1 → take common a.now ≡ take common b.now }
 {
     if common < 4 {
         return numbers_by_bytes(a, b, common);
     }
     if common < 8 {
-        return numbers_by_halves(a, b, common);
+        return deciding_halves(a, b, common);
     }
-    numbers_by_words(a, b, common)
-}
-
-/// The same of 8 to 16 bytes.
-#[inline(always)]
-fn numbers_by_words(a: &[u8], b: &[u8], common: usize) -> Option<(u64, u64)>
-    requires least { 8 ≤ common }
-    requires most { common ≤ 16 }
-    requires one { common ≤ length a.now }
-    requires other { common ≤ length b.now }
-    ensures some { IfSome result (λ pair. nat_cmp pair.0 pair.1 ≡ slice_cmp nat_cmp a.now b.now) }
-    ensures none { IfNone result (take common a.now ≡ take common b.now) }
-{
-    let (one, other) = deciding_words(a, b, common);
-    numbers_apart(one, other)
+    deciding_words(a, b, common)
 }
 
 /// The numbers of the first eight bytes of both, or else, if these are equal, of the last eight.
@@ -106,20 +94,6 @@ fn deciding_words(a: &[u8], b: &[u8], common: usize) -> (u64, u64)
         return (one, other);
     }
     (word(a, common - 8), word(b, common - 8))
-}
-
-/// The same of 4 to 8 bytes.
-#[inline(always)]
-fn numbers_by_halves(a: &[u8], b: &[u8], common: usize) -> Option<(u64, u64)>
-    requires least { 4 ≤ common }
-    requires most { common ≤ 8 }
-    requires one { common ≤ length a.now }
-    requires other { common ≤ length b.now }
-    ensures some { IfSome result (λ pair. nat_cmp pair.0 pair.1 ≡ slice_cmp nat_cmp a.now b.now) }
-    ensures none { IfNone result (take common a.now ≡ take common b.now) }
-{
-    let (one, other) = deciding_halves(a, b, common);
-    numbers_apart(one, other)
 }
 
 /// The numbers of the first four bytes of both, or else, if these are equal, of the last four.
@@ -141,20 +115,20 @@ fn deciding_halves(a: &[u8], b: &[u8], common: usize) -> (u64, u64)
 
 /// The same of few bytes, one after the other.
 #[inline(always)]
-fn numbers_by_bytes(a: &[u8], b: &[u8], common: usize) -> Option<(u64, u64)>
+fn numbers_by_bytes(a: &[u8], b: &[u8], common: usize) -> (u64, u64)
     requires one { common ≤ length a.now }
     requires other { common ≤ length b.now }
-    ensures some { IfSome result (λ pair. nat_cmp pair.0 pair.1 ≡ slice_cmp nat_cmp a.now b.now) }
-    ensures none { IfNone result (take common a.now ≡ take common b.now) }
+    ensures apart { result.0 ≢ result.1 → nat_cmp result.0 result.1 ≡ slice_cmp nat_cmp a.now b.now }
+    ensures same { result.0 ≡ result.1 → take common a.now ≡ take common b.now }
 {
     let mut at = 0;
     while at < common {
-        if let Some(numbers) = numbers_apart(a[at] as u64, b[at] as u64) {
-            return Some(numbers);
+        if a[at] != b[at] {
+            return (a[at] as u64, b[at] as u64);
         }
         at += 1;
     }
-    None
+    (0, 0)
 }
 
 /// The number of which the 8 bytes from `at` on are the digits.
@@ -181,16 +155,18 @@ fn half_word(bytes: &[u8], at: usize) -> u64
     u32::from_be_bytes(*digits) as u64
 }
 
-/// The numbers, if they differ.
+/// The order of two numbers.
 #[inline(always)]
-fn numbers_apart(one: u64, other: u64) -> Option<(u64, u64)>
-    ensures some { IfSome result (λ pair. (nat_cmp pair.0 pair.1 ≡ nat_cmp one other) × (one ≢ other)) }
-    ensures none { IfNone result (one ≡ other) }
+fn order_of_numbers(one: u64, other: u64) -> Ordering
+    ensures { result ≡ nat_cmp one other }
 {
     if one == other {
-        return None;
+        return Ordering::Equal;
     }
-    Some((one, other))
+    if one < other {
+        return Ordering::Less;
+    }
+    Ordering::Greater
 }
 
 /// Such numbers of two texts of which one begins the other.
