@@ -1,15 +1,16 @@
 //! Makes the calls that `run` counts: those of the port and of the kit's arrayvec, through their static library, and
 //! those of the peers in Rust, with the same tests before them.
 //!
-//! Arguments: the capacity, `ascii` or `mixed`, `front`, `middle`, `edges`, `short` or a clock, and how often each
-//! call is made. All sides have to give the same answer and to leave the same text. `edges` and `short` print the title of
-//! each case, and the clocks, `in_turn` and `waiting`, what they timed.
+//! Arguments: the capacity, `ascii` or `mixed`, `front`, `middle`, `edges`, `short`, `lookup` or a clock, and how often each
+//! call is made. All sides have to give the same answer and to leave the same text. `edges`, `short` and `lookup` print the
+//! title of each case, and the clocks, `in_turn` and `waiting`, what they timed.
 
 #[cfg(has_arrayvec)]
 mod arrayvec;
 mod cases;
 mod clock;
 mod edges;
+mod lookup;
 mod peers;
 mod short;
 mod string;
@@ -61,6 +62,19 @@ linked!(port_2 port_23 port_63 port_255 kit_2 kit_23 kit_63 kit_255);
 linked!(port_timed_23 port_timed_63 port_timed_255);
 linked!(port_waiting_23 port_waiting_63 port_waiting_255);
 linked!(steps_23 steps_63 steps_255);
+
+/// The lookups of the static library. Names are lines, and its allocator takes no place among the arguments.
+type Lookup = unsafe extern "C" fn(names: *const u8, names_len: usize, asked: *const u8, asked_len: usize) -> u64;
+
+macro_rules! lookup {
+    ($($name:ident)*) => {
+        unsafe extern "C" {
+            $(fn $name(names: *const u8, names_len: usize, asked: *const u8, asked_len: usize) -> u64;)*
+        }
+    };
+}
+
+lookup!(lookup_port_23 lookup_port_63 lookup_port_255 lookup_kit_23 lookup_kit_63 lookup_kit_255 lookup_string);
 
 fn linked(at: Linked, call: u8, case: &Case) -> u64 {
     let (held, given, units) = (case.held.as_bytes(), case.given.as_bytes(), &case.units);
@@ -141,6 +155,32 @@ fn make_short(capacity: usize, times: u32) {
     }
 }
 
+/// What each side finds: the port, the kit's arrayvec and the kit's `String` in the kit's map, and the peers in Rust's.
+fn found<const N: usize>(names: &[String], asked: &[String], port: Lookup, kit: Lookup) -> Vec<u64> {
+    let (name_lines, asked_lines) = (names.join("\n"), asked.join("\n"));
+    let linked =
+        |at: Lookup| unsafe { at(name_lines.as_ptr(), name_lines.len(), asked_lines.as_ptr(), asked_lines.len()) };
+    let mut found = [port, kit, lookup_string].map(linked).to_vec();
+    found.push(lookup::answer::<string::Limited<N>>(names, asked));
+    #[cfg(has_arrayvec)]
+    found.push(lookup::answer::<::arrayvec::ArrayString<N>>(names, asked));
+    found
+}
+
+fn make_lookups(capacity: usize) {
+    let names = lookup::names();
+    for (title, asked) in [("found", &names), ("missed", &lookup::others())] {
+        next_edge(black_box(title));
+        let found = match capacity {
+            23 => found::<23>(&names, asked, lookup_port_23, lookup_kit_23),
+            63 => found::<63>(&names, asked, lookup_port_63, lookup_kit_63),
+            255 => found::<255>(&names, asked, lookup_port_255, lookup_kit_255),
+            _ => panic!("no lookups at this capacity"),
+        };
+        assert!(found.iter().all(|sum| *sum == found[0]), "{title}: {found:?}");
+    }
+}
+
 fn tell_clock(capacity: usize, rounds: u32) {
     match capacity {
         23 => clock::tell::<23>(port_timed_23, rounds),
@@ -167,6 +207,7 @@ fn main() {
     match place {
         "edges" => return make_edges(capacity, times),
         "short" => return make_short(capacity, times),
+        "lookup" => return make_lookups(capacity),
         "in_turn" => return tell_clock(capacity, times),
         "waiting" => return tell_waiting_clock(capacity, times),
         _ => {}

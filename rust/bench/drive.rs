@@ -1,14 +1,16 @@
 //! Makes the calls that `run` counts: those of the erased crate, called as any Rust program calls them, and those of its
 //! peers, with the same tests before them. The calls and the peers are those of the bench of the proved build.
 //!
-//! Arguments: the capacity, `ascii` or `mixed`, `front` or `middle`, and how often each call is made. All sides have to give
-//! the same answer and to leave the same text.
+//! Arguments: the capacity, `ascii` or `mixed`, `front`, `middle` or `lookup`, and how often each call is made. All sides have to
+//! give the same answer and to leave the same text. `lookup` prints the title of each case.
 
 #[cfg(has_arrayvec)]
 #[path = "../../bench/arrayvec.rs"]
 mod arrayvec;
 #[path = "../../bench/cases.rs"]
 mod cases;
+#[path = "../../bench/lookup.rs"]
+mod lookup;
 #[path = "../../bench/peers.rs"]
 mod peers;
 #[path = "../../bench/string.rs"]
@@ -143,10 +145,37 @@ fn answers<const N: usize>(call: u8, case: &Case) -> Vec<u64> {
     answers
 }
 
+/// callgrind writes what it counted so far, and begins anew, before each call of this.
+#[inline(never)]
+fn next_edge(title: &str) {
+    println!("{title}");
+}
+
+fn make_lookups<const N: usize>() {
+    let names = lookup::names();
+    for (title, asked) in [("found", &names), ("missed", &lookup::others())] {
+        next_edge(black_box(title));
+        #[allow(unused_mut)]
+        let mut found =
+            vec![lookup::answer::<ArrayString<N>>(&names, asked), lookup::answer::<string::Limited<N>>(&names, asked)];
+        #[cfg(has_arrayvec)]
+        found.push(lookup::answer::<::arrayvec::ArrayString<N>>(&names, asked));
+        assert!(found.iter().all(|sum| *sum == found[0]), "{title}: {found:?}");
+    }
+}
+
 fn main() {
     let words: Vec<String> = std::env::args().skip(1).collect();
     let capacity: usize = words[0].parse().expect("a capacity");
     let times: u32 = words[3].parse().expect("a number");
+    if words[2] == "lookup" {
+        return match capacity {
+            23 => make_lookups::<23>(),
+            63 => make_lookups::<63>(),
+            255 => make_lookups::<255>(),
+            _ => panic!("no lookups at this capacity"),
+        };
+    }
     for &call in CALLS {
         let case = black_box(Case::new(capacity, words[1] == "mixed", words[2] == "front").for_call(call, capacity));
         for _ in 0..times {
