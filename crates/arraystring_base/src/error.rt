@@ -1,5 +1,5 @@
-//! What a call refuses, and the conversions to `Error`. No printed form is padded to a width in the
-//! format.
+//! What a call refuses, and the conversions to `Error`. A width and a precision in the format of a
+//! printed form are ignored.
 ghost use Rattle.std.specs.Prelude.{◌≡◌, ◌++◌, Some, codes};
 ghost use Rattle.std.proofs.Common.{ap};
 ghost use Rattle.std.specs.Hash as fed;
@@ -13,6 +13,15 @@ use std::hash::{Hash, Hasher};
 use std::str::Utf8Error;
 
 /// Any refusal.
+///
+/// # Examples
+///
+/// ```
+/// let mut string = ArrayString::<4>::from("é");
+/// assert_eq!(string.remove(1), Err(Error::Utf8));
+/// assert_eq!(string.remove(2), Err(Error::OutOfBounds));
+/// assert_eq!(ArrayString::<4>::try_from_utf16(&[0xD800]), Err(Error::Utf16));
+/// ```
 #[derive(Clone, Copy, PartialEq, Eq)]
 pub enum Error {
     /// Bytes that are not well-formed UTF-8 (the Unicode Standard, section 3.9), or an index
@@ -39,6 +48,15 @@ impl Error {
 }
 
 /// Writes the name to the hasher, as `str` does.
+///
+/// # Examples
+///
+/// ```
+/// use std::collections::HashSet;
+///
+/// let errors = HashSet::from([Error::Utf8, Error::Utf16, Error::Utf8]);
+/// assert_eq!(errors.len(), 2);
+/// ```
 impl Hash for Error {
     ghost hash_input = { λ e. fed.str (error_name e) };
 
@@ -50,6 +68,12 @@ impl Hash for Error {
 }
 
 /// The name alone.
+///
+/// # Examples
+///
+/// ```
+/// assert_eq!(Error::OutOfBounds.to_string(), "OutOfBounds");
+/// ```
 impl fmt::Display for Error {
     ghost output = { λ e. Some (error_name e) };
 
@@ -61,6 +85,12 @@ impl fmt::Display for Error {
 }
 
 /// `Error::` and the name.
+///
+/// # Examples
+///
+/// ```
+/// assert_eq!(format!("{:?}", Error::Utf8), "Error::Utf8");
+/// ```
 impl fmt::Debug for Error {
     ghost debug_output = { λ e. Some (codes "Error::" ++ error_name e) };
 
@@ -70,14 +100,40 @@ impl fmt::Debug for Error {
     }
 }
 
+/// As an error of any kind. It has no source.
+///
+/// # Examples
+///
+/// ```
+/// fn parsed(text: &str) -> Result<u8, Box<dyn std::error::Error>> {
+///     Ok(ArrayString::<3>::try_from_str(text).map_err(Error::from)?.parse()?)
+/// }
+///
+/// assert_eq!(parsed("255").unwrap(), 255);
+/// assert_eq!(parsed("2555").unwrap_err().to_string(), "OutOfBounds");
+/// ```
 impl StdError for Error {}
 
 /// Bytes that are not well-formed UTF-8 (the Unicode Standard, section 3.9), or an index inside a
 /// character. `is_char_boundary` returns it for an index past the text too.
+///
+/// # Examples
+///
+/// ```
+/// let mut string = ArrayString::<4>::from("é");
+/// assert_eq!(string.truncate(1), Err(Utf8));
+/// assert_eq!(ArrayString::<4>::from_utf8(&[0xFF]), Err(Utf8));
+/// ```
 #[derive(Clone, Copy, Default, PartialEq, Eq)]
 pub struct Utf8;
 
 /// The name alone.
+///
+/// # Examples
+///
+/// ```
+/// assert_eq!(Utf8.to_string(), "Utf8");
+/// ```
 impl fmt::Display for Utf8 {
     ghost output = { λ _. Some (codes "Utf8") };
 
@@ -89,6 +145,12 @@ impl fmt::Display for Utf8 {
 }
 
 /// The name alone.
+///
+/// # Examples
+///
+/// ```
+/// assert_eq!(format!("{Utf8:?}"), "Utf8");
+/// ```
 impl fmt::Debug for Utf8 {
     ghost debug_output = { λ _. Some (codes "Utf8") };
 
@@ -97,13 +159,33 @@ impl fmt::Debug for Utf8 {
     }
 }
 
+/// As an error of any kind. It has no source.
+///
+/// # Examples
+///
+/// ```
+/// let error: Box<dyn std::error::Error> = Utf8.into();
+/// assert!(error.source().is_none());
+/// ```
 impl StdError for Utf8 {}
 
 /// A lone surrogate in UTF-16 (the Unicode Standard, section 3.9).
+///
+/// # Examples
+///
+/// ```
+/// assert_eq!(ArrayString::<4>::from_utf16(&[0xD800]), Err(Utf16));
+/// ```
 #[derive(Clone, Copy, Default, PartialEq, Eq)]
 pub struct Utf16;
 
 /// The name alone.
+///
+/// # Examples
+///
+/// ```
+/// assert_eq!(Utf16.to_string(), "Utf16");
+/// ```
 impl fmt::Display for Utf16 {
     ghost output = { λ _. Some (codes "Utf16") };
 
@@ -115,6 +197,12 @@ impl fmt::Display for Utf16 {
 }
 
 /// The name alone.
+///
+/// # Examples
+///
+/// ```
+/// assert_eq!(format!("{Utf16:?}"), "Utf16");
+/// ```
 impl fmt::Debug for Utf16 {
     ghost debug_output = { λ _. Some (codes "Utf16") };
 
@@ -123,14 +211,34 @@ impl fmt::Debug for Utf16 {
     }
 }
 
+/// As an error of any kind. It has no source.
+///
+/// # Examples
+///
+/// ```
+/// let error: Box<dyn std::error::Error> = Utf16.into();
+/// assert!(error.source().is_none());
+/// ```
 impl StdError for Utf16 {}
 
 /// An index or a range outside the text, a range that ends before it starts, or a result larger
 /// than the capacity.
+///
+/// # Examples
+///
+/// ```
+/// assert_eq!(ArrayString::<4>::try_from_str("hello"), Err(OutOfBounds));
+/// ```
 #[derive(Clone, Copy, Default, PartialEq, Eq)]
 pub struct OutOfBounds;
 
 /// The name alone.
+///
+/// # Examples
+///
+/// ```
+/// assert_eq!(OutOfBounds.to_string(), "OutOfBounds");
+/// ```
 impl fmt::Display for OutOfBounds {
     ghost output = { λ _. Some (codes "OutOfBounds") };
 
@@ -142,6 +250,12 @@ impl fmt::Display for OutOfBounds {
 }
 
 /// The name alone.
+///
+/// # Examples
+///
+/// ```
+/// assert_eq!(format!("{OutOfBounds:?}"), "OutOfBounds");
+/// ```
 impl fmt::Debug for OutOfBounds {
     ghost debug_output = { λ _. Some (codes "OutOfBounds") };
 
@@ -150,9 +264,23 @@ impl fmt::Debug for OutOfBounds {
     }
 }
 
+/// As an error of any kind. It has no source.
+///
+/// # Examples
+///
+/// ```
+/// let error: Box<dyn std::error::Error> = OutOfBounds.into();
+/// assert!(error.source().is_none());
+/// ```
 impl StdError for OutOfBounds {}
 
 /// Bytes that `std` finds not to be UTF-8 are refused as `Utf8`.
+///
+/// # Examples
+///
+/// ```
+/// assert_eq!(std::str::from_utf8(b"a\xFF").map_err(Utf8::from), Err(Utf8));
+/// ```
 impl From<Utf8Error> for Utf8 {
     fn from(_error: Utf8Error) -> Self {
         Utf8
@@ -160,6 +288,12 @@ impl From<Utf8Error> for Utf8 {
 }
 
 /// Bytes that `std` finds not to be UTF-8 are refused as `Error::Utf8`.
+///
+/// # Examples
+///
+/// ```
+/// assert_eq!(std::str::from_utf8(b"a\xFF").map_err(Error::from), Err(Error::Utf8));
+/// ```
 impl From<Utf8Error> for Error {
     ghost from_gives = { λ _ error. error ≡ cases.Utf8 };
 
@@ -169,6 +303,12 @@ impl From<Utf8Error> for Error {
 }
 
 /// The case of its name.
+///
+/// # Examples
+///
+/// ```
+/// assert_eq!(Error::from(Utf8), Error::Utf8);
+/// ```
 impl From<Utf8> for Error {
     ghost from_gives = { λ _ error. error ≡ cases.Utf8 };
 
@@ -178,6 +318,12 @@ impl From<Utf8> for Error {
 }
 
 /// The case of its name.
+///
+/// # Examples
+///
+/// ```
+/// assert_eq!(Error::from(Utf16), Error::Utf16);
+/// ```
 impl From<Utf16> for Error {
     ghost from_gives = { λ _ error. error ≡ cases.Utf16 };
 
@@ -187,6 +333,16 @@ impl From<Utf16> for Error {
 }
 
 /// The case of its name.
+///
+/// # Examples
+///
+/// ```
+/// fn two(text: &str) -> Result<ArrayString<2>, Error> {
+///     Ok(ArrayString::try_from_str(text)?)
+/// }
+///
+/// assert_eq!(two("abc"), Err(Error::OutOfBounds));
+/// ```
 impl From<OutOfBounds> for Error {
     ghost from_gives = { λ _ error. error ≡ cases.OutOfBounds };
 

@@ -5,6 +5,15 @@ use std::marker::Model;
 
 /// Counts of looks and of moves. A look is one call of `look`, and a move is one byte that `shift`
 /// takes to another offset. What calls read otherwise is not counted.
+///
+/// # Examples
+///
+/// ```
+/// let mut string = ArrayString::<8>::from("abcd");
+/// let mut steps = Steps::new();
+/// string.remove_counted(1, &mut steps).unwrap();
+/// assert_eq!((string.as_str(), steps.moved()), ("acd", 2));
+/// ```
 #[derive(Clone, Copy)]
 pub struct Steps {
     looked: u64,
@@ -24,6 +33,13 @@ impl Model for Steps {
 
 impl Steps {
     /// Returns a fresh counter: no looks and no moves.
+    ///
+    /// # Examples
+    ///
+    /// ```
+    /// let steps = Steps::new();
+    /// assert_eq!((steps.looked(), steps.moved()), (0, 0));
+    /// ```
     pub const fn new() -> Self
         ensures looked { result.looked ≡ 0 }
         ensures moved { result.moved ≡ 0 }
@@ -35,6 +51,15 @@ impl Steps {
     }
 
     /// Returns how many looks were counted.
+    ///
+    /// # Examples
+    ///
+    /// ```
+    /// let mut steps = Steps::new();
+    /// utils::look(b"ab", 0, &mut steps);
+    /// utils::look(b"ab", 1, &mut steps);
+    /// assert_eq!((steps.looked(), steps.moved()), (2, 0));
+    /// ```
     pub const fn looked(&self) -> u64
         ensures { result ≡ self.now.looked }
     {
@@ -42,6 +67,14 @@ impl Steps {
     }
 
     /// Returns how many moves were counted.
+    ///
+    /// # Examples
+    ///
+    /// ```
+    /// let (mut string, mut steps) = (ArrayString::<8>::from("ab"), Steps::new());
+    /// string.replace_range_counted(..1, "cd", &mut steps).unwrap();
+    /// assert_eq!((string.as_str(), steps.moved()), ("cdb", 1));
+    /// ```
     pub const fn moved(&self) -> u64
         ensures { result ≡ self.now.moved }
     {
@@ -63,6 +96,14 @@ impl Steps {
 /// # Precondition
 ///
 /// The index must be below the length, and the count of looks of `steps` must be below 2^64 - 1.
+///
+/// # Examples
+///
+/// ```
+/// let mut steps = Steps::new();
+/// assert_eq!(utils::look(b"ab", 1, &mut steps), b'b');
+/// assert_eq!((steps.looked(), steps.moved()), (1, 0));
+/// ```
 pub fn look(bytes: &[u8], at: usize, steps: &mut Steps) -> u8
     requires in_bounds { at < length bytes.now }
     requires countable { steps.old.looked < 2 ^ 64 - 1 }

@@ -9,6 +9,14 @@ use std::iter::FusedIterator;
 use std::marker::Model;
 
 /// An item of a reading.
+///
+/// # Examples
+///
+/// ```
+/// let mut items = Units::new(&[0xDD14, 0x61]);
+/// assert_eq!(items.next(), Some(Unit16::Lone(0xDD14)));
+/// assert_eq!(items.next(), Some(Unit16::Char('a')));
+/// ```
 #[derive(Clone, Copy, PartialEq, Eq, Debug)]
 pub enum Unit16 {
     /// A character: a unit that is no surrogate, or a high surrogate and the low one after it.
@@ -20,6 +28,14 @@ pub enum Unit16 {
 /// A walk over the one reading of some units, item by item. It takes no memory.
 ///
 /// Contracts see it as the list of the items that are left.
+///
+/// # Examples
+///
+/// ```
+/// let units = [0x61, 0xD83E, 0xDD14, 0xD83E]; // `a`, the pair of `🤔`, and half of it
+/// let items: Vec<_> = Units::new(&units).collect();
+/// assert_eq!(items, [Unit16::Char('a'), Unit16::Char('🤔'), Unit16::Lone(0xD83E)]);
+/// ```
 #[derive(Drop)]
 pub struct Units<'a> {
     rest: &'a [u16],
@@ -37,6 +53,13 @@ impl<'a> Model for Units<'a> {
 
 impl<'a> Units<'a> {
     /// Returns the walk over the reading of `units`, from its first item on.
+    ///
+    /// # Examples
+    ///
+    /// ```
+    /// assert_eq!(Units::new(&[0x61]).next(), Some(Unit16::Char('a')));
+    /// assert_eq!(Units::new(&[]).next(), None);
+    /// ```
     pub fn new(units: &'a [u16]) -> Self
         ensures { IsReading units.now result }
     {
@@ -44,6 +67,15 @@ impl<'a> Units<'a> {
     }
 }
 
+/// The items that are left, from the front.
+///
+/// # Examples
+///
+/// ```
+/// let mut units = Units::new(&[0x61, 0x62]);
+/// assert_eq!(units.next(), Some(Unit16::Char('a')));
+/// assert_eq!(units.count(), 1);
+/// ```
 impl<'a> Iterator for Units<'a> {
     type Item = Unit16;
 
@@ -68,6 +100,14 @@ impl<'a> Iterator for Units<'a> {
     }
 }
 
+/// Once no item is left, `next` returns `None` ever after.
+///
+/// # Examples
+///
+/// ```
+/// let mut units = Units::new(&[0x61]);
+/// assert_eq!((units.next().is_some(), units.next(), units.next()), (true, None, None));
+/// ```
 impl<'a> FusedIterator for Units<'a> {}
 
 /// The character of the pair that `high` begins, and the units after the pair.

@@ -12,6 +12,13 @@ use std::char;
 /// # Errors
 ///
 /// Returns `Err(OutOfBounds)` if `size` is greater.
+///
+/// # Examples
+///
+/// ```
+/// assert_eq!(utils::is_inside_boundary(4usize, 4usize), Ok(()));
+/// assert_eq!(utils::is_inside_boundary(5usize, 4usize), Err(OutOfBounds));
+/// ```
 pub fn is_inside_boundary(size: usize, limit: usize) -> Result<(), OutOfBounds>
     ensures { IsOk result ↔ (size ≤ limit) }
 {
@@ -23,6 +30,13 @@ pub fn is_inside_boundary(size: usize, limit: usize) -> Result<(), OutOfBounds>
 
 /// Returns whether `at` is a boundary of `text`, the size of one of its prefixes of whole
 /// characters. It is false past the length of the text.
+///
+/// # Examples
+///
+/// ```
+/// assert!(utils::is_boundary("aé", 1) && utils::is_boundary("aé", 3));
+/// assert!(!utils::is_boundary("aé", 2) && !utils::is_boundary("aé", 4));
+/// ```
 pub fn is_boundary(text: &str, at: usize) -> bool
     ensures { result ≡ boundary (chars text.now) at }
 {
@@ -31,6 +45,14 @@ pub fn is_boundary(text: &str, at: usize) -> bool
 
 /// Returns the longest prefix of whole characters of `text` that takes at most `size` bytes,
 /// borrowed from the text.
+///
+/// # Examples
+///
+/// ```
+/// assert_eq!(utils::truncate_str("aéb", 3), "aé");
+/// assert_eq!(utils::truncate_str("aéb", 2), "a"); // the index 2 is inside `é`
+/// assert_eq!(utils::truncate_str("aéb", 9), "aéb");
+/// ```
 pub fn truncate_str(text: &str, size: u8) -> &str
     ensures { result.now ≡ bytes (cut (chars text.now) size) }
 {
@@ -43,6 +65,14 @@ pub fn truncate_str(text: &str, size: u8) -> &str
 /// # Precondition
 ///
 /// The count of looks of `steps` must be at most 2^63.
+///
+/// # Examples
+///
+/// ```
+/// let mut steps = Steps::new();
+/// assert_eq!(utils::truncate_str_counted("aéb", 2, &mut steps), "a");
+/// assert!((1..=4).contains(&steps.looked()) && steps.moved() == 0);
+/// ```
 pub fn truncate_str_counted<'a>(text: &'a str, size: u8, steps: &mut Steps) -> &'a str
     requires { steps.old.looked ≤ 2 ^ 63 }
     ensures value { result.now ≡ bytes (cut (chars text.now) size) }

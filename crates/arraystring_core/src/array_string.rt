@@ -4,9 +4,9 @@
 //!
 //! # Iterators
 //!
-//! An iterator that is passed in must end, and until it does the precondition of its `next` must
-//! hold. All calls but the unchecked ones stop at the first item that does not fit: their
-//! contracts say that no item after it matters, and a test shows that they take none.
+//! An iterator that is passed in must end, and until it does its `next` must be callable. All
+//! calls but the unchecked ones stop at the first item that does not fit: their contracts say that
+//! no item after it matters, and a test shows that they take none.
 ghost use Rattle.std.specs.Prelude.{◌≡◌, ◌≢◌, ◌+◌, ◌-◌, ◌^◌, ◌<◌, ◌≤◌, ◌↔◌, min, IfSome, Ok, [], ◌∷◌, ◌++◌, IsTrue, chars, length, nat_eq};
 ghost use Rattle.std.specs.Cmp.{on_equiv, on_per, partial_equiv_from_equiv};
 ghost use Rattle.std.specs.Cmp.Lexicographic.{pointwise, nat_list_eq_equiv};
@@ -44,6 +44,16 @@ mod utf16;
 /// A range that is passed in may be any `RangeBounds<u8>`. Contracts know its bounds if
 /// `has_bounds` holds of it. It holds of each range of std, except a `RangeInclusive` that was
 /// iterated to its end.
+///
+/// # Examples
+///
+/// ```
+/// let mut name = ArrayString::<8>::try_from_str("ann").unwrap();
+/// assert_eq!(name.try_push_str(" and bo"), Err(OutOfBounds)); // refused, and nothing changed
+/// name.push_str(" and bo"); // adds what fits
+/// assert_eq!(name.as_str(), "ann and ");
+/// assert_eq!((name.len(), name.get(..3)), (8, Some("ann")));
+/// ```
 #[derive(Clone, Copy)]
 pub struct ArrayString<const N: usize> {
     array: [u8; N],
@@ -73,6 +83,13 @@ impl<const N: usize> Model for ArrayString<N> {
 
 impl<const N: usize> ArrayString<N> {
     /// Returns an empty string.
+    ///
+    /// # Examples
+    ///
+    /// ```
+    /// let string = ArrayString::<8>::new();
+    /// assert!(string.is_empty());
+    /// ```
     #[inline(always)]
     pub const fn new() -> Self
         ensures { result.text ≡ [] }
@@ -85,6 +102,13 @@ impl<const N: usize> ArrayString<N> {
     }
 
     /// Returns the capacity in bytes: the lesser of `N` and 255.
+    ///
+    /// # Examples
+    ///
+    /// ```
+    /// assert_eq!(ArrayString::<8>::capacity(), 8);
+    /// assert_eq!(ArrayString::<1000>::capacity(), 255);
+    /// ```
     #[inline]
     pub const fn capacity() -> u8
         ensures { result ≡ cap N }
@@ -93,6 +117,15 @@ impl<const N: usize> ArrayString<N> {
     }
 
     /// Returns the length of the text in bytes, which is at most the capacity.
+    ///
+    /// # Examples
+    ///
+    /// ```
+    /// let mut string = ArrayString::<8>::from("abc");
+    /// assert_eq!(string.len(), 3);
+    /// string.push_str("é"); // two bytes
+    /// assert_eq!(string.len(), 5);
+    /// ```
     #[inline]
     pub const fn len(&self) -> u8
         ensures value { result ≡ size self.now.text }
@@ -102,6 +135,13 @@ impl<const N: usize> ArrayString<N> {
     }
 
     /// Returns whether the text has no character.
+    ///
+    /// # Examples
+    ///
+    /// ```
+    /// assert!(ArrayString::<4>::new().is_empty());
+    /// assert!(!ArrayString::<4>::from(" ").is_empty());
+    /// ```
     #[inline]
     pub const fn is_empty(&self) -> bool
         ensures { IsTrue result ↔ (self.now.text ≡ []) }
@@ -111,6 +151,13 @@ impl<const N: usize> ArrayString<N> {
 
     /// Returns the text as a `&str`, borrowed without a copy. The contract adds that each
     /// character is a Unicode scalar value and that the text is not larger than the capacity.
+    ///
+    /// # Examples
+    ///
+    /// ```
+    /// let string = ArrayString::<8>::from("café");
+    /// assert_eq!(string.as_str(), "café");
+    /// ```
     #[inline]
     pub fn as_str(&self) -> &str
         ensures bytes { result.now ≡ bytes self.now.text }
@@ -125,6 +172,13 @@ impl<const N: usize> ArrayString<N> {
 
     /// Returns the bytes of the text, borrowed without a copy. There are as many as `len` returns.
     /// The contract adds the same as that of `as_str`.
+    ///
+    /// # Examples
+    ///
+    /// ```
+    /// let string = ArrayString::<8>::from("café");
+    /// assert_eq!(string.as_bytes(), [b'c', b'a', b'f', 0xC3, 0xA9]);
+    /// ```
     #[inline]
     pub fn as_bytes(&self) -> &[u8]
         ensures bytes { result.now ≡ bytes self.now.text }
@@ -142,6 +196,15 @@ impl<const N: usize> ArrayString<N> {
     /// # Errors
     ///
     /// Returns `Err(OutOfBounds)` if `ch` does not fit. The text is then unchanged.
+    ///
+    /// # Examples
+    ///
+    /// ```
+    /// let mut string = ArrayString::<4>::from("ab");
+    /// assert_eq!(string.try_push('c'), Ok(()));
+    /// assert_eq!(string.try_push('é'), Err(OutOfBounds)); // one byte is left, and `é` takes two
+    /// assert_eq!(string.as_str(), "abc");
+    /// ```
     #[inline(always)]
     pub fn try_push(&mut self, ch: char) -> Result<(), OutOfBounds>
         ensures { Makes (addition self.old.text (ch ∷ []) (cap N)) self.old.text (from_out_of_bounds result) self.new.text }
@@ -177,6 +240,15 @@ impl<const N: usize> ArrayString<N> {
     /// # Errors
     ///
     /// Returns `Err(OutOfBounds)` if not all of `string` fits. The text is then unchanged.
+    ///
+    /// # Examples
+    ///
+    /// ```
+    /// let mut string = ArrayString::<4>::from("ab");
+    /// assert_eq!(string.try_push_str("c"), Ok(()));
+    /// assert_eq!(string.try_push_str("de"), Err(OutOfBounds));
+    /// assert_eq!(string.as_str(), "abc");
+    /// ```
     #[inline]
     pub fn try_push_str(&mut self, string: &str) -> Result<(), OutOfBounds>
         ensures { Makes (addition self.old.text (chars string.now) (cap N)) self.old.text (from_out_of_bounds result) self.new.text }
@@ -200,8 +272,9 @@ impl<const N: usize> ArrayString<N> {
     /// # Examples
     ///
     /// ```
-    /// let mut line = ArrayString::<4>::from_str_truncate("abc");
-    /// line.push_str("dé"); // "abcd", since `é` takes two bytes
+    /// let mut string = ArrayString::<4>::from("abc");
+    /// string.push_str("dé"); // one byte is left, and `é` takes two
+    /// assert_eq!(string.as_str(), "abcd");
     /// ```
     pub fn push_str(&mut self, string: &str)
         ensures { Makes (addition_of_cut self.old.text (chars string.now) (cap N)) self.old.text (Ok result) self.new.text }
@@ -229,6 +302,15 @@ impl<const N: usize> ArrayString<N> {
     }
 
     /// Removes the last character and returns it. Returns `None` if the text is empty.
+    ///
+    /// # Examples
+    ///
+    /// ```
+    /// let mut string = ArrayString::<4>::from("aé");
+    /// assert_eq!(string.pop(), Some('é'));
+    /// assert_eq!(string.pop(), Some('a'));
+    /// assert_eq!(string.pop(), None);
+    /// ```
     pub fn pop(&mut self) -> Option<char>
         ensures { Makes (popping self.old.text) self.old.text (Ok result) self.new.text }
     {
@@ -241,6 +323,15 @@ impl<const N: usize> ArrayString<N> {
     /// # Precondition
     ///
     /// Both counts of `steps` must be at most 2^63.
+    ///
+    /// # Examples
+    ///
+    /// ```
+    /// let mut string = ArrayString::<4>::from("aé");
+    /// let mut steps = Steps::new();
+    /// assert_eq!(string.pop_counted(&mut steps), Some('é'));
+    /// assert!((1..=4).contains(&steps.looked()) && steps.moved() == 0);
+    /// ```
     pub fn pop_counted(&mut self, steps: &mut Steps) -> Option<char>
         requires looks { steps.old.looked ≤ 2 ^ 63 }
         requires moves { steps.old.moved ≤ 2 ^ 63 }
@@ -257,6 +348,12 @@ impl<const N: usize> ArrayString<N> {
 }
 
 /// An empty string.
+///
+/// # Examples
+///
+/// ```
+/// assert_eq!(ArrayString::<4>::default().as_str(), "");
+/// ```
 impl<const N: usize> Default for ArrayString<N> {
     ghost is_default = { λ s. s.text ≡ [] };
 
@@ -266,6 +363,14 @@ impl<const N: usize> Default for ArrayString<N> {
 }
 
 /// Strings are equal if and only if their texts are.
+///
+/// # Examples
+///
+/// ```
+/// let mut popped = ArrayString::<4>::from("ab");
+/// popped.pop();
+/// assert!(popped == ArrayString::from("a") && popped != ArrayString::from("A"));
+/// ```
 impl<const N: usize> PartialEq for ArrayString<N> {
     ghost eq = { λ s t. pointwise nat_eq s.text t.text };
 
@@ -276,11 +381,29 @@ impl<const N: usize> PartialEq for ArrayString<N> {
     }
 }
 
+/// Each string is equal to itself, and so to a copy of it.
+///
+/// # Examples
+///
+/// ```
+/// let string = ArrayString::<4>::from("a");
+/// let mut copy = string;
+/// assert_eq!(copy, string);
+/// copy.clear();
+/// assert_ne!(copy, string);
+/// ```
 impl<const N: usize> Eq for ArrayString<N> {
     ghost laws = { on_equiv (λ s. s.text) nat_list_eq_equiv };
 }
 
 /// `ArrayString { array: "abc", size: 3 }` for the text `abc`; the size counts bytes of UTF-8.
+///
+/// # Examples
+///
+/// ```
+/// let string = ArrayString::<8>::from("é\n");
+/// assert_eq!(format!("{string:?}"), r#"ArrayString { array: "é\n", size: 3 }"#);
+/// ```
 impl<const N: usize> fmt::Debug for ArrayString<N> {
     fn fmt<W: fmt::Write>(&self, f: &mut fmt::Formatter<W>) -> fmt::Result {
         f.debug_struct("ArrayString")

@@ -16,6 +16,15 @@ mod compare;
 ///
 /// Contracts name the list of the characters that are left. A drain has a copy of the string's
 /// array, and takes no memory.
+///
+/// # Examples
+///
+/// ```
+/// let mut string = ArrayString::<8>::from("abcdef");
+/// let mut drained = string.drain(1..5).unwrap();
+/// assert_eq!((drained.next(), drained.next_back()), (Some('b'), Some('e')));
+/// assert_eq!((drained.as_str(), string.as_str()), ("cd", "af"));
+/// ```
 #[derive(Clone, Copy)]
 pub struct Drain<const N: usize> {
     // The index at which what is left begins, and the offset and the size of the removed text
@@ -66,6 +75,14 @@ impl<const N: usize> Drain<N> {
     }
 
     /// Returns the characters that are left as a `&str`, borrowed without a copy.
+    ///
+    /// # Examples
+    ///
+    /// ```
+    /// let mut drained = ArrayString::<4>::from("abc").drain(..).unwrap();
+    /// drained.next();
+    /// assert_eq!(drained.as_str(), "bc");
+    /// ```
     #[inline]
     pub fn as_str(&self) -> &str
         ensures bytes { result.now ≡ bytes self.now.left }
@@ -82,6 +99,12 @@ impl<const N: usize> Drain<N> {
 }
 
 /// An empty drain: nothing is left.
+///
+/// # Examples
+///
+/// ```
+/// assert_eq!(Drain::<4>::default().as_str(), "");
+/// ```
 impl<const N: usize> Default for Drain<N> {
     ghost is_default = { λ d. d.left ≡ [] };
 
@@ -91,6 +114,13 @@ impl<const N: usize> Default for Drain<N> {
 }
 
 /// The characters that are left, from the front.
+///
+/// # Examples
+///
+/// ```
+/// let drained = ArrayString::<4>::from("aéb").drain(1..).unwrap();
+/// assert!(drained.eq(['é', 'b']));
+/// ```
 impl<const N: usize> Iterator for Drain<N> {
     type Item = char;
 
@@ -120,6 +150,13 @@ impl<const N: usize> Iterator for Drain<N> {
 }
 
 /// The characters that are left, from the back.
+///
+/// # Examples
+///
+/// ```
+/// let drained = ArrayString::<4>::from("aéb").drain(1..).unwrap();
+/// assert!(drained.rev().eq(['b', 'é']));
+/// ```
 impl<const N: usize> DoubleEndedIterator for Drain<N> {
     ghost next_back_gives = { YieldsLast (λ d. d.left) };
 
@@ -142,4 +179,12 @@ impl<const N: usize> DoubleEndedIterator for Drain<N> {
     }
 }
 
+/// Once nothing is left, `next` and `next_back` return `None` ever after.
+///
+/// # Examples
+///
+/// ```
+/// let mut drained = ArrayString::<4>::from("a").drain(..).unwrap();
+/// assert_eq!((drained.next(), drained.next(), drained.next()), (Some('a'), None, None));
+/// ```
 impl<const N: usize> FusedIterator for Drain<N> {}

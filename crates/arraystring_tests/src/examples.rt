@@ -1,4 +1,5 @@
-//! The examples of the doc comments, line for line, and what they give.
+//! An edit or two of each kind, and what they give. The tests of the Rust crate run the examples
+//! of the doc comments.
 use super::table::agree;
 use arraystring::error::{Utf8, Utf16};
 use arraystring::{ArrayString, Error};

@@ -13,6 +13,13 @@ use std::cmp::Ordering;
 use std::hash::{Hash, Hasher};
 
 /// Strings are equal if their texts are.
+///
+/// # Examples
+///
+/// ```
+/// let key = CacheString::from_str_truncate("user:42");
+/// assert!(key == CacheString::new() + "user:42" && key != CacheString::new());
+/// ```
 impl PartialEq for CacheString {
     ghost eq = { λ s t. pointwise nat_eq s.0.text t.0.text };
 
@@ -23,11 +30,28 @@ impl PartialEq for CacheString {
     }
 }
 
+/// Each string is equal to itself, and so to a copy of it.
+///
+/// # Examples
+///
+/// ```
+/// let key = CacheString::from_str_truncate("user:42");
+/// let mut copy = key;
+/// assert_eq!(copy, key);
+/// copy.0.clear();
+/// assert_ne!(copy, key);
+/// ```
 impl Eq for CacheString {
     ghost laws = { on_equiv (λ s. s.0.text) nat_list_eq_equiv };
 }
 
 /// Always `Some` of what `cmp` returns.
+///
+/// # Examples
+///
+/// ```
+/// assert!(CacheString::from_str_truncate("ab") < CacheString::from_str_truncate("b"));
+/// ```
 impl PartialOrd for CacheString {
     ghost partial_cmp = { λ s t. Some (slice_cmp nat_cmp s.0.text t.0.text) };
 
@@ -38,6 +62,14 @@ impl PartialOrd for CacheString {
     }
 }
 
+/// Strings are ordered by their characters, as their texts are.
+///
+/// # Examples
+///
+/// ```
+/// let [first, second] = ["é", "z"].map(CacheString::from_str_truncate);
+/// assert_eq!(first.max(second).0.as_str(), "é");
+/// ```
 impl Ord for CacheString {
     ghost cmp = { λ s t. slice_cmp nat_cmp s.0.text t.0.text };
 
@@ -59,6 +91,15 @@ impl Ord for CacheString {
 }
 
 /// Writes to the hasher what the text writes.
+///
+/// # Examples
+///
+/// ```
+/// use std::collections::HashMap;
+///
+/// let ages = HashMap::from([(CacheString::from_str_truncate("ann"), 41)]);
+/// assert_eq!(ages.get(&CacheString::from_str_truncate("ann")), Some(&41));
+/// ```
 impl Hash for CacheString {
     ghost hash_input = { λ s. fed.str (bytes s.0.text) };
 

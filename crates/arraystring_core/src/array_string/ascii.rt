@@ -8,6 +8,14 @@ use crate::ArrayString;
 
 impl<const N: usize> ArrayString<N> {
     /// Changes a..z to A..Z. All other characters stay as they are.
+    ///
+    /// # Examples
+    ///
+    /// ```
+    /// let mut string = ArrayString::<8>::from("café 1");
+    /// string.make_ascii_uppercase();
+    /// assert_eq!(string.as_str(), "CAFé 1");
+    /// ```
     pub fn make_ascii_uppercase(&mut self)
         ensures { Makes (uppercase self.old.text) self.old.text (Ok result) self.new.text }
     {
@@ -15,6 +23,14 @@ impl<const N: usize> ArrayString<N> {
     }
 
     /// Changes A..Z to a..z. All other characters stay as they are.
+    ///
+    /// # Examples
+    ///
+    /// ```
+    /// let mut string = ArrayString::<8>::from("CAFÉ 1");
+    /// string.make_ascii_lowercase();
+    /// assert_eq!(string.as_str(), "cafÉ 1");
+    /// ```
     pub fn make_ascii_lowercase(&mut self)
         ensures { Makes (lowercase self.old.text) self.old.text (Ok result) self.new.text }
     {

@@ -15,6 +15,12 @@ use std::hash::{Hash, Hasher};
 use std::ops::Add;
 
 /// Always `Some` of what `cmp` returns.
+///
+/// # Examples
+///
+/// ```
+/// assert!(ArrayString::<4>::from("ab") < ArrayString::from("b"));
+/// ```
 impl<const N: usize> PartialOrd for ArrayString<N> {
     ghost partial_cmp = { λ s t. Some (slice_cmp nat_cmp s.text t.text) };
 
@@ -26,6 +32,15 @@ impl<const N: usize> PartialOrd for ArrayString<N> {
     }
 }
 
+/// Strings are ordered by their characters, as their texts are.
+///
+/// # Examples
+///
+/// ```
+/// let mut names = ["é", "z", "ab", "a"].map(ArrayString::<4>::from);
+/// names.sort();
+/// assert_eq!(names.map(|name| name.len()), [1, 2, 1, 2]); // "a", "ab", "z", "é"
+/// ```
 impl<const N: usize> Ord for ArrayString<N> {
     ghost cmp = { λ s t. slice_cmp nat_cmp s.text t.text };
 
@@ -50,6 +65,15 @@ impl<const N: usize> Ord for ArrayString<N> {
 }
 
 /// Hashes as the `&str` of the text does.
+///
+/// # Examples
+///
+/// ```
+/// use std::collections::HashMap;
+///
+/// let ages = HashMap::from([(ArrayString::<8>::from("ann"), 41)]);
+/// assert_eq!(ages.get(&ArrayString::from("ann")), Some(&41));
+/// ```
 impl<const N: usize> Hash for ArrayString<N> {
     ghost hash_input = { λ s. fed.str (bytes s.text) };
 
@@ -60,7 +84,15 @@ impl<const N: usize> Hash for ArrayString<N> {
     }
 }
 
-/// Writes the text. A width in the format is ignored: nothing is padded.
+/// Writes the text. A width and a precision in the format are ignored: nothing is padded, and
+/// nothing is cut.
+///
+/// # Examples
+///
+/// ```
+/// let string = ArrayString::<8>::from("abc");
+/// assert_eq!(format!("[{string}] [{string:8.1}]"), "[abc] [abc]");
+/// ```
 impl<const N: usize> fmt::Display for ArrayString<N> {
     ghost output = { λ s. Some (bytes s.text) };
 
@@ -72,6 +104,13 @@ impl<const N: usize> fmt::Display for ArrayString<N> {
 }
 
 /// Appends the longest prefix of whole characters of the `&str` that fits.
+///
+/// # Examples
+///
+/// ```
+/// let string = ArrayString::<4>::from("ab") + "c" + "de";
+/// assert_eq!(string.as_str(), "abcd");
+/// ```
 impl<'a, const N: usize> Add<&'a str> for ArrayString<N> {
     type Output = Self;
 
@@ -83,6 +122,19 @@ impl<'a, const N: usize> Add<&'a str> for ArrayString<N> {
     }
 }
 
+/// `write!` appends what it prints, each piece whole.
+///
+/// # Examples
+///
+/// ```
+/// use std::fmt::Write;
+///
+/// let mut string = ArrayString::<4>::new();
+/// let [one, large] = [1, 2345];
+/// assert!(write!(string, "{one}-").is_ok());
+/// assert!(write!(string, "{one}{large}").is_err()); // the first piece fits
+/// assert_eq!(string.as_str(), "1-1");
+/// ```
 impl<const N: usize> fmt::Write for ArrayString<N> {
     ghost write_str_gives = { λ s given t. bytes t.text ≡ bytes s.text ++ given };
 

@@ -16,6 +16,14 @@ impl<const N: usize> ArrayString<N> {
     /// # Precondition
     ///
     /// See the module `array_string` for iterators.
+    ///
+    /// # Examples
+    ///
+    /// ```
+    /// let mut string = ArrayString::<4>::from("a");
+    /// string.extend_chars('b'..='z');
+    /// assert_eq!(string.as_str(), "abcd");
+    /// ```
     pub fn extend_chars<I: IntoIterator<Item = char> + Drop>(&mut self, characters: I)
         requires { IsFiniteIterable I.into_iter_gives I.IntoIter.can_next I.IntoIter.remaining characters }
         ensures taken { (taken : List ℕ) × Takes I.into_iter_gives I.IntoIter.next_gives (λ cs. cs) characters (cap N - size self.old.text) taken
@@ -31,6 +39,14 @@ impl<const N: usize> ArrayString<N> {
     /// # Precondition
     ///
     /// See the module `array_string` for iterators.
+    ///
+    /// # Examples
+    ///
+    /// ```
+    /// let mut string = ArrayString::<8>::from("one");
+    /// string.extend_strs([" two", " three"]);
+    /// assert_eq!(string.as_str(), "one two ");
+    /// ```
     pub fn extend_strs<'a, I: IntoIterator<Item = &'a str> + Drop>(&mut self, pieces: I)
         requires { IsFiniteIterable I.into_iter_gives I.IntoIter.can_next I.IntoIter.remaining pieces }
         ensures taken { (taken : List (Bor (List ℕ))) × Takes I.into_iter_gives I.IntoIter.next_gives joined_pieces pieces (cap N - size self.old.text) taken

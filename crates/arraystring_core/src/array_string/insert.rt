@@ -17,6 +17,17 @@ impl<const N: usize> ArrayString<N> {
     /// - `Err(Error::OutOfBounds)` if the index is past the text;
     /// - `Err(Error::OutOfBounds)` if `ch` does not fit;
     /// - `Err(Error::Utf8)` if the index is inside a character.
+    ///
+    /// # Examples
+    ///
+    /// ```
+    /// let mut string = ArrayString::<4>::from("é");
+    /// assert_eq!(string.try_insert(2, 'b'), Ok(()));
+    /// assert_eq!(string.as_str(), "éb");
+    /// assert_eq!(string.try_insert(9, 'c'), Err(Error::OutOfBounds)); // past the text
+    /// assert_eq!(string.try_insert(0, 'é'), Err(Error::OutOfBounds)); // one byte is left
+    /// assert_eq!(string.try_insert(1, 'c'), Err(Error::Utf8)); // inside `é`
+    /// ```
     pub fn try_insert(&mut self, index: u8, ch: char) -> Result<(), Error>
         ensures { Makes (insertion self.old.text index (ch ∷ []) (cap N)) self.old.text result self.new.text }
     {
@@ -55,6 +66,17 @@ impl<const N: usize> ArrayString<N> {
     /// - `Err(Error::OutOfBounds)` if the index is past the text;
     /// - `Err(Error::OutOfBounds)` if not all of `string` fits;
     /// - `Err(Error::Utf8)` if the index is inside a character.
+    ///
+    /// # Examples
+    ///
+    /// ```
+    /// let mut string = ArrayString::<8>::from("é-");
+    /// assert_eq!(string.try_insert_str(2, "abc"), Ok(()));
+    /// assert_eq!(string.as_str(), "éabc-");
+    /// assert_eq!(string.try_insert_str(9, "d"), Err(Error::OutOfBounds)); // past the text
+    /// assert_eq!(string.try_insert_str(0, "def"), Err(Error::OutOfBounds)); // two bytes are left
+    /// assert_eq!(string.try_insert_str(1, "d"), Err(Error::Utf8)); // inside `é`
+    /// ```
     pub fn try_insert_str(&mut self, index: u8, string: &str) -> Result<(), Error>
         ensures { Makes (insertion self.old.text index (chars string.now) (cap N)) self.old.text result self.new.text }
     {
@@ -72,6 +94,16 @@ impl<const N: usize> ArrayString<N> {
     /// # Precondition
     ///
     /// Both counts of `steps` must be at most 2^63.
+    ///
+    /// # Examples
+    ///
+    /// ```
+    /// let mut string = ArrayString::<8>::from("abcd");
+    /// let mut steps = Steps::new();
+    /// assert_eq!(string.try_insert_str_counted(3, "é", &mut steps), Ok(()));
+    /// assert_eq!(string.as_str(), "abcéd");
+    /// assert!((1..=4).contains(&steps.moved()));
+    /// ```
     pub fn try_insert_str_counted(
         &mut self,
         index: u8,
@@ -114,9 +146,11 @@ impl<const N: usize> ArrayString<N> {
     /// # Examples
     ///
     /// ```
-    /// let mut line = ArrayString::<4>::from_str_truncate("abc");
-    /// let cut = line.insert_str(1, "xyz"); // Ok(()), and the text is "axbc"
-    /// let past = line.insert_str(9, "z"); // Err(Error::OutOfBounds)
+    /// let mut string = ArrayString::<4>::from("aé");
+    /// assert_eq!(string.insert_str(1, "xyz"), Ok(())); // there is room for one byte
+    /// assert_eq!(string.as_str(), "axé");
+    /// assert_eq!(string.insert_str(9, "z"), Err(Error::OutOfBounds)); // past the text
+    /// assert_eq!(string.insert_str(3, "z"), Err(Error::Utf8)); // inside `é`
     /// ```
     pub fn insert_str(&mut self, index: u8, string: &str) -> Result<(), Error>
         ensures { Makes (insertion_of_cut self.old.text index (chars string.now) (cap N)) self.old.text result self.new.text }

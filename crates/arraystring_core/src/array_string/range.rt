@@ -27,6 +27,14 @@ impl<const N: usize> ArrayString<N> {
     /// - Both ends must be boundaries.
     ///
     /// If `has_bounds` holds, a `get` of the range that returned `Some` proves the rest.
+    ///
+    /// # Examples
+    ///
+    /// ```
+    /// let string = ArrayString::<8>::from("aéb");
+    /// assert_eq!(string.slice(1..3), "é");
+    /// assert_eq!(string.slice(..), "aéb");
+    /// ```
     pub fn slice<R: RangeBounds<u8> + Drop>(&self, range: R) -> &str
         requires known { R.has_bounds range }
         requires order { start_index (R.start_bound range) ≤ end_index (R.end_bound range) (size self.now.text) }
@@ -46,9 +54,10 @@ impl<const N: usize> ArrayString<N> {
     /// # Examples
     ///
     /// ```
-    /// let line = ArrayString::<4>::from_str_truncate("aéb");
-    /// let part = line.get(1..3); // Some("é")
-    /// let inside = line.get(..2); // None
+    /// let string = ArrayString::<8>::from("aéb");
+    /// assert_eq!(string.get(1..3), Some("é"));
+    /// assert_eq!(string.get(..2), None); // inside `é`
+    /// assert_eq!(string.get(2..9), None); // past the text
     /// ```
     pub fn get<R: RangeBounds<u8> + Drop>(&self, range: R) -> Option<&str>
         ensures { OfReturnedBounds R.has_bounds R.start_bound R.end_bound range (λ start end.
@@ -78,9 +87,11 @@ impl<const N: usize> ArrayString<N> {
     /// # Examples
     ///
     /// ```
-    /// let mut line = ArrayString::<5>::from_str_truncate("abcde");
-    /// let drained = line.drain(1..=2); // Ok of 'b' and 'c', and the text is "ade"
-    /// let past = line.drain(2..9); // Err(Error::OutOfBounds)
+    /// let mut string = ArrayString::<8>::from("abcdé");
+    /// let drained = string.drain(1..=2).map(|drained| drained.as_str() == "bc");
+    /// assert_eq!((drained, string.as_str()), (Ok(true), "adé"));
+    /// assert_eq!(string.drain(2..9), Err(Error::OutOfBounds)); // past the text
+    /// assert_eq!(string.drain(..3), Err(Error::Utf8)); // inside `é`
     /// ```
     #[inline(always)]
     pub fn drain<R: RangeBounds<u8> + Drop>(&mut self, range: R) -> Result<Drain<N>, Error>
@@ -107,6 +118,17 @@ impl<const N: usize> ArrayString<N> {
     /// # Precondition
     ///
     /// Both counts of `steps` must be at most 2^63.
+    ///
+    /// # Examples
+    ///
+    /// ```
+    /// let mut string = ArrayString::<8>::from("abcdef");
+    /// let mut steps = Steps::new();
+    /// assert!(string.drain_counted(..2, &mut steps).is_ok());
+    /// assert_eq!((string.as_str(), steps.moved()), ("cdef", 0)); // nothing moves at the start
+    /// assert!(string.drain_counted(1..2, &mut steps).is_ok());
+    /// assert!(string.as_str() == "cef" && (1..=2).contains(&steps.moved()));
+    /// ```
     #[inline(always)]
     pub fn drain_counted<R: RangeBounds<u8> + Drop>(
         &mut self,
@@ -148,9 +170,12 @@ impl<const N: usize> ArrayString<N> {
     /// # Examples
     ///
     /// ```
-    /// let mut line = ArrayString::<4>::from_str_truncate("abcd");
-    /// let replaced = line.replace_range(1..3, "é"); // Ok(()), and the text is "aéd"
-    /// let large = line.replace_range(.., "abcde"); // Err(Error::OutOfBounds)
+    /// let mut string = ArrayString::<8>::from("abcdé");
+    /// assert_eq!(string.replace_range(1..3, "éx"), Ok(()));
+    /// assert_eq!(string.as_str(), "aéxdé");
+    /// assert_eq!(string.replace_range(2..1, ""), Err(Error::OutOfBounds)); // end before start
+    /// assert_eq!(string.replace_range(..1, "abc"), Err(Error::OutOfBounds)); // nine bytes
+    /// assert_eq!(string.replace_range(2.., ""), Err(Error::Utf8)); // inside `é`
     /// ```
     pub fn replace_range<R: RangeBounds<u8> + Drop>(
         &mut self,
@@ -175,6 +200,15 @@ impl<const N: usize> ArrayString<N> {
     /// # Precondition
     ///
     /// Both counts of `steps` must be at most 2^63.
+    ///
+    /// # Examples
+    ///
+    /// ```
+    /// let mut string = ArrayString::<8>::from("abcd");
+    /// let mut steps = Steps::new();
+    /// assert_eq!(string.replace_range_counted(1..2, "x", &mut steps), Ok(()));
+    /// assert_eq!((string.as_str(), steps.moved()), ("axcd", 0)); // as long as what it replaces
+    /// ```
     pub fn replace_range_counted<R: RangeBounds<u8> + Drop>(
         &mut self,
         range: R,
@@ -205,6 +239,14 @@ impl<const N: usize> ArrayString<N> {
     /// - `has_bounds` must hold of the range.
     /// - The range must not end before it starts.
     /// - Both ends, read as in `slice`, must be boundaries.
+    ///
+    /// # Examples
+    ///
+    /// ```
+    /// let mut string = ArrayString::<8>::from("hello é");
+    /// string.make_ascii_uppercase_in(..1);
+    /// assert_eq!(string.as_str(), "Hello é");
+    /// ```
     pub fn make_ascii_uppercase_in<R: RangeBounds<u8> + Drop>(&mut self, range: R)
         requires known { R.has_bounds range }
         requires order { start_index (R.start_bound range) ≤ end_index (R.end_bound range) (size self.old.text) }
@@ -224,6 +266,14 @@ impl<const N: usize> ArrayString<N> {
     /// - `has_bounds` must hold of the range.
     /// - The range must not end before it starts.
     /// - Both ends, read as in `slice`, must be boundaries.
+    ///
+    /// # Examples
+    ///
+    /// ```
+    /// let mut string = ArrayString::<8>::from("HELLO É");
+    /// string.make_ascii_lowercase_in(1..);
+    /// assert_eq!(string.as_str(), "Hello É");
+    /// ```
     pub fn make_ascii_lowercase_in<R: RangeBounds<u8> + Drop>(&mut self, range: R)
         requires known { R.has_bounds range }
         requires order { start_index (R.start_bound range) ≤ end_index (R.end_bound range) (size self.old.text) }

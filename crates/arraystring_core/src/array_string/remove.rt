@@ -21,9 +21,12 @@ impl<const N: usize> ArrayString<N> {
     /// # Examples
     ///
     /// ```
-    /// let mut line = ArrayString::<4>::from_str_truncate("aé");
-    /// let inside = line.truncate(2); // Err(Utf8)
-    /// let past = line.truncate(9); // Ok(()), and the text is still "aé"
+    /// let mut string = ArrayString::<4>::from("aéb");
+    /// assert_eq!(string.truncate(9), Ok(())); // it has no more
+    /// assert_eq!(string.truncate(2), Err(Utf8)); // inside `é`
+    /// assert_eq!(string.as_str(), "aéb");
+    /// assert_eq!(string.truncate(1), Ok(()));
+    /// assert_eq!(string.as_str(), "a");
     /// ```
     pub fn truncate(&mut self, size: u8) -> Result<(), Utf8>
         ensures { Makes (truncation self.old.text size) self.old.text (from_utf8_error result) self.new.text }
@@ -46,6 +49,17 @@ impl<const N: usize> ArrayString<N> {
     ///
     /// - `Err(Error::OutOfBounds)` if the index is not below the length;
     /// - `Err(Error::Utf8)` if the index is inside a character.
+    ///
+    /// # Examples
+    ///
+    /// ```
+    /// let mut string = ArrayString::<8>::from("aéb");
+    /// assert_eq!(string.remove(0), Ok('a'));
+    /// assert_eq!(string.remove(1), Err(Error::Utf8)); // inside `é`
+    /// assert_eq!(string.remove(0), Ok('é'));
+    /// assert_eq!(string.as_str(), "b");
+    /// assert_eq!(string.remove(1), Err(Error::OutOfBounds)); // at the end
+    /// ```
     pub fn remove(&mut self, index: u8) -> Result<char, Error>
         ensures { Makes (removal self.old.text index) self.old.text result self.new.text }
     {
@@ -63,6 +77,15 @@ impl<const N: usize> ArrayString<N> {
     /// # Precondition
     ///
     /// Both counts of `steps` must be at most 2^63.
+    ///
+    /// # Examples
+    ///
+    /// ```
+    /// let mut string = ArrayString::<8>::from("abcd");
+    /// let mut steps = Steps::new();
+    /// assert_eq!(string.remove_counted(2, &mut steps), Ok('c'));
+    /// assert_eq!((string.as_str(), steps.moved()), ("abd", 1)); // `d` moved
+    /// ```
     pub fn remove_counted(&mut self, index: u8, steps: &mut Steps) -> Result<char, Error>
         requires looks { steps.old.looked ≤ 2 ^ 63 }
         requires moves { steps.old.moved ≤ 2 ^ 63 }
@@ -96,8 +119,9 @@ impl<const N: usize> ArrayString<N> {
     /// # Examples
     ///
     /// ```
-    /// let mut line = ArrayString::<5>::from_str_truncate("a-b-c");
-    /// line.retain(|ch| ch != '-'); // "abc"
+    /// let mut string = ArrayString::<8>::from("a-b-c");
+    /// string.retain(|ch| ch != '-');
+    /// assert_eq!(string.as_str(), "abc");
     /// ```
     pub fn retain<F: FnMut(char) -> bool + Drop>(&mut self, f: F)
         requires { IsCallableInTurn F.pre F.step f self.old.text }
@@ -108,6 +132,14 @@ impl<const N: usize> ArrayString<N> {
     }
 
     /// Removes all characters.
+    ///
+    /// # Examples
+    ///
+    /// ```
+    /// let mut string = ArrayString::<4>::from("abc");
+    /// string.clear();
+    /// assert!(string.is_empty());
+    /// ```
     pub fn clear(&mut self)
         ensures { Makes clearing self.old.text (Ok result) self.new.text }
     {
@@ -123,6 +155,16 @@ impl<const N: usize> ArrayString<N> {
     ///
     /// - `Err(Error::OutOfBounds)` if `at` is past the text;
     /// - `Err(Error::Utf8)` if `at` is inside a character.
+    ///
+    /// # Examples
+    ///
+    /// ```
+    /// let mut string = ArrayString::<8>::from("aéb");
+    /// assert_eq!(string.split_off(9), Err(Error::OutOfBounds)); // past the text
+    /// assert_eq!(string.split_off(2), Err(Error::Utf8)); // inside `é`
+    /// assert_eq!(string.split_off(3), Ok(ArrayString::from("b")));
+    /// assert_eq!(string.as_str(), "aé");
+    /// ```
     pub fn split_off(&mut self, at: u8) -> Result<Self, Error>
         ensures { Makes (split self.old.text at) self.old.text (with_text result) self.new.text }
     {

@@ -11,6 +11,14 @@ impl<const N: usize> ArrayString<N> {
     /// Removes all white space at both ends, and nothing else. As in `str::trim`, white space is
     /// what has the property White_Space of the Unicode Standard: the characters for which
     /// `char::is_whitespace` returns true.
+    ///
+    /// # Examples
+    ///
+    /// ```
+    /// let mut string = ArrayString::<8>::from("\t a b\u{3000}");
+    /// string.trim();
+    /// assert_eq!(string.as_str(), "a b");
+    /// ```
     pub fn trim(&mut self)
         ensures { Makes (trimming is_white_space self.old.text) self.old.text (Ok result) self.new.text }
     {
@@ -24,6 +32,16 @@ impl<const N: usize> ArrayString<N> {
     /// # Precondition
     ///
     /// Both counts of `steps` must be at most 2^63.
+    ///
+    /// # Examples
+    ///
+    /// ```
+    /// let mut string = ArrayString::<8>::from("  a ");
+    /// let mut steps = Steps::new();
+    /// string.trim_counted(&mut steps);
+    /// assert_eq!((string.as_str(), steps.moved()), ("a", 0));
+    /// assert!((2..=8).contains(&steps.looked())); // the space at the end, and `a`
+    /// ```
     pub fn trim_counted(&mut self, steps: &mut Steps)
         requires looks { steps.old.looked ≤ 2 ^ 63 }
         requires moves { steps.old.moved ≤ 2 ^ 63 }
@@ -38,6 +56,14 @@ impl<const N: usize> ArrayString<N> {
     }
 
     /// Removes all spaces (U+0020) at both ends, and nothing else.
+    ///
+    /// # Examples
+    ///
+    /// ```
+    /// let mut string = ArrayString::<8>::from("  \ta  ");
+    /// string.trim_spaces();
+    /// assert_eq!(string.as_str(), "\ta"); // a tab is no space
+    /// ```
     pub fn trim_spaces(&mut self)
         ensures { Makes (trimming is_space self.old.text) self.old.text (Ok result) self.new.text }
     {

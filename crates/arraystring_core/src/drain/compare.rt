@@ -13,6 +13,14 @@ use std::fmt;
 use std::hash::{Hash, Hasher};
 
 /// Two drains are equal if and only if the same characters are left.
+///
+/// # Examples
+///
+/// ```
+/// let mut drained = ArrayString::<4>::from("ab").drain(..).unwrap();
+/// drained.next();
+/// assert_eq!(Ok(drained), ArrayString::from("b").drain(..));
+/// ```
 impl<const N: usize> PartialEq for Drain<N> {
     ghost eq = { λ s t. pointwise nat_eq s.left t.left };
 
@@ -23,11 +31,29 @@ impl<const N: usize> PartialEq for Drain<N> {
     }
 }
 
+/// Each drain is equal to itself, and so to a copy of it.
+///
+/// # Examples
+///
+/// ```
+/// let drained = ArrayString::<4>::from("ab").drain(..).unwrap();
+/// let mut copy = drained;
+/// assert_eq!(copy, drained);
+/// copy.next();
+/// assert_ne!(copy, drained);
+/// ```
 impl<const N: usize> Eq for Drain<N> {
     ghost laws = { on_equiv (λ s. s.left) nat_list_eq_equiv };
 }
 
 /// Always `Some` of what `cmp` returns.
+///
+/// # Examples
+///
+/// ```
+/// let [first, second] = ["ab", "b"].map(|text| ArrayString::<4>::from(text).drain(..).unwrap());
+/// assert!(first < second);
+/// ```
 impl<const N: usize> PartialOrd for Drain<N> {
     ghost partial_cmp = { λ s t. Some (slice_cmp nat_cmp s.left t.left) };
 
@@ -39,6 +65,14 @@ impl<const N: usize> PartialOrd for Drain<N> {
     }
 }
 
+/// Drains are ordered by the characters that are left.
+///
+/// # Examples
+///
+/// ```
+/// let [first, second] = ["é", "z"].map(|text| ArrayString::<4>::from(text).drain(..).unwrap());
+/// assert!(first > second);
+/// ```
 impl<const N: usize> Ord for Drain<N> {
     ghost cmp = { λ s t. slice_cmp nat_cmp s.left t.left };
 
@@ -61,6 +95,15 @@ impl<const N: usize> Ord for Drain<N> {
 }
 
 /// Hashes as the `&str` of what is left does.
+///
+/// # Examples
+///
+/// ```
+/// use std::collections::HashSet;
+///
+/// let drained = ["a", "b", "a"].map(|text| ArrayString::<4>::from(text).drain(..).unwrap());
+/// assert_eq!(HashSet::from(drained).len(), 2);
+/// ```
 impl<const N: usize> Hash for Drain<N> {
     ghost hash_input = { λ s. fed.str (bytes s.left) };
 
@@ -72,6 +115,14 @@ impl<const N: usize> Hash for Drain<N> {
 }
 
 /// `Drain("bc")` if `bc` is left.
+///
+/// # Examples
+///
+/// ```
+/// let mut drained = ArrayString::<4>::from("abc").drain(..).unwrap();
+/// drained.next();
+/// assert_eq!(format!("{drained:?}"), r#"Drain("bc")"#);
+/// ```
 impl<const N: usize> fmt::Debug for Drain<N> {
     fn fmt<W: fmt::Write>(&self, f: &mut fmt::Formatter<W>) -> fmt::Result {
         f.debug_tuple("Drain").field(&self.as_str()).finish()
