@@ -13,8 +13,6 @@ Two more things are compared:
 - a block after a line that ends in "Printed by `tools/run COMMAND`:" is what that prints;
 - a table below a heading with the path of a file of specs/ has as its second column the lines of the definitions that the
   first one names.
-
-The examples in doc comments are compared too: their lines stand in EXAMPLES, where tests run them, one after the other.
 """
 import re
 import subprocess
@@ -23,7 +21,6 @@ import pages
 from repository import read
 
 PAGES = ["README.md", "docs/definitions.md", "crates/arraystring/CALLING.md", "crates/bounded_records/CALLING.md"]
-EXAMPLES = "crates/arraystring_tests/src/examples.rt"
 DEFINITION = r"\s*(?:(?:abbrev|unfoldable)(?: pub)?|(?:pub )?(?:data|record)) {}\s"
 
 
@@ -110,22 +107,9 @@ def faults_of_blocks(root, page, text):
     return faults, compared
 
 
-def faults_of_examples(root):
-    """The examples in doc comments that no test runs, and how many there are."""
-    faults, compared = [], 0
-    tested = read(root / EXAMPLES) if (root / EXAMPLES).exists() else ""
-    for source in sorted(root.glob("crates/*/src/**/*.rt")):
-        for block in re.findall(r"(?m)^ *///? ```\n((?: *///.*\n)+?) *///? ```$", read(source)):
-            lines = [re.sub(r"^ */// ?", "    ", line) for line in block.rstrip("\n").split("\n")]
-            compared += 1
-            if not is_quoted(lines, tested):
-                faults.append(f"{source.relative_to(root)}: {EXAMPLES} does not have these lines: {lines[0].strip()} ..")
-    return faults, compared
-
-
 def main(arguments, root):
     is_writing = arguments[:1] == ["--write"]
-    faults, compared = faults_of_examples(root)
+    faults, compared = [], 0
     for page in arguments[is_writing:] or PAGES:
         text = read(root / page)
         now = with_lines(root, with_printed(root, text), faults)

@@ -36,8 +36,6 @@ fn add(&mut self) -> u8
 }
 """
 WORDS = "-- words\n\n-- a text is short\nabbrev pub IsShort : Text → Type 0\nIsShort t = length t < 3\n"
-EXAMPLE = "/// Adds one.\n///\n/// ```\n/// assert_eq!(one(), 1);\n/// ```\npub fn one() {}\n"
-TESTED = "fn examples() {\n    assert_eq!(one(), 1);\n}\n"
 
 
 class Quotes(TreeTest):
@@ -45,15 +43,13 @@ class Quotes(TreeTest):
         "page.md": PAGE,
         "src/greet.rt": SOURCE,
         "crates/base/specs/Words.antt": WORDS,
-        "crates/base/src/lib.rt": EXAMPLE,
-        quotes.EXAMPLES: TESTED,
     }
 
     def assert_told(self, wanted):
         self.assert_fails(wanted, quotes, "page.md")
 
     def test_what_is_as_in_the_files_passes(self):
-        self.assertIn("3 blocks are as in the files", self.assert_passes(quotes, "page.md"))
+        self.assertIn("2 blocks are as in the files", self.assert_passes(quotes, "page.md"))
 
     def test_a_line_that_the_file_lacks_is_told(self):
         self.replace("src/greet.rt", "    hello()", "    good_day()")
@@ -84,11 +80,6 @@ class Quotes(TreeTest):
         self.assert_passes(quotes, "--write", "page.md")
         self.assert_passes(quotes, "page.md")
 
-    def test_an_example_is_run_by_a_test(self):
-        self.replace(quotes.EXAMPLES, "    assert_eq!(one(), 1);", "    assert_eq!(one(), 2);")
-        self.assert_told(f"{quotes.EXAMPLES} does not have these lines: assert_eq!(one(), 1);")
-
     def test_a_page_without_a_quote_is_told(self):
-        self.write("crates/base/src/lib.rt", "")
         self.write("page.md", "nothing\n")
         self.assert_told("0 blocks")

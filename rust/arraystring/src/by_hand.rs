@@ -3,27 +3,17 @@
 //!
 //! - `compare`: `==`, `<` and `+=` with a `str`, and `owned`, behind the feature `alloc`, the traits that name `String`.
 //! - `convert`: the traits of the Rust crate that the language of the sources can't have.
+//! - `contracts`: a page on how to read one.
 //! - `known!`: tells rustc a clause that is proved; and `look`, which is told that it looks at a byte that is there.
-//! - `read`: the room that is left, and what Rust prints, hashes and makes by default of small values.
+//! - `read`: what Rust prints, hashes and makes by default of small values.
+//! - `room`, a module of the string: the room that is left.
 //! - `simd`: the vectors of the sources, as arrays and words.
 //!
 //! `count_tests` are the tests of `steps` that set its counts.
 #![deny(unsafe_code)]
 
-/// Tells rustc a clause that is proved of each call, as `known!(source: from + len <= N)`. With debug assertions, or with the
-/// feature `checked`, it is tested instead.
-macro_rules! known {
-    ($clause:ident: $fact:expr) => {
-        if cfg!(any(debug_assertions, feature = "checked")) {
-            assert!($fact, concat!("the clause `", stringify!($clause), "` does not hold"));
-        } else {
-            // SAFETY: the clause is proved: an `unsafe fn` is called where it holds, and an invariant holds of each value.
-            unsafe { core::hint::assert_unchecked($fact) };
-        }
-    };
-}
-
 mod compare;
+pub mod contracts;
 mod convert;
 #[cfg(feature = "alloc")]
 mod owned;

@@ -1,73 +1,8 @@
-//! The examples of the documentation, line for line, and what they give. `cargo test` also runs each as it stands, but nothing
-//! there tells whether the comments behind the lines are right.
+//! What the reference has to show, read off the sources of this crate: `cargo test` runs each example, but nothing there tells
+//! that an item has none.
 
 use std::fs;
 use std::path::Path;
-
-use arraystring::error::{Utf8, Utf16};
-use arraystring::{ArrayString, Error};
-
-#[test]
-fn push_str() {
-    let mut line = ArrayString::<4>::from_str_truncate("abc");
-    line.push_str("dé"); // "abcd", since `é` takes two bytes
-    assert_eq!(line, "abcd");
-}
-
-#[test]
-fn insert_str() {
-    let mut line = ArrayString::<4>::from_str_truncate("abc");
-    let cut = line.insert_str(1, "xyz"); // Ok(()), and the text is "axbc"
-    let past = line.insert_str(9, "z"); // Err(Error::OutOfBounds)
-    assert_eq!((cut, past, line.as_str()), (Ok(()), Err(Error::OutOfBounds), "axbc"));
-}
-
-#[test]
-fn truncate() {
-    let mut line = ArrayString::<4>::from_str_truncate("aé");
-    let inside = line.truncate(2); // Err(Utf8)
-    let past = line.truncate(9); // Ok(()), and the text is still "aé"
-    assert_eq!((inside, past, line.as_str()), (Err(Utf8), Ok(()), "aé"));
-}
-
-#[test]
-fn get() {
-    let line = ArrayString::<4>::from_str_truncate("aéb");
-    let part = line.get(1..3); // Some("é")
-    let inside = line.get(..2); // None
-    assert_eq!((part, inside), (Some("é"), None));
-}
-
-#[test]
-fn drain() {
-    let mut line = ArrayString::<5>::from_str_truncate("abcde");
-    let drained = line.drain(1..=2); // Ok of 'b' and 'c', and the text is "ade"
-    let past = line.drain(2..9); // Err(Error::OutOfBounds)
-    assert_eq!(drained.map(|drained| drained.collect::<Vec<_>>()), Ok(vec!['b', 'c']));
-    assert_eq!((past, line.as_str()), (Err(Error::OutOfBounds), "ade"));
-}
-
-#[test]
-fn replace_range() {
-    let mut line = ArrayString::<4>::from_str_truncate("abcd");
-    let replaced = line.replace_range(1..3, "é"); // Ok(()), and the text is "aéd"
-    let large = line.replace_range(.., "abcde"); // Err(Error::OutOfBounds)
-    assert_eq!((replaced, large, line.as_str()), (Ok(()), Err(Error::OutOfBounds), "aéd"));
-}
-
-#[test]
-fn from_utf16() {
-    let cut = ArrayString::<4>::from_utf16(&[0x61, 0xD83E, 0xDD14]); // Ok of "a"
-    let lone = ArrayString::<4>::from_utf16(&[0x61, 0xD83E]); // Err(Utf16)
-    assert_eq!((cut, lone), (Ok(ArrayString::from("a")), Err(Utf16)));
-}
-
-#[test]
-fn retain() {
-    let mut line = ArrayString::<5>::from_str_truncate("a-b-c");
-    line.retain(|ch| ch != '-'); // "abc"
-    assert_eq!(line, "abc");
-}
 
 /// The files below a folder.
 fn files(folder: &Path) -> Vec<(String, String)> {
@@ -85,20 +20,124 @@ fn files(folder: &Path) -> Vec<(String, String)> {
     found
 }
 
-#[test]
-fn each_example_is_above() {
-    let here = fs::read_to_string("tests/examples.rs").expect("this file");
-    let mut count = 0;
+/// An item: its head, its documentation line by line, and whether the reference hides it.
+struct Item {
+    file: String,
+    head: String,
+    docs: Vec<String>,
+    is_hidden: bool,
+}
+
+impl Item {
+    /// Whether an example of it asserts.
+    fn asserts(&self) -> bool {
+        let mut opened = None;
+        self.docs.iter().any(|line| {
+            if line.starts_with("```") {
+                opened = if opened.is_none() { Some(line.as_str()) } else { None };
+            }
+            opened == Some("```") && line.contains("assert")
+        })
+    }
+
+    /// Whether the reference shows it: a type, a call of a type, an impl of a trait, or a function that the root names.
+    fn is_shown(&self, root: &[&str]) -> bool {
+        let words: Vec<_> = self.head.split_whitespace().filter(|word| !["const", "unsafe"].contains(word)).collect();
+        let is_method = self.head.starts_with(' ');
+        match words[..] {
+            _ if self.is_hidden => false,
+            ["pub", "fn", name, ..] => is_method || root.contains(&name.split(['(', '<']).next().unwrap_or(name)),
+            ["pub", "struct" | "enum" | "type", ..] => true,
+            [first, ..] => first.starts_with("impl") && self.head.contains(" for "),
+            [] => false,
+        }
+    }
+}
+
+/// The items of all sources.
+fn items() -> Vec<Item> {
+    let mut items = Vec::new();
     for (file, text) in files(Path::new("src")) {
-        let lines: Vec<_> = text.lines().map(|line| line.trim().trim_start_matches("///").trim_start()).collect();
-        for example in lines.join("\n").split("```\n# use arraystring::ArrayString;\n").skip(1) {
-            let (example, _) = example.split_once("\n```").expect("the end of an example");
-            let indented = format!("    {}\n", example.replace('\n', "\n    "));
-            assert!(here.contains(&indented), "tests/examples.rs does not have this example of {file}:\n{example}");
+        let (mut docs, mut is_hidden) = (Vec::new(), false);
+        for line in text.lines() {
+            match line.trim_start().strip_prefix("///") {
+                Some(words) => docs.push(words.strip_prefix(' ').unwrap_or(words).to_string()),
+                None if line.trim_start().starts_with("#[") => is_hidden |= line.contains("doc(hidden)"),
+                None => {
+                    let (file, head) = (file.clone(), line.to_string());
+                    items.push(Item { file, head, docs: std::mem::take(&mut docs), is_hidden });
+                    is_hidden = false;
+                }
+            }
+        }
+    }
+    items
+}
+
+#[test]
+fn each_item_has_an_example_that_asserts() {
+    let root = fs::read_to_string("src/lib.rs").expect("the root");
+    let root: Vec<_> = root.split(|ch: char| !ch.is_alphanumeric() && ch != '_').collect();
+    let shown: Vec<_> = items().into_iter().filter(|item| item.is_shown(&root)).collect();
+    let without: Vec<_> = shown.iter().filter(|item| !item.asserts()).collect();
+    let told: Vec<_> = without.iter().map(|item| format!("{}: {}", item.file, item.head.trim())).collect();
+    assert!(told.is_empty(), "without an example that asserts:\n{}", told.join("\n"));
+    for head in ["pub const fn new() -> Self {", "impl fmt::Debug for Steps {", "pub fn look(bytes: &[u8]"] {
+        assert!(shown.iter().any(|item| item.head.contains(head)), "`{head}` was not read");
+    }
+}
+
+#[test]
+fn what_became_of_a_precondition_replaces_it() {
+    for item in items() {
+        let heads = |title: &str| item.docs.iter().filter(|line| line.strip_prefix("# ") == Some(title)).count();
+        assert_eq!(heads("Precondition"), 0, "{}: {}", item.file, item.head);
+        let fates = heads("Safety") + heads("Panics") + heads("In Rust");
+        assert!(fates <= 1, "{}: {}", item.file, item.head);
+    }
+}
+
+/// The lines of documentation.
+fn documentation() -> Vec<(String, String)> {
+    let mut lines = Vec::new();
+    let readme = ("README.md".to_string(), fs::read_to_string("README.md").expect("a text"));
+    for (file, text) in files(Path::new("src")).into_iter().chain([readme]) {
+        let is_page = file.ends_with(".md");
+        let is_shown = |line: &&str| is_page || ["///", "//!"].iter().any(|sign| line.trim_start().starts_with(sign));
+        lines.extend(text.lines().filter(is_shown).map(|line| (file.clone(), line.to_string())));
+    }
+    lines
+}
+
+#[test]
+fn no_word_of_the_proofs_is_shown() {
+    for (file, line) in documentation() {
+        let mut words = line.split(|ch: char| !ch.is_alphanumeric() && ch != '_');
+        assert!(!words.any(|word| ["ghost", "Model"].contains(&word)), "{file}: {line}");
+        assert!(!line.contains("precondition of its `next`"), "{file}: {line}");
+    }
+}
+
+#[test]
+fn each_contract_is_folded_and_says_how_to_read_it() {
+    let mut count = 0;
+    for item in items() {
+        for (at, _) in item.docs.iter().enumerate().filter(|(_, line)| line.as_str() == "```text") {
+            let end = at + item.docs[at..].iter().position(|line| line == "```").expect("the end of a contract");
+            assert_eq!(item.docs[at - 2], "<details><summary>Contract</summary>", "{}: {}", item.file, item.head);
+            let below = ["", "[How to read a contract](crate::contracts)", "", "</details>"];
+            assert_eq!(item.docs[end + 1..end + 5], below, "{}: {}", item.file, item.head);
             count += 1;
         }
     }
-    assert!(count >= 8, "{count} examples");
+    assert!(count >= 100, "{count} contracts");
+}
+
+#[test]
+fn no_link_leaves_the_crate() {
+    for (file, line) in documentation() {
+        assert!(!line.contains("](../") && !line.contains("](docs/"), "{file}: {line}");
+    }
 }
 
 #[test]
@@ -106,12 +145,12 @@ fn each_unsafe_block_has_its_reason() {
     for (file, text) in files(Path::new("src")) {
         let lines: Vec<_> = text.lines().collect();
         for (at, line) in lines.iter().enumerate().filter(|(_, line)| line.contains("unsafe {")) {
-            assert!(at > 0 && lines[at - 1].trim().starts_with("// SAFETY: "), "{file}: {line}");
+            let before = at.checked_sub(1).map_or("", |before| lines[before]);
+            let before = before.trim().trim_start_matches("/// ");
+            assert!(before.starts_with("// SAFETY: "), "{file}: {line}");
         }
-        for (at, line) in lines.iter().enumerate().filter(|(_, line)| line.contains("unsafe fn ")) {
-            let docs =
-                lines[..at].iter().rev().take_while(|line| line.trim().starts_with(['/', '#'])).collect::<Vec<_>>();
-            assert!(docs.iter().any(|line| line.trim() == "/// # Safety"), "{file}: {line}");
-        }
+    }
+    for item in items().iter().filter(|item| item.head.contains("unsafe fn ")) {
+        assert!(item.docs.iter().any(|line| line == "# Safety"), "{}: {}", item.file, item.head);
     }
 }

@@ -1,6 +1,6 @@
 //! The contracts of all functions, which are read before any file is made.
 
-use std::collections::BTreeMap;
+use std::collections::{BTreeMap, BTreeSet};
 
 use crate::rules::{FATES, Fate, GIVEN_UP};
 
@@ -46,6 +46,8 @@ pub struct Contracts {
     invariants: BTreeMap<String, String>,
     /// The definitions by which invariants are read, by their name.
     definitions: BTreeMap<String, String>,
+    /// The public ones.
+    public: BTreeSet<String>,
     /// Whether all functions were read.
     pub is_whole: bool,
 }
@@ -61,6 +63,16 @@ impl Contracts {
         }
     }
 
+    /// Notes that a function is public.
+    pub fn note_public(&mut self, call: &str) {
+        self.public.insert(call.to_string());
+    }
+
+    /// Whether a function is public.
+    pub fn is_public(&self, call: &str) -> bool {
+        self.public.contains(call)
+    }
+
     /// Whether a function is `unsafe` in Rust.
     pub fn is_unsafe(&self, call: &str) -> bool {
         self.requires.contains_key(call)
@@ -71,9 +83,9 @@ impl Contracts {
         self.declared.insert(name.to_string(), declaration.to_string());
     }
 
-    /// Notes the invariant of a type, given by the member of its model: `ghost invariant = { .. };`.
+    /// Notes the invariant of a type, given by the member of its model: `invariant = { .. };`.
     pub fn note_invariant(&mut self, owner: &str, member: &str) {
-        let text = member.strip_prefix("ghost invariant = {").and_then(|rest| rest.strip_suffix("};"));
+        let text = member.strip_prefix("invariant = {").and_then(|rest| rest.strip_suffix("};"));
         self.invariants.extend(text.map(|text| (owner.to_string(), text.trim().to_string())));
     }
 

@@ -6,6 +6,7 @@ use crate::contracts::Contracts;
 use crate::cursor::{Cursor, Fault};
 use crate::edits::tidied;
 use crate::items::File;
+use crate::pages::ordered;
 use crate::rules::{BY_STD, REPLACED, TESTED};
 
 /// A source that is erased.
@@ -54,6 +55,7 @@ pub fn erase(source: &Source, tally: &mut Tally) -> Result<Erased, Fault> {
     let File { edits, modules, dropped, .. } = File::read(source, &text, tally)?;
     let head = format!("// Made from crates/{} by rust/erase. A change goes there.\n", source.path);
     let made = by_std(source, head + &tidied(&edits.apply(&text)), tally)? + &tested(source, tally);
+    let made = ordered(source, made, tally)?;
     no_proof_is_left(&made)?;
     Ok(Erased { text: made, modules, dropped })
 }
@@ -82,7 +84,7 @@ fn by_std(source: &Source, made: String, tally: &mut Tally) -> Result<String, Fa
     let Some(rule) = BY_STD.iter().find(|rule| rule.file == source.path) else { return Ok(made) };
     let missing = || Fault::new(0, format!("the function `{}` with its contract is not there", rule.function));
     let signature = made.find(&format!("pub(crate) fn {}", rule.function)).ok_or_else(missing)?;
-    let contract = made[..signature].rfind("/// # Contract").ok_or_else(missing)?;
+    let contract = made[..signature].rfind("/// <details>").ok_or_else(missing)?;
     let body = signature + made[signature..].find(" {\n").ok_or_else(missing)?;
     let head = made.lines().next().unwrap_or_default();
     tally.used.insert(format!("by std {}", rule.file));

@@ -7,9 +7,10 @@ use std::path::{Path, PathBuf};
 use std::process::{Command, Stdio};
 
 use crate::erase::{Source, Tally, erase, line_of};
+use crate::pages::laws;
 use crate::rules::{
     ADDED, AGAIN, BODIES, BY_HAND, BY_STD, CONSTANT, CRATES, DEFINITIONS, FATES, INSIDE, INVARIANTS, KNOWN, LEFT_OUT,
-    REPLACED, TESTED, WIDER,
+    MORE, ORDER, REPLACED, TESTED, WIDER,
 };
 
 /// Each file of the Rust crate that is made, by its path in `src`.
@@ -20,8 +21,9 @@ pub fn made(crates: &Path) -> Result<(Made, Tally), String> {
     // Read twice: a call is `unsafe` by the contract of what it calls, which may come later.
     let (_, mut read) = read_all(crates, Tally::default())?;
     read.contracts.is_whole = true;
-    let (made, tally) = read_all(crates, Tally { contracts: read.contracts, ..Tally::default() })?;
+    let (mut made, tally) = read_all(crates, Tally { contracts: read.contracts, ..Tally::default() })?;
     all_used(&tally)?;
+    laws(&mut made)?;
     Ok((made, tally))
 }
 
@@ -78,6 +80,8 @@ pub fn all_used(tally: &Tally) -> Result<(), String> {
     let names = names.chain(BODIES.iter().map(|rule| format!("body {}", rule.call)));
     let names = names.chain(CONSTANT.iter().map(|call| format!("constant {call}")));
     let names = names.chain(ADDED.iter().map(|rule| format!("added {}", rule.head)));
+    let names = names.chain(ORDER.iter().map(|rule| format!("order {}", rule.file)));
+    let names = names.chain(MORE.iter().map(|rule| format!("more {}", rule.of)));
     let names = names.chain(INSIDE.iter().map(|rule| format!("inside {}", rule.call)));
     let names = names.chain(INVARIANTS.iter().map(|call| format!("invariant {call}")));
     let names = names.chain(TESTED.iter().map(|rule| format!("tests {}", rule.path)));

@@ -12,6 +12,7 @@ use crate::rules::{
     AGAIN, BEHIND, BODIES, CONSTANT, FATES, Fate, INSIDE, INVARIANTS, KNOWN, LEFT_OUT, PRIVATE, PROVED, WALK, WIDER,
     Why,
 };
+use crate::sections::{example, section};
 
 /// A function as it was read.
 struct Function {
@@ -53,6 +54,12 @@ impl<'a> File<'a, '_> {
         }
         let head = &self.text[function.head.clone()];
         self.tally.contracts.note(&function.call, head, &function.preconditions, &function.postconditions);
+        if is_public {
+            self.tally.contracts.note_public(&function.call);
+        }
+        if is_public || inside.of_trait {
+            self.linked(lead, name);
+        }
         self.by_hand(&function)?;
         self.head(function.head.clone());
         self.wider(&function)?;
@@ -153,7 +160,7 @@ impl<'a> File<'a, '_> {
             Some(Fate::Safe(_)) if rests => {
                 format!("`{call}` has a precondition on which something rests, and is to be safe")
             }
-            Some(Fate::Unsafe(_)) if !rests => format!("`{call}` has no precondition on which something rests"),
+            Some(Fate::Unsafe(..)) if !rests => format!("`{call}` has no precondition on which something rests"),
             Some(fate) if function.is_public && has_precondition => {
                 self.fate(function, fate, lead)?;
                 return Ok(true);
@@ -162,9 +169,12 @@ impl<'a> File<'a, '_> {
                 if rests {
                     self.tally.count("private functions that are `unsafe` in Rust");
                     self.edits.replace(function.head.start..function.head.start + "fn".len(), "unsafe fn");
-                    self.words(lead.docs_end, "Safety", PRIVATE, lead.has_docs);
+                    self.in_its_place(lead, section(&self.indent(lead.docs_end), "Safety", PRIVATE));
                 }
-                return Ok(rests);
+                return match lead.precondition {
+                    Some(_) if !rests => Err(Fault::new(lead.start, format!("`{call}` has no precondition in Rust"))),
+                    _ => Ok(rests),
+                };
             }
             Some(_) => format!("`{call}` is in the list of calls with a precondition, and has none"),
             None => format!("`{call}` has a precondition and is in no list of src/rules.rs"),
@@ -300,7 +310,7 @@ impl<'a> File<'a, '_> {
             return Err(Fault::new(at.start, "a clause that is not on a line of its own"));
         }
         let text = self.dedented(at);
-        self.section(lead.docs_end, "Contract", &text, lead.has_docs || has_words);
+        self.folded(lead.docs_end, &text, lead.has_docs || has_words);
         // The bracket of the body, which stands on a line of its own behind clauses, ends the signature.
         self.edits.replace(function.head.end..function.body - 1, " ");
         Ok(())
@@ -308,6 +318,9 @@ impl<'a> File<'a, '_> {
 
     /// Says to rustc that a body may be inlined, or that a law needs no body.
     fn hint(&mut self, function: &Function, lead: &Lead) {
+        if function.is_public && self.source.path.ends_with("/laws.rt") {
+            self.edits.insert(lead.docs_end, "#[doc(hidden)]\n");
+        }
         let is_law = function.tokens.is_empty();
         let hint = match is_law {
             true if self.text[function.head.clone()].contains("()") => return,
@@ -322,25 +335,27 @@ impl<'a> File<'a, '_> {
     /// Does what is to become of a public call with a precondition.
     fn fate(&mut self, function: &Function, fate: &Fate, lead: &Lead) -> Result<(), Fault> {
         self.tally.used.insert(function.call.clone());
-        let (title, words) = match fate {
-            Fate::Unsafe(words) => {
+        let indent = self.indent(lead.docs_end);
+        let put = match fate {
+            Fate::Unsafe(words, lines) => {
                 self.edits.replace(function.head.start..function.head.start + "fn".len(), "unsafe fn");
                 self.tally.count("calls that are `unsafe` in Rust");
-                ("Safety", *words)
+                let more = if lines.is_empty() { String::new() } else { example(&indent, lines) };
+                section(&indent, "Safety", words) + &more
             }
             Fate::Panics(words, line) => {
                 if let Some(line) = line {
                     self.put_behind(BEHIND, line, function.body..function.end)?;
                 }
                 self.tally.count("calls that panic in Rust");
-                ("Panics", *words)
+                section(&indent, "Panics", words)
             }
             Fate::Safe(words) => {
                 self.tally.count("calls whose precondition Rust does not need");
-                ("In Rust", *words)
+                section(&indent, "In Rust", words)
             }
         };
-        self.words(lead.docs_end, title, words, lead.has_docs);
+        self.in_its_place(lead, put);
         Ok(())
     }
 

@@ -1,13 +1,13 @@
 //! The walk over the items of a file.
 
-use std::collections::BTreeMap;
 use std::ops::Range;
 
 use crate::body;
 use crate::cursor::{Cursor, Fault, Kind, Token};
 use crate::edits::Edits;
 use crate::erase::{Source, Tally};
-use crate::rules::{ADDED, LEFT_OUT, PROOFS_ALONE};
+use crate::rules::{ADDED, LEFT_OUT, MORE, PROOFS_ALONE};
+use crate::sections::documented;
 
 /// Where items are read.
 pub struct Inside<'a> {
@@ -25,6 +25,9 @@ pub struct Lead {
     /// Where a section of its documentation goes.
     pub docs_end: usize,
     pub has_docs: bool,
+    pub docs: Vec<Token>,
+    /// Where the section on a precondition is, if there is one.
+    pub precondition: Option<Range<usize>>,
     is_test: bool,
     /// Whether an attribute says where it is inlined.
     pub is_inlined: bool,
@@ -36,8 +39,6 @@ pub struct File<'a, 't> {
     pub text: &'a str,
     pub edits: Edits,
     pub tally: &'t mut Tally,
-    /// Where the documentation of each type ends, and whether there is one.
-    types: BTreeMap<String, (usize, bool)>,
     /// The modules that have a file of their own.
     pub modules: Vec<String>,
     /// Those that were dropped.
@@ -47,8 +48,8 @@ pub struct File<'a, 't> {
 impl<'a, 't> File<'a, 't> {
     /// Reads a whole file.
     pub fn read(source: &'a Source<'a>, text: &'a str, tally: &'t mut Tally) -> Result<Self, Fault> {
-        let (edits, types, modules, dropped) = Default::default();
-        let mut file = File { source, text, edits, tally, types, modules, dropped };
+        let (edits, modules, dropped) = Default::default();
+        let mut file = File { source, text, edits, tally, modules, dropped };
         let name = source.path.rsplit('/').next().unwrap_or(source.path);
         let owner = name.strip_suffix(".rt").unwrap_or(name);
         file.items(&mut Cursor::new(text), &Inside { owner, of_trait: false, is_block: false })?;
@@ -83,7 +84,8 @@ impl<'a, 't> File<'a, 't> {
 
     /// Reads comments and attributes, and the first token after them.
     fn lead(&mut self, cursor: &mut Cursor<'a>) -> Result<(Lead, Option<Token>), Fault> {
-        let mut lead = Lead { start: usize::MAX, docs_end: 0, has_docs: false, is_test: false, is_inlined: false };
+        let (docs_end, has_docs, docs, precondition, is_test, is_inlined) = Default::default();
+        let mut lead = Lead { start: usize::MAX, docs_end, has_docs, docs, precondition, is_test, is_inlined };
         loop {
             let Some(token) = cursor.next()? else { return Ok((lead, None)) };
             let line = self.line_start(token.at.start);
@@ -93,10 +95,10 @@ impl<'a, 't> File<'a, 't> {
             }
             lead.start = lead.start.min(line);
             match (token.kind, cursor.text(&token)) {
-                (Kind::Doc, doc) => {
+                (Kind::Doc, _) => {
                     lead.has_docs = true;
                     lead.docs_end = token.at.end + 1;
-                    self.example(doc, &token);
+                    lead.docs.push(token);
                 }
                 (Kind::Comment, _) => {}
                 (_, "#") => {
@@ -111,6 +113,7 @@ impl<'a, 't> File<'a, 't> {
                     if lead.docs_end == 0 {
                         lead.docs_end = line;
                     }
+                    lead.precondition = self.documentation(&lead.docs)?;
                     return Ok((lead, Some(token)));
                 }
             }
@@ -183,7 +186,7 @@ impl<'a, 't> File<'a, 't> {
         Ok(if is_use { cursor.at..cursor.at } else { word.at.start..cursor.at })
     }
 
-    /// Reads an impl. That of `Model` goes, and its members are told in the documentation of its type.
+    /// Reads an impl. That of `Model` goes.
     fn implementation(&mut self, cursor: &mut Cursor<'a>, lead: &Lead, word: &Token) -> Result<(), Fault> {
         let head = self.up_to(cursor, word.at.start, &["{"])?;
         let header = &self.text[head.clone()];
@@ -197,20 +200,19 @@ impl<'a, 't> File<'a, 't> {
             self.head(head.clone());
         }
         let inside = Inside { owner: &owner, of_trait: !of.is_empty(), is_block: true };
-        let start = cursor.at;
         let ghosts = self.items(cursor, &inside)?;
         self.added(&head, self.line_start(cursor.at));
-        let members: Vec<_> = ghosts.iter().filter(|at| !at.is_empty()).map(|at| self.dedented(at.clone())).collect();
+        let members = ghosts.iter().filter(|at| !at.is_empty()).map(|at| self.dedented(at.clone()));
+        let members: Vec<_> = members.map(|member| member.trim_start_matches("ghost ").to_string()).collect();
         if is_model {
             members.iter().for_each(|member| self.tally.contracts.note_invariant(&owner, member));
-            let Some(&(docs_end, true)) = self.types.get(&owner) else {
-                return Err(Fault::new(start, format!("a model of `{owner}`, which is not documented above it")));
-            };
             self.edits.replace(self.lines(lead.start..cursor.at), "");
-            self.section(docs_end, "Model", &members.join("\n"), true);
             self.tally.count("models");
-        } else if !members.is_empty() {
-            self.section(lead.docs_end, "Contract", &members.join("\n"), lead.has_docs);
+            return Ok(());
+        }
+        self.linked(lead, "");
+        if !members.is_empty() {
+            self.folded(lead.docs_end, &members.join("\n"), lead.has_docs);
         }
         Ok(())
     }
@@ -222,6 +224,15 @@ impl<'a, 't> File<'a, 't> {
             self.edits.insert(end, format!("{lines}\n"));
             self.tally.count("functions beyond the source");
             self.tally.used.insert(format!("added {}", rule.head));
+        }
+    }
+
+    /// Adds what the documentation of a type has beyond its source.
+    fn more(&mut self, name: &str, lead: &Lead) {
+        for rule in MORE.iter().filter(|rule| rule.file == self.source.path && rule.of == name) {
+            self.edits.insert(lead.docs_end, documented(&self.indent(lead.docs_end), rule.lines));
+            self.tally.count("types with more documentation");
+            self.tally.used.insert(format!("more {name}"));
         }
     }
 
@@ -255,7 +266,8 @@ impl<'a, 't> File<'a, 't> {
     fn declared(&mut self, cursor: &mut Cursor<'a>, lead: &Lead, first: &Token) -> Result<(), Fault> {
         let Some(name) = cursor.next_code()? else { return Err(Fault::new(first.at.start, "a type without its name")) };
         let name = cursor.text(&name);
-        self.types.insert(name.to_string(), (lead.docs_end, lead.has_docs));
+        self.linked(lead, name);
+        self.more(name, lead);
         let mut depth = 0;
         loop {
             let Some(token) = cursor.next_code()? else {

@@ -15,6 +15,7 @@ mod files;
 mod functions;
 mod items;
 mod known;
+mod pages;
 mod rules;
 mod sections;
 

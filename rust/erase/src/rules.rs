@@ -13,15 +13,23 @@ pub const BY_HAND: &[&str] = &["by_hand.rs", "by_hand/"];
 /// What the Rust crate begins with, behind the documentation of its root.
 pub const ROOT: &str = "\
 //!
+//! The calls are those of [`ArrayString`]. What is proved of each folds out under *Contract*, and [`contracts`] says how to read
+//! it; [`laws`] has facts on texts.
+//!
 #![doc = include_str!(\"../README.md\")]
 #![no_std]
 #![deny(unsafe_op_in_unsafe_fn, missing_docs)]
 
 #[macro_use]
-mod by_hand;
+#[path = \"by_hand/known.rs\"]
+mod known;
 
 mod arraystring_base;
 mod arraystring_core;
+
+mod by_hand;
+
+pub use by_hand::contracts;
 ";
 
 /// Tests by hand that lie inside a module, since they set what is private there.
@@ -50,8 +58,8 @@ pub struct LeftOut {
 
 /// What becomes of a public call that has a precondition.
 pub enum Fate {
-    /// It is an `unsafe fn`, with these words under `# Safety`.
-    Unsafe(&'static str),
+    /// It is an `unsafe fn`, with these words under `# Safety`, and an example if it is public in Rust too.
+    Unsafe(&'static str, &'static [&'static str]),
     /// It panics, with these words under `# Panics`; the second is a line that is put behind `plain_ends` to do so.
     Panics(&'static str, Option<&'static str>),
     /// It is safe and defined without the precondition, as these words under `# In Rust` say.
@@ -65,31 +73,176 @@ const MUST_BE_A_PLACE: &str =
     "The index must be a boundary of the text, and the text after the call must fit into the capacity.";
 const MUST_BE_TEXT: &str = "The bytes must be well-formed UTF-8, and must fit into the capacity.";
 const MUST_LIE_IN_ARRAY: &str = "What is written must lie in the array.";
-const ENDS: &str = "No precondition is left here: an iterator that never ends, or that panics, is allowed. The call stops at the \
-                    first item that does not fit, so only empty pieces without an end keep it. What was taken before a \
-                    panic is a text.";
-const COUNTS: &str = "No precondition is left here: a count that would pass 2^64 - 1 stays there.";
+const ENDS: &str = "An iterator that never ends, or that panics, is allowed. The call stops at the first item that does not fit, \
+                    so only empty pieces without an end keep it. What was taken before a panic is a text.";
+const COUNTS: &str = "A count that would pass 2^64 - 1 stays there.";
 const LIKE_STR: &str = "Where the range ends before it starts, ends past the text, or has an end inside a character, as the index of \
                         `str` does.";
 
 /// The calls with a precondition, by the name of their type, or of their file, and their own.
 pub const FATES: &[(&str, Fate)] = &[
-    ("ArrayString::push_unchecked", Unsafe(MUST_FIT)),
-    ("ArrayString::push_str_unchecked", Unsafe(MUST_FIT)),
-    ("ArrayString::insert_unchecked", Unsafe(MUST_BE_A_PLACE)),
-    ("ArrayString::insert_str_unchecked", Unsafe(MUST_BE_A_PLACE)),
-    ("ArrayString::from_str_unchecked", Unsafe(MUST_FIT)),
-    ("ArrayString::from_iterator_unchecked", Unsafe(MUST_FIT)),
-    ("ArrayString::from_chars_unchecked", Unsafe(MUST_FIT)),
-    ("ArrayString::from_utf8_unchecked", Unsafe(MUST_BE_TEXT)),
-    ("CacheString::from_str_unchecked", Unsafe(MUST_FIT)),
-    ("CacheString::from_iterator_unchecked", Unsafe(MUST_FIT)),
-    ("CacheString::from_chars_unchecked", Unsafe(MUST_FIT)),
-    ("CacheString::from_utf8_unchecked", Unsafe(MUST_BE_TEXT)),
-    ("utils::encode", Unsafe(MUST_LIE_IN_ARRAY)),
-    ("moves::write_over", Unsafe(MUST_LIE_IN_ARRAY)),
-    ("moves::move_run", Unsafe("Both runs must lie in the array.")),
-    ("utils::shift", Unsafe("Both runs must lie in the array.")),
+    (
+        "ArrayString::push_unchecked",
+        Unsafe(
+            MUST_FIT,
+            &[
+                "let mut string = ArrayString::<4>::from(\"abc\");",
+                "// SAFETY: there is room for one more byte.",
+                "unsafe { string.push_unchecked('d') };",
+                "assert_eq!(string, \"abcd\");",
+            ],
+        ),
+    ),
+    (
+        "ArrayString::push_str_unchecked",
+        Unsafe(
+            MUST_FIT,
+            &[
+                "let mut string = ArrayString::<4>::from(\"ab\");",
+                "// SAFETY: there is room for two more bytes, and `é` takes two.",
+                "unsafe { string.push_str_unchecked(\"é\") };",
+                "assert_eq!(string, \"abé\");",
+            ],
+        ),
+    ),
+    (
+        "ArrayString::insert_unchecked",
+        Unsafe(
+            MUST_BE_A_PLACE,
+            &[
+                "let mut string = ArrayString::<4>::from(\"éb\");",
+                "// SAFETY: `b` begins at index 2, and there is room for one more byte.",
+                "unsafe { string.insert_unchecked(2, 'a') };",
+                "assert_eq!(string, \"éab\");",
+            ],
+        ),
+    ),
+    (
+        "ArrayString::insert_str_unchecked",
+        Unsafe(
+            MUST_BE_A_PLACE,
+            &[
+                "let mut string = ArrayString::<4>::from(\"ad\");",
+                "// SAFETY: `d` begins at index 1, and there is room for two more bytes.",
+                "unsafe { string.insert_str_unchecked(1, \"bc\") };",
+                "assert_eq!(string, \"abcd\");",
+            ],
+        ),
+    ),
+    (
+        "ArrayString::from_str_unchecked",
+        Unsafe(
+            MUST_FIT,
+            &[
+                "// SAFETY: the text takes three bytes.",
+                "let string = unsafe { ArrayString::<4>::from_str_unchecked(\"éa\") };",
+                "assert_eq!(string, \"éa\");",
+            ],
+        ),
+    ),
+    (
+        "ArrayString::from_iterator_unchecked",
+        Unsafe(
+            MUST_FIT,
+            &[
+                "// SAFETY: the pieces take four bytes together.",
+                "let string = unsafe { ArrayString::<4>::from_iterator_unchecked([\"a\", \"bcd\"]) };",
+                "assert_eq!(string, \"abcd\");",
+            ],
+        ),
+    ),
+    (
+        "ArrayString::from_chars_unchecked",
+        Unsafe(
+            MUST_FIT,
+            &[
+                "// SAFETY: the digits take a byte each, and there are four.",
+                "let string = unsafe { ArrayString::<4>::from_chars_unchecked('6'..='9') };",
+                "assert_eq!(string, \"6789\");",
+            ],
+        ),
+    ),
+    (
+        "ArrayString::from_utf8_unchecked",
+        Unsafe(
+            MUST_BE_TEXT,
+            &[
+                "// SAFETY: the two bytes spell `é`, and there is room for four.",
+                "let string = unsafe { ArrayString::<4>::from_utf8_unchecked([0xC3, 0xA9]) };",
+                "assert_eq!(string, \"é\");",
+            ],
+        ),
+    ),
+    (
+        "CacheString::from_str_unchecked",
+        Unsafe(
+            MUST_FIT,
+            &[
+                "// SAFETY: the text takes less than 63 bytes.",
+                "let key = unsafe { CacheString::from_str_unchecked(\"user:42\") };",
+                "assert_eq!(key, \"user:42\");",
+            ],
+        ),
+    ),
+    (
+        "CacheString::from_iterator_unchecked",
+        Unsafe(
+            MUST_FIT,
+            &[
+                "// SAFETY: the pieces take less than 63 bytes together.",
+                "let key = unsafe { CacheString::from_iterator_unchecked([\"user\", \":\", \"42\"]) };",
+                "assert_eq!(key, \"user:42\");",
+            ],
+        ),
+    ),
+    (
+        "CacheString::from_chars_unchecked",
+        Unsafe(
+            MUST_FIT,
+            &[
+                "// SAFETY: the letters take a byte each, and there are 26.",
+                "let letters = unsafe { CacheString::from_chars_unchecked('a'..='z') };",
+                "assert_eq!(letters.len(), 26);",
+            ],
+        ),
+    ),
+    (
+        "CacheString::from_utf8_unchecked",
+        Unsafe(
+            MUST_BE_TEXT,
+            &[
+                "// SAFETY: each byte is ASCII, and there are seven.",
+                "let key = unsafe { CacheString::from_utf8_unchecked(b\"user:42\") };",
+                "assert_eq!(key, \"user:42\");",
+            ],
+        ),
+    ),
+    (
+        "utils::encode",
+        Unsafe(
+            MUST_LIE_IN_ARRAY,
+            &[
+                "let mut array = *b\"a__d\";",
+                "// SAFETY: `é` takes two bytes, and there are three from offset 1 on.",
+                "let len = unsafe { utils::encode('é', &mut array, 1) };",
+                "assert_eq!((len, &array), (2, b\"a\\xC3\\xA9d\"));",
+            ],
+        ),
+    ),
+    ("moves::write_over", Unsafe(MUST_LIE_IN_ARRAY, &[])),
+    ("moves::move_run", Unsafe("Both runs must lie in the array.", &[])),
+    (
+        "utils::shift",
+        Unsafe(
+            "Both runs must lie in the array.",
+            &[
+                "let (mut array, mut steps) = (*b\"abcd\", Steps::new());",
+                "// SAFETY: the bytes 0..3 and 1..4 lie in the array.",
+                "unsafe { utils::shift(&mut array, 0, 1, 3, &mut steps) };",
+                "assert_eq!((&array, steps.moved()), (b\"aabc\", 3));",
+            ],
+        ),
+    ),
     ("steps::look", Panics("Where the index is not below the length.", None)),
     ("ArrayString::slice", Panics(LIKE_STR, None)),
     ("ArrayString::make_ascii_uppercase_in", Panics(LIKE_STR, Some("let _ = &self.as_str()[start..end];"))),
@@ -104,12 +257,7 @@ pub const FATES: &[(&str, Fate)] = &[
     ("CacheString::from_iterator", Safe(ENDS)),
     ("CacheString::try_from_chars", Safe(ENDS)),
     ("CacheString::from_chars", Safe(ENDS)),
-    (
-        "ArrayString::retain",
-        Safe(
-            "No precondition is left here: any closure is allowed. Where it panics, the text is what it kept until then.",
-        ),
-    ),
+    ("ArrayString::retain", Safe("Any closure is allowed. Where it panics, the text is what it kept until then.")),
     ("ArrayString::pop_counted", Safe(COUNTS)),
     ("ArrayString::trim_counted", Safe(COUNTS)),
     ("ArrayString::try_insert_str_counted", Safe(COUNTS)),
@@ -118,6 +266,146 @@ pub const FATES: &[(&str, Fate)] = &[
     ("ArrayString::replace_range_counted", Safe(COUNTS)),
     ("utils::truncate_str_counted", Safe(COUNTS)),
     ("utils::last_char", Safe(COUNTS)),
+];
+
+/// What an example names, and where a program finds it.
+pub const NAMES: &[(&str, &str)] = &[
+    ("ArrayString", "arraystring"),
+    ("CacheString", "arraystring"),
+    ("Drain", "arraystring"),
+    ("Error", "arraystring"),
+    ("MaxString", "arraystring"),
+    ("SmallString", "arraystring"),
+    ("utils", "arraystring"),
+    ("OutOfBounds", "arraystring::error"),
+    ("Utf16", "arraystring::error"),
+    ("Utf8", "arraystring::error"),
+    ("Unit16", "arraystring::utf16"),
+    ("Units", "arraystring::utf16"),
+    ("Steps", "arraystring::utils"),
+];
+
+/// What is a link between backticks, beside the public calls of a type.
+pub const LINKS: &[(&str, &str)] = &[
+    ("ArrayString", "crate::ArrayString"),
+    ("ArrayString<63>", "crate::ArrayString"),
+    ("CacheString", "crate::CacheString"),
+    ("Drain", "crate::Drain"),
+    ("Error", "crate::Error"),
+    ("Error::OutOfBounds", "crate::Error::OutOfBounds"),
+    ("Error::Utf16", "crate::Error::Utf16"),
+    ("Error::Utf8", "crate::Error::Utf8"),
+    ("OutOfBounds", "crate::error::OutOfBounds"),
+    ("Utf16", "crate::error::Utf16"),
+    ("Utf8", "crate::error::Utf8"),
+    ("Steps", "crate::utils::Steps"),
+    ("is_char_boundary", "crate::utils::is_char_boundary"),
+    ("look", "crate::utils::look"),
+    ("shift", "crate::utils::shift"),
+    ("truncate_str", "crate::utils::truncate_str"),
+];
+
+/// The types whose calls are links, by the files that name them.
+pub const OWNERS: &[(&str, &[&str])] = &[
+    ("arraystring/src/cache_string", &["CacheString", "ArrayString"]),
+    ("arraystring_core/src/array_string", &["ArrayString"]),
+    ("arraystring_core/src/drain", &["Drain", "ArrayString"]),
+];
+
+/// The order in which the reference shows the calls of a type that has calls in many files.
+pub struct Order {
+    /// The file of the type, and the head of its impl there.
+    pub file: &'static str,
+    pub head: &'static str,
+    pub parts: &'static [Part],
+}
+
+/// A part of the calls.
+pub enum Part {
+    /// Those of a module.
+    Module(&'static str),
+    /// Those of the type's own file up to the last one that is named, and the module in which they stand here.
+    Calls(&'static str, &'static str),
+    /// Those of a module by hand, and its file, from the folder of the type's.
+    ByHand(&'static str, &'static str),
+}
+
+use Part::{ByHand, Calls, Module};
+
+pub const ORDER: &[Order] = &[Order {
+    file: "arraystring_core/src/array_string.rt",
+    head: "impl<const N: usize> ArrayString<N>",
+    parts: &[
+        Calls("empty", "new"),
+        Module("construct"),
+        Module("utf16"),
+        Calls("views", "as_bytes"),
+        ByHand("room", "../by_hand/room.rs"),
+        Calls("ends", "pop_counted"),
+        Module("extend"),
+        Module("insert"),
+        Module("range"),
+        Module("remove"),
+        Module("trim"),
+        Module("ascii"),
+        Module("compare"),
+        Module("edit"),
+    ],
+}];
+
+/// The page of the laws, and the files in which they are.
+pub struct Laws {
+    pub page: &'static str,
+    pub files: &'static [&'static str],
+}
+
+pub const LAWS: Laws = Laws { page: "laws.rs", files: &["arraystring_base/laws.rs", "arraystring_core/laws.rs"] };
+
+/// What the documentation of a type has beyond its source.
+pub struct More {
+    pub file: &'static str,
+    pub of: &'static str,
+    pub lines: &'static str,
+}
+
+pub const MORE: &[More] = &[
+    More {
+        file: "arraystring_core/src/array_string.rt",
+        of: "ArrayString",
+        lines: "
+# Size
+
+A string takes `N + 2` bytes and is aligned to one. At most 255 of them hold text, also where `N` is greater.
+
+```
+use arraystring::{ArrayString, SmallString};
+
+assert_eq!((size_of::<ArrayString<62>>(), size_of::<SmallString>()), (64, 25));
+assert_eq!((size_of::<ArrayString<1000>>(), ArrayString::<1000>::capacity()), (1002, 255));
+```
+
+# What is counted in `u8`
+
+[`len`](Self::len), [`capacity`](Self::capacity), the indices and the ranges of this type are `u8`. What the string has by
+`Deref` to `str`, such as `find`, is in `usize`.
+
+```
+use arraystring::ArrayString;
+
+let string = ArrayString::<8>::from(\"key=text\");
+let at = string.find('=').unwrap(); // a usize
+assert_eq!((string.len(), at), (8u8, 3usize));
+assert_eq!(&string[at as u8 + 1..], \"text\");
+```
+",
+    },
+    More {
+        file: "arraystring/src/cache_string.rt",
+        of: "CacheString",
+        lines: "
+It takes 65 bytes. What an [`ArrayString`](crate::ArrayString) has beside this is called on it too, by `Deref`.
+",
+    },
 ];
 
 /// Words of the clauses that Rust does without: counts, which stop at their end, iterators, which may go on for ever, and

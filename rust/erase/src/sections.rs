@@ -1,49 +1,153 @@
-//! What is added to documentation: sections, and the line that an example needs.
+//! Documentation: the sections that Rust has in place of contracts and preconditions, what an example imports, and links.
+
+use std::collections::{BTreeMap, BTreeSet};
+use std::ops::Range;
 
 use crate::cursor::{Fault, Token};
-use crate::items::File;
-use crate::rules::ROOT;
+use crate::items::{File, Lead};
+use crate::rules::{LINKS, NAMES, OWNERS, ROOT};
+
+/// The head of the section of a source that Rust's fate replaces.
+const PRECONDITION: &str = "/// # Precondition";
+
+/// What stands below each contract.
+const HOW: &str = "[How to read a contract](crate::contracts)";
+
+/// The lines that bring the names of an example into scope, and a blank one behind them.
+pub fn imports(example: &str) -> String {
+    let is_name = |ch: char| ch.is_alphanumeric() || ch == '_';
+    let mut found: BTreeMap<&str, BTreeSet<&str>> = BTreeMap::new();
+    for (at, _) in example.char_indices().filter(|(at, _)| !example[..*at].ends_with(is_name)) {
+        let end = example[at..].find(|ch| !is_name(ch)).map_or(example.len(), |end| at + end);
+        let name = NAMES.iter().find(|(name, _)| *name == &example[at..end] && !example[..at].ends_with("::"));
+        if let Some((name, module)) = name {
+            found.entry(module).or_default().insert(name);
+        }
+    }
+    let line = |(module, names): (&str, BTreeSet<&str>)| {
+        let joined = names.iter().copied().collect::<Vec<_>>().join(", ");
+        if names.len() == 1 { format!("use {module}::{joined};\n") } else { format!("use {module}::{{{joined}}};\n") }
+    };
+    found.into_iter().map(line).chain(["\n".to_string()]).collect()
+}
+
+/// Lines as a documentation.
+pub fn documented(indent: &str, lines: &str) -> String {
+    lines.lines().map(|line| format!("{}\n", format!("{indent}/// {line}").trim_end())).collect()
+}
+
+/// Words as the lines of a paragraph.
+fn paragraph(indent: &str, words: &str) -> String {
+    let mut put = String::new();
+    let mut line = format!("{indent}///");
+    for word in words.split_whitespace() {
+        if line.chars().count() + word.chars().count() >= 120 {
+            put += &format!("{line}\n");
+            line = format!("{indent}///");
+        }
+        line += &format!(" {word}");
+    }
+    format!("{put}{line}\n")
+}
+
+/// A section of words.
+pub fn section(indent: &str, title: &str, words: &str) -> String {
+    format!("{indent}/// # {title}\n{indent}///\n{}", paragraph(indent, words))
+}
+
+/// A section of an example.
+pub fn example(indent: &str, lines: &[&str]) -> String {
+    let lines = lines.join("\n");
+    documented(indent, &format!("\n# Examples\n\n```\n{}{lines}\n```", imports(&lines)))
+}
 
 impl File<'_, '_> {
-    /// Brings the name of the string into scope in an example.
-    pub fn example(&mut self, doc: &str, token: &Token) {
-        let before = &self.text[..token.at.end];
-        let fences = before.rsplit("\n\n").next().unwrap_or(before).matches("/// ```\n").count();
-        if doc == "/// ```" && fences.is_multiple_of(2) {
-            let put = format!("\n{}/// # use arraystring::ArrayString;", self.indent(token.at.start));
-            self.edits.insert(token.at.end, put);
-            self.tally.count("examples");
-        }
-    }
-
-    /// Adds a section of lines as they stand to a documentation.
-    pub fn section(&mut self, at: usize, title: &str, lines: &str, has_docs: bool) {
-        let indent = self.indent(at);
-        let mut put = if has_docs { format!("{indent}///\n") } else { String::new() };
-        put += &format!("{indent}/// # {title}\n{indent}///\n{indent}/// ```text\n");
-        for line in lines.lines() {
-            put += format!("{indent}/// {line}").trim_end();
-            put += "\n";
-        }
-        put += &format!("{indent}/// ```\n");
-        self.edits.insert(at, put);
-        self.tally.count(if title == "Model" { "sections `Model`" } else { "sections `Contract`" });
-    }
-
-    /// Adds a section of words to a documentation.
-    pub fn words(&mut self, at: usize, title: &str, words: &str, has_docs: bool) {
-        let indent = self.indent(at);
-        let mut put = if has_docs { format!("{indent}///\n") } else { String::new() };
-        put += &format!("{indent}/// # {title}\n{indent}///\n");
-        let mut line = format!("{indent}///");
-        for word in words.split_whitespace() {
-            if line.chars().count() + word.chars().count() >= 120 {
-                put += &format!("{line}\n");
-                line = format!("{indent}///");
+    /// Reads a documentation: each example gets its imports. Returns where the section on a precondition is, if there is one.
+    pub fn documentation(&mut self, docs: &[Token]) -> Result<Option<Range<usize>>, Fault> {
+        let mut opened: Option<&Token> = None;
+        for token in docs {
+            match (opened.take(), &self.text[token.at.clone()]) {
+                (Some(first), "/// ```") => {
+                    let put = imports(&self.text[first.at.end..token.at.start]);
+                    self.edits.insert(first.at.end + 1, documented(&self.indent(token.at.start), &put));
+                    self.tally.count("examples");
+                }
+                (Some(first), _) => opened = Some(first),
+                (None, "/// ```") => opened = Some(token),
+                (None, line) if line.starts_with("/// ```") => {
+                    return Err(Fault::new(token.at.start, "an example that no test runs"));
+                }
+                _ => {}
             }
-            line += &format!(" {word}");
         }
-        self.edits.insert(at, format!("{put}{line}\n"));
+        if let Some(token) = opened {
+            return Err(Fault::new(token.at.start, "an example without its end"));
+        }
+        let text = self.text;
+        let mut heads = docs.iter().filter(|token| text[token.at.clone()].starts_with("/// # "));
+        let Some(first) = heads.find(|token| text[token.at.clone()] == *PRECONDITION) else { return Ok(None) };
+        let end = heads.next().map(|token| self.line_start(token.at.start));
+        let end = end.or(docs.last().map(|token| token.at.end + 1)).unwrap_or_default();
+        Ok(Some(self.line_start(first.at.start)..end))
+    }
+
+    /// Puts what became of a precondition in the place of its section, or behind the documentation.
+    pub fn in_its_place(&mut self, lead: &Lead, put: String) {
+        match &lead.precondition {
+            Some(at) => {
+                let blank = format!("{}///\n", self.indent(at.start));
+                let is_last = at.end == lead.docs_end;
+                self.edits.replace(at.clone(), if is_last { put } else { put + &blank });
+                self.tally.count("sections on a precondition that Rust's fate replaces");
+            }
+            None => {
+                let blank = if lead.has_docs { format!("{}///\n", self.indent(lead.docs_end)) } else { String::new() };
+                self.edits.insert(lead.docs_end, blank + &put);
+            }
+        }
+    }
+
+    /// Adds a contract to a documentation, folded.
+    pub fn folded(&mut self, at: usize, lines: &str, has_docs: bool) {
+        let blank = if has_docs { "\n" } else { "" };
+        let put =
+            format!("{blank}<details><summary>Contract</summary>\n\n```text\n{lines}\n```\n\n{HOW}\n\n</details>");
+        self.edits.insert(at, documented(&self.indent(at), &put));
+        self.tally.count("contracts");
+    }
+
+    /// Makes links of the names between backticks, but for those in examples and that of the item itself.
+    pub fn linked(&mut self, lead: &Lead, item: &str) {
+        let mut is_example = false;
+        for token in &lead.docs {
+            let line = &self.text[token.at.clone()];
+            is_example ^= line == "/// ```";
+            let is_replaced = lead.precondition.as_ref().is_some_and(|at| at.contains(&token.at.start));
+            if is_example || is_replaced || line.matches('`').count() % 2 == 1 {
+                continue;
+            }
+            let mut at = token.at.start;
+            for (part, quoted) in line.split('`').enumerate() {
+                let end = at + quoted.len();
+                if let Some(path) = (part % 2 == 1 && quoted != item).then(|| self.path(quoted)).flatten() {
+                    self.edits.insert(at - 1, "[");
+                    self.edits.insert(end + 1, format!("]({path})"));
+                    self.tally.count("links");
+                }
+                at = end + 1;
+            }
+        }
+    }
+
+    /// The path of what a documentation names, if it is public.
+    fn path(&self, quoted: &str) -> Option<String> {
+        let name = quoted.strip_prefix("Err(").and_then(|rest| rest.strip_suffix(')')).unwrap_or(quoted);
+        if let Some((_, path)) = LINKS.iter().find(|(known, _)| *known == name) {
+            return Some(path.to_string());
+        }
+        let of = OWNERS.iter().find(|(file, _)| self.source.path.starts_with(file)).map(|(_, of)| *of)?;
+        let of = of.iter().find(|of| self.tally.contracts.is_public(&format!("{of}::{name}")))?;
+        Some(format!("crate::{of}::{name}"))
     }
 
     /// Puts the attributes and modules of the root behind its documentation.

@@ -4,6 +4,8 @@ use super::*;
 
 #[path = "tests/odd.rs"]
 mod odd;
+#[path = "tests/pages.rs"]
+mod pages;
 #[path = "tests/refused.rs"]
 mod refused;
 #[path = "tests/ruled.rs"]
@@ -56,13 +58,17 @@ use core::fmt;
 ///
 /// Each clause `requires` of the contract must hold, but for those on counts, on iterators and on closures.
 ///
-/// # Contract
+/// <details><summary>Contract</summary>
 ///
 /// ```text
 /// requires room { n < 255 }
 /// // Why.
 /// ensures { result ≡ n + 1 }
 /// ```
+///
+/// [How to read a contract](crate::contracts)
+///
+/// </details>
 #[inline]
 pub(crate) unsafe fn add<I: Into<u8>>(n: I) -> u8 {
     crate::arraystring_base::steps::one(n)
@@ -77,7 +83,7 @@ fn one() -> u8 {
 }
 
 #[test]
-fn members_of_a_model_and_of_a_trait_become_documentation() {
+fn a_model_goes_and_members_of_a_trait_become_documentation() {
     let source = "\
 /// A number.
 pub struct Number(u8);
@@ -102,23 +108,19 @@ impl fmt::Display for Number {
 ";
     let wanted = "\
 /// A number.
-///
-/// # Model
-///
-/// ```text
-/// ghost Value = { ℕ };
-/// ghost view = { λ s.
-///   s.0 };
-/// ```
 pub struct Number(u8);
 
 /// It prints.
 ///
-/// # Contract
+/// <details><summary>Contract</summary>
 ///
 /// ```text
-/// ghost output = { λ s. Some \"}\" };
+/// output = { λ s. Some \"}\" };
 /// ```
+///
+/// [How to read a contract](crate::contracts)
+///
+/// </details>
 impl fmt::Display for Number {
     #[inline]
     fn fmt(&self, f: &mut fmt::Formatter<'_>) -> fmt::Result {
@@ -306,11 +308,15 @@ fn by_blocks() -> bool {
 
 /// Whether the texts of two strings are equal.
 ///
-/// # Contract
+/// <details><summary>Contract</summary>
 ///
 /// ```text
 /// ensures { result ≡ x }
 /// ```
+///
+/// [How to read a contract](crate::contracts)
+///
+/// </details>
 #[inline(always)]
 pub(crate) fn equal<const N: usize>(text: &str, other: &str) -> bool {
     text == other
@@ -339,7 +345,9 @@ fn what_is_not_read_stops_at_its_line() {
         ("fn f()\n    decreases { n }\n{}\n", "3: an item that begins with `{`"),
         ("fn f()\n    ensures { n\n", "2: a bracket that is not closed"),
         ("fn f() { unsafe { g() } }\n", "1: an `unsafe` block without its line `// SAFETY: ..`"),
-        ("impl Model for S {}\n", "1: a model of `S`, which is not documented above it"),
+        ("/// ```\n/// f();\nfn f() {}\n", "1: an example without its end"),
+        ("/// F.\n///\n/// ```ignore\n/// f();\n/// ```\nfn f() {}\n", "3: an example that no test runs"),
+        ("/// # Precondition\n///\n/// None.\nfn f() {}\n", "1: `sample::f` has no precondition in Rust"),
     ];
     for (source, why) in refused {
         assert_eq!(made(source).unwrap_err(), why, "{source}");

@@ -9,6 +9,13 @@ use crate::{ArrayString, CacheString};
 macro_rules! beside {
     ($(($($generics:tt)*) $string:ty, $text:ty);*) => {$(
         /// Whether the string has this text.
+        ///
+        /// ```
+        /// use arraystring::{ArrayString, CacheString};
+        ///
+        /// assert!("ab" == ArrayString::<4>::from("ab") && *"ab" == ArrayString::<4>::from("ab"));
+        /// assert!("ab" != CacheString::from("b") && *"ab" != CacheString::from("b"));
+        /// ```
         impl<$($generics)*> PartialEq<$string> for $text {
             #[inline]
             fn eq(&self, other: &$string) -> bool {
@@ -17,6 +24,13 @@ macro_rules! beside {
         }
 
         /// The order of the texts, which is that of their characters.
+        ///
+        /// ```
+        /// use arraystring::{ArrayString, CacheString};
+        ///
+        /// assert!(ArrayString::<4>::from("ab") < "b" && ArrayString::<4>::from("ab") < *"b");
+        /// assert!(CacheString::from("é") > "z" && CacheString::from("é") > *"z");
+        /// ```
         impl<$($generics)*> PartialOrd<$text> for $string {
             #[inline]
             fn partial_cmp(&self, other: &$text) -> Option<Ordering> {
@@ -25,6 +39,13 @@ macro_rules! beside {
         }
 
         /// The order of the texts, which is that of their characters.
+        ///
+        /// ```
+        /// use arraystring::{ArrayString, CacheString};
+        ///
+        /// assert!("ab" < ArrayString::<4>::from("b") && *"ab" < ArrayString::<4>::from("b"));
+        /// assert!("é" > CacheString::from("z") && *"é" > CacheString::from("z"));
+        /// ```
         impl<$($generics)*> PartialOrd<$string> for $text {
             #[inline]
             fn partial_cmp(&self, other: &$string) -> Option<Ordering> {
@@ -42,6 +63,12 @@ beside!(
 );
 
 /// As `push_str`, which adds the longest prefix of whole characters that fits.
+///
+/// ```
+/// let mut string = arraystring::ArrayString::<4>::from("abc");
+/// string += "de";
+/// assert_eq!(string, "abcd");
+/// ```
 impl<const N: usize> AddAssign<&str> for ArrayString<N> {
     #[inline]
     fn add_assign(&mut self, string: &str) {
@@ -50,6 +77,12 @@ impl<const N: usize> AddAssign<&str> for ArrayString<N> {
 }
 
 /// As `push_str`, which adds the longest prefix of whole characters that fits.
+///
+/// ```
+/// let mut key = arraystring::CacheString::from("user:");
+/// key += "42";
+/// assert_eq!(key, "user:42");
+/// ```
 impl AddAssign<&str> for CacheString {
     #[inline]
     fn add_assign(&mut self, string: &str) {

@@ -7,7 +7,12 @@ use core::ops::{Deref, DerefMut, Index, Range, RangeFrom, RangeFull, RangeInclus
 use crate::error::{Error, Utf16};
 use crate::{ArrayString, CacheString};
 
-/// The text.
+/// The text: each call of `str` that reads is one of the string.
+///
+/// ```
+/// let string = arraystring::ArrayString::<8>::from("a,b");
+/// assert_eq!(string.split(',').collect::<Vec<_>>(), ["a", "b"]);
+/// ```
 impl<const N: usize> Deref for ArrayString<N> {
     type Target = str;
 
@@ -18,6 +23,11 @@ impl<const N: usize> Deref for ArrayString<N> {
 }
 
 /// The string inside.
+///
+/// ```
+/// let key = arraystring::CacheString::from("user:42");
+/// assert_eq!((key.len(), key.get(..4)), (7, Some("user")));
+/// ```
 impl Deref for CacheString {
     type Target = ArrayString<63>;
 
@@ -28,6 +38,12 @@ impl Deref for CacheString {
 }
 
 /// The string inside, which every call of it leaves a text. The text itself is never lent to be written.
+///
+/// ```
+/// let mut key = arraystring::CacheString::from("user:");
+/// key.push_str("42");
+/// assert_eq!(key, "user:42");
+/// ```
 impl DerefMut for CacheString {
     #[inline]
     fn deref_mut(&mut self) -> &mut ArrayString<63> {
@@ -39,6 +55,16 @@ impl DerefMut for CacheString {
 macro_rules! as_text {
     ($(($($generics:tt)*) $string:ty),*) => {$(
         /// The text.
+        ///
+        /// ```
+        /// use arraystring::{ArrayString, CacheString};
+        ///
+        /// fn letters(text: impl AsRef<str>) -> usize {
+        ///     text.as_ref().chars().count()
+        /// }
+        ///
+        /// assert_eq!((letters(ArrayString::<4>::from("aé")), letters(CacheString::from("é"))), (2, 1));
+        /// ```
         impl<$($generics)*> AsRef<str> for $string {
             #[inline]
             fn as_ref(&self) -> &str {
@@ -47,6 +73,13 @@ macro_rules! as_text {
         }
 
         /// The UTF-8 of the text.
+        ///
+        /// ```
+        /// use arraystring::{ArrayString, CacheString};
+        ///
+        /// let (string, key) = (ArrayString::<4>::from("é"), CacheString::from("a"));
+        /// assert_eq!((AsRef::<[u8]>::as_ref(&string), AsRef::<[u8]>::as_ref(&key)), (&[0xC3, 0xA9][..], &b"a"[..]));
+        /// ```
         impl<$($generics)*> AsRef<[u8]> for $string {
             #[inline]
             fn as_ref(&self) -> &[u8] {
@@ -54,7 +87,15 @@ macro_rules! as_text {
             }
         }
 
-        /// The text. Its order and its hash are those of the string.
+        /// The text. Its order and its hash are those of the string, so a `&str` finds a key.
+        ///
+        /// ```
+        /// use arraystring::{ArrayString, CacheString};
+        /// use std::collections::{BTreeSet, HashMap};
+        ///
+        /// assert_eq!(HashMap::from([(ArrayString::<8>::from("ann"), 41)]).get("ann"), Some(&41));
+        /// assert!(BTreeSet::from([CacheString::from("ann")]).contains("ann"));
+        /// ```
         impl<$($generics)*> Borrow<str> for $string {
             #[inline]
             fn borrow(&self) -> &str {
@@ -63,6 +104,12 @@ macro_rules! as_text {
         }
 
         /// Whether the text is this one.
+        ///
+        /// ```
+        /// use arraystring::{ArrayString, CacheString};
+        ///
+        /// assert!(ArrayString::<4>::from("ab") == *"ab" && CacheString::from("ab") != *"AB");
+        /// ```
         impl<$($generics)*> PartialEq<str> for $string {
             #[inline]
             fn eq(&self, other: &str) -> bool {
@@ -71,6 +118,12 @@ macro_rules! as_text {
         }
 
         /// Whether the text is this one.
+        ///
+        /// ```
+        /// use arraystring::{ArrayString, CacheString};
+        ///
+        /// assert!(ArrayString::<4>::from("ab") == "ab" && CacheString::from("ab") != "AB");
+        /// ```
         impl<$($generics)*> PartialEq<&str> for $string {
             #[inline]
             fn eq(&self, other: &&str) -> bool {
@@ -78,42 +131,90 @@ macro_rules! as_text {
             }
         }
 
-        /// As `from_chars`.
+        /// As `from_chars`: what does not fit is cut off.
+        ///
+        /// ```
+        /// use arraystring::{ArrayString, CacheString};
+        ///
+        /// assert_eq!("abcde".chars().rev().collect::<ArrayString<4>>(), "edcb");
+        /// assert_eq!(('a'..='c').collect::<CacheString>(), "abc");
+        /// ```
         impl<$($generics)*> FromIterator<char> for $string {
             fn from_iter<I: IntoIterator<Item = char>>(characters: I) -> Self {
                 Self::from_chars(characters)
             }
         }
 
-        /// As `from_chars`.
+        /// As `from_chars`: what does not fit is cut off.
+        ///
+        /// ```
+        /// use arraystring::{ArrayString, CacheString};
+        ///
+        /// let letters = ['a', 'é'];
+        /// assert_eq!((letters.iter().collect::<ArrayString<2>>(), letters.iter().collect::<CacheString>()), ("a".into(), "aé".into()));
+        /// ```
         impl<'a, $($generics)*> FromIterator<&'a char> for $string {
             fn from_iter<I: IntoIterator<Item = &'a char>>(characters: I) -> Self {
                 Self::from_chars(characters.into_iter().copied())
             }
         }
 
-        /// As `from_iterator`.
+        /// As `from_iterator`: what does not fit is cut off.
+        ///
+        /// ```
+        /// use arraystring::{ArrayString, CacheString};
+        ///
+        /// assert_eq!(["one", "two"].into_iter().collect::<ArrayString<4>>(), "onet");
+        /// assert_eq!(["one", "two"].into_iter().collect::<CacheString>(), "onetwo");
+        /// ```
         impl<'a, $($generics)*> FromIterator<&'a str> for $string {
             fn from_iter<I: IntoIterator<Item = &'a str>>(pieces: I) -> Self {
                 Self::from_iterator(pieces)
             }
         }
 
-        /// As `extend_chars`.
+        /// As `extend_chars`: it adds what fits.
+        ///
+        /// ```
+        /// use arraystring::{ArrayString, CacheString};
+        ///
+        /// let (mut string, mut key) = (ArrayString::<4>::from("a"), CacheString::from("a"));
+        /// string.extend('b'..='z');
+        /// key.extend('b'..='d');
+        /// assert_eq!((string.as_str(), key.as_str()), ("abcd", "abcd"));
+        /// ```
         impl<$($generics)*> Extend<char> for $string {
             fn extend<I: IntoIterator<Item = char>>(&mut self, characters: I) {
                 self.extend_chars(characters);
             }
         }
 
-        /// As `extend_chars`.
+        /// As `extend_chars`: it adds what fits.
+        ///
+        /// ```
+        /// use arraystring::{ArrayString, CacheString};
+        ///
+        /// let (mut string, mut key) = (ArrayString::<2>::from("a"), CacheString::from("a"));
+        /// string.extend(&['b', 'c']);
+        /// key.extend(&['b', 'c']);
+        /// assert_eq!((string.as_str(), key.as_str()), ("ab", "abc"));
+        /// ```
         impl<'a, $($generics)*> Extend<&'a char> for $string {
             fn extend<I: IntoIterator<Item = &'a char>>(&mut self, characters: I) {
                 self.extend_chars(characters.into_iter().copied());
             }
         }
 
-        /// As `extend_strs`.
+        /// As `extend_strs`: it adds what fits.
+        ///
+        /// ```
+        /// use arraystring::{ArrayString, CacheString};
+        ///
+        /// let (mut string, mut key) = (ArrayString::<4>::from("one"), CacheString::from("one"));
+        /// string.extend(["two", "three"]);
+        /// key.extend([" ", "two"]);
+        /// assert_eq!((string.as_str(), key.as_str()), ("onet", "one two"));
+        /// ```
         impl<'a, $($generics)*> Extend<&'a str> for $string {
             fn extend<I: IntoIterator<Item = &'a str>>(&mut self, pieces: I) {
                 self.extend_strs(pieces);
@@ -124,8 +225,16 @@ macro_rules! as_text {
 
 as_text!((const N: usize) ArrayString<N>, () CacheString);
 
-/// As `from_str_truncate`: it keeps the longest prefix of whole characters that fits. `parse` and `try_from_str` refuse what
-/// does not fit.
+/// As `from_str_truncate`: what does not fit is **cut** off, also by `into`, and std's `try_from` is `Ok` of a cut text. `parse`
+/// and `try_from_str` refuse it.
+///
+/// ```
+/// use arraystring::CacheString;
+///
+/// let large = "m".repeat(64);
+/// assert_eq!(CacheString::from(large.as_str()).len(), 63);
+/// assert!(large.parse::<CacheString>().is_err());
+/// ```
 impl From<&str> for CacheString {
     #[inline]
     fn from(string: &str) -> Self {
@@ -137,6 +246,12 @@ impl From<&str> for CacheString {
 macro_rules! index {
     ($($range:ty),*) => {$(
         /// As `slice`, which panics as the index of `str` does.
+        ///
+        /// ```
+        /// let string = arraystring::ArrayString::<8>::from("aéb");
+        /// assert_eq!((&string[..1], &string[1..3], &string[3..]), ("a", "é", "b"));
+        /// assert_eq!((&string[..=0], &string[1..=2], &string[..]), ("a", "é", "aéb"));
+        /// ```
         impl<const N: usize> Index<$range> for ArrayString<N> {
             type Output = str;
 
@@ -151,6 +266,13 @@ macro_rules! index {
 index!(Range<u8>, RangeFrom<u8>, RangeTo<u8>, RangeFull, RangeInclusive<u8>, RangeToInclusive<u8>);
 
 /// A surrogate that has no partner.
+///
+/// ```
+/// use arraystring::error::Utf16;
+///
+/// let error = char::decode_utf16([0xD800]).find_map(Result::err).unwrap();
+/// assert_eq!(Utf16::from(error), Utf16);
+/// ```
 impl From<DecodeUtf16Error> for Utf16 {
     fn from(_error: DecodeUtf16Error) -> Self {
         Utf16
@@ -158,6 +280,13 @@ impl From<DecodeUtf16Error> for Utf16 {
 }
 
 /// A surrogate that has no partner.
+///
+/// ```
+/// use arraystring::Error;
+///
+/// let error = char::decode_utf16([0xD800]).find_map(Result::err).unwrap();
+/// assert_eq!(Error::from(error), Error::Utf16);
+/// ```
 impl From<DecodeUtf16Error> for Error {
     fn from(_error: DecodeUtf16Error) -> Self {
         Error::Utf16

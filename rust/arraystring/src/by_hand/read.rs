@@ -1,39 +1,18 @@
-//! What is read of a string and of small values beyond the calls of the sources.
+//! What Rust prints, hashes and makes by default of small values.
 
 use core::fmt;
 use core::hash::{Hash, Hasher};
 
-use crate::ArrayString;
 use crate::error::{Error, OutOfBounds, Utf8, Utf16};
 use crate::utils::Steps;
 
-impl<const N: usize> ArrayString<N> {
-    /// Returns how many bytes can still be added: the capacity without the length.
-    ///
-    /// ```
-    /// let string = arraystring::ArrayString::<4>::from("aé");
-    /// assert_eq!((string.len(), string.remaining_capacity()), (3, 1));
-    /// ```
-    #[inline]
-    pub const fn remaining_capacity(&self) -> u8 {
-        Self::capacity() - self.len()
-    }
-
-    /// Returns whether no character can be added. A wide one may not fit all the same if it returns `false`.
-    ///
-    /// ```
-    /// let mut string = arraystring::ArrayString::<4>::from("aé");
-    /// assert!(!string.is_full() && string.try_push('é').is_err());
-    /// string.push_str("b");
-    /// assert!(string.is_full());
-    /// ```
-    #[inline]
-    pub const fn is_full(&self) -> bool {
-        self.remaining_capacity() == 0
-    }
-}
-
 /// A fresh counter, as `new` returns it.
+///
+/// ```
+/// use arraystring::utils::Steps;
+///
+/// assert_eq!((Steps::default().looked(), Steps::default().moved()), (0, 0));
+/// ```
 impl Default for Steps {
     #[inline]
     fn default() -> Self {
@@ -42,6 +21,14 @@ impl Default for Steps {
 }
 
 /// `Steps { looked: 1, moved: 2 }` for one look and two moves.
+///
+/// ```
+/// use arraystring::utils::{self, Steps};
+///
+/// let mut steps = Steps::new();
+/// utils::look(b"a", 0, &mut steps);
+/// assert_eq!(format!("{steps:?}"), "Steps { looked: 1, moved: 0 }");
+/// ```
 impl fmt::Debug for Steps {
     fn fmt(&self, f: &mut fmt::Formatter<'_>) -> fmt::Result {
         f.debug_struct("Steps").field("looked", &self.looked()).field("moved", &self.moved()).finish()
@@ -52,6 +39,17 @@ impl fmt::Debug for Steps {
 macro_rules! hashed {
     ($($error:ty),*) => {$(
         /// Hashes as the case of its name of `Error` does.
+        ///
+        /// ```
+        /// use arraystring::Error;
+        /// use arraystring::error::{OutOfBounds, Utf8, Utf16};
+        /// use std::hash::{BuildHasher, RandomState};
+        ///
+        /// let hasher = RandomState::new();
+        /// assert_eq!(hasher.hash_one(Utf8), hasher.hash_one(Error::Utf8));
+        /// assert_eq!(hasher.hash_one(Utf16), hasher.hash_one(Error::Utf16));
+        /// assert_eq!(hasher.hash_one(OutOfBounds), hasher.hash_one(Error::OutOfBounds));
+        /// ```
         impl Hash for $error {
             #[inline]
             fn hash<H: Hasher>(&self, state: &mut H) {

@@ -31,7 +31,7 @@ fn a_line_is_another_one_and_tests_by_hand_lie_in_a_module() {
     let parts = [
         "        self.moved = self.moved.saturating_add(len as u64);\n",
         "    steps.looked = steps.looked.saturating_add(1);\n",
-        "/// # Panics\n///\n/// Where the index is not below the length.\n///\n/// # Contract",
+        "/// # Panics\n///\n/// Where the index is not below the length.\n///\n/// <details>",
         "\npub fn look(bytes: &[u8], at: usize",
         "\n#[cfg(test)]\n#[path = \"../by_hand/count_tests.rs\"]\nmod tests;\n",
     ];
@@ -113,7 +113,7 @@ fn what_a_callee_ensures_is_known_behind_the_call() {
     let says = "IsCharBoundary text.now result";
     let parts = [
         "    // What `last_boundary` ensures.\n    known!(boundary: text.is_char_boundary(end));\n    &text[..end]\n",
-        "/// # In Rust\n///\n/// No precondition is left here: a count that would pass 2^64 - 1 stays there.\n",
+        "/// # In Rust\n///\n/// A count that would pass 2^64 - 1 stays there.\n",
         "\npub fn truncate_str_counted<'a>(",
         "shows `within` of `last_boundary`.\n    let end = unsafe { last_boundary(text, size) };\n",
         "    known!(within: usize::from(size) <= 3);\n    size as usize\n",
@@ -173,16 +173,16 @@ fn a_body_is_another_one_and_a_call_is_constant_and_knows_the_invariant() {
         "    pub fn get(&self, range: R) -> Option<&str> {\n        let (start, end) = plain_ends(range, self.len());\n        \
          self.as_str().get(start..end)\n    }\n",
     ];
-    has("arraystring_core/src/array_string.rt", STRING, &parts);
-    let made = made_as("arraystring_core/src/array_string.rt", STRING).unwrap();
+    has("arraystring_core/src/array_string/sample.rt", STRING, &parts);
+    let made = made_as("arraystring_core/src/array_string/sample.rt", STRING).unwrap();
     assert!(!made.contains("self.array[..]") && !made.contains("between"), "{made}");
     let of_bytes = STRING.replace("size: u8", "size: u16");
-    let why = made_as("arraystring_core/src/array_string.rt", &of_bytes).unwrap_err();
+    let why = made_as("arraystring_core/src/array_string/sample.rt", &of_bytes).unwrap_err();
     assert_eq!(why, "`ArrayString::as_str`: `self.size` in a clause that is to be known");
     let other = STRING.replace("IsStored", "IsKept");
-    let made = made_as("arraystring_core/src/array_string.rt", &other).unwrap();
+    let made = made_as("arraystring_core/src/array_string/sample.rt", &other).unwrap();
     assert!(!made.contains("known!"), "{made}");
-    let why = made_with("arraystring_core/src/array_string.rt", &other, true).unwrap_err();
+    let why = made_with("arraystring_core/src/array_string/sample.rt", &other, true).unwrap_err();
     assert_eq!(why, "`ArrayString` has no invariant by a definition that is read");
 }
 
@@ -320,8 +320,11 @@ fn a_function_that_gives_up_a_clause_proves_only_by_its_rule() {
 #[test]
 fn the_root_has_its_modules_behind_its_documentation() {
     let source = "//! The root.\n//! Its tests are in `crates/arraystring_tests`.\n\nmod cache_string;\n";
-    let parts =
-        ["//! The root.\n//! Its tests are in `tests`, beside `src`.\n//!\n#![doc = include_str!", "#![no_std]\n"];
+    let parts = [
+        "//! The root.\n//! Its tests are in `tests`, beside `src`.\n//!\n//! The calls are those of",
+        "//!\n#![doc = include_str!",
+        "#![no_std]\n",
+    ];
     has("arraystring/src/lib.rt", source, &parts);
     let why = made_as("arraystring/src/lib.rt", &source.replace("//! The root.\n", "\n")).unwrap_err();
     assert_eq!(why, "a root without documentation");

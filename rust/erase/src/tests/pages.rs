@@ -1,0 +1,161 @@
+//! Samples of documentation: what replaces a section, what an example imports, links, order, and the page of the laws.
+
+use super::*;
+use crate::files::Made;
+use crate::pages;
+
+/// A public call whose precondition Rust replaces, with an example behind that section.
+const COUNTED: &str = "\
+impl<const N: usize> ArrayString<N> {
+    /// The same as `pop`, of which `pop_counted` counts the looks. It may be `None`, or `Err(Utf8)`.
+    ///
+    /// # Precondition
+    ///
+    /// The counts must be small.
+    ///
+    /// # Examples
+    ///
+    /// ```
+    /// let mut string = ArrayString::<4>::from(\"pop\");
+    /// assert_eq!(string.pop_counted(&mut Steps::new()), Err(Error::Utf8));
+    /// ```
+    pub fn pop_counted(&mut self, steps: &mut Steps) -> Option<char>
+        requires { steps.old.looked ≤ 2 ^ 63 }
+    {
+        f(steps)
+    }
+
+    /// Pops.
+    pub fn pop(&mut self) -> Option<char> {
+        g()
+    }
+}
+";
+
+#[test]
+fn what_became_of_a_precondition_replaces_its_section() {
+    let wanted = "\
+    /// The same as [`pop`](crate::ArrayString::pop), of which `pop_counted` counts the looks. It may be `None`, or [`Err(Utf8)`](crate::error::Utf8).
+    ///
+    /// # In Rust
+    ///
+    /// A count that would pass 2^64 - 1 stays there.
+    ///
+    /// # Examples
+    ///
+    /// ```
+    /// use arraystring::{ArrayString, Error};
+    /// use arraystring::utils::Steps;
+    ///
+    /// let mut string = ArrayString::<4>::from(\"pop\");
+    /// assert_eq!(string.pop_counted(&mut Steps::new()), Err(Error::Utf8));
+    /// ```
+    ///
+    /// <details><summary>Contract</summary>
+    ///
+    /// ```text
+    /// requires { steps.old.looked ≤ 2 ^ 63 }
+    /// ```
+    ///
+    /// [How to read a contract](crate::contracts)
+    ///
+    /// </details>
+    #[inline]
+    pub fn pop_counted(&mut self, steps: &mut Steps) -> Option<char> {
+";
+    let made = made_as("arraystring_core/src/array_string/sample.rt", COUNTED).unwrap();
+    assert!(made.contains(wanted), "{made}");
+}
+
+#[test]
+fn an_example_of_an_unsafe_call_stands_with_its_fate() {
+    let source = "\
+impl<const N: usize> ArrayString<N> {
+    /// Appends `ch`.
+    ///
+    /// # Precondition
+    ///
+    /// It must fit.
+    pub fn push_unchecked(&mut self, ch: char)
+        requires { size self.old.text < N }
+    {
+        f(ch)
+    }
+}
+";
+    let wanted = "    /// Appends `ch`.\n    ///\n    /// # Safety\n    ///\n    /// The text after the call must fit into the \
+                  capacity.\n    ///\n    /// # Examples\n    ///\n    /// ```\n    /// use arraystring::ArrayString;\n    ///\n";
+    let made = made_as("arraystring_core/src/array_string/sample.rt", source).unwrap();
+    assert!(made.contains(wanted) && !made.contains("Precondition"), "{made}");
+}
+
+const FILE: &str = "\
+/// The type.
+pub struct ArrayString<const N: usize>;
+
+mod ascii;
+mod compare;
+mod construct;
+mod edit;
+mod extend;
+mod insert;
+mod range;
+mod remove;
+mod trim;
+mod utf16;
+
+impl<const N: usize> ArrayString<N> {
+    /// Makes.
+    pub const fn new() -> Self {
+        ArrayString
+    }
+
+    /// Shows.
+    pub fn as_bytes(&self) -> &[u8] {
+        f()
+    }
+
+    /// Pops.
+    pub fn pop_counted(&mut self)
+        requires { steps.old.looked ≤ 2 ^ 63 }
+    {
+        g()
+    }
+}
+
+/// Made.
+impl<const N: usize> Default for ArrayString<N> {}
+";
+
+#[test]
+fn the_calls_of_a_file_stand_in_modules_in_the_order_of_the_reference() {
+    let path = "arraystring_core/src/array_string.rt";
+    let made = made_as(path, FILE).unwrap();
+    let at = |part: &str| made.find(part).unwrap_or_else(|| panic!("{part}\n--- is not in:\n{made}"));
+    let parts = ["struct ArrayString", "fn new()", "mod construct;", "mod utf16;", "fn as_bytes(", "mod room;"];
+    let parts = [&parts[..], &["fn pop_counted(", "mod extend;", "mod edit;", "impl<const N: usize> Default"]].concat();
+    assert!(parts.is_sorted_by_key(|part| at(part)), "{made}");
+    assert_eq!(made.matches("impl<const N: usize> ArrayString<N> {\n").count(), 3);
+    for (from, to, why) in [
+        ("mod utf16;\n", "", "`mod utf16;` is not there"),
+        ("mod utf16;\n", "mod utf16;\nmod other;\n", "`mod other;` has no place in it"),
+        ("fn as_bytes(", "fn as_str(", "`as_bytes` is not there"),
+    ] {
+        let fault = made_as(path, &FILE.replace(from, to)).unwrap_err();
+        assert_eq!(fault, format!("the order of `{path}`: {why}"));
+    }
+}
+
+#[test]
+fn the_page_of_the_laws_says_what_they_say() {
+    let law = "//! Laws.\n\n/// It is so.\n#[doc(hidden)]\npub fn parts() {}\n";
+    let files = |page: &str| {
+        let files = [("laws.rs", page), ("arraystring_base/laws.rs", law), ("arraystring_core/laws.rs", "")];
+        files.iter().map(|(path, text)| (path.to_string(), text.to_string())).collect::<Made>()
+    };
+    let mut made = files("//! The page.\npub use laws::{parts};\n");
+    assert_eq!(pages::laws(&mut made), Ok(()));
+    assert_eq!(made["laws.rs"], "//! The page.\n//!\n//! # `parts`\n//!\n//! It is so.\npub use laws::{parts};\n");
+    let why = "arraystring_base/laws.rs: the law `parts` is not named by laws.rs";
+    assert_eq!(pages::laws(&mut files("//! The page.\n")), Err(why.to_string()));
+}
