@@ -10,19 +10,43 @@ use core::str::FromStr;
 
 mod compare;
 
-/// A string of at most 63 bytes of UTF-8. Calls that it lacks are made on the `ArrayString<63>` in
+/// A string of at most 63 bytes of UTF-8. Calls that it lacks are made on the [`ArrayString<63>`](crate::ArrayString) in
 /// its field `0`.
+///
+/// # Examples
+///
+/// ```
+/// use arraystring::CacheString;
+///
+/// let mut key = CacheString::try_from_str("user:").unwrap();
+/// key.0.push_str("42");
+/// assert_eq!(key.0.as_str(), "user:42");
+/// ```
+///
+/// It takes 65 bytes. What an [`ArrayString`](crate::ArrayString) has beside this is called on it too, by `Deref`.
 #[derive(Clone, Copy, Debug)]
 pub struct CacheString(pub ArrayString<63>);
 
 impl CacheString {
     /// Returns an empty string.
     ///
-    /// # Contract
+    /// # Examples
+    ///
+    /// ```
+    /// use arraystring::CacheString;
+    ///
+    /// assert!(CacheString::new().0.is_empty());
+    /// ```
+    ///
+    /// <details><summary>Contract</summary>
     ///
     /// ```text
     /// ensures { result.0.text ≡ [] }
     /// ```
+    ///
+    /// [How to read a contract](crate::contracts)
+    ///
+    /// </details>
     #[inline]
     pub const fn new() -> Self {
         CacheString(ArrayString::new())
@@ -30,11 +54,23 @@ impl CacheString {
 
     /// Returns the capacity in bytes: 63.
     ///
-    /// # Contract
+    /// # Examples
+    ///
+    /// ```
+    /// use arraystring::CacheString;
+    ///
+    /// assert_eq!(CacheString::capacity(), 63);
+    /// ```
+    ///
+    /// <details><summary>Contract</summary>
     ///
     /// ```text
     /// ensures { result ≡ 63 }
     /// ```
+    ///
+    /// [How to read a contract](crate::contracts)
+    ///
+    /// </details>
     #[inline]
     pub const fn capacity() -> u8 {
         ArrayString::<63>::capacity()
@@ -44,13 +80,27 @@ impl CacheString {
     ///
     /// # Errors
     ///
-    /// Returns `Err(OutOfBounds)` if `string` is larger than the capacity.
+    /// Returns [`Err(OutOfBounds)`](crate::error::OutOfBounds) if `string` is larger than the capacity.
     ///
-    /// # Contract
+    /// # Examples
+    ///
+    /// ```
+    /// use arraystring::CacheString;
+    /// use arraystring::error::OutOfBounds;
+    ///
+    /// assert_eq!(CacheString::try_from_str("user:42").map(|key| key.0.len()), Ok(7));
+    /// assert_eq!(CacheString::try_from_str(&"m".repeat(64)), Err(OutOfBounds));
+    /// ```
+    ///
+    /// <details><summary>Contract</summary>
     ///
     /// ```text
     /// ensures { IsWholeOrRefused (chars string.now) 63 (from_out_of_bounds (held result)) }
     /// ```
+    ///
+    /// [How to read a contract](crate::contracts)
+    ///
+    /// </details>
     #[inline]
     pub fn try_from_str<S: AsRef<str>>(string: S) -> Result<Self, OutOfBounds> {
         let string = string.as_ref();
@@ -58,12 +108,26 @@ impl CacheString {
     }
 
     /// Creates a string from the longest prefix of whole characters of `string` that fits.
+    /// [`try_from_str`](crate::CacheString::try_from_str) refuses what does not fit.
     ///
-    /// # Contract
+    /// # Examples
+    ///
+    /// ```
+    /// use arraystring::CacheString;
+    ///
+    /// assert_eq!(CacheString::from_str_truncate("user:42").0.as_str(), "user:42");
+    /// assert_eq!(CacheString::from_str_truncate(&"é".repeat(32)).0.as_str(), "é".repeat(31));
+    /// ```
+    ///
+    /// <details><summary>Contract</summary>
     ///
     /// ```text
     /// ensures { result.0.text ≡ cut (chars string.now) 63 }
     /// ```
+    ///
+    /// [How to read a contract](crate::contracts)
+    ///
+    /// </details>
     #[inline]
     pub fn from_str_truncate<S: AsRef<str>>(string: S) -> Self {
         let string = string.as_ref();
@@ -72,20 +136,30 @@ impl CacheString {
 
     /// Creates a string from `string`.
     ///
-    /// # Precondition
-    ///
-    /// All of `string` must fit.
-    ///
     /// # Safety
     ///
     /// The text after the call must fit into the capacity.
     ///
-    /// # Contract
+    /// # Examples
+    ///
+    /// ```
+    /// use arraystring::CacheString;
+    ///
+    /// // SAFETY: the text takes less than 63 bytes.
+    /// let key = unsafe { CacheString::from_str_unchecked("user:42") };
+    /// assert_eq!(key, "user:42");
+    /// ```
+    ///
+    /// <details><summary>Contract</summary>
     ///
     /// ```text
     /// requires { size (chars string.now) ≤ 63 }
     /// ensures { result.0.text ≡ chars string.now }
     /// ```
+    ///
+    /// [How to read a contract](crate::contracts)
+    ///
+    /// </details>
     #[inline]
     pub unsafe fn from_str_unchecked<S: AsRef<str>>(string: S) -> Self {
         let string = string.as_ref();
@@ -97,19 +171,24 @@ impl CacheString {
     ///
     /// # Errors
     ///
-    /// Returns `Err(OutOfBounds)` if not all of the pieces fit.
-    ///
-    /// # Precondition
-    ///
-    /// See the module `array_string` for iterators.
+    /// Returns [`Err(OutOfBounds)`](crate::error::OutOfBounds) if not all of the pieces fit.
     ///
     /// # In Rust
     ///
-    /// No precondition is left here: an iterator that never ends, or that panics, is allowed. The call stops at the
-    /// first item that does not fit, so only empty pieces without an end keep it. What was taken before a panic is a
-    /// text.
+    /// An iterator that never ends, or that panics, is allowed. The call stops at the first item that does not fit, so
+    /// only empty pieces without an end keep it. What was taken before a panic is a text.
     ///
-    /// # Contract
+    /// # Examples
+    ///
+    /// ```
+    /// use arraystring::CacheString;
+    /// use arraystring::error::OutOfBounds;
+    ///
+    /// assert_eq!(CacheString::try_from_iterator(["user:", "42"]).map(|key| key.0.len()), Ok(7));
+    /// assert_eq!(CacheString::try_from_iterator(["é"; 32]), Err(OutOfBounds));
+    /// ```
+    ///
+    /// <details><summary>Contract</summary>
     ///
     /// ```text
     /// requires { IsFiniteIterable I.into_iter_gives I.IntoIter.can_next I.IntoIter.remaining pieces }
@@ -118,6 +197,10 @@ impl CacheString {
     /// ensures whole { (all : List (List ℕ)) → Gives I.into_iter_gives I.IntoIter.next_gives piece_text pieces all
     ///     → IsWholeOrRefused (joined all) 63 (from_out_of_bounds (held result)) }
     /// ```
+    ///
+    /// [How to read a contract](crate::contracts)
+    ///
+    /// </details>
     #[inline]
     pub fn try_from_iterator<U: AsRef<str>, I: IntoIterator<Item = U>>(pieces: I) -> Result<Self, OutOfBounds> {
         Ok(CacheString(ArrayString::try_from_iterator(pieces)?))
@@ -126,17 +209,21 @@ impl CacheString {
     /// Creates a string from the longest prefix of whole characters of the joined pieces that
     /// fits.
     ///
-    /// # Precondition
-    ///
-    /// See the module `array_string` for iterators.
-    ///
     /// # In Rust
     ///
-    /// No precondition is left here: an iterator that never ends, or that panics, is allowed. The call stops at the
-    /// first item that does not fit, so only empty pieces without an end keep it. What was taken before a panic is a
-    /// text.
+    /// An iterator that never ends, or that panics, is allowed. The call stops at the first item that does not fit, so
+    /// only empty pieces without an end keep it. What was taken before a panic is a text.
     ///
-    /// # Contract
+    /// # Examples
+    ///
+    /// ```
+    /// use arraystring::CacheString;
+    ///
+    /// assert_eq!(CacheString::from_iterator(["user", ":", "42"]).0.as_str(), "user:42");
+    /// assert_eq!(CacheString::from_iterator(["é"; 32]).0.len(), 62);
+    /// ```
+    ///
+    /// <details><summary>Contract</summary>
     ///
     /// ```text
     /// requires { IsFiniteIterable I.into_iter_gives I.IntoIter.can_next I.IntoIter.remaining pieces }
@@ -145,6 +232,10 @@ impl CacheString {
     /// ensures whole { (all : List (List ℕ)) → Gives I.into_iter_gives I.IntoIter.next_gives piece_text pieces all
     ///     → result.0.text ≡ cut (joined all) 63 }
     /// ```
+    ///
+    /// [How to read a contract](crate::contracts)
+    ///
+    /// </details>
     #[inline]
     pub fn from_iterator<U: AsRef<str>, I: IntoIterator<Item = U>>(pieces: I) -> Self {
         CacheString(ArrayString::from_iterator(pieces))
@@ -152,15 +243,21 @@ impl CacheString {
 
     /// Creates a string from all pieces, joined.
     ///
-    /// # Precondition
-    ///
-    /// All of the pieces must fit. See the module `array_string` for iterators.
-    ///
     /// # Safety
     ///
     /// The text after the call must fit into the capacity.
     ///
-    /// # Contract
+    /// # Examples
+    ///
+    /// ```
+    /// use arraystring::CacheString;
+    ///
+    /// // SAFETY: the pieces take less than 63 bytes together.
+    /// let key = unsafe { CacheString::from_iterator_unchecked(["user", ":", "42"]) };
+    /// assert_eq!(key, "user:42");
+    /// ```
+    ///
+    /// <details><summary>Contract</summary>
     ///
     /// ```text
     /// requires ends { IsFiniteIterable I.into_iter_gives I.IntoIter.can_next I.IntoIter.remaining pieces }
@@ -170,6 +267,10 @@ impl CacheString {
     /// ensures whole { (all : List (List ℕ)) → Gives I.into_iter_gives I.IntoIter.next_gives piece_text pieces all
     ///     → result.0.text ≡ joined all }
     /// ```
+    ///
+    /// [How to read a contract](crate::contracts)
+    ///
+    /// </details>
     #[inline]
     pub unsafe fn from_iterator_unchecked<U: AsRef<str>, I: IntoIterator<Item = U>>(pieces: I) -> Self {
         // SAFETY: the proof of `from_iterator_unchecked` in crates/arraystring/src/cache_string.rt shows `fits` of `from_iterator_unchecked`.
@@ -180,19 +281,24 @@ impl CacheString {
     ///
     /// # Errors
     ///
-    /// Returns `Err(OutOfBounds)` if not all of the characters fit.
-    ///
-    /// # Precondition
-    ///
-    /// See the module `array_string` for iterators.
+    /// Returns [`Err(OutOfBounds)`](crate::error::OutOfBounds) if not all of the characters fit.
     ///
     /// # In Rust
     ///
-    /// No precondition is left here: an iterator that never ends, or that panics, is allowed. The call stops at the
-    /// first item that does not fit, so only empty pieces without an end keep it. What was taken before a panic is a
-    /// text.
+    /// An iterator that never ends, or that panics, is allowed. The call stops at the first item that does not fit, so
+    /// only empty pieces without an end keep it. What was taken before a panic is a text.
     ///
-    /// # Contract
+    /// # Examples
+    ///
+    /// ```
+    /// use arraystring::CacheString;
+    /// use arraystring::error::OutOfBounds;
+    ///
+    /// assert_eq!(CacheString::try_from_chars('a'..='c').map(|key| key.0.len()), Ok(3));
+    /// assert_eq!(CacheString::try_from_chars("é".repeat(32).chars()), Err(OutOfBounds));
+    /// ```
+    ///
+    /// <details><summary>Contract</summary>
     ///
     /// ```text
     /// requires { IsFiniteIterable I.into_iter_gives I.IntoIter.can_next I.IntoIter.remaining characters }
@@ -201,6 +307,10 @@ impl CacheString {
     /// ensures whole { (all : List ℕ) → Gives I.into_iter_gives I.IntoIter.next_gives (λ c. c) characters all
     ///     → IsWholeOrRefused all 63 (from_out_of_bounds (held result)) }
     /// ```
+    ///
+    /// [How to read a contract](crate::contracts)
+    ///
+    /// </details>
     #[inline]
     pub fn try_from_chars<I: IntoIterator<Item = char>>(characters: I) -> Result<Self, OutOfBounds> {
         Ok(CacheString(ArrayString::try_from_chars(characters)?))
@@ -209,17 +319,21 @@ impl CacheString {
     /// Creates a string from the longest prefix of the characters that fits. It ends before the
     /// first character that does not fit, even if a later one takes fewer bytes and would fit.
     ///
-    /// # Precondition
-    ///
-    /// See the module `array_string` for iterators.
-    ///
     /// # In Rust
     ///
-    /// No precondition is left here: an iterator that never ends, or that panics, is allowed. The call stops at the
-    /// first item that does not fit, so only empty pieces without an end keep it. What was taken before a panic is a
-    /// text.
+    /// An iterator that never ends, or that panics, is allowed. The call stops at the first item that does not fit, so
+    /// only empty pieces without an end keep it. What was taken before a panic is a text.
     ///
-    /// # Contract
+    /// # Examples
+    ///
+    /// ```
+    /// use arraystring::CacheString;
+    ///
+    /// assert_eq!(CacheString::from_chars('a'..='c').0.as_str(), "abc");
+    /// assert_eq!(CacheString::from_chars("é".repeat(32).chars()).0.len(), 62);
+    /// ```
+    ///
+    /// <details><summary>Contract</summary>
     ///
     /// ```text
     /// requires { IsFiniteIterable I.into_iter_gives I.IntoIter.can_next I.IntoIter.remaining characters }
@@ -228,6 +342,10 @@ impl CacheString {
     /// ensures whole { (all : List ℕ) → Gives I.into_iter_gives I.IntoIter.next_gives (λ c. c) characters all
     ///     → result.0.text ≡ cut all 63 }
     /// ```
+    ///
+    /// [How to read a contract](crate::contracts)
+    ///
+    /// </details>
     #[inline]
     pub fn from_chars<I: IntoIterator<Item = char>>(characters: I) -> Self {
         CacheString(ArrayString::from_chars(characters))
@@ -235,15 +353,21 @@ impl CacheString {
 
     /// Creates a string from all characters.
     ///
-    /// # Precondition
-    ///
-    /// All of the characters must fit. See the module `array_string` for iterators.
-    ///
     /// # Safety
     ///
     /// The text after the call must fit into the capacity.
     ///
-    /// # Contract
+    /// # Examples
+    ///
+    /// ```
+    /// use arraystring::CacheString;
+    ///
+    /// // SAFETY: the letters take a byte each, and there are 26.
+    /// let letters = unsafe { CacheString::from_chars_unchecked('a'..='z') };
+    /// assert_eq!(letters.len(), 26);
+    /// ```
+    ///
+    /// <details><summary>Contract</summary>
     ///
     /// ```text
     /// requires ends { IsFiniteIterable I.into_iter_gives I.IntoIter.can_next I.IntoIter.remaining characters }
@@ -253,6 +377,10 @@ impl CacheString {
     /// ensures whole { (all : List ℕ) → Gives I.into_iter_gives I.IntoIter.next_gives (λ c. c) characters all
     ///     → result.0.text ≡ all }
     /// ```
+    ///
+    /// [How to read a contract](crate::contracts)
+    ///
+    /// </details>
     #[inline]
     pub unsafe fn from_chars_unchecked<I: IntoIterator<Item = char>>(characters: I) -> Self {
         // SAFETY: the proof of `from_chars_unchecked` in crates/arraystring/src/cache_string.rt shows `fits` of `from_chars_unchecked`.
@@ -265,11 +393,21 @@ impl CacheString {
     ///
     /// The first of these whose condition holds is returned:
     ///
-    /// - `Err(Error::Utf8)` if `given` is not well-formed UTF-8 (the Unicode Standard, section
+    /// - [`Err(Error::Utf8)`](crate::Error::Utf8) if `given` is not well-formed UTF-8 (the Unicode Standard, section
     ///   3.9);
-    /// - `Err(Error::OutOfBounds)` if the text is larger than the capacity.
+    /// - [`Err(Error::OutOfBounds)`](crate::Error::OutOfBounds) if the text is larger than the capacity.
     ///
-    /// # Contract
+    /// # Examples
+    ///
+    /// ```
+    /// use arraystring::{CacheString, Error};
+    ///
+    /// assert_eq!(CacheString::try_from_utf8(b"user:42").map(|key| key.0.len()), Ok(7));
+    /// assert_eq!(CacheString::try_from_utf8(b"user:\xFF"), Err(Error::Utf8));
+    /// assert_eq!(CacheString::try_from_utf8(&[b'm'; 64]), Err(Error::OutOfBounds));
+    /// ```
+    ///
+    /// <details><summary>Contract</summary>
     ///
     /// ```text
     /// ensures malformed { ¬ (IsWellFormed given.now) → held result ≡ Err error.Utf8 }
@@ -277,27 +415,45 @@ impl CacheString {
     /// ensures bytes { IfOk result (λ made. bytes made.0.text ≡ given.now) }
     /// ensures text { IfOk result (λ made. IsText made.0.text) }
     /// ```
+    ///
+    /// [How to read a contract](crate::contracts)
+    ///
+    /// </details>
     #[inline]
     pub fn try_from_utf8<B: AsRef<[u8]>>(given: B) -> Result<Self, Error> {
         let given = given.as_ref();
         Ok(CacheString(ArrayString::try_from_utf8(given)?))
     }
 
-    /// Creates a string from the UTF-8 in `given`, cut to the longest prefix of whole characters
-    /// that fits.
+    /// Creates a string from the UTF-8 in `given`, **cut** to the longest prefix of whole characters
+    /// that fits. [`try_from_utf8`](crate::CacheString::try_from_utf8) refuses what does not fit.
     ///
     /// # Errors
     ///
-    /// Returns `Err(Utf8)` if `given` is not well-formed UTF-8 (the Unicode Standard, section
+    /// Returns [`Err(Utf8)`](crate::error::Utf8) if `given` is not well-formed UTF-8 (the Unicode Standard, section
     /// 3.9), even if only bytes that would be cut off are malformed.
     ///
-    /// # Contract
+    /// # Examples
+    ///
+    /// ```
+    /// use arraystring::CacheString;
+    /// use arraystring::error::Utf8;
+    ///
+    /// assert_eq!(CacheString::from_utf8(&[b'm'; 64]).map(|key| key.0.len()), Ok(63));
+    /// assert_eq!(CacheString::from_utf8(b"user:\xFF"), Err(Utf8));
+    /// ```
+    ///
+    /// <details><summary>Contract</summary>
     ///
     /// ```text
     /// ensures well_formed { IsOk result ↔ IsWellFormed given.now }
     /// ensures cut { (t : List ℕ) → IsText t → bytes t ≡ given.now → IfOk result (λ made. made.0.text ≡ cut t 63) }
     /// ensures text { IfOk result (λ made. IsText made.0.text) }
     /// ```
+    ///
+    /// [How to read a contract](crate::contracts)
+    ///
+    /// </details>
     #[inline]
     pub fn from_utf8<B: AsRef<[u8]>>(given: B) -> Result<Self, Utf8> {
         let given = given.as_ref();
@@ -306,16 +462,21 @@ impl CacheString {
 
     /// Creates a string from the UTF-8 in `given`.
     ///
-    /// # Precondition
-    ///
-    /// `given` must be well-formed UTF-8 (the Unicode Standard, section 3.9), and all of it must
-    /// fit.
-    ///
     /// # Safety
     ///
     /// The bytes must be well-formed UTF-8, and must fit into the capacity.
     ///
-    /// # Contract
+    /// # Examples
+    ///
+    /// ```
+    /// use arraystring::CacheString;
+    ///
+    /// // SAFETY: each byte is ASCII, and there are seven.
+    /// let key = unsafe { CacheString::from_utf8_unchecked(b"user:42") };
+    /// assert_eq!(key, "user:42");
+    /// ```
+    ///
+    /// <details><summary>Contract</summary>
     ///
     /// ```text
     /// requires well_formed { IsWellFormed given.now }
@@ -323,6 +484,10 @@ impl CacheString {
     /// ensures bytes { bytes result.0.text ≡ given.now }
     /// ensures text { IsText result.0.text }
     /// ```
+    ///
+    /// [How to read a contract](crate::contracts)
+    ///
+    /// </details>
     #[inline]
     pub unsafe fn from_utf8_unchecked<B: AsRef<[u8]>>(given: B) -> Self {
         let given = given.as_ref();
@@ -337,14 +502,28 @@ impl CacheString {
     /// The units are read in order, as characters and lone surrogates. The first that cannot be
     /// appended decides:
     ///
-    /// - `Err(Error::Utf16)` if it is a lone surrogate;
-    /// - `Err(Error::OutOfBounds)` if it is a character that does not fit.
+    /// - [`Err(Error::Utf16)`](crate::Error::Utf16) if it is a lone surrogate;
+    /// - [`Err(Error::OutOfBounds)`](crate::Error::OutOfBounds) if it is a character that does not fit.
     ///
-    /// # Contract
+    /// # Examples
+    ///
+    /// ```
+    /// use arraystring::{CacheString, Error};
+    ///
+    /// assert_eq!(CacheString::try_from_utf16(&[0x61, 0xE9]).map(|key| key.0.len()), Ok(3));
+    /// assert_eq!(CacheString::try_from_utf16(&[0x61, 0xD83E]), Err(Error::Utf16)); // half a pair
+    /// assert_eq!(CacheString::try_from_utf16(&[0x61; 64]), Err(Error::OutOfBounds));
+    /// ```
+    ///
+    /// <details><summary>Contract</summary>
     ///
     /// ```text
     /// ensures { (items : List Unit16) → IsReading units.now items → GivesWhole (first_stop items 63) (held result) }
     /// ```
+    ///
+    /// [How to read a contract](crate::contracts)
+    ///
+    /// </details>
     #[inline]
     pub fn try_from_utf16<B: AsRef<[u16]>>(units: B) -> Result<Self, Error> {
         let units = units.as_ref();
@@ -352,18 +531,33 @@ impl CacheString {
     }
 
     /// Creates a string from the longest prefix of characters of `units` that fits. What comes
-    /// after a character that does not fit has no effect.
+    /// after a character that does not fit has no effect: the text is **cut** there.
+    /// [`try_from_utf16`](crate::CacheString::try_from_utf16) refuses what does not fit.
     ///
     /// # Errors
     ///
-    /// Returns `Err(Utf16)` if a lone surrogate comes right after that prefix, even if the string
+    /// Returns [`Err(Utf16)`](crate::error::Utf16) if a lone surrogate comes right after that prefix, even if the string
     /// is full.
     ///
-    /// # Contract
+    /// # Examples
+    ///
+    /// ```
+    /// use arraystring::CacheString;
+    /// use arraystring::error::Utf16;
+    ///
+    /// assert_eq!(CacheString::from_utf16(&[0x61; 64]).map(|key| key.0.len()), Ok(63));
+    /// assert_eq!(CacheString::from_utf16(&[0x61, 0xD83E]), Err(Utf16)); // half a pair
+    /// ```
+    ///
+    /// <details><summary>Contract</summary>
     ///
     /// ```text
     /// ensures { (items : List Unit16) → IsReading units.now items → GivesPrefix (first_stop items 63) (held result) }
     /// ```
+    ///
+    /// [How to read a contract](crate::contracts)
+    ///
+    /// </details>
     #[inline]
     pub fn from_utf16<B: AsRef<[u16]>>(units: B) -> Result<Self, Utf16> {
         let units = units.as_ref();
@@ -373,11 +567,24 @@ impl CacheString {
     /// Creates a string from the longest prefix of the characters of `units` that fits. Each lone
     /// surrogate is read as U+FFFD, which takes three bytes.
     ///
-    /// # Contract
+    /// # Examples
+    ///
+    /// ```
+    /// use arraystring::CacheString;
+    ///
+    /// assert_eq!(CacheString::from_utf16_lossy(&[0x61, 0xD83E]).0.as_str(), "a\u{FFFD}");
+    /// assert_eq!(CacheString::from_utf16_lossy(&[0x61; 64]).0.len(), 63);
+    /// ```
+    ///
+    /// <details><summary>Contract</summary>
     ///
     /// ```text
     /// ensures { (items : List Unit16) → IsReading units.now items → result.0.text ≡ cut (lossy_text items) 63 }
     /// ```
+    ///
+    /// [How to read a contract](crate::contracts)
+    ///
+    /// </details>
     #[inline]
     pub fn from_utf16_lossy<B: AsRef<[u16]>>(units: B) -> Self {
         let units = units.as_ref();
@@ -391,14 +598,30 @@ impl CacheString {
     ///
     /// The first of these whose condition holds is returned, and the text is then unchanged:
     ///
-    /// - `Err(Error::OutOfBounds)` if `at` is past the text;
-    /// - `Err(Error::Utf8)` if `at` is inside a character.
+    /// - [`Err(Error::OutOfBounds)`](crate::Error::OutOfBounds) if `at` is past the text;
+    /// - [`Err(Error::Utf8)`](crate::Error::Utf8) if `at` is inside a character.
     ///
-    /// # Contract
+    /// # Examples
+    ///
+    /// ```
+    /// use arraystring::{CacheString, Error};
+    ///
+    /// let mut key = CacheString::from_str_truncate("user:é");
+    /// assert_eq!(key.split_off(9), Err(Error::OutOfBounds)); // past the text
+    /// assert_eq!(key.split_off(6), Err(Error::Utf8)); // inside `é`
+    /// assert_eq!(key.split_off(5).map(|rest| rest.0.len()), Ok(2));
+    /// assert_eq!(key.0.as_str(), "user:");
+    /// ```
+    ///
+    /// <details><summary>Contract</summary>
     ///
     /// ```text
     /// ensures { Makes (split self.old.0.text at) self.old.0.text (with_text (held result)) self.new.0.text }
     /// ```
+    ///
+    /// [How to read a contract](crate::contracts)
+    ///
+    /// </details>
     #[inline]
     pub fn split_off(&mut self, at: u8) -> Result<Self, Error> {
         Ok(CacheString(self.0.split_off(at)?))
@@ -407,11 +630,23 @@ impl CacheString {
 
 /// An empty string.
 ///
-/// # Contract
+/// # Examples
+///
+/// ```
+/// use arraystring::CacheString;
+///
+/// assert_eq!(CacheString::default().0.as_str(), "");
+/// ```
+///
+/// <details><summary>Contract</summary>
 ///
 /// ```text
-/// ghost is_default = { λ s. s.0.text ≡ [] };
+/// is_default = { λ s. s.0.text ≡ [] };
 /// ```
+///
+/// [How to read a contract](crate::contracts)
+///
+/// </details>
 impl Default for CacheString {
     #[inline]
     fn default() -> Self {
@@ -419,13 +654,25 @@ impl Default for CacheString {
     }
 }
 
-/// A `CacheString` of the same text.
+/// A [`CacheString`](crate::CacheString) of the same text.
 ///
-/// # Contract
+/// # Examples
+///
+/// ```
+/// use arraystring::{ArrayString, CacheString};
+///
+/// assert_eq!(CacheString::from(ArrayString::from("user:42")).0.as_str(), "user:42");
+/// ```
+///
+/// <details><summary>Contract</summary>
 ///
 /// ```text
-/// ghost from_gives = { λ string made. made.0.text ≡ string.text };
+/// from_gives = { λ string made. made.0.text ≡ string.text };
 /// ```
+///
+/// [How to read a contract](crate::contracts)
+///
+/// </details>
 impl From<ArrayString<63>> for CacheString {
     #[inline]
     fn from(string: ArrayString<63>) -> Self {
@@ -433,13 +680,27 @@ impl From<ArrayString<63>> for CacheString {
     }
 }
 
-/// The same as `try_from_str`.
+/// The same as [`try_from_str`](crate::CacheString::try_from_str).
 ///
-/// # Contract
+/// # Examples
+///
+/// ```
+/// use arraystring::CacheString;
+/// use arraystring::error::OutOfBounds;
+///
+/// assert_eq!("user:42".parse().map(|key: CacheString| key.0.len()), Ok(7));
+/// assert_eq!("m".repeat(64).parse::<CacheString>(), Err(OutOfBounds));
+/// ```
+///
+/// <details><summary>Contract</summary>
 ///
 /// ```text
-/// ghost from_str_gives = { λ string result. IsWholeOrRefused (chars string) 63 (from_out_of_bounds (held result)) };
+/// from_str_gives = { λ string result. IsWholeOrRefused (chars string) 63 (from_out_of_bounds (held result)) };
 /// ```
+///
+/// [How to read a contract](crate::contracts)
+///
+/// </details>
 impl FromStr for CacheString {
     type Err = OutOfBounds;
 
@@ -447,21 +708,35 @@ impl FromStr for CacheString {
     ///
     /// # Errors
     ///
-    /// Returns `Err(OutOfBounds)` if `string` is larger than the capacity.
+    /// Returns [`Err(OutOfBounds)`](crate::error::OutOfBounds) if `string` is larger than the capacity.
     #[inline]
     fn from_str(string: &str) -> Result<Self, OutOfBounds> {
         Self::try_from_str(string)
     }
 }
 
-/// Writes the text. A width in the format is ignored: nothing is padded.
+/// Writes the text. A width and a precision in the format are ignored: nothing is padded, and
+/// nothing is cut.
 ///
-/// # Contract
+/// # Examples
+///
+/// ```
+/// use arraystring::CacheString;
+///
+/// let key = CacheString::from_str_truncate("abc");
+/// assert_eq!(format!("[{key}] [{key:8.1}]"), "[abc] [abc]");
+/// ```
+///
+/// <details><summary>Contract</summary>
 ///
 /// ```text
-/// ghost output = { λ s. Some (bytes s.0.text) };
-/// ghost styled_output = { λ s _. Some (bytes s.0.text) };
+/// output = { λ s. Some (bytes s.0.text) };
+/// styled_output = { λ s _. Some (bytes s.0.text) };
 /// ```
+///
+/// [How to read a contract](crate::contracts)
+///
+/// </details>
 impl fmt::Display for CacheString {
     #[inline]
     fn fmt(&self, f: &mut fmt::Formatter<'_>) -> fmt::Result {
@@ -471,11 +746,23 @@ impl fmt::Display for CacheString {
 
 /// Appends the longest prefix of whole characters of the `&str` that fits.
 ///
-/// # Contract
+/// # Examples
+///
+/// ```
+/// use arraystring::CacheString;
+///
+/// assert_eq!((CacheString::new() + "user:" + "42").0.as_str(), "user:42");
+/// ```
+///
+/// <details><summary>Contract</summary>
 ///
 /// ```text
-/// ghost add_gives = { λ s given sum. Makes (addition_of_cut s.0.text (chars given.now) 63) s.0.text (Ok tt) sum.0.text };
+/// add_gives = { λ s given sum. Makes (addition_of_cut s.0.text (chars given.now) 63) s.0.text (Ok tt) sum.0.text };
 /// ```
+///
+/// [How to read a contract](crate::contracts)
+///
+/// </details>
 impl<'a> Add<&'a str> for CacheString {
     type Output = Self;
 
@@ -485,11 +772,30 @@ impl<'a> Add<&'a str> for CacheString {
     }
 }
 
-/// # Contract
+/// `write!` appends what it prints, each piece whole.
+///
+/// # Examples
+///
+/// ```
+/// use arraystring::CacheString;
+///
+/// use std::fmt::Write;
+///
+/// let mut key = CacheString::new();
+/// assert!(write!(key, "user:{}", 42).is_ok());
+/// assert!(write!(key, "{}", "m".repeat(64)).is_err());
+/// assert_eq!(key.0.as_str(), "user:42");
+/// ```
+///
+/// <details><summary>Contract</summary>
 ///
 /// ```text
-/// ghost write_str_gives = { λ s given t. bytes t.0.text ≡ bytes s.0.text ++ given };
+/// write_str_gives = { λ s given t. bytes t.0.text ≡ bytes s.0.text ++ given };
 /// ```
+///
+/// [How to read a contract](crate::contracts)
+///
+/// </details>
 impl fmt::Write for CacheString {
     /// Appends `string`.
     ///
@@ -498,12 +804,16 @@ impl fmt::Write for CacheString {
     /// Returns `Err(fmt::Error)` if not all of `string` fits. The text is then unchanged. A
     /// `write!` of several pieces keeps those before the one that is refused.
     ///
-    /// # Contract
+    /// <details><summary>Contract</summary>
     ///
     /// ```text
     /// ensures ok { IsOk result → bytes self.new.0.text ≡ bytes self.old.0.text ++ string.now }
     /// ensures made { Makes (addition self.old.0.text (chars string.now) 63) self.old.0.text (from_out_of_bounds result) self.new.0.text }
     /// ```
+    ///
+    /// [How to read a contract](crate::contracts)
+    ///
+    /// </details>
     #[inline]
     fn write_str(&mut self, string: &str) -> fmt::Result {
         self.0.write_str(string)

@@ -2,15 +2,23 @@
 //! `ArrayString`, a string of bounded size in an array inside the value, under all its paths.
 //! Its tests are in `tests`, beside `src`.
 //!
+//! The calls are those of [`ArrayString`]. What is proved of each folds out under *Contract*, and [`contracts`] says how to read
+//! it; [`laws`] has facts on texts.
+//!
 #![doc = include_str!("../README.md")]
 #![no_std]
 #![deny(unsafe_op_in_unsafe_fn, missing_docs)]
 
 #[macro_use]
-mod by_hand;
+#[path = "by_hand/known.rs"]
+mod known;
 
 mod arraystring_base;
 mod arraystring_core;
+
+mod by_hand;
+
+pub use by_hand::contracts;
 
 mod cache_string;
 pub mod laws;
@@ -21,9 +29,25 @@ pub use crate::arraystring_core::{ArrayString, Drain, drain};
 pub use cache_string::CacheString;
 
 /// A string of at most 23 bytes of UTF-8.
+///
+/// # Examples
+///
+/// ```
+/// use arraystring::SmallString;
+///
+/// assert_eq!((SmallString::capacity(), SmallString::from("abc").len()), (23, 3));
+/// ```
 pub type SmallString = ArrayString<23>;
 
 /// A string of at most 255 bytes of UTF-8, the greatest capacity that there is.
+///
+/// # Examples
+///
+/// ```
+/// use arraystring::MaxString;
+///
+/// assert_eq!(MaxString::from("m".repeat(300).as_str()).len(), 255);
+/// ```
 pub type MaxString = ArrayString<255>;
 
 /// Boundaries, cuts and moves of bytes. Sizes and indices count bytes of UTF-8.

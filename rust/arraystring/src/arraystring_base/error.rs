@@ -1,6 +1,6 @@
 // Made from crates/arraystring_base/src/error.rt by rust/erase. A change goes there.
-//! What a call refuses, and the conversions to `Error`. No printed form is padded to a width in the
-//! format.
+//! What a call refuses, and the conversions to `Error`. A width and a precision in the format of a
+//! printed form are ignored.
 
 use core::error::Error as StdError;
 use core::fmt;
@@ -8,6 +8,17 @@ use core::hash::{Hash, Hasher};
 use core::str::Utf8Error;
 
 /// Any refusal.
+///
+/// # Examples
+///
+/// ```
+/// use arraystring::{ArrayString, Error};
+///
+/// let mut string = ArrayString::<4>::from("é");
+/// assert_eq!(string.remove(1), Err(Error::Utf8));
+/// assert_eq!(string.remove(2), Err(Error::OutOfBounds));
+/// assert_eq!(ArrayString::<4>::try_from_utf16(&[0xD800]), Err(Error::Utf16));
+/// ```
 #[derive(Clone, Copy, PartialEq, Eq)]
 pub enum Error {
     /// Bytes that are not well-formed UTF-8 (the Unicode Standard, section 3.9), or an index
@@ -23,11 +34,15 @@ pub enum Error {
 impl Error {
     /// The name of the case.
     ///
-    /// # Contract
+    /// <details><summary>Contract</summary>
     ///
     /// ```text
     /// ensures { result.now ≡ error_name self.now }
     /// ```
+    ///
+    /// [How to read a contract](crate::contracts)
+    ///
+    /// </details>
     #[inline]
     fn name(&self) -> &'static str {
         match self {
@@ -40,12 +55,27 @@ impl Error {
 
 /// Writes the name to the hasher, as `str` does.
 ///
-/// # Contract
+/// # Examples
+///
+/// ```
+/// use arraystring::Error;
+///
+/// use std::collections::HashSet;
+///
+/// let errors = HashSet::from([Error::Utf8, Error::Utf16, Error::Utf8]);
+/// assert_eq!(errors.len(), 2);
+/// ```
+///
+/// <details><summary>Contract</summary>
 ///
 /// ```text
-/// ghost hash_input = { λ e. fed.str (error_name e) };
-/// ghost respects_eq = { λ x y h. ap fed.str (same_names x y h) };
+/// hash_input = { λ e. fed.str (error_name e) };
+/// respects_eq = { λ x y h. ap fed.str (same_names x y h) };
 /// ```
+///
+/// [How to read a contract](crate::contracts)
+///
+/// </details>
 impl Hash for Error {
     #[inline]
     fn hash<H: Hasher>(&self, state: &mut H) {
@@ -55,12 +85,25 @@ impl Hash for Error {
 
 /// The name alone.
 ///
-/// # Contract
+/// # Examples
+///
+/// ```
+/// use arraystring::Error;
+/// use arraystring::error::OutOfBounds;
+///
+/// assert_eq!(Error::OutOfBounds.to_string(), "OutOfBounds");
+/// ```
+///
+/// <details><summary>Contract</summary>
 ///
 /// ```text
-/// ghost output = { λ e. Some (error_name e) };
-/// ghost styled_output = { λ e _. Some (error_name e) };
+/// output = { λ e. Some (error_name e) };
+/// styled_output = { λ e _. Some (error_name e) };
 /// ```
+///
+/// [How to read a contract](crate::contracts)
+///
+/// </details>
 impl fmt::Display for Error {
     #[inline]
     fn fmt(&self, f: &mut fmt::Formatter<'_>) -> fmt::Result {
@@ -70,11 +113,23 @@ impl fmt::Display for Error {
 
 /// `Error::` and the name.
 ///
-/// # Contract
+/// # Examples
+///
+/// ```
+/// use arraystring::Error;
+///
+/// assert_eq!(format!("{:?}", Error::Utf8), "Error::Utf8");
+/// ```
+///
+/// <details><summary>Contract</summary>
 ///
 /// ```text
-/// ghost debug_output = { λ e. Some (codes "Error::" ++ error_name e) };
+/// debug_output = { λ e. Some (codes "Error::" ++ error_name e) };
 /// ```
+///
+/// [How to read a contract](crate::contracts)
+///
+/// </details>
 impl fmt::Debug for Error {
     #[inline]
     fn fmt(&self, f: &mut fmt::Formatter<'_>) -> fmt::Result {
@@ -83,21 +138,59 @@ impl fmt::Debug for Error {
     }
 }
 
+/// As an error of any kind. It has no source.
+///
+/// # Examples
+///
+/// ```
+/// use arraystring::{ArrayString, Error};
+/// use arraystring::error::OutOfBounds;
+///
+/// fn parsed(text: &str) -> Result<u8, Box<dyn std::error::Error>> {
+///     Ok(ArrayString::<3>::try_from_str(text).map_err(Error::from)?.parse()?)
+/// }
+///
+/// assert_eq!(parsed("255").unwrap(), 255);
+/// assert_eq!(parsed("2555").unwrap_err().to_string(), "OutOfBounds");
+/// ```
 impl StdError for Error {}
 
 /// Bytes that are not well-formed UTF-8 (the Unicode Standard, section 3.9), or an index inside a
-/// character. `is_char_boundary` returns it for an index past the text too.
+/// character. [`is_char_boundary`](crate::utils::is_char_boundary) returns it for an index past the text too.
+///
+/// # Examples
+///
+/// ```
+/// use arraystring::ArrayString;
+/// use arraystring::error::Utf8;
+///
+/// let mut string = ArrayString::<4>::from("é");
+/// assert_eq!(string.truncate(1), Err(Utf8));
+/// assert_eq!(ArrayString::<4>::from_utf8(&[0xFF]), Err(Utf8));
+/// ```
 #[derive(Clone, Copy, Default, PartialEq, Eq)]
 pub struct Utf8;
 
 /// The name alone.
 ///
-/// # Contract
+/// # Examples
+///
+/// ```
+/// use arraystring::error::Utf8;
+///
+/// assert_eq!(Utf8.to_string(), "Utf8");
+/// ```
+///
+/// <details><summary>Contract</summary>
 ///
 /// ```text
-/// ghost output = { λ _. Some (codes "Utf8") };
-/// ghost styled_output = { λ _ _. Some (codes "Utf8") };
+/// output = { λ _. Some (codes "Utf8") };
+/// styled_output = { λ _ _. Some (codes "Utf8") };
 /// ```
+///
+/// [How to read a contract](crate::contracts)
+///
+/// </details>
 impl fmt::Display for Utf8 {
     #[inline]
     fn fmt(&self, f: &mut fmt::Formatter<'_>) -> fmt::Result {
@@ -107,11 +200,23 @@ impl fmt::Display for Utf8 {
 
 /// The name alone.
 ///
-/// # Contract
+/// # Examples
+///
+/// ```
+/// use arraystring::error::Utf8;
+///
+/// assert_eq!(format!("{Utf8:?}"), "Utf8");
+/// ```
+///
+/// <details><summary>Contract</summary>
 ///
 /// ```text
-/// ghost debug_output = { λ _. Some (codes "Utf8") };
+/// debug_output = { λ _. Some (codes "Utf8") };
 /// ```
+///
+/// [How to read a contract](crate::contracts)
+///
+/// </details>
 impl fmt::Debug for Utf8 {
     #[inline]
     fn fmt(&self, f: &mut fmt::Formatter<'_>) -> fmt::Result {
@@ -119,20 +224,51 @@ impl fmt::Debug for Utf8 {
     }
 }
 
+/// As an error of any kind. It has no source.
+///
+/// # Examples
+///
+/// ```
+/// use arraystring::error::Utf8;
+///
+/// let error: Box<dyn std::error::Error> = Utf8.into();
+/// assert!(error.source().is_none());
+/// ```
 impl StdError for Utf8 {}
 
 /// A lone surrogate in UTF-16 (the Unicode Standard, section 3.9).
+///
+/// # Examples
+///
+/// ```
+/// use arraystring::ArrayString;
+/// use arraystring::error::Utf16;
+///
+/// assert_eq!(ArrayString::<4>::from_utf16(&[0xD800]), Err(Utf16));
+/// ```
 #[derive(Clone, Copy, Default, PartialEq, Eq)]
 pub struct Utf16;
 
 /// The name alone.
 ///
-/// # Contract
+/// # Examples
+///
+/// ```
+/// use arraystring::error::Utf16;
+///
+/// assert_eq!(Utf16.to_string(), "Utf16");
+/// ```
+///
+/// <details><summary>Contract</summary>
 ///
 /// ```text
-/// ghost output = { λ _. Some (codes "Utf16") };
-/// ghost styled_output = { λ _ _. Some (codes "Utf16") };
+/// output = { λ _. Some (codes "Utf16") };
+/// styled_output = { λ _ _. Some (codes "Utf16") };
 /// ```
+///
+/// [How to read a contract](crate::contracts)
+///
+/// </details>
 impl fmt::Display for Utf16 {
     #[inline]
     fn fmt(&self, f: &mut fmt::Formatter<'_>) -> fmt::Result {
@@ -142,11 +278,23 @@ impl fmt::Display for Utf16 {
 
 /// The name alone.
 ///
-/// # Contract
+/// # Examples
+///
+/// ```
+/// use arraystring::error::Utf16;
+///
+/// assert_eq!(format!("{Utf16:?}"), "Utf16");
+/// ```
+///
+/// <details><summary>Contract</summary>
 ///
 /// ```text
-/// ghost debug_output = { λ _. Some (codes "Utf16") };
+/// debug_output = { λ _. Some (codes "Utf16") };
 /// ```
+///
+/// [How to read a contract](crate::contracts)
+///
+/// </details>
 impl fmt::Debug for Utf16 {
     #[inline]
     fn fmt(&self, f: &mut fmt::Formatter<'_>) -> fmt::Result {
@@ -154,21 +302,52 @@ impl fmt::Debug for Utf16 {
     }
 }
 
+/// As an error of any kind. It has no source.
+///
+/// # Examples
+///
+/// ```
+/// use arraystring::error::Utf16;
+///
+/// let error: Box<dyn std::error::Error> = Utf16.into();
+/// assert!(error.source().is_none());
+/// ```
 impl StdError for Utf16 {}
 
 /// An index or a range outside the text, a range that ends before it starts, or a result larger
 /// than the capacity.
+///
+/// # Examples
+///
+/// ```
+/// use arraystring::ArrayString;
+/// use arraystring::error::OutOfBounds;
+///
+/// assert_eq!(ArrayString::<4>::try_from_str("hello"), Err(OutOfBounds));
+/// ```
 #[derive(Clone, Copy, Default, PartialEq, Eq)]
 pub struct OutOfBounds;
 
 /// The name alone.
 ///
-/// # Contract
+/// # Examples
+///
+/// ```
+/// use arraystring::error::OutOfBounds;
+///
+/// assert_eq!(OutOfBounds.to_string(), "OutOfBounds");
+/// ```
+///
+/// <details><summary>Contract</summary>
 ///
 /// ```text
-/// ghost output = { λ _. Some (codes "OutOfBounds") };
-/// ghost styled_output = { λ _ _. Some (codes "OutOfBounds") };
+/// output = { λ _. Some (codes "OutOfBounds") };
+/// styled_output = { λ _ _. Some (codes "OutOfBounds") };
 /// ```
+///
+/// [How to read a contract](crate::contracts)
+///
+/// </details>
 impl fmt::Display for OutOfBounds {
     #[inline]
     fn fmt(&self, f: &mut fmt::Formatter<'_>) -> fmt::Result {
@@ -178,11 +357,23 @@ impl fmt::Display for OutOfBounds {
 
 /// The name alone.
 ///
-/// # Contract
+/// # Examples
+///
+/// ```
+/// use arraystring::error::OutOfBounds;
+///
+/// assert_eq!(format!("{OutOfBounds:?}"), "OutOfBounds");
+/// ```
+///
+/// <details><summary>Contract</summary>
 ///
 /// ```text
-/// ghost debug_output = { λ _. Some (codes "OutOfBounds") };
+/// debug_output = { λ _. Some (codes "OutOfBounds") };
 /// ```
+///
+/// [How to read a contract](crate::contracts)
+///
+/// </details>
 impl fmt::Debug for OutOfBounds {
     #[inline]
     fn fmt(&self, f: &mut fmt::Formatter<'_>) -> fmt::Result {
@@ -190,9 +381,27 @@ impl fmt::Debug for OutOfBounds {
     }
 }
 
+/// As an error of any kind. It has no source.
+///
+/// # Examples
+///
+/// ```
+/// use arraystring::error::OutOfBounds;
+///
+/// let error: Box<dyn std::error::Error> = OutOfBounds.into();
+/// assert!(error.source().is_none());
+/// ```
 impl StdError for OutOfBounds {}
 
-/// Bytes that `std` finds not to be UTF-8 are refused as `Utf8`.
+/// Bytes that `std` finds not to be UTF-8 are refused as [`Utf8`](crate::error::Utf8).
+///
+/// # Examples
+///
+/// ```
+/// use arraystring::error::Utf8;
+///
+/// assert_eq!(std::str::from_utf8(b"a\xFF").map_err(Utf8::from), Err(Utf8));
+/// ```
 impl From<Utf8Error> for Utf8 {
     #[inline]
     fn from(_error: Utf8Error) -> Self {
@@ -200,13 +409,25 @@ impl From<Utf8Error> for Utf8 {
     }
 }
 
-/// Bytes that `std` finds not to be UTF-8 are refused as `Error::Utf8`.
+/// Bytes that `std` finds not to be UTF-8 are refused as [`Error::Utf8`](crate::Error::Utf8).
 ///
-/// # Contract
+/// # Examples
+///
+/// ```
+/// use arraystring::Error;
+///
+/// assert_eq!(std::str::from_utf8(b"a\xFF").map_err(Error::from), Err(Error::Utf8));
+/// ```
+///
+/// <details><summary>Contract</summary>
 ///
 /// ```text
-/// ghost from_gives = { λ _ error. error ≡ cases.Utf8 };
+/// from_gives = { λ _ error. error ≡ cases.Utf8 };
 /// ```
+///
+/// [How to read a contract](crate::contracts)
+///
+/// </details>
 impl From<Utf8Error> for Error {
     #[inline]
     fn from(error: Utf8Error) -> Self {
@@ -216,11 +437,24 @@ impl From<Utf8Error> for Error {
 
 /// The case of its name.
 ///
-/// # Contract
+/// # Examples
+///
+/// ```
+/// use arraystring::Error;
+/// use arraystring::error::Utf8;
+///
+/// assert_eq!(Error::from(Utf8), Error::Utf8);
+/// ```
+///
+/// <details><summary>Contract</summary>
 ///
 /// ```text
-/// ghost from_gives = { λ _ error. error ≡ cases.Utf8 };
+/// from_gives = { λ _ error. error ≡ cases.Utf8 };
 /// ```
+///
+/// [How to read a contract](crate::contracts)
+///
+/// </details>
 impl From<Utf8> for Error {
     #[inline]
     fn from(_error: Utf8) -> Self {
@@ -230,11 +464,24 @@ impl From<Utf8> for Error {
 
 /// The case of its name.
 ///
-/// # Contract
+/// # Examples
+///
+/// ```
+/// use arraystring::Error;
+/// use arraystring::error::Utf16;
+///
+/// assert_eq!(Error::from(Utf16), Error::Utf16);
+/// ```
+///
+/// <details><summary>Contract</summary>
 ///
 /// ```text
-/// ghost from_gives = { λ _ error. error ≡ cases.Utf16 };
+/// from_gives = { λ _ error. error ≡ cases.Utf16 };
 /// ```
+///
+/// [How to read a contract](crate::contracts)
+///
+/// </details>
 impl From<Utf16> for Error {
     #[inline]
     fn from(_error: Utf16) -> Self {
@@ -244,11 +491,27 @@ impl From<Utf16> for Error {
 
 /// The case of its name.
 ///
-/// # Contract
+/// # Examples
+///
+/// ```
+/// use arraystring::{ArrayString, Error};
+///
+/// fn two(text: &str) -> Result<ArrayString<2>, Error> {
+///     Ok(ArrayString::try_from_str(text)?)
+/// }
+///
+/// assert_eq!(two("abc"), Err(Error::OutOfBounds));
+/// ```
+///
+/// <details><summary>Contract</summary>
 ///
 /// ```text
-/// ghost from_gives = { λ _ error. error ≡ cases.OutOfBounds };
+/// from_gives = { λ _ error. error ≡ cases.OutOfBounds };
 /// ```
+///
+/// [How to read a contract](crate::contracts)
+///
+/// </details>
 impl From<OutOfBounds> for Error {
     #[inline]
     fn from(_error: OutOfBounds) -> Self {

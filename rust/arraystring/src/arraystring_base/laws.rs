@@ -5,36 +5,51 @@
 /// The cut of a text to `n` bytes is a prefix of it that fits, and no prefix that fits is longer;
 /// no other text is so. The cut of a text that fits is the text.
 ///
-/// # Contract
+/// <details><summary>Contract</summary>
 ///
 /// ```text
 /// ensures longest { (t p : List ℕ) (n : ℕ) → (p ≡ cut t n) ↔ IsLongestFitting p t n }
 /// ensures whole { (t : List ℕ) (n : ℕ) → size t ≤ n → cut t n ≡ t }
 /// ```
+///
+/// [How to read a contract](crate::contracts)
+///
+/// </details>
+#[doc(hidden)]
 pub fn longest_cut() {}
 
 /// The cut of a longer cut is the cut.
 ///
-/// # Contract
+/// <details><summary>Contract</summary>
 ///
 /// ```text
 /// ensures { (t : List ℕ) (m n : ℕ) → n ≤ m → cut (cut t m) n ≡ cut t n }
 /// ```
+///
+/// [How to read a contract](crate::contracts)
+///
+/// </details>
+#[doc(hidden)]
 pub fn cut_of_cut() {}
 
 /// `i` is a boundary of a text if and only if one of its prefixes has size `i`.
 ///
-/// # Contract
+/// <details><summary>Contract</summary>
 ///
 /// ```text
 /// ensures { (t : List ℕ) (i : ℕ) → IsTrue (boundary t i) ↔ ((p : List ℕ) × IsPrefix p t × (size p ≡ i)) }
 /// ```
+///
+/// [How to read a contract](crate::contracts)
+///
+/// </details>
+#[doc(hidden)]
 pub fn boundaries() {}
 
 /// The parts before and from an index, joined, are the text. The part before a boundary has as many
 /// bytes as the boundary says. At the index where two texts are joined, the parts are those two.
 ///
-/// # Contract
+/// <details><summary>Contract</summary>
 ///
 /// ```text
 /// ensures joined { (t : List ℕ) (i : ℕ) → front t i ++ back t i ≡ t }
@@ -42,42 +57,62 @@ pub fn boundaries() {}
 /// ensures before { (p q : List ℕ) → front (p ++ q) (size p) ≡ p }
 /// ensures behind { (p q : List ℕ) → back (p ++ q) (size p) ≡ q }
 /// ```
+///
+/// [How to read a contract](crate::contracts)
+///
+/// </details>
+#[doc(hidden)]
 pub fn parts() {}
 
 /// A text takes as many bytes as its UTF-8 has. So `len` of a string is how many bytes its
 /// `as_bytes` and its `as_str` return.
 ///
-/// # Contract
+/// <details><summary>Contract</summary>
 ///
 /// ```text
 /// ensures { (t : List ℕ) → size t ≡ length (bytes t) }
 /// ```
+///
+/// [How to read a contract](crate::contracts)
+///
+/// </details>
+#[doc(hidden)]
 pub fn size_is_length() {}
 
 /// Bytes spell one text.
 ///
-/// # Contract
+/// <details><summary>Contract</summary>
 ///
 /// ```text
 /// ensures { (a b : List ℕ) → bytes a ≡ bytes b → a ≡ b }
 /// ```
+///
+/// [How to read a contract](crate::contracts)
+///
+/// </details>
+#[doc(hidden)]
 pub fn one_text() {}
 
 /// Every `&str` is the bytes of its characters, and each of these is a Unicode scalar value.
 ///
-/// # Contract
+/// <details><summary>Contract</summary>
 ///
 /// ```text
 /// ensures text { IsText (chars given.now) }
 /// ensures bytes { bytes (chars given.now) ≡ given.now }
 /// ```
+///
+/// [How to read a contract](crate::contracts)
+///
+/// </details>
+#[doc(hidden)]
 #[allow(unused_variables)]
 pub fn borrowed_text(given: &str) {}
 
 /// The order of the bytes of two texts is the order of their characters. The bytes are less if and
 /// only if the one text comes before the other, and equal if and only if the texts are the same.
 ///
-/// # Contract
+/// <details><summary>Contract</summary>
 ///
 /// ```text
 /// ensures same { (a b : List ℕ) → slice_cmp nat_cmp (bytes a) (bytes b) ≡ slice_cmp nat_cmp a b }
@@ -85,46 +120,71 @@ pub fn borrowed_text(given: &str) {}
 /// ensures equal { (a b : List ℕ) → (slice_cmp nat_cmp (bytes a) (bytes b) ≡ Equal) ↔ (a ≡ b) }
 /// ensures greater { (a b : List ℕ) → (slice_cmp nat_cmp (bytes a) (bytes b) ≡ Greater) ↔ IsBefore b a }
 /// ```
+///
+/// [How to read a contract](crate::contracts)
+///
+/// </details>
+#[doc(hidden)]
 pub fn order_of_bytes() {}
 
 /// Of two texts that are not the same, one comes before the other. What comes before a text comes
 /// before all texts that follow it. No text comes before itself.
 ///
-/// # Contract
+/// <details><summary>Contract</summary>
 ///
 /// ```text
 /// ensures total { (a b : List ℕ) → IsBefore a b ⊎ (a ≡ b) ⊎ IsBefore b a }
 /// ensures transitive { (a b c : List ℕ) → IsBefore a b → IsBefore b c → IsBefore a c }
 /// ensures itself { (a : List ℕ) → ¬ (IsBefore a a) }
 /// ```
+///
+/// [How to read a contract](crate::contracts)
+///
+/// </details>
+#[doc(hidden)]
 pub fn order_of_texts() {}
 
 /// The units have a reading, and any two readings of them are the same.
 ///
-/// # Contract
+/// <details><summary>Contract</summary>
 ///
 /// ```text
 /// ensures some { (items : List Unit16) × IsReading units.now items }
 /// ensures only { (a b : List Unit16) → IsReading units.now a → IsReading units.now b → a ≡ b }
 /// ```
+///
+/// [How to read a contract](crate::contracts)
+///
+/// </details>
+#[doc(hidden)]
 #[allow(unused_variables)]
 pub fn only_reading(units: &[u16]) {}
 
 /// The UTF-16 of a text is read as its characters, and as nothing else.
 ///
-/// # Contract
+/// <details><summary>Contract</summary>
 ///
 /// ```text
 /// ensures { (t : List ℕ) (items : List Unit16) → IsText t → (IsReading (text_units t) items) ↔ (items ≡ map Char t) }
 /// ```
+///
+/// [How to read a contract](crate::contracts)
+///
+/// </details>
+#[doc(hidden)]
 pub fn text_reading() {}
 
 /// The first stop of items at `n` bytes is where the longest prefix of characters that fits ends,
 /// with what comes after it; no other stop is so.
 ///
-/// # Contract
+/// <details><summary>Contract</summary>
 ///
 /// ```text
 /// ensures { (items : List Unit16) (n : ℕ) (stop : Stop) → (StopsAt items n stop) ↔ (first_stop items n ≡ stop) }
 /// ```
+///
+/// [How to read a contract](crate::contracts)
+///
+/// </details>
+#[doc(hidden)]
 pub fn one_stop() {}

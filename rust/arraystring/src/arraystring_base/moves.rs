@@ -9,21 +9,21 @@ use crate::by_hand::simd::Simd;
 /// Moves `len` bytes of the array from the offset `from` to the offset `to`; the two runs may overlap.
 /// No byte outside the target changes, and nothing is counted. Up to 256 bytes cost no call.
 ///
-/// # Precondition
-///
-/// Both runs must lie in the array.
-///
 /// # Safety
 ///
 /// Both runs must lie in the array.
 ///
-/// # Contract
+/// <details><summary>Contract</summary>
 ///
 /// ```text
 /// requires source { from + len ≤ N }
 /// requires target { to + len ≤ N }
 /// ensures { array.new ≡ take to array.old ++ (take len (drop from array.old) ++ drop (to + len) array.old) }
 /// ```
+///
+/// [How to read a contract](crate::contracts)
+///
+/// </details>
 #[inline(always)]
 pub unsafe fn move_run<const N: usize>(array: &mut [u8; N], from: usize, to: usize, len: usize) {
     known!(source: from + len <= N && from <= from + len);
@@ -46,7 +46,7 @@ pub unsafe fn move_run<const N: usize>(array: &mut [u8; N], from: usize, to: usi
 ///
 /// Each clause `requires` of the contract must hold, but for those on counts, on iterators and on closures.
 ///
-/// # Contract
+/// <details><summary>Contract</summary>
 ///
 /// ```text
 /// requires source { from + len ≤ N }
@@ -54,6 +54,10 @@ pub unsafe fn move_run<const N: usize>(array: &mut [u8; N], from: usize, to: usi
 /// requires short { len < 16 }
 /// ensures { array.new ≡ take to array.old ++ (take len (drop from array.old) ++ drop (to + len) array.old) }
 /// ```
+///
+/// [How to read a contract](crate::contracts)
+///
+/// </details>
 #[inline(always)]
 unsafe fn move_short_run<const N: usize>(array: &mut [u8; N], from: usize, to: usize, len: usize) {
     known!(source: from + len <= N && from <= from + len);
@@ -81,7 +85,7 @@ unsafe fn move_short_run<const N: usize>(array: &mut [u8; N], from: usize, to: u
 ///
 /// Each clause `requires` of the contract must hold, but for those on counts, on iterators and on closures.
 ///
-/// # Contract
+/// <details><summary>Contract</summary>
 ///
 /// ```text
 /// requires source { from + len ≤ N }
@@ -90,6 +94,10 @@ unsafe fn move_short_run<const N: usize>(array: &mut [u8; N], from: usize, to: u
 /// requires most { len ≤ 64 }
 /// ensures { array.new ≡ take to array.old ++ (take len (drop from array.old) ++ drop (to + len) array.old) }
 /// ```
+///
+/// [How to read a contract](crate::contracts)
+///
+/// </details>
 #[inline(always)]
 unsafe fn move_long_run<const N: usize>(array: &mut [u8; N], from: usize, to: usize, len: usize) {
     known!(source: from + len <= N && from <= from + len);
@@ -109,7 +117,7 @@ unsafe fn move_long_run<const N: usize>(array: &mut [u8; N], from: usize, to: us
 ///
 /// Each clause `requires` of the contract must hold, but for those on counts, on iterators and on closures.
 ///
-/// # Contract
+/// <details><summary>Contract</summary>
 ///
 /// ```text
 /// requires source { from + len ≤ N }
@@ -117,6 +125,10 @@ unsafe fn move_long_run<const N: usize>(array: &mut [u8; N], from: usize, to: us
 /// requires long { 64 < len }
 /// ensures { array.new ≡ take to array.old ++ (take len (drop from array.old) ++ drop (to + len) array.old) }
 /// ```
+///
+/// [How to read a contract](crate::contracts)
+///
+/// </details>
 #[inline(always)]
 unsafe fn move_much<const N: usize>(array: &mut [u8; N], from: usize, to: usize, len: usize) {
     known!(source: from + len <= N && from <= from + len);
@@ -139,13 +151,17 @@ unsafe fn move_much<const N: usize>(array: &mut [u8; N], from: usize, to: usize,
 ///
 /// Each clause `requires` of the contract must hold, but for those on counts, on iterators and on closures.
 ///
-/// # Contract
+/// <details><summary>Contract</summary>
 ///
 /// ```text
 /// requires source { from + len ≤ N }
 /// requires target { to + len ≤ N }
 /// ensures { array.new ≡ take to array.old ++ (take len (drop from array.old) ++ drop (to + len) array.old) }
 /// ```
+///
+/// [How to read a contract](crate::contracts)
+///
+/// </details>
 #[cold]
 #[inline(never)]
 unsafe fn move_any_run<const N: usize>(array: &mut [u8; N], from: usize, to: usize, len: usize) {
@@ -161,7 +177,7 @@ unsafe fn move_any_run<const N: usize>(array: &mut [u8; N], from: usize, to: usi
 ///
 /// Each clause `requires` of the contract must hold, but for those on counts, on iterators and on closures.
 ///
-/// # Contract
+/// <details><summary>Contract</summary>
 ///
 /// ```text
 /// requires source { from + len ≤ N }
@@ -170,6 +186,10 @@ unsafe fn move_any_run<const N: usize>(array: &mut [u8; N], from: usize, to: usi
 /// requires most { len - K ≤ K }
 /// ensures { array.new ≡ take to array.old ++ (take len (drop from array.old) ++ drop (to + len) array.old) }
 /// ```
+///
+/// [How to read a contract](crate::contracts)
+///
+/// </details>
 #[inline(always)]
 unsafe fn move_ends<const N: usize, const K: usize>(array: &mut [u8; N], from: usize, to: usize, len: usize) {
     known!(source: from + len <= N && from <= from + len);
@@ -192,7 +212,7 @@ unsafe fn move_ends<const N: usize, const K: usize>(array: &mut [u8; N], from: u
 ///
 /// Each clause `requires` of the contract must hold, but for those on counts, on iterators and on closures.
 ///
-/// # Contract
+/// <details><summary>Contract</summary>
 ///
 /// ```text
 /// requires source { from + len ≤ N }
@@ -201,6 +221,10 @@ unsafe fn move_ends<const N: usize, const K: usize>(array: &mut [u8; N], from: u
 /// requires most { len - (K + K) ≤ K + K }
 /// ensures { array.new ≡ take to array.old ++ (take len (drop from array.old) ++ drop (to + len) array.old) }
 /// ```
+///
+/// [How to read a contract](crate::contracts)
+///
+/// </details>
 #[inline(always)]
 unsafe fn move_pairs<const N: usize, const K: usize>(array: &mut [u8; N], from: usize, to: usize, len: usize) {
     known!(source: from + len <= N && from <= from + len);
@@ -224,20 +248,20 @@ unsafe fn move_pairs<const N: usize, const K: usize>(array: &mut [u8; N], from: 
 /// Writes `given` over the bytes of the array from the offset `at` on. No other byte changes. Up to
 /// 64 bytes cost no call.
 ///
-/// # Precondition
-///
-/// `given` must fit into the array from there.
-///
 /// # Safety
 ///
 /// What is written must lie in the array.
 ///
-/// # Contract
+/// <details><summary>Contract</summary>
 ///
 /// ```text
 /// requires { at + length given.now ≤ N }
 /// ensures { array.new ≡ take at array.old ++ (given.now ++ drop (at + length given.now) array.old) }
 /// ```
+///
+/// [How to read a contract](crate::contracts)
+///
+/// </details>
 #[inline(always)]
 pub unsafe fn write_over<const N: usize>(array: &mut [u8; N], at: usize, given: &[u8]) {
     known!(precondition: at + given.len() <= N && at <= at + given.len());
@@ -256,13 +280,17 @@ pub unsafe fn write_over<const N: usize>(array: &mut [u8; N], at: usize, given: 
 ///
 /// Each clause `requires` of the contract must hold, but for those on counts, on iterators and on closures.
 ///
-/// # Contract
+/// <details><summary>Contract</summary>
 ///
 /// ```text
 /// requires room { at + length given.now ≤ N }
 /// requires short { length given.now < 16 }
 /// ensures { array.new ≡ take at array.old ++ (given.now ++ drop (at + length given.now) array.old) }
 /// ```
+///
+/// [How to read a contract](crate::contracts)
+///
+/// </details>
 #[inline(always)]
 unsafe fn write_short_run<const N: usize>(array: &mut [u8; N], at: usize, given: &[u8]) {
     known!(room: at + given.len() <= N && at <= at + given.len());
@@ -290,13 +318,17 @@ unsafe fn write_short_run<const N: usize>(array: &mut [u8; N], at: usize, given:
 ///
 /// Each clause `requires` of the contract must hold, but for those on counts, on iterators and on closures.
 ///
-/// # Contract
+/// <details><summary>Contract</summary>
 ///
 /// ```text
 /// requires room { at + length given.now ≤ N }
 /// requires least { 16 ≤ length given.now }
 /// ensures { array.new ≡ take at array.old ++ (given.now ++ drop (at + length given.now) array.old) }
 /// ```
+///
+/// [How to read a contract](crate::contracts)
+///
+/// </details>
 #[inline(always)]
 unsafe fn write_long_run<const N: usize>(array: &mut [u8; N], at: usize, given: &[u8]) {
     known!(room: at + given.len() <= N && at <= at + given.len());
@@ -319,12 +351,16 @@ unsafe fn write_long_run<const N: usize>(array: &mut [u8; N], at: usize, given: 
 ///
 /// Each clause `requires` of the contract must hold, but for those on counts, on iterators and on closures.
 ///
-/// # Contract
+/// <details><summary>Contract</summary>
 ///
 /// ```text
 /// requires { at + length given.now ≤ N }
 /// ensures { array.new ≡ take at array.old ++ (given.now ++ drop (at + length given.now) array.old) }
 /// ```
+///
+/// [How to read a contract](crate::contracts)
+///
+/// </details>
 #[inline(never)]
 unsafe fn write_any_run<const N: usize>(array: &mut [u8; N], at: usize, given: &[u8]) {
     known!(precondition: at + given.len() <= N && at <= at + given.len());
@@ -338,7 +374,7 @@ unsafe fn write_any_run<const N: usize>(array: &mut [u8; N], at: usize, given: &
 ///
 /// Each clause `requires` of the contract must hold, but for those on counts, on iterators and on closures.
 ///
-/// # Contract
+/// <details><summary>Contract</summary>
 ///
 /// ```text
 /// requires room { at + length given.now ≤ N }
@@ -346,6 +382,10 @@ unsafe fn write_any_run<const N: usize>(array: &mut [u8; N], at: usize, given: &
 /// requires most { length given.now - K ≤ K }
 /// ensures { array.new ≡ take at array.old ++ (given.now ++ drop (at + length given.now) array.old) }
 /// ```
+///
+/// [How to read a contract](crate::contracts)
+///
+/// </details>
 #[inline(always)]
 unsafe fn copy_ends<const N: usize, const K: usize>(array: &mut [u8; N], at: usize, given: &[u8]) {
     known!(room: at + given.len() <= N && at <= at + given.len());
@@ -367,12 +407,16 @@ unsafe fn copy_ends<const N: usize, const K: usize>(array: &mut [u8; N], at: usi
 ///
 /// Each clause `requires` of the contract must hold, but for those on counts, on iterators and on closures.
 ///
-/// # Contract
+/// <details><summary>Contract</summary>
 ///
 /// ```text
 /// requires { at + K ≤ N }
 /// ensures { result ≡ take K (drop at array.now) }
 /// ```
+///
+/// [How to read a contract](crate::contracts)
+///
+/// </details>
 #[inline(always)]
 unsafe fn bytes_at<const N: usize, const K: usize>(array: &[u8; N], at: usize) -> Simd<u8, K> {
     known!(precondition: at + K <= N && at <= at + K);
@@ -387,12 +431,16 @@ unsafe fn bytes_at<const N: usize, const K: usize>(array: &[u8; N], at: usize) -
 ///
 /// Each clause `requires` of the contract must hold, but for those on counts, on iterators and on closures.
 ///
-/// # Contract
+/// <details><summary>Contract</summary>
 ///
 /// ```text
 /// requires { at + K ≤ length given.now }
 /// ensures { result ≡ take K (drop at given.now) }
 /// ```
+///
+/// [How to read a contract](crate::contracts)
+///
+/// </details>
 #[inline(always)]
 unsafe fn bytes_of<const K: usize>(given: &[u8], at: usize) -> Simd<u8, K> {
     known!(precondition: at + K <= given.len() && at <= at + K);
@@ -405,12 +453,16 @@ unsafe fn bytes_of<const K: usize>(given: &[u8], at: usize) -> Simd<u8, K> {
 ///
 /// Each clause `requires` of the contract must hold, but for those on counts, on iterators and on closures.
 ///
-/// # Contract
+/// <details><summary>Contract</summary>
 ///
 /// ```text
 /// requires { at + K ≤ N }
 /// ensures { array.new ≡ take at array.old ++ (bytes.entry ++ drop (at + K) array.old) }
 /// ```
+///
+/// [How to read a contract](crate::contracts)
+///
+/// </details>
 #[inline(always)]
 unsafe fn put_bytes<const N: usize, const K: usize>(array: &mut [u8; N], at: usize, bytes: Simd<u8, K>) {
     known!(precondition: at + K <= N && at <= at + K);
@@ -424,12 +476,16 @@ unsafe fn put_bytes<const N: usize, const K: usize>(array: &mut [u8; N], at: usi
 ///
 /// Each clause `requires` of the contract must hold, but for those on counts, on iterators and on closures.
 ///
-/// # Contract
+/// <details><summary>Contract</summary>
 ///
 /// ```text
 /// requires { at + (K + K) ≤ N }
 /// ensures { array.new ≡ take at array.old ++ ((first.entry ++ second.entry) ++ drop (at + (K + K)) array.old) }
 /// ```
+///
+/// [How to read a contract](crate::contracts)
+///
+/// </details>
 #[inline(always)]
 unsafe fn put_pair<const N: usize, const K: usize>(
     array: &mut [u8; N],

@@ -1,15 +1,19 @@
 // Made from crates/arraystring_base/src/steps.rt by rust/erase. A change goes there.
 //! Counting what a call does to bytes.
 
-/// Counts of looks and of moves. A look is one call of `look`, and a move is one byte that `shift`
+/// Counts of looks and of moves. A look is one call of [`look`](crate::utils::look), and a move is one byte that [`shift`](crate::utils::shift)
 /// takes to another offset. What calls read otherwise is not counted.
 ///
-/// # Model
+/// # Examples
 ///
-/// ```text
-/// ghost Value = { Counts };
-/// ghost view = { λ s. record { looked = s.looked; moved = s.moved } };
-/// ghost inverse = { λ s. record { looked = s.looked; moved = s.moved } };
+/// ```
+/// use arraystring::ArrayString;
+/// use arraystring::utils::Steps;
+///
+/// let mut string = ArrayString::<8>::from("abcd");
+/// let mut steps = Steps::new();
+/// string.remove_counted(1, &mut steps).unwrap();
+/// assert_eq!((string.as_str(), steps.moved()), ("acd", 2));
 /// ```
 #[derive(Clone, Copy)]
 pub struct Steps {
@@ -20,12 +24,25 @@ pub struct Steps {
 impl Steps {
     /// Returns a fresh counter: no looks and no moves.
     ///
-    /// # Contract
+    /// # Examples
+    ///
+    /// ```
+    /// use arraystring::utils::Steps;
+    ///
+    /// let steps = Steps::new();
+    /// assert_eq!((steps.looked(), steps.moved()), (0, 0));
+    /// ```
+    ///
+    /// <details><summary>Contract</summary>
     ///
     /// ```text
     /// ensures looked { result.looked ≡ 0 }
     /// ensures moved { result.moved ≡ 0 }
     /// ```
+    ///
+    /// [How to read a contract](crate::contracts)
+    ///
+    /// </details>
     #[inline]
     pub const fn new() -> Self {
         Steps { looked: 0, moved: 0 }
@@ -33,11 +50,27 @@ impl Steps {
 
     /// Returns how many looks were counted.
     ///
-    /// # Contract
+    /// # Examples
+    ///
+    /// ```
+    /// use arraystring::utils;
+    /// use arraystring::utils::Steps;
+    ///
+    /// let mut steps = Steps::new();
+    /// utils::look(b"ab", 0, &mut steps);
+    /// utils::look(b"ab", 1, &mut steps);
+    /// assert_eq!((steps.looked(), steps.moved()), (2, 0));
+    /// ```
+    ///
+    /// <details><summary>Contract</summary>
     ///
     /// ```text
     /// ensures { result ≡ self.now.looked }
     /// ```
+    ///
+    /// [How to read a contract](crate::contracts)
+    ///
+    /// </details>
     #[inline]
     pub const fn looked(&self) -> u64 {
         self.looked
@@ -45,11 +78,26 @@ impl Steps {
 
     /// Returns how many moves were counted.
     ///
-    /// # Contract
+    /// # Examples
+    ///
+    /// ```
+    /// use arraystring::ArrayString;
+    /// use arraystring::utils::Steps;
+    ///
+    /// let (mut string, mut steps) = (ArrayString::<8>::from("ab"), Steps::new());
+    /// string.replace_range_counted(..1, "cd", &mut steps).unwrap();
+    /// assert_eq!((string.as_str(), steps.moved()), ("cdb", 1));
+    /// ```
+    ///
+    /// <details><summary>Contract</summary>
     ///
     /// ```text
     /// ensures { result ≡ self.now.moved }
     /// ```
+    ///
+    /// [How to read a contract](crate::contracts)
+    ///
+    /// </details>
     #[inline]
     pub const fn moved(&self) -> u64 {
         self.moved
@@ -57,13 +105,17 @@ impl Steps {
 
     /// Counts `len` moves.
     ///
-    /// # Contract
+    /// <details><summary>Contract</summary>
     ///
     /// ```text
     /// requires { self.old.moved + len < 2 ^ 64 }
     /// ensures moved { self.new.moved ≡ self.old.moved + len }
     /// ensures looked { self.new.looked ≡ self.old.looked }
     /// ```
+    ///
+    /// [How to read a contract](crate::contracts)
+    ///
+    /// </details>
     #[inline]
     pub(crate) fn count_moves(&mut self, len: usize) {
         self.moved = self.moved.saturating_add(len as u64);
@@ -72,15 +124,22 @@ impl Steps {
 
 /// Returns the byte at the index `at`, counted as one look.
 ///
-/// # Precondition
-///
-/// The index must be below the length, and the count of looks of `steps` must be below 2^64 - 1.
-///
 /// # Panics
 ///
 /// Where the index is not below the length.
 ///
-/// # Contract
+/// # Examples
+///
+/// ```
+/// use arraystring::utils;
+/// use arraystring::utils::Steps;
+///
+/// let mut steps = Steps::new();
+/// assert_eq!(utils::look(b"ab", 1, &mut steps), b'b');
+/// assert_eq!((steps.looked(), steps.moved()), (1, 0));
+/// ```
+///
+/// <details><summary>Contract</summary>
 ///
 /// ```text
 /// requires in_bounds { at < length bytes.now }
@@ -89,6 +148,10 @@ impl Steps {
 /// ensures looked { steps.new.looked ≡ steps.old.looked + 1 }
 /// ensures moved { steps.new.moved ≡ steps.old.moved }
 /// ```
+///
+/// [How to read a contract](crate::contracts)
+///
+/// </details>
 #[inline]
 pub fn look(bytes: &[u8], at: usize, steps: &mut Steps) -> u8 {
     steps.looked = steps.looked.saturating_add(1);

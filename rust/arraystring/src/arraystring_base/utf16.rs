@@ -5,6 +5,16 @@ use core::char;
 use core::iter::FusedIterator;
 
 /// An item of a reading.
+///
+/// # Examples
+///
+/// ```
+/// use arraystring::utf16::{Unit16, Units};
+///
+/// let mut items = Units::new(&[0xDD14, 0x61]);
+/// assert_eq!(items.next(), Some(Unit16::Lone(0xDD14)));
+/// assert_eq!(items.next(), Some(Unit16::Char('a')));
+/// ```
 #[derive(Clone, Copy, PartialEq, Eq, Debug)]
 pub enum Unit16 {
     /// A character: a unit that is no surrogate, or a high surrogate and the low one after it.
@@ -17,11 +27,14 @@ pub enum Unit16 {
 ///
 /// Contracts see it as the list of the items that are left.
 ///
-/// # Model
+/// # Examples
 ///
-/// ```text
-/// ghost Value = { List Unit16 };
-/// ghost view = { λ units. reading units.rest.now };
+/// ```
+/// use arraystring::utf16::{Unit16, Units};
+///
+/// let units = [0x61, 0xD83E, 0xDD14, 0xD83E]; // `a`, the pair of `🤔`, and half of it
+/// let items: Vec<_> = Units::new(&units).collect();
+/// assert_eq!(items, [Unit16::Char('a'), Unit16::Char('🤔'), Unit16::Lone(0xD83E)]);
 /// ```
 #[derive(Clone, Debug)]
 pub struct Units<'a> {
@@ -31,23 +44,52 @@ pub struct Units<'a> {
 impl<'a> Units<'a> {
     /// Returns the walk over the reading of `units`, from its first item on.
     ///
-    /// # Contract
+    /// # Examples
+    ///
+    /// ```
+    /// use arraystring::utf16::{Unit16, Units};
+    ///
+    /// assert_eq!(Units::new(&[0x61]).next(), Some(Unit16::Char('a')));
+    /// assert_eq!(Units::new(&[]).next(), None);
+    /// ```
+    ///
+    /// <details><summary>Contract</summary>
     ///
     /// ```text
     /// ensures { IsReading units.now result }
     /// ```
+    ///
+    /// [How to read a contract](crate::contracts)
+    ///
+    /// </details>
     #[inline]
     pub fn new(units: &'a [u16]) -> Self {
         Units { rest: units }
     }
 }
 
-/// # Contract
+/// The items that are left, from the front.
+///
+/// # Examples
+///
+/// ```
+/// use arraystring::utf16::{Unit16, Units};
+///
+/// let mut units = Units::new(&[0x61, 0x62]);
+/// assert_eq!(units.next(), Some(Unit16::Char('a')));
+/// assert_eq!(units.count(), 1);
+/// ```
+///
+/// <details><summary>Contract</summary>
 ///
 /// ```text
-/// ghost next_gives = { YieldsFirst (λ items. items) };
-/// ghost remaining = { item_count (λ items. items) };
+/// next_gives = { YieldsFirst (λ items. items) };
+/// remaining = { item_count (λ items. items) };
 /// ```
+///
+/// [How to read a contract](crate::contracts)
+///
+/// </details>
 impl<'a> Iterator for Units<'a> {
     type Item = Unit16;
 
@@ -69,16 +111,30 @@ impl<'a> Iterator for Units<'a> {
     }
 }
 
+/// Once no item is left, `next` returns `None` ever after.
+///
+/// # Examples
+///
+/// ```
+/// use arraystring::utf16::Units;
+///
+/// let mut units = Units::new(&[0x61]);
+/// assert_eq!((units.next().is_some(), units.next(), units.next()), (true, None, None));
+/// ```
 impl<'a> FusedIterator for Units<'a> {}
 
 /// The character of the pair that `high` begins, and the units after the pair.
 ///
-/// # Contract
+/// <details><summary>Contract</summary>
 ///
 /// ```text
 /// ensures some { IfSome result (λ p. (low : ℕ) × IsHigh high × IsLow low × (p.0 ≡ pair_character high low) × (rest.now ≡ low ∷ p.1.now)) }
 /// ensures none { IfNone result ((low : ℕ) (more : List ℕ) → rest.now ≡ low ∷ more → IsHigh high → IsLow low → ⊥) }
 /// ```
+///
+/// [How to read a contract](crate::contracts)
+///
+/// </details>
 #[inline]
 fn pair(high: u16, rest: &[u16]) -> Option<(char, &[u16])> {
     if !is_high(high) {
@@ -95,11 +151,15 @@ fn pair(high: u16, rest: &[u16]) -> Option<(char, &[u16])> {
 
 /// Whether a unit is a surrogate that begins a pair.
 ///
-/// # Contract
+/// <details><summary>Contract</summary>
 ///
 /// ```text
 /// ensures { IsTrue result ↔ IsHigh unit }
 /// ```
+///
+/// [How to read a contract](crate::contracts)
+///
+/// </details>
 #[inline]
 fn is_high(unit: u16) -> bool {
     matches!(unit, 0xD800..=0xDBFF)
@@ -107,11 +167,15 @@ fn is_high(unit: u16) -> bool {
 
 /// Whether a unit is a surrogate that ends a pair.
 ///
-/// # Contract
+/// <details><summary>Contract</summary>
 ///
 /// ```text
 /// ensures { IsTrue result ↔ IsLow unit }
 /// ```
+///
+/// [How to read a contract](crate::contracts)
+///
+/// </details>
 #[inline]
 fn is_low(unit: u16) -> bool {
     matches!(unit, 0xDC00..=0xDFFF)
@@ -119,11 +183,15 @@ fn is_low(unit: u16) -> bool {
 
 /// The item of a unit that is no part of a pair.
 ///
-/// # Contract
+/// <details><summary>Contract</summary>
 ///
 /// ```text
 /// ensures { result ≡ single_item unit }
 /// ```
+///
+/// [How to read a contract](crate::contracts)
+///
+/// </details>
 #[inline]
 fn single_item(unit: u16) -> Unit16 {
     match char::from_u32(unit as u32) {

@@ -10,13 +10,27 @@ use core::char;
 ///
 /// # Errors
 ///
-/// Returns `Err(OutOfBounds)` if `size` is greater.
+/// Returns [`Err(OutOfBounds)`](crate::error::OutOfBounds) if `size` is greater.
 ///
-/// # Contract
+/// # Examples
+///
+/// ```
+/// use arraystring::utils;
+/// use arraystring::error::OutOfBounds;
+///
+/// assert_eq!(utils::is_inside_boundary(4usize, 4usize), Ok(()));
+/// assert_eq!(utils::is_inside_boundary(5usize, 4usize), Err(OutOfBounds));
+/// ```
+///
+/// <details><summary>Contract</summary>
 ///
 /// ```text
 /// ensures { IsOk result ↔ (size ≤ limit) }
 /// ```
+///
+/// [How to read a contract](crate::contracts)
+///
+/// </details>
 #[inline]
 pub fn is_inside_boundary<S: Into<usize>, L: Into<usize>>(size: S, limit: L) -> Result<(), OutOfBounds> {
     let (size, limit) = (size.into(), limit.into());
@@ -29,11 +43,24 @@ pub fn is_inside_boundary<S: Into<usize>, L: Into<usize>>(size: S, limit: L) -> 
 /// Returns whether `at` is a boundary of `text`, the size of one of its prefixes of whole
 /// characters. It is false past the length of the text.
 ///
-/// # Contract
+/// # Examples
+///
+/// ```
+/// use arraystring::utils;
+///
+/// assert!(utils::is_boundary("aé", 1) && utils::is_boundary("aé", 3));
+/// assert!(!utils::is_boundary("aé", 2) && !utils::is_boundary("aé", 4));
+/// ```
+///
+/// <details><summary>Contract</summary>
 ///
 /// ```text
 /// ensures { result ≡ boundary (chars text.now) at }
 /// ```
+///
+/// [How to read a contract](crate::contracts)
+///
+/// </details>
 #[inline]
 pub fn is_boundary(text: &str, at: usize) -> bool {
     text.is_char_boundary(at)
@@ -42,28 +69,49 @@ pub fn is_boundary(text: &str, at: usize) -> bool {
 /// Returns the longest prefix of whole characters of `text` that takes at most `size` bytes,
 /// borrowed from the text.
 ///
-/// # Contract
+/// # Examples
+///
+/// ```
+/// use arraystring::utils;
+///
+/// assert_eq!(utils::truncate_str("aéb", 3), "aé");
+/// assert_eq!(utils::truncate_str("aéb", 2), "a"); // the index 2 is inside `é`
+/// assert_eq!(utils::truncate_str("aéb", 9), "aéb");
+/// ```
+///
+/// <details><summary>Contract</summary>
 ///
 /// ```text
 /// ensures { result.now ≡ bytes (cut (chars text.now) size) }
 /// ```
+///
+/// [How to read a contract](crate::contracts)
+///
+/// </details>
 #[inline]
 pub fn truncate_str(text: &str, size: u8) -> &str {
     truncate_str_counted(text, size, &mut Steps::new())
 }
 
-/// The same as `truncate_str`. It looks at no more than four bytes, and at one at least if `size`
+/// The same as [`truncate_str`](crate::utils::truncate_str). It looks at no more than four bytes, and at one at least if `size`
 /// is not 0 and is below the length. It moves none.
-///
-/// # Precondition
-///
-/// The count of looks of `steps` must be at most 2^63.
 ///
 /// # In Rust
 ///
-/// No precondition is left here: a count that would pass 2^64 - 1 stays there.
+/// A count that would pass 2^64 - 1 stays there.
 ///
-/// # Contract
+/// # Examples
+///
+/// ```
+/// use arraystring::utils;
+/// use arraystring::utils::Steps;
+///
+/// let mut steps = Steps::new();
+/// assert_eq!(utils::truncate_str_counted("aéb", 2, &mut steps), "a");
+/// assert!((1..=4).contains(&steps.looked()) && steps.moved() == 0);
+/// ```
+///
+/// <details><summary>Contract</summary>
 ///
 /// ```text
 /// requires { steps.old.looked ≤ 2 ^ 63 }
@@ -73,6 +121,10 @@ pub fn truncate_str(text: &str, size: u8) -> &str {
 /// ensures counted { steps.old.looked ≤ steps.new.looked }
 /// ensures moved { steps.new.moved ≡ steps.old.moved }
 /// ```
+///
+/// [How to read a contract](crate::contracts)
+///
+/// </details>
 #[inline]
 pub fn truncate_str_counted<'a>(text: &'a str, size: u8, steps: &mut Steps) -> &'a str {
     let limit = size as usize;
@@ -90,15 +142,11 @@ pub fn truncate_str_counted<'a>(text: &'a str, size: u8, steps: &mut Steps) -> &
 /// the text is empty. It looks at no more than four bytes, and at one at least if there is a
 /// character. It moves none.
 ///
-/// # Precondition
-///
-/// The count of looks plus four must be below 2^64.
-///
 /// # In Rust
 ///
-/// No precondition is left here: a count that would pass 2^64 - 1 stays there.
+/// A count that would pass 2^64 - 1 stays there.
 ///
-/// # Contract
+/// <details><summary>Contract</summary>
 ///
 /// ```text
 /// requires { steps.old.looked + 4 < 2 ^ 64 }
@@ -109,6 +157,10 @@ pub fn truncate_str_counted<'a>(text: &'a str, size: u8, steps: &mut Steps) -> &
 /// ensures counted { steps.old.looked ≤ steps.new.looked }
 /// ensures moved { steps.new.moved ≡ steps.old.moved }
 /// ```
+///
+/// [How to read a contract](crate::contracts)
+///
+/// </details>
 #[inline]
 pub fn last_char(text: &str, steps: &mut Steps) -> Option<(usize, char)> {
     if text.is_empty() {
@@ -122,21 +174,32 @@ pub fn last_char(text: &str, steps: &mut Steps) -> Option<(usize, char)> {
 /// Writes the UTF-8 of `ch` into the array, from the offset `at` on, and returns how many bytes it
 /// takes. No other byte changes.
 ///
-/// # Precondition
-///
-/// `ch` must fit into the array from there.
-///
 /// # Safety
 ///
 /// What is written must lie in the array.
 ///
-/// # Contract
+/// # Examples
+///
+/// ```
+/// use arraystring::utils;
+///
+/// let mut array = *b"a__d";
+/// // SAFETY: `é` takes two bytes, and there are three from offset 1 on.
+/// let len = unsafe { utils::encode('é', &mut array, 1) };
+/// assert_eq!((len, &array), (2, b"a\xC3\xA9d"));
+/// ```
+///
+/// <details><summary>Contract</summary>
 ///
 /// ```text
 /// requires { at + width ch ≤ N }
 /// ensures width { result ≡ width ch }
 /// ensures bytes { array.new ≡ take at array.old ++ (utf8 ch ++ drop (at + width ch) array.old) }
 /// ```
+///
+/// [How to read a contract](crate::contracts)
+///
+/// </details>
 #[inline(always)]
 pub unsafe fn encode<const N: usize>(ch: char, array: &mut [u8; N], at: usize) -> usize {
     let code = ch as u32;
@@ -172,15 +235,23 @@ pub unsafe fn encode<const N: usize>(ch: char, array: &mut [u8; N], at: usize) -
 /// overlap. Each byte counts as one move, also if it is written twice on the way (see `moves`), and
 /// none counts if `from` is `to`. No byte outside the target changes.
 ///
-/// # Precondition
-///
-/// Both runs must lie in the array, and the count of moves plus `len` must be below 2^64.
-///
 /// # Safety
 ///
 /// Both runs must lie in the array.
 ///
-/// # Contract
+/// # Examples
+///
+/// ```
+/// use arraystring::utils;
+/// use arraystring::utils::Steps;
+///
+/// let (mut array, mut steps) = (*b"abcd", Steps::new());
+/// // SAFETY: the bytes 0..3 and 1..4 lie in the array.
+/// unsafe { utils::shift(&mut array, 0, 1, 3, &mut steps) };
+/// assert_eq!((&array, steps.moved()), (b"aabc", 3));
+/// ```
+///
+/// <details><summary>Contract</summary>
 ///
 /// ```text
 /// requires source { from + len ≤ N }
@@ -190,6 +261,10 @@ pub unsafe fn encode<const N: usize>(ch: char, array: &mut [u8; N], at: usize) -
 /// ensures moved { steps.new.moved ≡ steps.old.moved + (if from == to then 0 else len) }
 /// ensures looked { steps.new.looked ≡ steps.old.looked }
 /// ```
+///
+/// [How to read a contract](crate::contracts)
+///
+/// </details>
 #[inline(always)]
 pub unsafe fn shift<const N: usize>(array: &mut [u8; N], from: usize, to: usize, len: usize, steps: &mut Steps) {
     if from != to {
@@ -201,11 +276,15 @@ pub unsafe fn shift<const N: usize>(array: &mut [u8; N], from: usize, to: usize,
 
 /// Whether a byte continues a character that began before it.
 ///
-/// # Contract
+/// <details><summary>Contract</summary>
 ///
 /// ```text
 /// ensures { IsTrue result ↔ ((128 ≤ byte) × (byte < 192)) }
 /// ```
+///
+/// [How to read a contract](crate::contracts)
+///
+/// </details>
 #[inline]
 fn continues(byte: u8) -> bool {
     matches!(byte, 0x80..=0xBF)
@@ -218,7 +297,7 @@ fn continues(byte: u8) -> bool {
 ///
 /// Each clause `requires` of the contract must hold, but for those on counts, on iterators and on closures.
 ///
-/// # Contract
+/// <details><summary>Contract</summary>
 ///
 /// ```text
 /// requires within { limit < length text.now }
@@ -232,6 +311,10 @@ fn continues(byte: u8) -> bool {
 /// ensures counted { steps.old.looked ≤ steps.new.looked }
 /// ensures moved { steps.new.moved ≡ steps.old.moved }
 /// ```
+///
+/// [How to read a contract](crate::contracts)
+///
+/// </details>
 #[inline]
 unsafe fn last_boundary(text: &str, limit: usize, steps: &mut Steps) -> usize {
     known!(within: limit < text.len());
@@ -252,7 +335,7 @@ unsafe fn last_boundary(text: &str, limit: usize, steps: &mut Steps) -> usize {
 ///
 /// Each clause `requires` of the contract must hold, but for those on counts, on iterators and on closures.
 ///
-/// # Contract
+/// <details><summary>Contract</summary>
 ///
 /// ```text
 /// requires some { 0 < length text.now }
@@ -263,6 +346,10 @@ unsafe fn last_boundary(text: &str, limit: usize, steps: &mut Steps) -> usize {
 /// ensures each { steps.new.looked + result.0 ≡ steps.old.looked + length text.now }
 /// ensures moved { steps.new.moved ≡ steps.old.moved }
 /// ```
+///
+/// [How to read a contract](crate::contracts)
+///
+/// </details>
 #[inline]
 unsafe fn char_before_end(text: &str, steps: &mut Steps) -> (usize, char) {
     let all = text.as_bytes();

@@ -7,7 +7,7 @@
 ///
 /// Each clause `requires` of the contract must hold, but for those on counts, on iterators and on closures.
 ///
-/// # Contract
+/// <details><summary>Contract</summary>
 ///
 /// ```text
 /// requires { 0 < length text.now }
@@ -16,6 +16,10 @@
 /// ensures some { 0 < result.1 }
 /// ensures within { result.1 ≤ length text.now }
 /// ```
+///
+/// [How to read a contract](crate::contracts)
+///
+/// </details>
 #[inline]
 pub(crate) unsafe fn first_char(text: &str) -> (char, usize) {
     let mut rest = text.chars();

@@ -7,26 +7,21 @@ use core::str;
 
 mod compare;
 
-/// An iterator over the characters that `drain` removed from a string. It returns each of them
+/// An iterator over the characters that [`drain`](crate::ArrayString::drain) removed from a string. It returns each of them
 /// once, from the front or from the back, and borrows nothing.
 ///
 /// Contracts name the list of the characters that are left. A drain has a copy of the string's
 /// array, and takes no memory.
 ///
-/// # Model
+/// # Examples
 ///
-/// ```text
-/// ghost Value = { Drained };
-/// ghost view = { λ d. drained (stored d.array d.start d.size) d.front };
-/// ghost invariant = { λ d. IsStored N d.array d.start d.size × IsDrained N (stored d.array d.start d.size) d.front };
-/// ghost inverse = { λ v. let removed = removed_of v in
-///     record { front = text_size v.yielded; start = start_of removed; size = text_size removed.text; array = array_of removed } };
-/// ghost inverse_ok = { λ d h i. record {
-///   front = drained-front N (stored d.array d.start d.size) d.front h.1 i;
-///   start = d.start;
-///   size = drained-size N d.array d.start d.size d.front h.0 h.1 i;
-///   array = drained-array N d.array d.start d.size d.front h.0 h.1 i;
-/// } };
+/// ```
+/// use arraystring::ArrayString;
+///
+/// let mut string = ArrayString::<8>::from("abcdef");
+/// let mut drained = string.drain(1..5).unwrap();
+/// assert_eq!((drained.next(), drained.next_back()), (Some('b'), Some('e')));
+/// assert_eq!((drained.as_str(), string.as_str()), ("cd", "af"));
 /// ```
 #[derive(Clone, Copy)]
 pub struct Drain<const N: usize> {
@@ -46,12 +41,16 @@ impl<const N: usize> Drain<N> {
     ///
     /// Each clause `requires` of the contract must hold, but for those on counts, on iterators and on closures.
     ///
-    /// # Contract
+    /// <details><summary>Contract</summary>
     ///
     /// ```text
     /// requires { IsStored N array start size }
     /// ensures { result.left ≡ (stored array.entry start size).text }
     /// ```
+    ///
+    /// [How to read a contract](crate::contracts)
+    ///
+    /// </details>
     #[inline(always)]
     pub(crate) unsafe fn new(array: [u8; N], start: u8, size: u8) -> Self {
         Drain { front: 0, start, size, array }
@@ -59,13 +58,27 @@ impl<const N: usize> Drain<N> {
 
     /// Returns the characters that are left as a `&str`, borrowed without a copy.
     ///
-    /// # Contract
+    /// # Examples
+    ///
+    /// ```
+    /// use arraystring::ArrayString;
+    ///
+    /// let mut drained = ArrayString::<4>::from("abc").drain(..).unwrap();
+    /// drained.next();
+    /// assert_eq!(drained.as_str(), "bc");
+    /// ```
+    ///
+    /// <details><summary>Contract</summary>
     ///
     /// ```text
     /// ensures bytes { result.now ≡ bytes self.now.left }
     /// ensures text { IsText self.now.left }
     /// ensures fits { size self.now.left ≤ cap N }
     /// ```
+    ///
+    /// [How to read a contract](crate::contracts)
+    ///
+    /// </details>
     #[inline]
     pub fn as_str(&self) -> &str {
         known!(invariant: self.start as usize + self.size as usize <= crate::ArrayString::<N>::capacity() as usize);
@@ -80,11 +93,23 @@ impl<const N: usize> Drain<N> {
 
 /// An empty drain: nothing is left.
 ///
-/// # Contract
+/// # Examples
+///
+/// ```
+/// use arraystring::Drain;
+///
+/// assert_eq!(Drain::<4>::default().as_str(), "");
+/// ```
+///
+/// <details><summary>Contract</summary>
 ///
 /// ```text
-/// ghost is_default = { λ d. d.left ≡ [] };
+/// is_default = { λ d. d.left ≡ [] };
 /// ```
+///
+/// [How to read a contract](crate::contracts)
+///
+/// </details>
 impl<const N: usize> Default for Drain<N> {
     #[inline]
     fn default() -> Self {
@@ -95,12 +120,25 @@ impl<const N: usize> Default for Drain<N> {
 
 /// The characters that are left, from the front.
 ///
-/// # Contract
+/// # Examples
+///
+/// ```
+/// use arraystring::ArrayString;
+///
+/// let drained = ArrayString::<4>::from("aéb").drain(1..).unwrap();
+/// assert!(drained.eq(['é', 'b']));
+/// ```
+///
+/// <details><summary>Contract</summary>
 ///
 /// ```text
-/// ghost next_gives = { YieldsFirst (λ d. d.left) };
-/// ghost remaining = { item_count (λ d. d.left) };
+/// next_gives = { YieldsFirst (λ d. d.left) };
+/// remaining = { item_count (λ d. d.left) };
 /// ```
+///
+/// [How to read a contract](crate::contracts)
+///
+/// </details>
 impl<const N: usize> Iterator for Drain<N> {
     type Item = char;
 
@@ -135,11 +173,24 @@ impl<const N: usize> Iterator for Drain<N> {
 
 /// The characters that are left, from the back.
 ///
-/// # Contract
+/// # Examples
+///
+/// ```
+/// use arraystring::ArrayString;
+///
+/// let drained = ArrayString::<4>::from("aéb").drain(1..).unwrap();
+/// assert!(drained.rev().eq(['b', 'é']));
+/// ```
+///
+/// <details><summary>Contract</summary>
 ///
 /// ```text
-/// ghost next_back_gives = { YieldsLast (λ d. d.left) };
+/// next_back_gives = { YieldsLast (λ d. d.left) };
 /// ```
+///
+/// [How to read a contract](crate::contracts)
+///
+/// </details>
 impl<const N: usize> DoubleEndedIterator for Drain<N> {
     /// Returns the last character that is left. Returns `None` if none is left, and at each call
     /// after that.
@@ -161,4 +212,14 @@ impl<const N: usize> DoubleEndedIterator for Drain<N> {
     }
 }
 
+/// Once nothing is left, `next` and `next_back` return `None` ever after.
+///
+/// # Examples
+///
+/// ```
+/// use arraystring::ArrayString;
+///
+/// let mut drained = ArrayString::<4>::from("a").drain(..).unwrap();
+/// assert_eq!((drained.next(), drained.next(), drained.next()), (Some('a'), None, None));
+/// ```
 impl<const N: usize> FusedIterator for Drain<N> {}

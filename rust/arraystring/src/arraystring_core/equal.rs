@@ -3,11 +3,15 @@
 
 /// Whether the texts of two strings are equal.
 ///
-/// # Contract
+/// <details><summary>Contract</summary>
 ///
 /// ```text
 /// ensures { result ≡ pointwise nat_eq text.now other.now }
 /// ```
+///
+/// [How to read a contract](crate::contracts)
+///
+/// </details>
 #[inline(always)]
 pub(crate) fn equal<const N: usize>(text: &str, other: &str) -> bool {
     text == other

@@ -18,7 +18,7 @@ pub(crate) struct Span {
 ///
 /// Each clause `requires` of the contract must hold, but for those on counts, on iterators and on closures.
 ///
-/// # Contract
+/// <details><summary>Contract</summary>
 ///
 /// ```text
 /// requires order { start ≤ end }
@@ -34,6 +34,10 @@ pub(crate) struct Span {
 /// ensures counted { steps.old.moved ≤ steps.new.moved }
 /// ensures looked { steps.new.looked ≡ steps.old.looked }
 /// ```
+///
+/// [How to read a contract](crate::contracts)
+///
+/// </details>
 #[inline(always)]
 pub(crate) unsafe fn open_gap<const N: usize>(
     array: &mut [u8; N],
@@ -54,7 +58,7 @@ pub(crate) unsafe fn open_gap<const N: usize>(
 ///
 /// Each clause `requires` of the contract must hold, but for those on counts, on iterators and on closures.
 ///
-/// # Contract
+/// <details><summary>Contract</summary>
 ///
 /// ```text
 /// requires order { start ≤ end }
@@ -70,6 +74,10 @@ pub(crate) unsafe fn open_gap<const N: usize>(
 /// ensures counted { steps.old.moved ≤ steps.new.moved }
 /// ensures looked { steps.new.looked ≡ steps.old.looked }
 /// ```
+///
+/// [How to read a contract](crate::contracts)
+///
+/// </details>
 #[inline(always)]
 pub(crate) unsafe fn compact_and_open_gap<const N: usize>(
     array: &mut [u8; N],
@@ -93,12 +101,16 @@ pub(crate) unsafe fn compact_and_open_gap<const N: usize>(
 ///
 /// Each clause `requires` of the contract must hold, but for those on counts, on iterators and on closures.
 ///
-/// # Contract
+/// <details><summary>Contract</summary>
 ///
 /// ```text
 /// requires { length given.now ≤ N }
 /// ensures { array.new ≡ take 0 array.old ++ (given.now ++ drop (0 + length given.now) array.old) }
 /// ```
+///
+/// [How to read a contract](crate::contracts)
+///
+/// </details>
 #[inline(always)]
 pub(crate) unsafe fn fill<const N: usize>(array: &mut [u8; N], given: &[u8]) {
     known!(precondition: given.len() <= N);
@@ -115,7 +127,7 @@ pub(crate) unsafe fn fill<const N: usize>(array: &mut [u8; N], given: &[u8]) {
 /// refused, and how many bytes were written. It has no branch of its own: where branches join, the
 /// compiler copies the array once more.
 ///
-/// # Contract
+/// <details><summary>Contract</summary>
 ///
 /// ```text
 /// ensures len { length array.new ≡ N }
@@ -123,6 +135,10 @@ pub(crate) unsafe fn fill<const N: usize>(array: &mut [u8; N], given: &[u8]) {
 ///     ((cap N < length given.now) × (result.1 ≡ 0) × (array.new ≡ array.old))
 ///     ((length given.now ≤ cap N) × (result.1 ≡ length given.now) × (array.new ≡ given.now ++ drop (length given.now) array.old)) }
 /// ```
+///
+/// [How to read a contract](crate::contracts)
+///
+/// </details>
 #[inline(always)]
 pub(crate) fn try_fill<const N: usize>(array: &mut [u8; N], given: &[u8]) -> (bool, u8) {
     if N <= 64 {
@@ -142,7 +158,7 @@ pub(crate) fn try_fill<const N: usize>(array: &mut [u8; N], given: &[u8]) -> (bo
 ///
 /// Each clause `requires` of the contract must hold, but for those on counts, on iterators and on closures.
 ///
-/// # Contract
+/// <details><summary>Contract</summary>
 ///
 /// ```text
 /// requires { N ≤ 64 }
@@ -151,6 +167,10 @@ pub(crate) fn try_fill<const N: usize>(array: &mut [u8; N], given: &[u8]) -> (bo
 ///     ((cap N < length given.now) × (result.1 ≡ 0) × (array.new ≡ array.old))
 ///     ((length given.now ≤ cap N) × (result.1 ≡ length given.now) × (array.new ≡ given.now ++ drop (length given.now) array.old)) }
 /// ```
+///
+/// [How to read a contract](crate::contracts)
+///
+/// </details>
 #[inline(never)]
 unsafe fn try_fill_small<const N: usize>(array: &mut [u8; N], given: &[u8]) -> (bool, u8) {
     known!(precondition: N <= 64);
@@ -168,12 +188,16 @@ unsafe fn try_fill_small<const N: usize>(array: &mut [u8; N], given: &[u8]) -> (
 ///
 /// Each clause `requires` of the contract must hold, but for those on counts, on iterators and on closures.
 ///
-/// # Contract
+/// <details><summary>Contract</summary>
 ///
 /// ```text
 /// requires { at + length given.now ≤ N }
 /// ensures { array.new ≡ take at array.old ++ (given.now ++ drop (at + length given.now) array.old) }
 /// ```
+///
+/// [How to read a contract](crate::contracts)
+///
+/// </details>
 #[inline(always)]
 pub(crate) unsafe fn write_by_call<const N: usize>(array: &mut [u8; N], at: usize, given: &[u8]) {
     known!(precondition: at + given.len() <= N && at <= at + given.len());

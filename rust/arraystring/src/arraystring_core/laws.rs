@@ -6,11 +6,16 @@ use crate::arraystring_core::{ArrayString, Drain};
 
 /// The text of a string fits its capacity.
 ///
-/// # Contract
+/// <details><summary>Contract</summary>
 ///
 /// ```text
 /// ensures { size string.now.text ≤ cap N }
 /// ```
+///
+/// [How to read a contract](crate::contracts)
+///
+/// </details>
+#[doc(hidden)]
 #[inline]
 pub fn text_fits<const N: usize>(string: &ArrayString<N>) {
     // The invariant of a type is known of a value only after a call on it.
@@ -19,11 +24,16 @@ pub fn text_fits<const N: usize>(string: &ArrayString<N>) {
 
 /// What is left of a drain fits the capacity of the string from which it was taken.
 ///
-/// # Contract
+/// <details><summary>Contract</summary>
 ///
 /// ```text
 /// ensures { size drained.now.left ≤ cap N }
 /// ```
+///
+/// [How to read a contract](crate::contracts)
+///
+/// </details>
+#[doc(hidden)]
 #[inline]
 pub fn left_fits<const N: usize>(drained: &Drain<N>) {
     // As in `text_fits`.
@@ -32,31 +42,41 @@ pub fn left_fits<const N: usize>(drained: &Drain<N>) {
 
 /// What comes after characters or pieces that no longer fit changes no cut.
 ///
-/// # Contract
+/// <details><summary>Contract</summary>
 ///
 /// ```text
 /// ensures characters { (taken more : List ℕ) (n : ℕ) → n < size taken → cut (taken ++ more) n ≡ cut taken n }
 /// ensures pieces { (taken more : List (List ℕ)) (n : ℕ) → n < size (joined taken) → cut (joined (taken ++ more)) n ≡ cut (joined taken) n }
 /// ```
+///
+/// [How to read a contract](crate::contracts)
+///
+/// </details>
+#[doc(hidden)]
 pub fn what_comes_past_the_room() {}
 
 /// The text whose bytes are those of the pieces, one after the other, is the pieces joined, and so
 /// has the same cuts. So `from_iterator` of pieces is `from_str_truncate` of the text that they
 /// make.
 ///
-/// # Contract
+/// <details><summary>Contract</summary>
 ///
 /// ```text
 /// ensures text { (pieces : List (List ℕ)) → whole.now ≡ joined (map bytes pieces) → chars whole.now ≡ joined pieces }
 /// ensures cut { (pieces : List (List ℕ)) (n : ℕ) → whole.now ≡ joined (map bytes pieces) → cut (joined pieces) n ≡ cut (chars whole.now) n }
 /// ```
+///
+/// [How to read a contract](crate::contracts)
+///
+/// </details>
+#[doc(hidden)]
 #[allow(unused_variables)]
 pub fn pieces_make_one_text(whole: &str) {}
 
 /// The UTF-16 of a text that fits is read back as that text by `try_from_utf16`, `from_utf16` and
 /// `from_utf16_lossy`: no other result meets their contracts.
 ///
-/// # Contract
+/// <details><summary>Contract</summary>
 ///
 /// ```text
 /// ensures reading { (t : List ℕ) → IsText t → (items : List Unit16) × IsReading (text_units t) items }
@@ -64,54 +84,79 @@ pub fn pieces_make_one_text(whole: &str) {}
 /// ensures prefix { (t : List ℕ) (n : ℕ) (items : List Unit16) (result : Result Stored Utf16) → IsText t → size t ≤ n → IsReading (text_units t) items → GivesPrefix (first_stop items n) result → IsOkAnd result (λ string. string.text ≡ t) }
 /// ensures lossy { (t : List ℕ) (n : ℕ) (items : List Unit16) → IsText t → size t ≤ n → IsReading (text_units t) items → cut (lossy_text items) n ≡ t }
 /// ```
+///
+/// [How to read a contract](crate::contracts)
+///
+/// </details>
+#[doc(hidden)]
 pub fn units_read_back() {}
 
 /// What a pop leaves, followed by the character that it returns, is the text before. Of the empty
 /// text it returns `None`, and the text stays empty.
 ///
-/// # Contract
+/// <details><summary>Contract</summary>
 ///
 /// ```text
 /// ensures last { (front : List ℕ) (ch : ℕ) → ((popping (front ++ ch ∷ [])).result ≡ Some ch) × ((popping (front ++ ch ∷ [])).after ≡ front) }
 /// ensures empty { ((popping []).result ≡ None) × ((popping []).after ≡ []) }
 /// ```
+///
+/// [How to read a contract](crate::contracts)
+///
+/// </details>
+#[doc(hidden)]
 pub fn popped() {}
 
 /// A text is some characters that pass, then what is left by the trim of all that pass at its ends,
 /// then some characters that pass. What is left neither begins nor ends with one that passes.
 ///
-/// # Contract
+/// <details><summary>Contract</summary>
 ///
 /// ```text
 /// ensures dropped { (passes : ℕ → Bool) (t : List ℕ) → (before behind : List ℕ) × All (λ c. IsTrue (passes c)) before × All (λ c. IsTrue (passes c)) behind × (t ≡ before ++ ((trimming passes t).after ++ behind)) }
 /// ensures bare { (passes : ℕ → Bool) (t : List ℕ) → IfSome (first_of (trimming passes t).after) (λ c. passes c ≡ false) × IfSome (last_of (trimming passes t).after) (λ c. passes c ≡ false) }
 /// ```
+///
+/// [How to read a contract](crate::contracts)
+///
+/// </details>
+#[doc(hidden)]
 pub fn trimmed() {}
 
 /// The ranges of white space are those of `char::is_whitespace`.
 ///
-/// # Contract
+/// <details><summary>Contract</summary>
 ///
 /// ```text
 /// ensures { (c : ℕ) → is_white_space c ≡ is_whitespace c }
 /// ```
+///
+/// [How to read a contract](crate::contracts)
+///
+/// </details>
+#[doc(hidden)]
 pub fn white_space() {}
 
 /// If a split is not refused, the text that it keeps, followed by the part that it returns, is the
 /// text before.
 ///
-/// # Contract
+/// <details><summary>Contract</summary>
 ///
 /// ```text
 /// ensures { (t : List ℕ) (i : ℕ) → first_cause (split t i).tests ≡ None → (split t i).after ++ (split t i).result ≡ t }
 /// ```
+///
+/// [How to read a contract](crate::contracts)
+///
+/// </details>
+#[doc(hidden)]
 pub fn split_back() {}
 
 /// What is replaced can be put back. If a replacement in a text that fits `n` bytes is not refused,
 /// neither is the replacement of what was given by what was taken out, and it leaves the text
 /// before.
 ///
-/// # Contract
+/// <details><summary>Contract</summary>
 ///
 /// ```text
 /// ensures allowed { (t given : List ℕ) (start end n : ℕ) → size t ≤ n →
@@ -120,6 +165,11 @@ pub fn split_back() {}
 /// ensures back { (t given : List ℕ) (start end n : ℕ) → first_cause (replacement t start end given n).tests ≡ None →
 ///     (replacement (replacement t start end given n).after start (start + size given) (part t start end) n).after ≡ t }
 /// ```
+///
+/// [How to read a contract](crate::contracts)
+///
+/// </details>
+#[doc(hidden)]
 pub fn replaced_back() {}
 
 /// A walk from both ends in any mix gives each character at most once: what came from the front,
@@ -127,7 +177,7 @@ pub fn replaced_back() {}
 /// that were walked. Each step, from either end, takes one while one is left. So after as many steps
 /// as there are characters nothing is left, and a step then gives nothing.
 ///
-/// # Contract
+/// <details><summary>Contract</summary>
 ///
 /// ```text
 /// ensures whole { (ends : List End) (t : List ℕ) → (walked ends t).fronts ++ ((walked ends t).left ++ reverse (walked ends t).backs) ≡ t }
@@ -135,12 +185,17 @@ pub fn replaced_back() {}
 /// ensures all { (ends : List End) (t : List ℕ) → length t ≤ length ends → (walked ends t).left ≡ [] }
 /// ensures ended { (ends : List End) → walked ends [] ≡ walked [] [] }
 /// ```
+///
+/// [How to read a contract](crate::contracts)
+///
+/// </details>
+#[doc(hidden)]
 pub fn walks() {}
 
 /// The test by which strings are equal holds of texts that are the same, and of no others. So it is
 /// reflexive, symmetric and transitive; and what is equal writes the same to a hasher.
 ///
-/// # Contract
+/// <details><summary>Contract</summary>
 ///
 /// ```text
 /// ensures same { (a b : List ℕ) → IsTrue (pointwise nat_eq a b) ↔ (a ≡ b) }
@@ -149,4 +204,9 @@ pub fn walks() {}
 /// ensures transitive { (a b c : List ℕ) → IsTrue (pointwise nat_eq a b) → IsTrue (pointwise nat_eq b c) → IsTrue (pointwise nat_eq a c) }
 /// ensures hashed { (a b : List ℕ) → IsTrue (pointwise nat_eq a b) → fed.str (bytes a) ≡ fed.str (bytes b) }
 /// ```
+///
+/// [How to read a contract](crate::contracts)
+///
+/// </details>
+#[doc(hidden)]
 pub fn equal_texts() {}

@@ -5,12 +5,16 @@ use core::cmp::Ordering;
 
 /// How the texts are ordered by their bytes.
 ///
-/// # Contract
+/// <details><summary>Contract</summary>
 ///
 /// ```text
 /// ensures { result ≡ slice_cmp nat_cmp text.now other.now }
 /// ```
-#[inline]
-pub(crate) fn order(text: &str, other: &str) -> Ordering {
+///
+/// [How to read a contract](crate::contracts)
+///
+/// </details>
+#[inline(always)]
+pub(crate) fn order<const N: usize>(text: &str, other: &str) -> Ordering {
     text.cmp(other)
 }

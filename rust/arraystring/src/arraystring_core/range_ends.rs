@@ -5,11 +5,15 @@ use core::ops::{Bound, RangeBounds};
 
 /// The ends in a text of `len` bytes. An excluded start and an included end add 1, and stop at 255.
 ///
-/// # Contract
+/// <details><summary>Contract</summary>
 ///
 /// ```text
 /// ensures { OfReturnedBounds R.has_bounds R.start_bound R.end_bound range (λ start end. (result.0 ≡ saturated_start start) × (result.1 ≡ saturated_end end len)) }
 /// ```
+///
+/// [How to read a contract](crate::contracts)
+///
+/// </details>
 #[inline]
 pub(crate) fn saturating_ends<R: RangeBounds<u8>>(range: R, len: u8) -> (u8, u8) {
     let start = match range.start_bound() {
@@ -27,11 +31,15 @@ pub(crate) fn saturating_ends<R: RangeBounds<u8>>(range: R, len: u8) -> (u8, u8)
 
 /// The ends in a text of `len` bytes, as plain numbers.
 ///
-/// # Contract
+/// <details><summary>Contract</summary>
 ///
 /// ```text
 /// ensures { OfReturnedBounds R.has_bounds R.start_bound R.end_bound range (λ start end. (result.0 ≡ start_index start) × (result.1 ≡ end_index end len)) }
 /// ```
+///
+/// [How to read a contract](crate::contracts)
+///
+/// </details>
 #[inline]
 pub(crate) fn plain_ends<R: RangeBounds<u8>>(range: R, len: u8) -> (usize, usize) {
     let start = match range.start_bound() {

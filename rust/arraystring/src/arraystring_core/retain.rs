@@ -15,7 +15,7 @@ use core::str;
 ///
 /// Each clause `requires` of the contract must hold, but for those on counts, on iterators and on closures.
 ///
-/// # Contract
+/// <details><summary>Contract</summary>
 ///
 /// ```text
 /// requires held { offset + size ≤ N }
@@ -27,6 +27,10 @@ use core::str;
 /// ensures text { IsUtf8 (take kept.new (drop offset array.new)) }
 /// ensures filtered { IsFiltered F.step f (chars (take size (drop offset array.old))) (chars (take kept.new (drop offset array.new))) }
 /// ```
+///
+/// [How to read a contract](crate::contracts)
+///
+/// </details>
 #[inline]
 pub(crate) unsafe fn retain_at<const N: usize, F: FnMut(char) -> bool>(
     array: &mut [u8; N],

@@ -9,13 +9,29 @@ use crate::arraystring_core::array_string::ArrayString;
 ///
 /// # Errors
 ///
-/// Returns `Err(Utf8)` if `idx` is not a boundary. An index past the length is not a boundary.
+/// Returns [`Err(Utf8)`](crate::error::Utf8) if `idx` is not a boundary. An index past the length is not a boundary.
 ///
-/// # Contract
+/// # Examples
+///
+/// ```
+/// use arraystring::{ArrayString, utils};
+/// use arraystring::error::Utf8;
+///
+/// let string = ArrayString::<4>::from("aé");
+/// assert_eq!(utils::is_char_boundary(&string, 1), Ok(()));
+/// assert_eq!(utils::is_char_boundary(&string, 2), Err(Utf8)); // inside `é`
+/// assert_eq!(utils::is_char_boundary(&string, 9), Err(Utf8)); // past the text
+/// ```
+///
+/// <details><summary>Contract</summary>
 ///
 /// ```text
 /// ensures { IsOk result ↔ IsTrue (boundary s.now.text idx) }
 /// ```
+///
+/// [How to read a contract](crate::contracts)
+///
+/// </details>
 #[inline]
 pub fn is_char_boundary<const N: usize>(s: &ArrayString<N>, idx: u8) -> Result<(), Utf8> {
     if is_boundary(s.as_str(), idx as usize) { Ok(()) } else { Err(Utf8) }

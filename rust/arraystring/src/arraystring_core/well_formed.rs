@@ -6,11 +6,15 @@ use core::str;
 
 /// Returns the text whose UTF-8 is `given`, or `Err(Utf8)` if `given` is not well-formed.
 ///
-/// # Contract
+/// <details><summary>Contract</summary>
 ///
 /// ```text
 /// ensures { MatchResult result (λ string. (string.now ≡ given.now) × IsUtf8 given.now) (λ _. ¬ (IsUtf8 given.now)) }
 /// ```
+///
+/// [How to read a contract](crate::contracts)
+///
+/// </details>
 #[inline]
 pub(crate) fn read_utf8(given: &[u8]) -> Result<&str, Utf8> {
     let (blocks, last) = (given.len() / 32 * 32, given.len().saturating_sub(32));

@@ -6,11 +6,25 @@ use crate::arraystring_core::ArrayString;
 impl<const N: usize> ArrayString<N> {
     /// Changes a..z to A..Z. All other characters stay as they are.
     ///
-    /// # Contract
+    /// # Examples
+    ///
+    /// ```
+    /// use arraystring::ArrayString;
+    ///
+    /// let mut string = ArrayString::<8>::from("café 1");
+    /// string.make_ascii_uppercase();
+    /// assert_eq!(string.as_str(), "CAFé 1");
+    /// ```
+    ///
+    /// <details><summary>Contract</summary>
     ///
     /// ```text
     /// ensures { Makes (uppercase self.old.text) self.old.text (Ok result) self.new.text }
     /// ```
+    ///
+    /// [How to read a contract](crate::contracts)
+    ///
+    /// </details>
     #[inline]
     pub fn make_ascii_uppercase(&mut self) {
         // SAFETY: the proof of `make_ascii_uppercase` in crates/arraystring_core/src/array_string/ascii.rt shows `order`, `start` and `end` of `uppercase_between`.
@@ -19,11 +33,25 @@ impl<const N: usize> ArrayString<N> {
 
     /// Changes A..Z to a..z. All other characters stay as they are.
     ///
-    /// # Contract
+    /// # Examples
+    ///
+    /// ```
+    /// use arraystring::ArrayString;
+    ///
+    /// let mut string = ArrayString::<8>::from("CAFÉ 1");
+    /// string.make_ascii_lowercase();
+    /// assert_eq!(string.as_str(), "cafÉ 1");
+    /// ```
+    ///
+    /// <details><summary>Contract</summary>
     ///
     /// ```text
     /// ensures { Makes (lowercase self.old.text) self.old.text (Ok result) self.new.text }
     /// ```
+    ///
+    /// [How to read a contract](crate::contracts)
+    ///
+    /// </details>
     #[inline]
     pub fn make_ascii_lowercase(&mut self) {
         // SAFETY: the proof of `make_ascii_lowercase` in crates/arraystring_core/src/array_string/ascii.rt shows `order`, `start` and `end` of `lowercase_between`.
@@ -36,7 +64,7 @@ impl<const N: usize> ArrayString<N> {
     ///
     /// Each clause `requires` of the contract must hold, but for those on counts, on iterators and on closures.
     ///
-    /// # Contract
+    /// <details><summary>Contract</summary>
     ///
     /// ```text
     /// requires order { start ≤ end }
@@ -44,6 +72,10 @@ impl<const N: usize> ArrayString<N> {
     /// requires end { IsTrue (boundary self.old.text end) }
     /// ensures { self.new.text ≡ front self.old.text start ++ (map to_ascii_uppercase (part self.old.text start end) ++ back self.old.text end) }
     /// ```
+    ///
+    /// [How to read a contract](crate::contracts)
+    ///
+    /// </details>
     #[inline]
     pub(super) unsafe fn uppercase_between(&mut self, start: usize, end: usize) {
         let offset = self.start as usize;
@@ -57,7 +89,7 @@ impl<const N: usize> ArrayString<N> {
     ///
     /// Each clause `requires` of the contract must hold, but for those on counts, on iterators and on closures.
     ///
-    /// # Contract
+    /// <details><summary>Contract</summary>
     ///
     /// ```text
     /// requires order { start ≤ end }
@@ -65,6 +97,10 @@ impl<const N: usize> ArrayString<N> {
     /// requires end { IsTrue (boundary self.old.text end) }
     /// ensures { self.new.text ≡ front self.old.text start ++ (map to_ascii_lowercase (part self.old.text start end) ++ back self.old.text end) }
     /// ```
+    ///
+    /// [How to read a contract](crate::contracts)
+    ///
+    /// </details>
     #[inline]
     pub(super) unsafe fn lowercase_between(&mut self, start: usize, end: usize) {
         let offset = self.start as usize;
@@ -79,13 +115,17 @@ impl<const N: usize> ArrayString<N> {
 ///
 /// Each clause `requires` of the contract must hold, but for those on counts, on iterators and on closures.
 ///
-/// # Contract
+/// <details><summary>Contract</summary>
 ///
 /// ```text
 /// requires order { start ≤ end }
 /// requires within { end ≤ N }
 /// ensures { array.new ≡ take start array.old ++ (map to_ascii_uppercase (take (end - start) (drop start array.old)) ++ drop end array.old) }
 /// ```
+///
+/// [How to read a contract](crate::contracts)
+///
+/// </details>
 #[inline]
 unsafe fn uppercase_bytes<const N: usize>(array: &mut [u8; N], start: usize, end: usize) {
     known!(order: start <= end);
@@ -100,13 +140,17 @@ unsafe fn uppercase_bytes<const N: usize>(array: &mut [u8; N], start: usize, end
 ///
 /// Each clause `requires` of the contract must hold, but for those on counts, on iterators and on closures.
 ///
-/// # Contract
+/// <details><summary>Contract</summary>
 ///
 /// ```text
 /// requires order { start ≤ end }
 /// requires within { end ≤ N }
 /// ensures { array.new ≡ take start array.old ++ (map to_ascii_lowercase (take (end - start) (drop start array.old)) ++ drop end array.old) }
 /// ```
+///
+/// [How to read a contract](crate::contracts)
+///
+/// </details>
 #[inline]
 unsafe fn lowercase_bytes<const N: usize>(array: &mut [u8; N], start: usize, end: usize) {
     known!(order: start <= end);

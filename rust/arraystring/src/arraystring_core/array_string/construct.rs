@@ -13,13 +13,27 @@ impl<const N: usize> ArrayString<N> {
     ///
     /// # Errors
     ///
-    /// Returns `Err(OutOfBounds)` if `string` is larger than the capacity.
+    /// Returns [`Err(OutOfBounds)`](crate::error::OutOfBounds) if `string` is larger than the capacity.
     ///
-    /// # Contract
+    /// # Examples
+    ///
+    /// ```
+    /// use arraystring::ArrayString;
+    /// use arraystring::error::OutOfBounds;
+    ///
+    /// assert_eq!(ArrayString::<4>::try_from_str("cafe").map(|string| string.len()), Ok(4));
+    /// assert_eq!(ArrayString::<4>::try_from_str("café"), Err(OutOfBounds)); // five bytes
+    /// ```
+    ///
+    /// <details><summary>Contract</summary>
     ///
     /// ```text
     /// ensures { IsWholeOrRefused (chars string.now) (cap N) (from_out_of_bounds result) }
     /// ```
+    ///
+    /// [How to read a contract](crate::contracts)
+    ///
+    /// </details>
     #[inline]
     pub fn try_from_str<S: AsRef<str>>(string: S) -> Result<Self, OutOfBounds> {
         let string = string.as_ref();
@@ -34,12 +48,26 @@ impl<const N: usize> ArrayString<N> {
     }
 
     /// Creates a string from the longest prefix of whole characters of `string` that fits.
+    /// [`try_from_str`](crate::ArrayString::try_from_str) refuses what does not fit.
     ///
-    /// # Contract
+    /// # Examples
+    ///
+    /// ```
+    /// use arraystring::ArrayString;
+    ///
+    /// assert_eq!(ArrayString::<4>::from_str_truncate("caf").as_str(), "caf");
+    /// assert_eq!(ArrayString::<4>::from_str_truncate("café").as_str(), "caf"); // not half of `é`
+    /// ```
+    ///
+    /// <details><summary>Contract</summary>
     ///
     /// ```text
     /// ensures { result.text ≡ cut (chars string.now) (cap N) }
     /// ```
+    ///
+    /// [How to read a contract](crate::contracts)
+    ///
+    /// </details>
     #[inline]
     pub fn from_str_truncate<S: AsRef<str>>(string: S) -> Self {
         let string = string.as_ref();
@@ -49,20 +77,30 @@ impl<const N: usize> ArrayString<N> {
 
     /// Creates a string from `string`.
     ///
-    /// # Precondition
-    ///
-    /// All of `string` must fit.
-    ///
     /// # Safety
     ///
     /// The text after the call must fit into the capacity.
     ///
-    /// # Contract
+    /// # Examples
+    ///
+    /// ```
+    /// use arraystring::ArrayString;
+    ///
+    /// // SAFETY: the text takes three bytes.
+    /// let string = unsafe { ArrayString::<4>::from_str_unchecked("éa") };
+    /// assert_eq!(string, "éa");
+    /// ```
+    ///
+    /// <details><summary>Contract</summary>
     ///
     /// ```text
     /// requires { size (chars string.now) ≤ cap N }
     /// ensures { result.text ≡ chars string.now }
     /// ```
+    ///
+    /// [How to read a contract](crate::contracts)
+    ///
+    /// </details>
     #[inline]
     pub unsafe fn from_str_unchecked<S: AsRef<str>>(string: S) -> Self {
         let string = string.as_ref();
@@ -76,19 +114,25 @@ impl<const N: usize> ArrayString<N> {
     ///
     /// # Errors
     ///
-    /// Returns `Err(OutOfBounds)` if not all of the pieces fit.
-    ///
-    /// # Precondition
-    ///
-    /// See the module `array_string` for iterators.
+    /// Returns [`Err(OutOfBounds)`](crate::error::OutOfBounds) if not all of the pieces fit.
     ///
     /// # In Rust
     ///
-    /// No precondition is left here: an iterator that never ends, or that panics, is allowed. The call stops at the
-    /// first item that does not fit, so only empty pieces without an end keep it. What was taken before a panic is a
-    /// text.
+    /// An iterator that never ends, or that panics, is allowed. The call stops at the first item that does not fit, so
+    /// only empty pieces without an end keep it. What was taken before a panic is a text.
     ///
-    /// # Contract
+    /// # Examples
+    ///
+    /// ```
+    /// use arraystring::ArrayString;
+    /// use arraystring::error::OutOfBounds;
+    ///
+    /// let string = ArrayString::<8>::try_from_iterator(["one", " ", "two"]);
+    /// assert_eq!(string, Ok(ArrayString::from("one two")));
+    /// assert_eq!(ArrayString::<8>::try_from_iterator(["one", " three"]), Err(OutOfBounds));
+    /// ```
+    ///
+    /// <details><summary>Contract</summary>
     ///
     /// ```text
     /// requires { IsFiniteIterable I.into_iter_gives I.IntoIter.can_next I.IntoIter.remaining pieces }
@@ -97,6 +141,10 @@ impl<const N: usize> ArrayString<N> {
     /// ensures whole { (all : List (List ℕ)) → Gives I.into_iter_gives I.IntoIter.next_gives piece_text pieces all
     ///     → IsWholeOrRefused (joined all) (cap N) (from_out_of_bounds result) }
     /// ```
+    ///
+    /// [How to read a contract](crate::contracts)
+    ///
+    /// </details>
     #[inline]
     pub fn try_from_iterator<U: AsRef<str>, I: IntoIterator<Item = U>>(pieces: I) -> Result<Self, OutOfBounds> {
         let mut made = Self::new();
@@ -107,17 +155,21 @@ impl<const N: usize> ArrayString<N> {
     /// Creates a string from the longest prefix of whole characters of the joined pieces that
     /// fits.
     ///
-    /// # Precondition
-    ///
-    /// See the module `array_string` for iterators.
-    ///
     /// # In Rust
     ///
-    /// No precondition is left here: an iterator that never ends, or that panics, is allowed. The call stops at the
-    /// first item that does not fit, so only empty pieces without an end keep it. What was taken before a panic is a
-    /// text.
+    /// An iterator that never ends, or that panics, is allowed. The call stops at the first item that does not fit, so
+    /// only empty pieces without an end keep it. What was taken before a panic is a text.
     ///
-    /// # Contract
+    /// # Examples
+    ///
+    /// ```
+    /// use arraystring::ArrayString;
+    ///
+    /// assert_eq!(ArrayString::<8>::from_iterator(["one", " ", "two"]).as_str(), "one two");
+    /// assert_eq!(ArrayString::<8>::from_iterator(["one", " three", "!"]).as_str(), "one thre");
+    /// ```
+    ///
+    /// <details><summary>Contract</summary>
     ///
     /// ```text
     /// requires { IsFiniteIterable I.into_iter_gives I.IntoIter.can_next I.IntoIter.remaining pieces }
@@ -126,6 +178,10 @@ impl<const N: usize> ArrayString<N> {
     /// ensures whole { (all : List (List ℕ)) → Gives I.into_iter_gives I.IntoIter.next_gives piece_text pieces all
     ///     → result.text ≡ cut (joined all) (cap N) }
     /// ```
+    ///
+    /// [How to read a contract](crate::contracts)
+    ///
+    /// </details>
     #[inline]
     pub fn from_iterator<U: AsRef<str>, I: IntoIterator<Item = U>>(pieces: I) -> Self {
         let mut made = Self::new();
@@ -135,15 +191,21 @@ impl<const N: usize> ArrayString<N> {
 
     /// Creates a string from all pieces, joined.
     ///
-    /// # Precondition
-    ///
-    /// All of the pieces must fit. See the module `array_string` for iterators.
-    ///
     /// # Safety
     ///
     /// The text after the call must fit into the capacity.
     ///
-    /// # Contract
+    /// # Examples
+    ///
+    /// ```
+    /// use arraystring::ArrayString;
+    ///
+    /// // SAFETY: the pieces take four bytes together.
+    /// let string = unsafe { ArrayString::<4>::from_iterator_unchecked(["a", "bcd"]) };
+    /// assert_eq!(string, "abcd");
+    /// ```
+    ///
+    /// <details><summary>Contract</summary>
     ///
     /// ```text
     /// requires ends { IsFiniteIterable I.into_iter_gives I.IntoIter.can_next I.IntoIter.remaining pieces }
@@ -153,6 +215,10 @@ impl<const N: usize> ArrayString<N> {
     /// ensures whole { (all : List (List ℕ)) → Gives I.into_iter_gives I.IntoIter.next_gives piece_text pieces all
     ///     → result.text ≡ joined all }
     /// ```
+    ///
+    /// [How to read a contract](crate::contracts)
+    ///
+    /// </details>
     #[inline]
     pub unsafe fn from_iterator_unchecked<U: AsRef<str>, I: IntoIterator<Item = U>>(pieces: I) -> Self {
         let mut made = Self::new();
@@ -168,19 +234,24 @@ impl<const N: usize> ArrayString<N> {
     ///
     /// # Errors
     ///
-    /// Returns `Err(OutOfBounds)` if not all of the characters fit.
-    ///
-    /// # Precondition
-    ///
-    /// See the module `array_string` for iterators.
+    /// Returns [`Err(OutOfBounds)`](crate::error::OutOfBounds) if not all of the characters fit.
     ///
     /// # In Rust
     ///
-    /// No precondition is left here: an iterator that never ends, or that panics, is allowed. The call stops at the
-    /// first item that does not fit, so only empty pieces without an end keep it. What was taken before a panic is a
-    /// text.
+    /// An iterator that never ends, or that panics, is allowed. The call stops at the first item that does not fit, so
+    /// only empty pieces without an end keep it. What was taken before a panic is a text.
     ///
-    /// # Contract
+    /// # Examples
+    ///
+    /// ```
+    /// use arraystring::ArrayString;
+    /// use arraystring::error::OutOfBounds;
+    ///
+    /// assert_eq!(ArrayString::<4>::try_from_chars('a'..='c'), Ok(ArrayString::from("abc")));
+    /// assert_eq!(ArrayString::<4>::try_from_chars('a'..='e'), Err(OutOfBounds));
+    /// ```
+    ///
+    /// <details><summary>Contract</summary>
     ///
     /// ```text
     /// requires { IsFiniteIterable I.into_iter_gives I.IntoIter.can_next I.IntoIter.remaining characters }
@@ -189,6 +260,10 @@ impl<const N: usize> ArrayString<N> {
     /// ensures whole { (all : List ℕ) → Gives I.into_iter_gives I.IntoIter.next_gives (λ c. c) characters all
     ///     → IsWholeOrRefused all (cap N) (from_out_of_bounds result) }
     /// ```
+    ///
+    /// [How to read a contract](crate::contracts)
+    ///
+    /// </details>
     #[inline]
     pub fn try_from_chars<I: IntoIterator<Item = char>>(characters: I) -> Result<Self, OutOfBounds> {
         let mut made = Self::new();
@@ -199,17 +274,21 @@ impl<const N: usize> ArrayString<N> {
     /// Creates a string from the longest prefix of the characters that fits. It ends before the
     /// first character that does not fit, even if a later one takes fewer bytes and would fit.
     ///
-    /// # Precondition
-    ///
-    /// See the module `array_string` for iterators.
-    ///
     /// # In Rust
     ///
-    /// No precondition is left here: an iterator that never ends, or that panics, is allowed. The call stops at the
-    /// first item that does not fit, so only empty pieces without an end keep it. What was taken before a panic is a
-    /// text.
+    /// An iterator that never ends, or that panics, is allowed. The call stops at the first item that does not fit, so
+    /// only empty pieces without an end keep it. What was taken before a panic is a text.
     ///
-    /// # Contract
+    /// # Examples
+    ///
+    /// ```
+    /// use arraystring::ArrayString;
+    ///
+    /// assert_eq!(ArrayString::<4>::from_chars('a'..='c').as_str(), "abc");
+    /// assert_eq!(ArrayString::<4>::from_chars("abcéd".chars()).as_str(), "abc"); // `d` is late
+    /// ```
+    ///
+    /// <details><summary>Contract</summary>
     ///
     /// ```text
     /// requires { IsFiniteIterable I.into_iter_gives I.IntoIter.can_next I.IntoIter.remaining characters }
@@ -218,6 +297,10 @@ impl<const N: usize> ArrayString<N> {
     /// ensures whole { (all : List ℕ) → Gives I.into_iter_gives I.IntoIter.next_gives (λ c. c) characters all
     ///     → result.text ≡ cut all (cap N) }
     /// ```
+    ///
+    /// [How to read a contract](crate::contracts)
+    ///
+    /// </details>
     #[inline]
     pub fn from_chars<I: IntoIterator<Item = char>>(characters: I) -> Self {
         let mut made = Self::new();
@@ -227,15 +310,21 @@ impl<const N: usize> ArrayString<N> {
 
     /// Creates a string from all characters.
     ///
-    /// # Precondition
-    ///
-    /// All of the characters must fit. See the module `array_string` for iterators.
-    ///
     /// # Safety
     ///
     /// The text after the call must fit into the capacity.
     ///
-    /// # Contract
+    /// # Examples
+    ///
+    /// ```
+    /// use arraystring::ArrayString;
+    ///
+    /// // SAFETY: the digits take a byte each, and there are four.
+    /// let string = unsafe { ArrayString::<4>::from_chars_unchecked('6'..='9') };
+    /// assert_eq!(string, "6789");
+    /// ```
+    ///
+    /// <details><summary>Contract</summary>
     ///
     /// ```text
     /// requires ends { IsFiniteIterable I.into_iter_gives I.IntoIter.can_next I.IntoIter.remaining characters }
@@ -245,6 +334,10 @@ impl<const N: usize> ArrayString<N> {
     /// ensures whole { (all : List ℕ) → Gives I.into_iter_gives I.IntoIter.next_gives (λ c. c) characters all
     ///     → result.text ≡ all }
     /// ```
+    ///
+    /// [How to read a contract](crate::contracts)
+    ///
+    /// </details>
     #[inline]
     pub unsafe fn from_chars_unchecked<I: IntoIterator<Item = char>>(characters: I) -> Self {
         let mut made = Self::new();
@@ -261,11 +354,21 @@ impl<const N: usize> ArrayString<N> {
     ///
     /// The first of these whose condition holds is returned:
     ///
-    /// - `Err(Error::Utf8)` if `given` is not well-formed UTF-8 (the Unicode Standard, section
+    /// - [`Err(Error::Utf8)`](crate::Error::Utf8) if `given` is not well-formed UTF-8 (the Unicode Standard, section
     ///   3.9);
-    /// - `Err(Error::OutOfBounds)` if the text is larger than the capacity.
+    /// - [`Err(Error::OutOfBounds)`](crate::Error::OutOfBounds) if the text is larger than the capacity.
     ///
-    /// # Contract
+    /// # Examples
+    ///
+    /// ```
+    /// use arraystring::{ArrayString, Error};
+    ///
+    /// assert_eq!(ArrayString::<4>::try_from_utf8(&[0xC3, 0xA9]), Ok(ArrayString::from("é")));
+    /// assert_eq!(ArrayString::<4>::try_from_utf8(&[0xC3]), Err(Error::Utf8));
+    /// assert_eq!(ArrayString::<4>::try_from_utf8(b"abcde"), Err(Error::OutOfBounds));
+    /// ```
+    ///
+    /// <details><summary>Contract</summary>
     ///
     /// ```text
     /// ensures malformed { ¬ (IsWellFormed given.now) → result ≡ Err Error.Utf8 }
@@ -273,6 +376,10 @@ impl<const N: usize> ArrayString<N> {
     /// ensures bytes { IfOk result (λ made. bytes made.text ≡ given.now) }
     /// ensures text { IfOk result (λ made. IsText made.text) }
     /// ```
+    ///
+    /// [How to read a contract](crate::contracts)
+    ///
+    /// </details>
     #[inline]
     pub fn try_from_utf8<B: AsRef<[u8]>>(given: B) -> Result<Self, Error> {
         let given = given.as_ref();
@@ -286,21 +393,36 @@ impl<const N: usize> ArrayString<N> {
         Ok(unsafe { Self::from_str_unchecked(text) })
     }
 
-    /// Creates a string from the UTF-8 in `given`, cut to the longest prefix of whole characters
-    /// that fits.
+    /// Creates a string from the UTF-8 in `given`, **cut** to the longest prefix of whole characters
+    /// that fits. [`try_from_utf8`](crate::ArrayString::try_from_utf8) refuses what does not fit.
     ///
     /// # Errors
     ///
-    /// Returns `Err(Utf8)` if `given` is not well-formed UTF-8 (the Unicode Standard, section
+    /// Returns [`Err(Utf8)`](crate::error::Utf8) if `given` is not well-formed UTF-8 (the Unicode Standard, section
     /// 3.9), even if only bytes that would be cut off are malformed.
     ///
-    /// # Contract
+    /// # Examples
+    ///
+    /// ```
+    /// use arraystring::ArrayString;
+    /// use arraystring::error::Utf8;
+    ///
+    /// assert_eq!(ArrayString::<4>::from_utf8(&[b'a', 0xC3, 0xA9]), Ok(ArrayString::from("aé")));
+    /// assert_eq!(ArrayString::<4>::from_utf8(b"abcde"), Ok(ArrayString::from("abcd")));
+    /// assert_eq!(ArrayString::<4>::from_utf8(b"abcd\xFF"), Err(Utf8));
+    /// ```
+    ///
+    /// <details><summary>Contract</summary>
     ///
     /// ```text
     /// ensures well_formed { IsOk result ↔ IsWellFormed given.now }
     /// ensures cut { (t : List ℕ) → IsText t → bytes t ≡ given.now → IfOk result (λ made. made.text ≡ cut t (cap N)) }
     /// ensures text { IfOk result (λ made. IsText made.text) }
     /// ```
+    ///
+    /// [How to read a contract](crate::contracts)
+    ///
+    /// </details>
     #[inline]
     pub fn from_utf8<B: AsRef<[u8]>>(given: B) -> Result<Self, Utf8> {
         let given = given.as_ref();
@@ -312,16 +434,21 @@ impl<const N: usize> ArrayString<N> {
 
     /// Creates a string from the UTF-8 in `given`.
     ///
-    /// # Precondition
-    ///
-    /// `given` must be well-formed UTF-8 (the Unicode Standard, section 3.9), and all of it must
-    /// fit.
-    ///
     /// # Safety
     ///
     /// The bytes must be well-formed UTF-8, and must fit into the capacity.
     ///
-    /// # Contract
+    /// # Examples
+    ///
+    /// ```
+    /// use arraystring::ArrayString;
+    ///
+    /// // SAFETY: the two bytes spell `é`, and there is room for four.
+    /// let string = unsafe { ArrayString::<4>::from_utf8_unchecked([0xC3, 0xA9]) };
+    /// assert_eq!(string, "é");
+    /// ```
+    ///
+    /// <details><summary>Contract</summary>
     ///
     /// ```text
     /// requires well_formed { IsWellFormed given.now }
@@ -329,6 +456,10 @@ impl<const N: usize> ArrayString<N> {
     /// ensures bytes { bytes result.text ≡ given.now }
     /// ensures text { IsText result.text }
     /// ```
+    ///
+    /// [How to read a contract](crate::contracts)
+    ///
+    /// </details>
     #[inline]
     pub unsafe fn from_utf8_unchecked<B: AsRef<[u8]>>(given: B) -> Self {
         let given = given.as_ref();
@@ -338,13 +469,27 @@ impl<const N: usize> ArrayString<N> {
     }
 }
 
-/// The same as `from_str_truncate`.
+/// The same as [`from_str_truncate`](crate::ArrayString::from_str_truncate): what does not fit is **cut** off, also by `into`, and in Rust by
+/// std's `try_from`, which is then `Ok` of a cut text. `parse` and [`try_from_str`](crate::ArrayString::try_from_str) refuse it.
 ///
-/// # Contract
+/// # Examples
+///
+/// ```
+/// use arraystring::ArrayString;
+///
+/// assert_eq!(ArrayString::<4>::from("hello").as_str(), "hell");
+/// assert!("hello".parse::<ArrayString<4>>().is_err());
+/// ```
+///
+/// <details><summary>Contract</summary>
 ///
 /// ```text
-/// ghost from_gives = { λ string made. made.text ≡ cut (chars string.now) (cap N) };
+/// from_gives = { λ string made. made.text ≡ cut (chars string.now) (cap N) };
 /// ```
+///
+/// [How to read a contract](crate::contracts)
+///
+/// </details>
 impl<'a, const N: usize> From<&'a str> for ArrayString<N> {
     #[inline]
     fn from(string: &'a str) -> Self {
@@ -352,13 +497,27 @@ impl<'a, const N: usize> From<&'a str> for ArrayString<N> {
     }
 }
 
-/// The same as `try_from_str`.
+/// The same as [`try_from_str`](crate::ArrayString::try_from_str).
 ///
-/// # Contract
+/// # Examples
+///
+/// ```
+/// use arraystring::ArrayString;
+/// use arraystring::error::OutOfBounds;
+///
+/// assert_eq!("hell".parse(), Ok(ArrayString::<4>::from("hell")));
+/// assert_eq!("hello".parse::<ArrayString<4>>(), Err(OutOfBounds));
+/// ```
+///
+/// <details><summary>Contract</summary>
 ///
 /// ```text
-/// ghost from_str_gives = { λ string result. IsWholeOrRefused (chars string) (cap N) (from_out_of_bounds result) };
+/// from_str_gives = { λ string result. IsWholeOrRefused (chars string) (cap N) (from_out_of_bounds result) };
 /// ```
+///
+/// [How to read a contract](crate::contracts)
+///
+/// </details>
 impl<const N: usize> FromStr for ArrayString<N> {
     type Err = OutOfBounds;
 
@@ -366,7 +525,7 @@ impl<const N: usize> FromStr for ArrayString<N> {
     ///
     /// # Errors
     ///
-    /// Returns `Err(OutOfBounds)` if `string` is larger than the capacity.
+    /// Returns [`Err(OutOfBounds)`](crate::error::OutOfBounds) if `string` is larger than the capacity.
     #[inline]
     fn from_str(string: &str) -> Result<Self, OutOfBounds> {
         Self::try_from_str(string)

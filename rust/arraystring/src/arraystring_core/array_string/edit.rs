@@ -10,11 +10,15 @@ use crate::arraystring_core::gap::{Span, compact_and_open_gap, open_gap};
 impl<const N: usize> ArrayString<N> {
     /// Whether a character begins at `at`, or the text ends there.
     ///
-    /// # Contract
+    /// <details><summary>Contract</summary>
     ///
     /// ```text
     /// ensures { result ≡ boundary self.now.text at }
     /// ```
+    ///
+    /// [How to read a contract](crate::contracts)
+    ///
+    /// </details>
     #[inline]
     pub(super) fn is_boundary(&self, at: usize) -> bool {
         is_boundary(self.as_str(), at)
@@ -27,12 +31,16 @@ impl<const N: usize> ArrayString<N> {
     ///
     /// Each clause `requires` of the contract must hold, but for those on counts, on iterators and on closures.
     ///
-    /// # Contract
+    /// <details><summary>Contract</summary>
     ///
     /// ```text
     /// requires { len ≤ 255 }
     /// ensures { IsTrue result ↔ (len + width ch ≤ cap N) }
     /// ```
+    ///
+    /// [How to read a contract](crate::contracts)
+    ///
+    /// </details>
     #[inline(always)]
     pub(super) unsafe fn has_room(len: usize, ch: char) -> bool {
         let capacity = Self::capacity() as usize;
@@ -44,11 +52,15 @@ impl<const N: usize> ArrayString<N> {
 
     /// `try_push` if there is no room after the text. A refusal makes no call.
     ///
-    /// # Contract
+    /// <details><summary>Contract</summary>
     ///
     /// ```text
     /// ensures { Makes (addition self.old.text (ch ∷ []) (cap N)) self.old.text (from_out_of_bounds result) self.new.text }
     /// ```
+    ///
+    /// [How to read a contract](crate::contracts)
+    ///
+    /// </details>
     #[inline(always)]
     pub(super) fn try_push_near_end(&mut self, ch: char) -> Result<(), OutOfBounds> {
         // SAFETY: the proof of `try_push_near_end` in crates/arraystring_core/src/array_string/edit.rt shows the precondition of `has_room`.
@@ -66,12 +78,16 @@ impl<const N: usize> ArrayString<N> {
     ///
     /// Each clause `requires` of the contract must hold, but for those on counts, on iterators and on closures.
     ///
-    /// # Contract
+    /// <details><summary>Contract</summary>
     ///
     /// ```text
     /// requires { size self.old.text + width ch ≤ cap N }
     /// ensures { self.new.text ≡ self.old.text ++ ch ∷ [] }
     /// ```
+    ///
+    /// [How to read a contract](crate::contracts)
+    ///
+    /// </details>
     #[cold]
     #[inline(never)]
     pub(super) unsafe fn compact_and_push(&mut self, ch: char) {
@@ -92,12 +108,16 @@ impl<const N: usize> ArrayString<N> {
     ///
     /// Each clause `requires` of the contract must hold, but for those on counts, on iterators and on closures.
     ///
-    /// # Contract
+    /// <details><summary>Contract</summary>
     ///
     /// ```text
     /// requires { size self.old.text + size (chars string.now) ≤ cap N }
     /// ensures { self.new.text ≡ self.old.text ++ chars string.now }
     /// ```
+    ///
+    /// [How to read a contract](crate::contracts)
+    ///
+    /// </details>
     #[cold]
     #[inline(never)]
     pub(super) unsafe fn compact_and_push_str(&mut self, string: &str) {
@@ -112,7 +132,7 @@ impl<const N: usize> ArrayString<N> {
     ///
     /// Each clause `requires` of the contract must hold, but for those on counts, on iterators and on closures.
     ///
-    /// # Contract
+    /// <details><summary>Contract</summary>
     ///
     /// ```text
     /// requires order { start ≤ end }
@@ -127,6 +147,10 @@ impl<const N: usize> ArrayString<N> {
     /// ensures counted { steps.old.moved ≤ steps.new.moved }
     /// ensures looked { steps.new.looked ≡ steps.old.looked }
     /// ```
+    ///
+    /// [How to read a contract](crate::contracts)
+    ///
+    /// </details>
     #[inline(always)]
     pub(super) unsafe fn splice(&mut self, start: usize, end: usize, given: &str, steps: &mut Steps) {
         known!(invariant: self.start as usize + self.size as usize <= crate::ArrayString::<N>::capacity() as usize);
@@ -150,7 +174,7 @@ impl<const N: usize> ArrayString<N> {
     ///
     /// Each clause `requires` of the contract must hold, but for those on counts, on iterators and on closures.
     ///
-    /// # Contract
+    /// <details><summary>Contract</summary>
     ///
     /// ```text
     /// requires order { start ≤ end }
@@ -164,6 +188,10 @@ impl<const N: usize> ArrayString<N> {
     /// ensures counted { steps.old.moved ≤ steps.new.moved }
     /// ensures looked { steps.new.looked ≡ steps.old.looked }
     /// ```
+    ///
+    /// [How to read a contract](crate::contracts)
+    ///
+    /// </details>
     #[cold]
     #[inline(never)]
     pub(super) unsafe fn compact_and_splice(&mut self, start: usize, end: usize, given: &str, steps: &mut Steps) {
@@ -184,13 +212,17 @@ impl<const N: usize> ArrayString<N> {
     ///
     /// Each clause `requires` of the contract must hold, but for those on counts, on iterators and on closures.
     ///
-    /// # Contract
+    /// <details><summary>Contract</summary>
     ///
     /// ```text
     /// requires boundary { IsTrue (boundary self.old.text at) }
     /// requires room { size self.old.text + width ch ≤ cap N }
     /// ensures { self.new.text ≡ front self.old.text at ++ (ch ∷ back self.old.text at) }
     /// ```
+    ///
+    /// [How to read a contract](crate::contracts)
+    ///
+    /// </details>
     #[inline(always)]
     pub(super) unsafe fn put_char(&mut self, at: usize, ch: char) {
         known!(invariant: self.start as usize + self.size as usize <= crate::ArrayString::<N>::capacity() as usize);
@@ -214,13 +246,17 @@ impl<const N: usize> ArrayString<N> {
     ///
     /// Each clause `requires` of the contract must hold, but for those on counts, on iterators and on closures.
     ///
-    /// # Contract
+    /// <details><summary>Contract</summary>
     ///
     /// ```text
     /// requires boundary { IsTrue (boundary self.old.text at) }
     /// requires room { size self.old.text + width ch ≤ cap N }
     /// ensures { self.new.text ≡ front self.old.text at ++ (ch ∷ back self.old.text at) }
     /// ```
+    ///
+    /// [How to read a contract](crate::contracts)
+    ///
+    /// </details>
     #[cold]
     #[inline(never)]
     pub(super) unsafe fn compact_and_insert(&mut self, at: usize, ch: char) {
@@ -242,7 +278,7 @@ impl<const N: usize> ArrayString<N> {
     ///
     /// Each clause `requires` of the contract must hold, but for those on counts, on iterators and on closures.
     ///
-    /// # Contract
+    /// <details><summary>Contract</summary>
     ///
     /// ```text
     /// requires order { start ≤ end }
@@ -256,6 +292,10 @@ impl<const N: usize> ArrayString<N> {
     /// ensures counted { steps.old.moved ≤ steps.new.moved }
     /// ensures looked { steps.new.looked ≡ steps.old.looked }
     /// ```
+    ///
+    /// [How to read a contract](crate::contracts)
+    ///
+    /// </details>
     #[inline]
     pub(super) unsafe fn take_out(&mut self, start: usize, end: usize, steps: &mut Steps) {
         known!(invariant: self.start as usize + self.size as usize <= crate::ArrayString::<N>::capacity() as usize);
@@ -276,12 +316,16 @@ impl<const N: usize> ArrayString<N> {
     ///
     /// Each clause `requires` of the contract must hold, but for those on counts, on iterators and on closures.
     ///
-    /// # Contract
+    /// <details><summary>Contract</summary>
     ///
     /// ```text
     /// requires { IsTrue (boundary self.old.text end) }
     /// ensures { self.new.text ≡ back self.old.text end }
     /// ```
+    ///
+    /// [How to read a contract](crate::contracts)
+    ///
+    /// </details>
     #[inline]
     pub(super) unsafe fn drop_front(&mut self, end: usize) {
         self.start = (self.start as usize + end) as u8;
@@ -294,12 +338,16 @@ impl<const N: usize> ArrayString<N> {
     ///
     /// Each clause `requires` of the contract must hold, but for those on counts, on iterators and on closures.
     ///
-    /// # Contract
+    /// <details><summary>Contract</summary>
     ///
     /// ```text
     /// requires { IsTrue (boundary self.old.text size) }
     /// ensures { self.new.text ≡ front self.old.text size }
     /// ```
+    ///
+    /// [How to read a contract](crate::contracts)
+    ///
+    /// </details>
     #[inline]
     pub(super) unsafe fn keep(&mut self, size: u8) {
         self.size = size;

@@ -7,17 +7,22 @@ use crate::arraystring_base::error::OutOfBounds;
 impl<const N: usize> ArrayString<N> {
     /// Appends the longest prefix of the characters that fits.
     ///
-    /// # Precondition
-    ///
-    /// See the module `array_string` for iterators.
-    ///
     /// # In Rust
     ///
-    /// No precondition is left here: an iterator that never ends, or that panics, is allowed. The call stops at the
-    /// first item that does not fit, so only empty pieces without an end keep it. What was taken before a panic is a
-    /// text.
+    /// An iterator that never ends, or that panics, is allowed. The call stops at the first item that does not fit, so
+    /// only empty pieces without an end keep it. What was taken before a panic is a text.
     ///
-    /// # Contract
+    /// # Examples
+    ///
+    /// ```
+    /// use arraystring::ArrayString;
+    ///
+    /// let mut string = ArrayString::<4>::from("a");
+    /// string.extend_chars('b'..='z');
+    /// assert_eq!(string.as_str(), "abcd");
+    /// ```
+    ///
+    /// <details><summary>Contract</summary>
     ///
     /// ```text
     /// requires { IsFiniteIterable I.into_iter_gives I.IntoIter.can_next I.IntoIter.remaining characters }
@@ -26,6 +31,10 @@ impl<const N: usize> ArrayString<N> {
     /// ensures whole { (all : List ℕ) → Gives I.into_iter_gives I.IntoIter.next_gives (λ c. c) characters all
     ///     → Makes (addition_of_cut self.old.text all (cap N)) self.old.text (Ok result) self.new.text }
     /// ```
+    ///
+    /// [How to read a contract](crate::contracts)
+    ///
+    /// </details>
     #[inline]
     pub fn extend_chars<I: IntoIterator<Item = char>>(&mut self, characters: I) {
         let _ = self.add_chars(characters);
@@ -33,17 +42,22 @@ impl<const N: usize> ArrayString<N> {
 
     /// Appends the longest prefix of whole characters of the joined pieces that fits.
     ///
-    /// # Precondition
-    ///
-    /// See the module `array_string` for iterators.
-    ///
     /// # In Rust
     ///
-    /// No precondition is left here: an iterator that never ends, or that panics, is allowed. The call stops at the
-    /// first item that does not fit, so only empty pieces without an end keep it. What was taken before a panic is a
-    /// text.
+    /// An iterator that never ends, or that panics, is allowed. The call stops at the first item that does not fit, so
+    /// only empty pieces without an end keep it. What was taken before a panic is a text.
     ///
-    /// # Contract
+    /// # Examples
+    ///
+    /// ```
+    /// use arraystring::ArrayString;
+    ///
+    /// let mut string = ArrayString::<8>::from("one");
+    /// string.extend_strs([" two", " three"]);
+    /// assert_eq!(string.as_str(), "one two ");
+    /// ```
+    ///
+    /// <details><summary>Contract</summary>
     ///
     /// ```text
     /// requires { IsFiniteIterable I.into_iter_gives I.IntoIter.can_next I.IntoIter.remaining pieces }
@@ -52,6 +66,10 @@ impl<const N: usize> ArrayString<N> {
     /// ensures whole { (all : List (List ℕ)) → Gives I.into_iter_gives I.IntoIter.next_gives piece_text pieces all
     ///     → Makes (addition_of_cut self.old.text (joined all) (cap N)) self.old.text (Ok result) self.new.text }
     /// ```
+    ///
+    /// [How to read a contract](crate::contracts)
+    ///
+    /// </details>
     #[inline]
     pub fn extend_strs<U: AsRef<str>, I: IntoIterator<Item = U>>(&mut self, pieces: I) {
         let _ = self.add_strs(pieces);
@@ -59,7 +77,7 @@ impl<const N: usize> ArrayString<N> {
 
     /// Appends the characters before the first that does not fit. Refuses if there is such a one.
     ///
-    /// # Contract
+    /// <details><summary>Contract</summary>
     ///
     /// ```text
     /// requires { IsFiniteIterable I.into_iter_gives I.IntoIter.can_next I.IntoIter.remaining characters }
@@ -67,6 +85,10 @@ impl<const N: usize> ArrayString<N> {
     ///     × MatchResult result (λ _. size taken ≤ cap N - size self.old.text) (λ _. cap N - size self.old.text < size taken)
     ///     × (self.new.text ≡ self.old.text ++ cut taken (cap N - size self.old.text)) }
     /// ```
+    ///
+    /// [How to read a contract](crate::contracts)
+    ///
+    /// </details>
     #[inline]
     pub(super) fn add_chars<I: IntoIterator<Item = char>>(&mut self, characters: I) -> Result<(), OutOfBounds> {
         for ch in characters {
@@ -80,7 +102,7 @@ impl<const N: usize> ArrayString<N> {
     /// Appends the pieces before the first that does not fit, and of that one what fits. Refuses
     /// if there is such a one.
     ///
-    /// # Contract
+    /// <details><summary>Contract</summary>
     ///
     /// ```text
     /// requires { IsFiniteIterable I.into_iter_gives I.IntoIter.can_next I.IntoIter.remaining pieces }
@@ -88,6 +110,10 @@ impl<const N: usize> ArrayString<N> {
     ///     × MatchResult result (λ _. size (joined_pieces taken) ≤ cap N - size self.old.text) (λ _. cap N - size self.old.text < size (joined_pieces taken))
     ///     × (self.new.text ≡ self.old.text ++ cut (joined_pieces taken) (cap N - size self.old.text)) }
     /// ```
+    ///
+    /// [How to read a contract](crate::contracts)
+    ///
+    /// </details>
     #[inline]
     pub(super) fn add_strs<U: AsRef<str>, I: IntoIterator<Item = U>>(&mut self, pieces: I) -> Result<(), OutOfBounds> {
         for piece in pieces {

@@ -12,15 +12,32 @@ impl<const N: usize> ArrayString<N> {
     ///
     /// The first of these whose condition holds is returned, and the text is then unchanged:
     ///
-    /// - `Err(Error::OutOfBounds)` if the index is past the text;
-    /// - `Err(Error::OutOfBounds)` if `ch` does not fit;
-    /// - `Err(Error::Utf8)` if the index is inside a character.
+    /// - [`Err(Error::OutOfBounds)`](crate::Error::OutOfBounds) if the index is past the text;
+    /// - [`Err(Error::OutOfBounds)`](crate::Error::OutOfBounds) if `ch` does not fit;
+    /// - [`Err(Error::Utf8)`](crate::Error::Utf8) if the index is inside a character.
     ///
-    /// # Contract
+    /// # Examples
+    ///
+    /// ```
+    /// use arraystring::{ArrayString, Error};
+    ///
+    /// let mut string = ArrayString::<4>::from("é");
+    /// assert_eq!(string.try_insert(2, 'b'), Ok(()));
+    /// assert_eq!(string.as_str(), "éb");
+    /// assert_eq!(string.try_insert(9, 'c'), Err(Error::OutOfBounds)); // past the text
+    /// assert_eq!(string.try_insert(0, 'é'), Err(Error::OutOfBounds)); // one byte is left
+    /// assert_eq!(string.try_insert(1, 'c'), Err(Error::Utf8)); // inside `é`
+    /// ```
+    ///
+    /// <details><summary>Contract</summary>
     ///
     /// ```text
     /// ensures { Makes (insertion self.old.text index (ch ∷ []) (cap N)) self.old.text result self.new.text }
     /// ```
+    ///
+    /// [How to read a contract](crate::contracts)
+    ///
+    /// </details>
     #[inline]
     pub fn try_insert(&mut self, index: u8, ch: char) -> Result<(), Error> {
         if index > self.len() {
@@ -39,21 +56,32 @@ impl<const N: usize> ArrayString<N> {
 
     /// Inserts `ch` at the byte index `index`.
     ///
-    /// # Precondition
-    ///
-    /// The index must be a boundary, and `ch` must fit.
-    ///
     /// # Safety
     ///
     /// The index must be a boundary of the text, and the text after the call must fit into the capacity.
     ///
-    /// # Contract
+    /// # Examples
+    ///
+    /// ```
+    /// use arraystring::ArrayString;
+    ///
+    /// let mut string = ArrayString::<4>::from("éb");
+    /// // SAFETY: `b` begins at index 2, and there is room for one more byte.
+    /// unsafe { string.insert_unchecked(2, 'a') };
+    /// assert_eq!(string, "éab");
+    /// ```
+    ///
+    /// <details><summary>Contract</summary>
     ///
     /// ```text
     /// requires boundary { IsTrue (boundary self.old.text index) }
     /// requires room { size self.old.text + width ch ≤ cap N }
     /// ensures { self.new.text ≡ front self.old.text index ++ (ch ∷ back self.old.text index) }
     /// ```
+    ///
+    /// [How to read a contract](crate::contracts)
+    ///
+    /// </details>
     #[inline]
     pub unsafe fn insert_unchecked(&mut self, index: u8, ch: char) {
         // SAFETY: the proof of `insert_unchecked` in crates/arraystring_core/src/array_string/insert.rt shows `boundary` and `room` of `put_char`.
@@ -66,38 +94,64 @@ impl<const N: usize> ArrayString<N> {
     ///
     /// The first of these whose condition holds is returned, and the text is then unchanged:
     ///
-    /// - `Err(Error::OutOfBounds)` if the index is past the text;
-    /// - `Err(Error::OutOfBounds)` if not all of `string` fits;
-    /// - `Err(Error::Utf8)` if the index is inside a character.
+    /// - [`Err(Error::OutOfBounds)`](crate::Error::OutOfBounds) if the index is past the text;
+    /// - [`Err(Error::OutOfBounds)`](crate::Error::OutOfBounds) if not all of `string` fits;
+    /// - [`Err(Error::Utf8)`](crate::Error::Utf8) if the index is inside a character.
     ///
-    /// # Contract
+    /// # Examples
+    ///
+    /// ```
+    /// use arraystring::{ArrayString, Error};
+    ///
+    /// let mut string = ArrayString::<8>::from("é-");
+    /// assert_eq!(string.try_insert_str(2, "abc"), Ok(()));
+    /// assert_eq!(string.as_str(), "éabc-");
+    /// assert_eq!(string.try_insert_str(9, "d"), Err(Error::OutOfBounds)); // past the text
+    /// assert_eq!(string.try_insert_str(0, "def"), Err(Error::OutOfBounds)); // two bytes are left
+    /// assert_eq!(string.try_insert_str(1, "d"), Err(Error::Utf8)); // inside `é`
+    /// ```
+    ///
+    /// <details><summary>Contract</summary>
     ///
     /// ```text
     /// ensures { Makes (insertion self.old.text index (chars string.now) (cap N)) self.old.text result self.new.text }
     /// ```
+    ///
+    /// [How to read a contract](crate::contracts)
+    ///
+    /// </details>
     #[inline]
     pub fn try_insert_str<S: AsRef<str>>(&mut self, index: u8, string: S) -> Result<(), Error> {
         let string = string.as_ref();
         self.try_insert_str_counted(index, string, &mut Steps::new())
     }
 
-    /// The same as `try_insert_str`, with the bytes that it moves counted in `steps`. They are no
+    /// The same as [`try_insert_str`](crate::ArrayString::try_insert_str), with the bytes that it moves counted in `steps`. They are no
     /// more than the text had. An insertion of at least one character moves at least as many as
     /// the shorter of the parts before and after the index has. A refused one moves none.
     ///
     /// # Errors
     ///
-    /// Those of `try_insert_str`, in the same order.
-    ///
-    /// # Precondition
-    ///
-    /// Both counts of `steps` must be at most 2^63.
+    /// Those of [`try_insert_str`](crate::ArrayString::try_insert_str), in the same order.
     ///
     /// # In Rust
     ///
-    /// No precondition is left here: a count that would pass 2^64 - 1 stays there.
+    /// A count that would pass 2^64 - 1 stays there.
     ///
-    /// # Contract
+    /// # Examples
+    ///
+    /// ```
+    /// use arraystring::ArrayString;
+    /// use arraystring::utils::Steps;
+    ///
+    /// let mut string = ArrayString::<8>::from("abcd");
+    /// let mut steps = Steps::new();
+    /// assert_eq!(string.try_insert_str_counted(3, "é", &mut steps), Ok(()));
+    /// assert_eq!(string.as_str(), "abcéd");
+    /// assert!((1..=4).contains(&steps.moved()));
+    /// ```
+    ///
+    /// <details><summary>Contract</summary>
     ///
     /// ```text
     /// requires looks { steps.old.looked ≤ 2 ^ 63 }
@@ -109,6 +163,10 @@ impl<const N: usize> ArrayString<N> {
     /// ensures counted { steps.old.moved ≤ steps.new.moved }
     /// ensures looked { steps.new.looked ≡ steps.old.looked }
     /// ```
+    ///
+    /// [How to read a contract](crate::contracts)
+    ///
+    /// </details>
     #[inline]
     pub fn try_insert_str_counted(&mut self, index: u8, string: &str, steps: &mut Steps) -> Result<(), Error> {
         if index > self.len() {
@@ -133,23 +191,30 @@ impl<const N: usize> ArrayString<N> {
     ///
     /// The first of these whose condition holds is returned, and the text is then unchanged:
     ///
-    /// - `Err(Error::OutOfBounds)` if the index is past the text;
-    /// - `Err(Error::Utf8)` if the index is inside a character.
+    /// - [`Err(Error::OutOfBounds)`](crate::Error::OutOfBounds) if the index is past the text;
+    /// - [`Err(Error::Utf8)`](crate::Error::Utf8) if the index is inside a character.
     ///
     /// # Examples
     ///
     /// ```
-    /// # use arraystring::ArrayString;
-    /// let mut line = ArrayString::<4>::from_str_truncate("abc");
-    /// let cut = line.insert_str(1, "xyz"); // Ok(()), and the text is "axbc"
-    /// let past = line.insert_str(9, "z"); // Err(Error::OutOfBounds)
+    /// use arraystring::{ArrayString, Error};
+    ///
+    /// let mut string = ArrayString::<4>::from("aé");
+    /// assert_eq!(string.insert_str(1, "xyz"), Ok(())); // there is room for one byte
+    /// assert_eq!(string.as_str(), "axé");
+    /// assert_eq!(string.insert_str(9, "z"), Err(Error::OutOfBounds)); // past the text
+    /// assert_eq!(string.insert_str(3, "z"), Err(Error::Utf8)); // inside `é`
     /// ```
     ///
-    /// # Contract
+    /// <details><summary>Contract</summary>
     ///
     /// ```text
     /// ensures { Makes (insertion_of_cut self.old.text index (chars string.now) (cap N)) self.old.text result self.new.text }
     /// ```
+    ///
+    /// [How to read a contract](crate::contracts)
+    ///
+    /// </details>
     #[inline]
     pub fn insert_str<S: AsRef<str>>(&mut self, index: u8, string: S) -> Result<(), Error> {
         let string = string.as_ref();
@@ -167,21 +232,32 @@ impl<const N: usize> ArrayString<N> {
 
     /// Inserts `string` at the byte index `index`.
     ///
-    /// # Precondition
-    ///
-    /// The index must be a boundary, and all of `string` must fit.
-    ///
     /// # Safety
     ///
     /// The index must be a boundary of the text, and the text after the call must fit into the capacity.
     ///
-    /// # Contract
+    /// # Examples
+    ///
+    /// ```
+    /// use arraystring::ArrayString;
+    ///
+    /// let mut string = ArrayString::<4>::from("ad");
+    /// // SAFETY: `d` begins at index 1, and there is room for two more bytes.
+    /// unsafe { string.insert_str_unchecked(1, "bc") };
+    /// assert_eq!(string, "abcd");
+    /// ```
+    ///
+    /// <details><summary>Contract</summary>
     ///
     /// ```text
     /// requires boundary { IsTrue (boundary self.old.text index) }
     /// requires room { size self.old.text + size (chars string.now) ≤ cap N }
     /// ensures { self.new.text ≡ front self.old.text index ++ (chars string.now ++ back self.old.text index) }
     /// ```
+    ///
+    /// [How to read a contract](crate::contracts)
+    ///
+    /// </details>
     #[inline]
     pub unsafe fn insert_str_unchecked<S: AsRef<str>>(&mut self, index: u8, string: S) {
         let string = string.as_ref();

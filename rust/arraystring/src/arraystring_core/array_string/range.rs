@@ -14,20 +14,22 @@ impl<const N: usize> ArrayString<N> {
     /// an included end count as one more, also past 255: `..=255` ends at 256, which is past every
     /// text.
     ///
-    /// # Precondition
-    ///
-    /// - `has_bounds` must hold of the range.
-    /// - The range must not end before it starts.
-    /// - Both ends must be boundaries.
-    ///
-    /// If `has_bounds` holds, a `get` of the range that returned `Some` proves the rest.
-    ///
     /// # Panics
     ///
     /// Where the range ends before it starts, ends past the text, or has an end inside a character, as the index of
     /// `str` does.
     ///
-    /// # Contract
+    /// # Examples
+    ///
+    /// ```
+    /// use arraystring::ArrayString;
+    ///
+    /// let string = ArrayString::<8>::from("aéb");
+    /// assert_eq!(string.slice(1..3), "é");
+    /// assert_eq!(string.slice(..), "aéb");
+    /// ```
+    ///
+    /// <details><summary>Contract</summary>
     ///
     /// ```text
     /// requires known { R.has_bounds range }
@@ -37,6 +39,10 @@ impl<const N: usize> ArrayString<N> {
     /// ensures { let t = self.now.text in
     ///     result.now ≡ bytes (part t (start_index (R.start_bound range)) (end_index (R.end_bound range) (size t))) }
     /// ```
+    ///
+    /// [How to read a contract](crate::contracts)
+    ///
+    /// </details>
     #[inline]
     pub fn slice<R: RangeBounds<u8>>(&self, range: R) -> &str {
         let (start, end) = plain_ends(range, self.len());
@@ -45,58 +51,71 @@ impl<const N: usize> ArrayString<N> {
 
     /// Returns the part of the text in the range, borrowed without a copy. Returns `None` if the
     /// range ends before it starts, or if its start or its end is not a boundary. The ends are
-    /// read as in `slice`.
+    /// read as in [`slice`](crate::ArrayString::slice).
     ///
     /// # Examples
     ///
     /// ```
-    /// # use arraystring::ArrayString;
-    /// let line = ArrayString::<4>::from_str_truncate("aéb");
-    /// let part = line.get(1..3); // Some("é")
-    /// let inside = line.get(..2); // None
+    /// use arraystring::ArrayString;
+    ///
+    /// let string = ArrayString::<8>::from("aéb");
+    /// assert_eq!(string.get(1..3), Some("é"));
+    /// assert_eq!(string.get(..2), None); // inside `é`
+    /// assert_eq!(string.get(2..9), None); // past the text
     /// ```
     ///
-    /// # Contract
+    /// <details><summary>Contract</summary>
     ///
     /// ```text
     /// ensures { OfReturnedBounds R.has_bounds R.start_bound R.end_bound range (λ start end.
     ///     let found = part_in self.now.text (start_index start) (end_index end (size self.now.text)) in
     ///     MatchOption result (found ≡ None) (λ s. found ≡ Some (chars s.now))) }
     /// ```
+    ///
+    /// [How to read a contract](crate::contracts)
+    ///
+    /// </details>
     #[inline]
     pub fn get<R: RangeBounds<u8>>(&self, range: R) -> Option<&str> {
         let (start, end) = plain_ends(range, self.len());
         self.as_str().get(start..end)
     }
 
-    /// Removes the part in the range and returns its characters as a `Drain`. The part is removed
-    /// at once, whether or not the `Drain` is used. An excluded start and an included end count as
+    /// Removes the part in the range and returns its characters as a [`Drain`](crate::Drain). The part is removed
+    /// at once, whether or not the [`Drain`](crate::Drain) is used. An excluded start and an included end count as
     /// one more, but as no more than 255: `..=255` ends at 255.
     ///
     /// # Errors
     ///
     /// The first of these whose condition holds is returned, and the text is then unchanged:
     ///
-    /// - `Err(Error::OutOfBounds)` if the range ends before it starts;
-    /// - `Err(Error::OutOfBounds)` if the range ends past the text;
-    /// - `Err(Error::Utf8)` if the start of the range is inside a character;
-    /// - `Err(Error::Utf8)` if the end of the range is inside a character.
+    /// - [`Err(Error::OutOfBounds)`](crate::Error::OutOfBounds) if the range ends before it starts;
+    /// - [`Err(Error::OutOfBounds)`](crate::Error::OutOfBounds) if the range ends past the text;
+    /// - [`Err(Error::Utf8)`](crate::Error::Utf8) if the start of the range is inside a character;
+    /// - [`Err(Error::Utf8)`](crate::Error::Utf8) if the end of the range is inside a character.
     ///
     /// # Examples
     ///
     /// ```
-    /// # use arraystring::ArrayString;
-    /// let mut line = ArrayString::<5>::from_str_truncate("abcde");
-    /// let drained = line.drain(1..=2); // Ok of 'b' and 'c', and the text is "ade"
-    /// let past = line.drain(2..9); // Err(Error::OutOfBounds)
+    /// use arraystring::{ArrayString, Error};
+    ///
+    /// let mut string = ArrayString::<8>::from("abcdé");
+    /// let drained = string.drain(1..=2).map(|drained| drained.as_str() == "bc");
+    /// assert_eq!((drained, string.as_str()), (Ok(true), "adé"));
+    /// assert_eq!(string.drain(2..9), Err(Error::OutOfBounds)); // past the text
+    /// assert_eq!(string.drain(..3), Err(Error::Utf8)); // inside `é`
     /// ```
     ///
-    /// # Contract
+    /// <details><summary>Contract</summary>
     ///
     /// ```text
     /// ensures { OfReturnedBounds R.has_bounds R.start_bound R.end_bound range (λ start end. let t = self.old.text in
     ///     Makes (draining t (saturated_start start) (saturated_end end (size t))) t (with_left result) self.new.text) }
     /// ```
+    ///
+    /// [How to read a contract](crate::contracts)
+    ///
+    /// </details>
     #[inline(always)]
     pub fn drain<R: RangeBounds<u8>>(&mut self, range: R) -> Result<Drain<N>, Error> {
         let (start, end) = saturating_ends(range, self.len());
@@ -109,24 +128,34 @@ impl<const N: usize> ArrayString<N> {
         Ok(removed)
     }
 
-    /// The same as `drain`, with the bytes that it moves counted in `steps`. They are no more than
+    /// The same as [`drain`](crate::ArrayString::drain), with the bytes that it moves counted in `steps`. They are no more than
     /// the part after the range has. If the range is not empty, they are at least as many as the
     /// shorter of the parts before and after it has. It moves none if the range begins at index 0,
     /// and none if it is refused.
     ///
     /// # Errors
     ///
-    /// Those of `drain`, in the same order.
-    ///
-    /// # Precondition
-    ///
-    /// Both counts of `steps` must be at most 2^63.
+    /// Those of [`drain`](crate::ArrayString::drain), in the same order.
     ///
     /// # In Rust
     ///
-    /// No precondition is left here: a count that would pass 2^64 - 1 stays there.
+    /// A count that would pass 2^64 - 1 stays there.
     ///
-    /// # Contract
+    /// # Examples
+    ///
+    /// ```
+    /// use arraystring::ArrayString;
+    /// use arraystring::utils::Steps;
+    ///
+    /// let mut string = ArrayString::<8>::from("abcdef");
+    /// let mut steps = Steps::new();
+    /// assert!(string.drain_counted(..2, &mut steps).is_ok());
+    /// assert_eq!((string.as_str(), steps.moved()), ("cdef", 0)); // nothing moves at the start
+    /// assert!(string.drain_counted(1..2, &mut steps).is_ok());
+    /// assert!(string.as_str() == "cef" && (1..=2).contains(&steps.moved()));
+    /// ```
+    ///
+    /// <details><summary>Contract</summary>
     ///
     /// ```text
     /// requires looks { steps.old.looked ≤ 2 ^ 63 }
@@ -142,6 +171,10 @@ impl<const N: usize> ArrayString<N> {
     /// ensures counted { steps.old.moved ≤ steps.new.moved }
     /// ensures looked { steps.new.looked ≡ steps.old.looked }
     /// ```
+    ///
+    /// [How to read a contract](crate::contracts)
+    ///
+    /// </details>
     #[inline(always)]
     pub fn drain_counted<R: RangeBounds<u8>>(&mut self, range: R, steps: &mut Steps) -> Result<Drain<N>, Error> {
         let (from, to) = saturating_ends(range, self.len());
@@ -153,57 +186,73 @@ impl<const N: usize> ArrayString<N> {
         Ok(removed)
     }
 
-    /// Replaces the part in the range with `with`. The ends are read as in `drain`.
+    /// Replaces the part in the range with `with`. The ends are read as in [`drain`](crate::ArrayString::drain).
     ///
     /// # Errors
     ///
     /// The first of these whose condition holds is returned, and the text is then unchanged:
     ///
-    /// - `Err(Error::OutOfBounds)` if the range ends before it starts;
-    /// - `Err(Error::OutOfBounds)` if the range ends past the text;
-    /// - `Err(Error::OutOfBounds)` if the text with `with` in it does not fit;
-    /// - `Err(Error::Utf8)` if the start of the range is inside a character;
-    /// - `Err(Error::Utf8)` if the end of the range is inside a character.
+    /// - [`Err(Error::OutOfBounds)`](crate::Error::OutOfBounds) if the range ends before it starts;
+    /// - [`Err(Error::OutOfBounds)`](crate::Error::OutOfBounds) if the range ends past the text;
+    /// - [`Err(Error::OutOfBounds)`](crate::Error::OutOfBounds) if the text with `with` in it does not fit;
+    /// - [`Err(Error::Utf8)`](crate::Error::Utf8) if the start of the range is inside a character;
+    /// - [`Err(Error::Utf8)`](crate::Error::Utf8) if the end of the range is inside a character.
     ///
     /// # Examples
     ///
     /// ```
-    /// # use arraystring::ArrayString;
-    /// let mut line = ArrayString::<4>::from_str_truncate("abcd");
-    /// let replaced = line.replace_range(1..3, "é"); // Ok(()), and the text is "aéd"
-    /// let large = line.replace_range(.., "abcde"); // Err(Error::OutOfBounds)
+    /// use arraystring::{ArrayString, Error};
+    ///
+    /// let mut string = ArrayString::<8>::from("abcdé");
+    /// assert_eq!(string.replace_range(1..3, "éx"), Ok(()));
+    /// assert_eq!(string.as_str(), "aéxdé");
+    /// assert_eq!(string.replace_range(2..1, ""), Err(Error::OutOfBounds)); // end before start
+    /// assert_eq!(string.replace_range(..1, "abc"), Err(Error::OutOfBounds)); // nine bytes
+    /// assert_eq!(string.replace_range(2.., ""), Err(Error::Utf8)); // inside `é`
     /// ```
     ///
-    /// # Contract
+    /// <details><summary>Contract</summary>
     ///
     /// ```text
     /// ensures { OfReturnedBounds R.has_bounds R.start_bound R.end_bound range (λ start end. let t = self.old.text in
     ///     Makes (replacement t (saturated_start start) (saturated_end end (size t)) (chars with.now) (cap N)) t result self.new.text) }
     /// ```
+    ///
+    /// [How to read a contract](crate::contracts)
+    ///
+    /// </details>
     #[inline]
     pub fn replace_range<S: AsRef<str>, R: RangeBounds<u8>>(&mut self, range: R, with: S) -> Result<(), Error> {
         let with = with.as_ref();
         self.replace_range_counted(range, with, &mut Steps::new())
     }
 
-    /// The same as `replace_range`, with the bytes that it moves counted in `steps`. They are no
+    /// The same as [`replace_range`](crate::ArrayString::replace_range), with the bytes that it moves counted in `steps`. They are no
     /// more than the text had, and no more than the part after the range has if `with` is not
     /// larger than the range. A replacement that changes the length moves at least as many as the
     /// shorter of the parts before and after the range has. A refused one moves none.
     ///
     /// # Errors
     ///
-    /// Those of `replace_range`, in the same order.
-    ///
-    /// # Precondition
-    ///
-    /// Both counts of `steps` must be at most 2^63.
+    /// Those of [`replace_range`](crate::ArrayString::replace_range), in the same order.
     ///
     /// # In Rust
     ///
-    /// No precondition is left here: a count that would pass 2^64 - 1 stays there.
+    /// A count that would pass 2^64 - 1 stays there.
     ///
-    /// # Contract
+    /// # Examples
+    ///
+    /// ```
+    /// use arraystring::ArrayString;
+    /// use arraystring::utils::Steps;
+    ///
+    /// let mut string = ArrayString::<8>::from("abcd");
+    /// let mut steps = Steps::new();
+    /// assert_eq!(string.replace_range_counted(1..2, "x", &mut steps), Ok(()));
+    /// assert_eq!((string.as_str(), steps.moved()), ("axcd", 0)); // as long as what it replaces
+    /// ```
+    ///
+    /// <details><summary>Contract</summary>
     ///
     /// ```text
     /// requires looks { steps.old.looked ≤ 2 ^ 63 }
@@ -219,6 +268,10 @@ impl<const N: usize> ArrayString<N> {
     /// ensures counted { steps.old.moved ≤ steps.new.moved }
     /// ensures looked { steps.new.looked ≡ steps.old.looked }
     /// ```
+    ///
+    /// [How to read a contract](crate::contracts)
+    ///
+    /// </details>
     #[inline]
     pub fn replace_range_counted<R: RangeBounds<u8>>(
         &mut self,
@@ -232,18 +285,22 @@ impl<const N: usize> ArrayString<N> {
 
     /// Changes a..z to A..Z in the range. All other characters stay as they are.
     ///
-    /// # Precondition
-    ///
-    /// - `has_bounds` must hold of the range.
-    /// - The range must not end before it starts.
-    /// - Both ends, read as in `slice`, must be boundaries.
-    ///
     /// # Panics
     ///
     /// Where the range ends before it starts, ends past the text, or has an end inside a character, as the index of
     /// `str` does.
     ///
-    /// # Contract
+    /// # Examples
+    ///
+    /// ```
+    /// use arraystring::ArrayString;
+    ///
+    /// let mut string = ArrayString::<8>::from("hello é");
+    /// string.make_ascii_uppercase_in(..1);
+    /// assert_eq!(string.as_str(), "Hello é");
+    /// ```
+    ///
+    /// <details><summary>Contract</summary>
     ///
     /// ```text
     /// requires known { R.has_bounds range }
@@ -253,6 +310,10 @@ impl<const N: usize> ArrayString<N> {
     /// ensures { let t = self.old.text in let start = start_index (R.start_bound range) in let end = end_index (R.end_bound range) (size t) in
     ///     self.new.text ≡ front t start ++ (map to_ascii_uppercase (part t start end) ++ back t end) }
     /// ```
+    ///
+    /// [How to read a contract](crate::contracts)
+    ///
+    /// </details>
     #[inline]
     pub fn make_ascii_uppercase_in<R: RangeBounds<u8>>(&mut self, range: R) {
         let (start, end) = plain_ends(range, self.len());
@@ -263,18 +324,22 @@ impl<const N: usize> ArrayString<N> {
 
     /// Changes A..Z to a..z in the range. All other characters stay as they are.
     ///
-    /// # Precondition
-    ///
-    /// - `has_bounds` must hold of the range.
-    /// - The range must not end before it starts.
-    /// - Both ends, read as in `slice`, must be boundaries.
-    ///
     /// # Panics
     ///
     /// Where the range ends before it starts, ends past the text, or has an end inside a character, as the index of
     /// `str` does.
     ///
-    /// # Contract
+    /// # Examples
+    ///
+    /// ```
+    /// use arraystring::ArrayString;
+    ///
+    /// let mut string = ArrayString::<8>::from("HELLO É");
+    /// string.make_ascii_lowercase_in(1..);
+    /// assert_eq!(string.as_str(), "Hello É");
+    /// ```
+    ///
+    /// <details><summary>Contract</summary>
     ///
     /// ```text
     /// requires known { R.has_bounds range }
@@ -284,6 +349,10 @@ impl<const N: usize> ArrayString<N> {
     /// ensures { let t = self.old.text in let start = start_index (R.start_bound range) in let end = end_index (R.end_bound range) (size t) in
     ///     self.new.text ≡ front t start ++ (map to_ascii_lowercase (part t start end) ++ back t end) }
     /// ```
+    ///
+    /// [How to read a contract](crate::contracts)
+    ///
+    /// </details>
     #[inline]
     pub fn make_ascii_lowercase_in<R: RangeBounds<u8>>(&mut self, range: R) {
         let (start, end) = plain_ends(range, self.len());
@@ -294,11 +363,15 @@ impl<const N: usize> ArrayString<N> {
 
     /// Whether the bytes from `start` to `end` can be taken out, and else why not.
     ///
-    /// # Contract
+    /// <details><summary>Contract</summary>
     ///
     /// ```text
     /// ensures { result ≡ ok_unless (first_cause (draining self.now.text start end).tests) tt }
     /// ```
+    ///
+    /// [How to read a contract](crate::contracts)
+    ///
+    /// </details>
     #[inline]
     fn is_part(&self, start: u8, end: u8) -> Result<(), Error> {
         if start > end || end > self.len() {
@@ -312,7 +385,7 @@ impl<const N: usize> ArrayString<N> {
 
     /// Replaces the bytes from `start` to `end`.
     ///
-    /// # Contract
+    /// <details><summary>Contract</summary>
     ///
     /// ```text
     /// requires { steps.old.moved ≤ 2 ^ 63 }
@@ -324,6 +397,10 @@ impl<const N: usize> ArrayString<N> {
     /// ensures counted { steps.old.moved ≤ steps.new.moved }
     /// ensures looked { steps.new.looked ≡ steps.old.looked }
     /// ```
+    ///
+    /// [How to read a contract](crate::contracts)
+    ///
+    /// </details>
     #[inline]
     fn replace_between(&mut self, start: u8, end: u8, with: &str, steps: &mut Steps) -> Result<(), Error> {
         self.can_replace(start, end, with)?;
@@ -335,11 +412,15 @@ impl<const N: usize> ArrayString<N> {
 
     /// Whether the bytes from `start` to `end` can be replaced by `with`, and else why not.
     ///
-    /// # Contract
+    /// <details><summary>Contract</summary>
     ///
     /// ```text
     /// ensures { result ≡ ok_unless (first_cause (replacement self.now.text start end (chars with.now) (cap N)).tests) tt }
     /// ```
+    ///
+    /// [How to read a contract](crate::contracts)
+    ///
+    /// </details>
     #[inline(always)]
     fn can_replace(&self, start: u8, end: u8, with: &str) -> Result<(), Error> {
         if start > end || end > self.len() {

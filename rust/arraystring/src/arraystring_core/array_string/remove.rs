@@ -12,22 +12,31 @@ impl<const N: usize> ArrayString<N> {
     ///
     /// # Errors
     ///
-    /// Returns `Err(Utf8)` if the index `size` is inside a character. The text is then unchanged.
+    /// Returns [`Err(Utf8)`](crate::error::Utf8) if the index `size` is inside a character. The text is then unchanged.
     ///
     /// # Examples
     ///
     /// ```
-    /// # use arraystring::ArrayString;
-    /// let mut line = ArrayString::<4>::from_str_truncate("aé");
-    /// let inside = line.truncate(2); // Err(Utf8)
-    /// let past = line.truncate(9); // Ok(()), and the text is still "aé"
+    /// use arraystring::ArrayString;
+    /// use arraystring::error::Utf8;
+    ///
+    /// let mut string = ArrayString::<4>::from("aéb");
+    /// assert_eq!(string.truncate(9), Ok(())); // it has no more
+    /// assert_eq!(string.truncate(2), Err(Utf8)); // inside `é`
+    /// assert_eq!(string.as_str(), "aéb");
+    /// assert_eq!(string.truncate(1), Ok(()));
+    /// assert_eq!(string.as_str(), "a");
     /// ```
     ///
-    /// # Contract
+    /// <details><summary>Contract</summary>
     ///
     /// ```text
     /// ensures { Makes (truncation self.old.text size) self.old.text (from_utf8_error result) self.new.text }
     /// ```
+    ///
+    /// [How to read a contract](crate::contracts)
+    ///
+    /// </details>
     #[inline]
     pub fn truncate(&mut self, size: u8) -> Result<(), Utf8> {
         if size >= self.len() {
@@ -47,36 +56,61 @@ impl<const N: usize> ArrayString<N> {
     ///
     /// The first of these whose condition holds is returned, and the text is then unchanged:
     ///
-    /// - `Err(Error::OutOfBounds)` if the index is not below the length;
-    /// - `Err(Error::Utf8)` if the index is inside a character.
+    /// - [`Err(Error::OutOfBounds)`](crate::Error::OutOfBounds) if the index is not below the length;
+    /// - [`Err(Error::Utf8)`](crate::Error::Utf8) if the index is inside a character.
     ///
-    /// # Contract
+    /// # Examples
+    ///
+    /// ```
+    /// use arraystring::{ArrayString, Error};
+    ///
+    /// let mut string = ArrayString::<8>::from("aéb");
+    /// assert_eq!(string.remove(0), Ok('a'));
+    /// assert_eq!(string.remove(1), Err(Error::Utf8)); // inside `é`
+    /// assert_eq!(string.remove(0), Ok('é'));
+    /// assert_eq!(string.as_str(), "b");
+    /// assert_eq!(string.remove(1), Err(Error::OutOfBounds)); // at the end
+    /// ```
+    ///
+    /// <details><summary>Contract</summary>
     ///
     /// ```text
     /// ensures { Makes (removal self.old.text index) self.old.text result self.new.text }
     /// ```
+    ///
+    /// [How to read a contract](crate::contracts)
+    ///
+    /// </details>
     #[inline]
     pub fn remove(&mut self, index: u8) -> Result<char, Error> {
         self.remove_counted(index, &mut Steps::new())
     }
 
-    /// The same as `remove`, with the bytes that it moves counted in `steps`. They are no more
+    /// The same as [`remove`](crate::ArrayString::remove), with the bytes that it moves counted in `steps`. They are no more
     /// than the part after the character has, and at least as many as the shorter of the parts
     /// before and after it has. It moves none at index 0, and none if it is refused.
     ///
     /// # Errors
     ///
-    /// Those of `remove`, in the same order.
-    ///
-    /// # Precondition
-    ///
-    /// Both counts of `steps` must be at most 2^63.
+    /// Those of [`remove`](crate::ArrayString::remove), in the same order.
     ///
     /// # In Rust
     ///
-    /// No precondition is left here: a count that would pass 2^64 - 1 stays there.
+    /// A count that would pass 2^64 - 1 stays there.
     ///
-    /// # Contract
+    /// # Examples
+    ///
+    /// ```
+    /// use arraystring::ArrayString;
+    /// use arraystring::utils::Steps;
+    ///
+    /// let mut string = ArrayString::<8>::from("abcd");
+    /// let mut steps = Steps::new();
+    /// assert_eq!(string.remove_counted(2, &mut steps), Ok('c'));
+    /// assert_eq!((string.as_str(), steps.moved()), ("abd", 1)); // `d` moved
+    /// ```
+    ///
+    /// <details><summary>Contract</summary>
     ///
     /// ```text
     /// requires looks { steps.old.looked ≤ 2 ^ 63 }
@@ -89,6 +123,10 @@ impl<const N: usize> ArrayString<N> {
     /// ensures counted { steps.old.moved ≤ steps.new.moved }
     /// ensures looked { steps.new.looked ≡ steps.old.looked }
     /// ```
+    ///
+    /// [How to read a contract](crate::contracts)
+    ///
+    /// </details>
     #[inline]
     pub fn remove_counted(&mut self, index: u8, steps: &mut Steps) -> Result<char, Error> {
         if index >= self.len() {
@@ -108,28 +146,30 @@ impl<const N: usize> ArrayString<N> {
     /// Keeps the characters for which `f` returns true and removes all others. `f` is called once
     /// with each character, in order.
     ///
-    /// # Precondition
+    /// # In Rust
     ///
-    /// `f` must be callable with each character, in each state that its earlier calls leave.
+    /// Any closure is allowed. Where it panics, the text is what it kept until then.
     ///
     /// # Examples
     ///
     /// ```
-    /// # use arraystring::ArrayString;
-    /// let mut line = ArrayString::<5>::from_str_truncate("a-b-c");
-    /// line.retain(|ch| ch != '-'); // "abc"
+    /// use arraystring::ArrayString;
+    ///
+    /// let mut string = ArrayString::<8>::from("a-b-c");
+    /// string.retain(|ch| ch != '-');
+    /// assert_eq!(string.as_str(), "abc");
     /// ```
     ///
-    /// # In Rust
-    ///
-    /// No precondition is left here: any closure is allowed. Where it panics, the text is what it kept until then.
-    ///
-    /// # Contract
+    /// <details><summary>Contract</summary>
     ///
     /// ```text
     /// requires { IsCallableInTurn F.pre F.step f self.old.text }
     /// ensures { IsFiltered F.step f self.old.text self.new.text }
     /// ```
+    ///
+    /// [How to read a contract](crate::contracts)
+    ///
+    /// </details>
     #[inline]
     pub fn retain<F: FnMut(char) -> bool>(&mut self, f: F) {
         let (offset, size) = (self.start as usize, self.size as usize);
@@ -139,11 +179,25 @@ impl<const N: usize> ArrayString<N> {
 
     /// Removes all characters.
     ///
-    /// # Contract
+    /// # Examples
+    ///
+    /// ```
+    /// use arraystring::ArrayString;
+    ///
+    /// let mut string = ArrayString::<4>::from("abc");
+    /// string.clear();
+    /// assert!(string.is_empty());
+    /// ```
+    ///
+    /// <details><summary>Contract</summary>
     ///
     /// ```text
     /// ensures { Makes clearing self.old.text (Ok result) self.new.text }
     /// ```
+    ///
+    /// [How to read a contract](crate::contracts)
+    ///
+    /// </details>
     #[inline]
     pub fn clear(&mut self) {
         // SAFETY: the proof of `clear` in crates/arraystring_core/src/array_string/remove.rt shows the precondition of `keep`.
@@ -157,14 +211,30 @@ impl<const N: usize> ArrayString<N> {
     ///
     /// The first of these whose condition holds is returned, and the text is then unchanged:
     ///
-    /// - `Err(Error::OutOfBounds)` if `at` is past the text;
-    /// - `Err(Error::Utf8)` if `at` is inside a character.
+    /// - [`Err(Error::OutOfBounds)`](crate::Error::OutOfBounds) if `at` is past the text;
+    /// - [`Err(Error::Utf8)`](crate::Error::Utf8) if `at` is inside a character.
     ///
-    /// # Contract
+    /// # Examples
+    ///
+    /// ```
+    /// use arraystring::{ArrayString, Error};
+    ///
+    /// let mut string = ArrayString::<8>::from("aéb");
+    /// assert_eq!(string.split_off(9), Err(Error::OutOfBounds)); // past the text
+    /// assert_eq!(string.split_off(2), Err(Error::Utf8)); // inside `é`
+    /// assert_eq!(string.split_off(3), Ok(ArrayString::from("b")));
+    /// assert_eq!(string.as_str(), "aé");
+    /// ```
+    ///
+    /// <details><summary>Contract</summary>
     ///
     /// ```text
     /// ensures { Makes (split self.old.text at) self.old.text (with_text result) self.new.text }
     /// ```
+    ///
+    /// [How to read a contract](crate::contracts)
+    ///
+    /// </details>
     #[inline]
     pub fn split_off(&mut self, at: u8) -> Result<Self, Error> {
         if at > self.len() {
@@ -186,7 +256,7 @@ impl<const N: usize> ArrayString<N> {
     ///
     /// Each clause `requires` of the contract must hold, but for those on counts, on iterators and on closures.
     ///
-    /// # Contract
+    /// <details><summary>Contract</summary>
     ///
     /// ```text
     /// requires boundary { IsTrue (boundary self.now.text at) }
@@ -196,6 +266,10 @@ impl<const N: usize> ArrayString<N> {
     /// ensures next { IsTrue (boundary self.now.text (at + width result.0)) }
     /// ensures rest { back self.now.text (at + width result.0) ≡ drop 1 (back self.now.text at) }
     /// ```
+    ///
+    /// [How to read a contract](crate::contracts)
+    ///
+    /// </details>
     #[inline]
     unsafe fn char_at(&self, at: usize) -> (char, usize) {
         known!(boundary: self.as_str().is_char_boundary(at));

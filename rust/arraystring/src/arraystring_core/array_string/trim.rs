@@ -9,29 +9,52 @@ impl<const N: usize> ArrayString<N> {
     /// what has the property White_Space of the Unicode Standard: the characters for which
     /// `char::is_whitespace` returns true.
     ///
-    /// # Contract
+    /// # Examples
+    ///
+    /// ```
+    /// use arraystring::ArrayString;
+    ///
+    /// let mut string = ArrayString::<8>::from("\t a b\u{3000}");
+    /// string.trim();
+    /// assert_eq!(string.as_str(), "a b");
+    /// ```
+    ///
+    /// <details><summary>Contract</summary>
     ///
     /// ```text
     /// ensures { Makes (trimming is_white_space self.old.text) self.old.text (Ok result) self.new.text }
     /// ```
+    ///
+    /// [How to read a contract](crate::contracts)
+    ///
+    /// </details>
     #[inline]
     pub fn trim(&mut self) {
         self.trim_counted(&mut Steps::new());
     }
 
-    /// The same as `trim`, with its looks counted in `steps`. It looks at each character that it
+    /// The same as [`trim`](crate::ArrayString::trim), with its looks counted in `steps`. It looks at each character that it
     /// removes at the end and at the one before them: at each at least once, and at most four
     /// times. It moves no byte.
     ///
-    /// # Precondition
-    ///
-    /// Both counts of `steps` must be at most 2^63.
-    ///
     /// # In Rust
     ///
-    /// No precondition is left here: a count that would pass 2^64 - 1 stays there.
+    /// A count that would pass 2^64 - 1 stays there.
     ///
-    /// # Contract
+    /// # Examples
+    ///
+    /// ```
+    /// use arraystring::ArrayString;
+    /// use arraystring::utils::Steps;
+    ///
+    /// let mut string = ArrayString::<8>::from("  a ");
+    /// let mut steps = Steps::new();
+    /// string.trim_counted(&mut steps);
+    /// assert_eq!((string.as_str(), steps.moved()), ("a", 0));
+    /// assert!((2..=8).contains(&steps.looked())); // the space at the end, and `a`
+    /// ```
+    ///
+    /// <details><summary>Contract</summary>
     ///
     /// ```text
     /// requires looks { steps.old.looked ≤ 2 ^ 63 }
@@ -42,6 +65,10 @@ impl<const N: usize> ArrayString<N> {
     /// ensures least { steps.old.looked + min (length self.old.text) (length self.old.text - length (without_trailing is_white_space self.old.text) + 1) ≤ steps.new.looked }
     /// ensures counted { steps.old.looked ≤ steps.new.looked }
     /// ```
+    ///
+    /// [How to read a contract](crate::contracts)
+    ///
+    /// </details>
     #[inline]
     pub fn trim_counted(&mut self, steps: &mut Steps) {
         self.drop_trailing(is_white_space, steps);
@@ -50,11 +77,25 @@ impl<const N: usize> ArrayString<N> {
 
     /// Removes all spaces (U+0020) at both ends, and nothing else.
     ///
-    /// # Contract
+    /// # Examples
+    ///
+    /// ```
+    /// use arraystring::ArrayString;
+    ///
+    /// let mut string = ArrayString::<8>::from("  \ta  ");
+    /// string.trim_spaces();
+    /// assert_eq!(string.as_str(), "\ta"); // a tab is no space
+    /// ```
+    ///
+    /// <details><summary>Contract</summary>
     ///
     /// ```text
     /// ensures { Makes (trimming is_space self.old.text) self.old.text (Ok result) self.new.text }
     /// ```
+    ///
+    /// [How to read a contract](crate::contracts)
+    ///
+    /// </details>
     #[inline]
     pub fn trim_spaces(&mut self) {
         self.drop_trailing(is_space, &mut Steps::new());
@@ -65,7 +106,7 @@ impl<const N: usize> ArrayString<N> {
     /// it does not. It moves no byte. It looks at each character that it drops and at the one before
     /// them: at each at least once, and at most four times.
     ///
-    /// # Contract
+    /// <details><summary>Contract</summary>
     ///
     /// ```text
     /// requires callable { F.IsAlwaysCallable drops }
@@ -76,6 +117,10 @@ impl<const N: usize> ArrayString<N> {
     /// ensures least { steps.old.looked + min (length self.old.text) (length self.old.text - length self.new.text + 1) ≤ steps.new.looked }
     /// ensures counted { steps.old.looked ≤ steps.new.looked }
     /// ```
+    ///
+    /// [How to read a contract](crate::contracts)
+    ///
+    /// </details>
     #[inline]
     fn drop_trailing<F: Fn(char) -> bool>(&mut self, drops: F, steps: &mut Steps) {
         while let Some((start, ch)) = last_char(self.as_str(), steps) {
@@ -90,12 +135,16 @@ impl<const N: usize> ArrayString<N> {
     /// Drops the characters at the start for which `drops` returns true, up to the first for which
     /// it does not.
     ///
-    /// # Contract
+    /// <details><summary>Contract</summary>
     ///
     /// ```text
     /// requires callable { F.IsAlwaysCallable drops }
     /// ensures { (passes : ℕ → Bool) → ReturnsAs F.post drops passes → self.new.text ≡ without_leading passes self.old.text }
     /// ```
+    ///
+    /// [How to read a contract](crate::contracts)
+    ///
+    /// </details>
     #[inline]
     fn drop_leading<F: Fn(char) -> bool>(&mut self, drops: F) {
         while let Some(ch) = self.as_str().chars().next() {
@@ -110,11 +159,15 @@ impl<const N: usize> ArrayString<N> {
 
 /// Whether `ch` has the property White_Space.
 ///
-/// # Contract
+/// <details><summary>Contract</summary>
 ///
 /// ```text
 /// ensures { result ≡ is_white_space ch }
 /// ```
+///
+/// [How to read a contract](crate::contracts)
+///
+/// </details>
 #[inline]
 fn is_white_space(ch: char) -> bool {
     ch.is_whitespace()
@@ -122,11 +175,15 @@ fn is_white_space(ch: char) -> bool {
 
 /// Whether `ch` is the space, U+0020.
 ///
-/// # Contract
+/// <details><summary>Contract</summary>
 ///
 /// ```text
 /// ensures { result ≡ is_space ch }
 /// ```
+///
+/// [How to read a contract](crate::contracts)
+///
+/// </details>
 #[inline]
 fn is_space(ch: char) -> bool {
     ch == ' '

@@ -14,14 +14,29 @@ impl<const N: usize> ArrayString<N> {
     /// The units are read in order, as characters and lone surrogates. The first that cannot be
     /// appended decides:
     ///
-    /// - `Err(Error::Utf16)` if it is a lone surrogate;
-    /// - `Err(Error::OutOfBounds)` if it is a character that does not fit.
+    /// - [`Err(Error::Utf16)`](crate::Error::Utf16) if it is a lone surrogate;
+    /// - [`Err(Error::OutOfBounds)`](crate::Error::OutOfBounds) if it is a character that does not fit.
     ///
-    /// # Contract
+    /// # Examples
+    ///
+    /// ```
+    /// use arraystring::{ArrayString, Error};
+    ///
+    /// let units = [0x61, 0xD83E, 0xDD14]; // `a`, and the pair of `🤔`
+    /// assert_eq!(ArrayString::<8>::try_from_utf16(&units), Ok(ArrayString::from("a🤔")));
+    /// assert_eq!(ArrayString::<8>::try_from_utf16(&units[..2]), Err(Error::Utf16)); // half a pair
+    /// assert_eq!(ArrayString::<4>::try_from_utf16(&units), Err(Error::OutOfBounds)); // five bytes
+    /// ```
+    ///
+    /// <details><summary>Contract</summary>
     ///
     /// ```text
     /// ensures { (items : List Unit16) → IsReading units.now items → GivesWhole (first_stop items (cap N)) result }
     /// ```
+    ///
+    /// [How to read a contract](crate::contracts)
+    ///
+    /// </details>
     #[inline]
     pub fn try_from_utf16<B: AsRef<[u16]>>(units: B) -> Result<Self, Error> {
         let units = units.as_ref();
@@ -35,26 +50,35 @@ impl<const N: usize> ArrayString<N> {
     }
 
     /// Creates a string from the longest prefix of characters of `units` that fits. What comes
-    /// after a character that does not fit has no effect.
+    /// after a character that does not fit has no effect: the text is **cut** there.
+    /// [`try_from_utf16`](crate::ArrayString::try_from_utf16) refuses what does not fit.
     ///
     /// # Errors
     ///
-    /// Returns `Err(Utf16)` if a lone surrogate comes right after that prefix, even if the string
+    /// Returns [`Err(Utf16)`](crate::error::Utf16) if a lone surrogate comes right after that prefix, even if the string
     /// is full.
     ///
     /// # Examples
     ///
     /// ```
-    /// # use arraystring::ArrayString;
-    /// let cut = ArrayString::<4>::from_utf16(&[0x61, 0xD83E, 0xDD14]); // Ok of "a"
-    /// let lone = ArrayString::<4>::from_utf16(&[0x61, 0xD83E]); // Err(Utf16)
+    /// use arraystring::ArrayString;
+    /// use arraystring::error::Utf16;
+    ///
+    /// let units = [0x61, 0xD83E, 0xDD14]; // `a`, and the pair of `🤔`
+    /// assert_eq!(ArrayString::<8>::from_utf16(&units), Ok(ArrayString::from("a🤔")));
+    /// assert_eq!(ArrayString::<4>::from_utf16(&units), Ok(ArrayString::from("a"))); // not `🤔`
+    /// assert_eq!(ArrayString::<4>::from_utf16(&units[..2]), Err(Utf16)); // half a pair
     /// ```
     ///
-    /// # Contract
+    /// <details><summary>Contract</summary>
     ///
     /// ```text
     /// ensures { (items : List Unit16) → IsReading units.now items → GivesPrefix (first_stop items (cap N)) result }
     /// ```
+    ///
+    /// [How to read a contract](crate::contracts)
+    ///
+    /// </details>
     #[inline]
     pub fn from_utf16<B: AsRef<[u16]>>(units: B) -> Result<Self, Utf16> {
         let units = units.as_ref();
@@ -69,11 +93,25 @@ impl<const N: usize> ArrayString<N> {
     /// Creates a string from the longest prefix of the characters of `units` that fits. Each lone
     /// surrogate is read as U+FFFD, which takes three bytes.
     ///
-    /// # Contract
+    /// # Examples
+    ///
+    /// ```
+    /// use arraystring::ArrayString;
+    ///
+    /// let units = [0x61, 0xD83E, 0x62]; // half a pair between `a` and `b`
+    /// assert_eq!(ArrayString::<8>::from_utf16_lossy(&units).as_str(), "a\u{FFFD}b");
+    /// assert_eq!(ArrayString::<4>::from_utf16_lossy(&units).as_str(), "a\u{FFFD}");
+    /// ```
+    ///
+    /// <details><summary>Contract</summary>
     ///
     /// ```text
     /// ensures { (items : List Unit16) → IsReading units.now items → result.text ≡ cut (lossy_text items) (cap N) }
     /// ```
+    ///
+    /// [How to read a contract](crate::contracts)
+    ///
+    /// </details>
     #[inline]
     pub fn from_utf16_lossy<B: AsRef<[u16]>>(units: B) -> Self {
         let units = units.as_ref();
@@ -93,13 +131,17 @@ impl<const N: usize> ArrayString<N> {
     /// Appends the units before the first that is not ASCII, as far as there is room behind the
     /// text. Returns how many.
     ///
-    /// # Contract
+    /// <details><summary>Contract</summary>
     ///
     /// ```text
     /// ensures within { result ≤ length units.now }
     /// ensures text { self.new.text ≡ self.old.text ++ take result units.now }
     /// ensures ascii { (i : ℕ) → i < result → slice_index units.now i < 0x80 }
     /// ```
+    ///
+    /// [How to read a contract](crate::contracts)
+    ///
+    /// </details>
     #[inline(always)]
     fn push_ascii_units(&mut self, units: &[u16]) -> usize {
         let end = self.start as usize + self.size as usize;
@@ -117,7 +159,7 @@ impl<const N: usize> ArrayString<N> {
 ///
 /// Each clause `requires` of the contract must hold, but for those on counts, on iterators and on closures.
 ///
-/// # Contract
+/// <details><summary>Contract</summary>
 ///
 /// ```text
 /// requires { at ≤ cap N }
@@ -126,6 +168,10 @@ impl<const N: usize> ArrayString<N> {
 /// ensures ascii { (i : ℕ) → i < result → slice_index units.now i < 0x80 }
 /// ensures bytes { array.new ≡ take at array.old ++ (take result units.now ++ drop (at + result) array.old) }
 /// ```
+///
+/// [How to read a contract](crate::contracts)
+///
+/// </details>
 #[inline(always)]
 unsafe fn write_ascii<const N: usize>(array: &mut [u8; N], at: usize, units: &[u16]) -> usize {
     known!(precondition: at <= crate::ArrayString::<N>::capacity() as usize);
@@ -146,12 +192,16 @@ unsafe fn write_ascii<const N: usize>(array: &mut [u8; N], at: usize, units: &[u
 ///
 /// Each clause `requires` of the contract must hold, but for those on counts, on iterators and on closures.
 ///
-/// # Contract
+/// <details><summary>Contract</summary>
 ///
 /// ```text
 /// requires { prefix.old.text ≡ [] }
 /// ensures { (items : List Unit16) → IsReading units.now items → first_stop items (cap N) ≡ stop_at result prefix.new.text }
 /// ```
+///
+/// [How to read a contract](crate::contracts)
+///
+/// </details>
 #[inline]
 unsafe fn add_prefix<const N: usize>(prefix: &mut ArrayString<N>, units: &[u16]) -> Option<Unit16> {
     // A run of ASCII first, at once: its units are its bytes.
@@ -172,11 +222,15 @@ unsafe fn add_prefix<const N: usize>(prefix: &mut ArrayString<N>, units: &[u16])
 
 /// An item as a character, with U+FFFD for a lone surrogate.
 ///
-/// # Contract
+/// <details><summary>Contract</summary>
 ///
 /// ```text
 /// ensures { result ≡ shown item }
 /// ```
+///
+/// [How to read a contract](crate::contracts)
+///
+/// </details>
 #[inline]
 fn shown(item: Unit16) -> char {
     match item {

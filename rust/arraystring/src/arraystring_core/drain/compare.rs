@@ -9,12 +9,26 @@ use core::hash::{Hash, Hasher};
 
 /// Two drains are equal if and only if the same characters are left.
 ///
-/// # Contract
+/// # Examples
+///
+/// ```
+/// use arraystring::ArrayString;
+///
+/// let mut drained = ArrayString::<4>::from("ab").drain(..).unwrap();
+/// drained.next();
+/// assert_eq!(Ok(drained), ArrayString::from("b").drain(..));
+/// ```
+///
+/// <details><summary>Contract</summary>
 ///
 /// ```text
-/// ghost eq = { λ s t. pointwise nat_eq s.left t.left };
-/// ghost laws = { on_per (λ s. s.left) (partial_equiv_from_equiv nat_list_eq_equiv) };
+/// eq = { λ s t. pointwise nat_eq s.left t.left };
+/// laws = { on_per (λ s. s.left) (partial_equiv_from_equiv nat_list_eq_equiv) };
 /// ```
+///
+/// [How to read a contract](crate::contracts)
+///
+/// </details>
 impl<const N: usize> PartialEq for Drain<N> {
     #[inline]
     fn eq(&self, other: &Self) -> bool {
@@ -22,61 +36,126 @@ impl<const N: usize> PartialEq for Drain<N> {
     }
 }
 
-/// # Contract
+/// Each drain is equal to itself, and so to a copy of it.
+///
+/// # Examples
+///
+/// ```
+/// use arraystring::ArrayString;
+///
+/// let drained = ArrayString::<4>::from("ab").drain(..).unwrap();
+/// let mut copy = drained;
+/// assert_eq!(copy, drained);
+/// copy.next();
+/// assert_ne!(copy, drained);
+/// ```
+///
+/// <details><summary>Contract</summary>
 ///
 /// ```text
-/// ghost laws = { on_equiv (λ s. s.left) nat_list_eq_equiv };
+/// laws = { on_equiv (λ s. s.left) nat_list_eq_equiv };
 /// ```
+///
+/// [How to read a contract](crate::contracts)
+///
+/// </details>
 impl<const N: usize> Eq for Drain<N> {}
 
 /// Always `Some` of what `cmp` returns.
 ///
-/// # Contract
+/// # Examples
+///
+/// ```
+/// use arraystring::ArrayString;
+///
+/// let [first, second] = ["ab", "b"].map(|text| ArrayString::<4>::from(text).drain(..).unwrap());
+/// assert!(first < second);
+/// ```
+///
+/// <details><summary>Contract</summary>
 ///
 /// ```text
-/// ghost partial_cmp = { λ s t. Some (slice_cmp nat_cmp s.left t.left) };
-/// ghost laws = { on_po (λ s. s.left) texts_po };
+/// partial_cmp = { λ s t. Some (slice_cmp nat_cmp s.left t.left) };
+/// laws = { on_po (λ s. s.left) texts_po };
 /// ```
+///
+/// [How to read a contract](crate::contracts)
+///
+/// </details>
 impl<const N: usize> PartialOrd for Drain<N> {
-    #[inline]
+    #[inline(always)]
     fn partial_cmp(&self, other: &Self) -> Option<Ordering> {
         Some(self.cmp(other))
     }
 }
 
-/// # Contract
+/// Drains are ordered by the characters that are left.
+///
+/// # Examples
+///
+/// ```
+/// use arraystring::ArrayString;
+///
+/// let [first, second] = ["é", "z"].map(|text| ArrayString::<4>::from(text).drain(..).unwrap());
+/// assert!(first > second);
+/// ```
+///
+/// <details><summary>Contract</summary>
 ///
 /// ```text
-/// ghost cmp = { λ s t. slice_cmp nat_cmp s.left t.left };
-/// ghost total = { on_total (λ s. s.left) nat_list_cmp_total };
-/// ghost matches_partial_cmp = { λ s t. refl };
-/// ghost matches_eq = { λ s t. texts_ties s.left t.left };
+/// cmp = { λ s t. slice_cmp nat_cmp s.left t.left };
+/// total = { on_total (λ s. s.left) nat_list_cmp_total };
+/// matches_partial_cmp = { λ s t. refl };
+/// matches_eq = { λ s t. texts_ties s.left t.left };
 /// ```
+///
+/// [How to read a contract](crate::contracts)
+///
+/// </details>
 impl<const N: usize> Ord for Drain<N> {
     /// Compares what is left lexicographically, by the scalar values of the characters. The order
     /// of the bytes of UTF-8 is the same.
     ///
-    /// # Contract
+    /// <details><summary>Contract</summary>
     ///
     /// ```text
     /// ensures order { result ≡ slice_cmp nat_cmp self.now.left other.now.left }
     /// ensures of_bytes { result ≡ slice_cmp nat_cmp (bytes self.now.left) (bytes other.now.left) }
     /// ensures says { MatchOrdering result (IsBefore self.now.left other.now.left) (self.now.left ≡ other.now.left) (IsBefore other.now.left self.now.left) }
     /// ```
-    #[inline]
+    ///
+    /// [How to read a contract](crate::contracts)
+    ///
+    /// </details>
+    #[inline(always)]
     fn cmp(&self, other: &Self) -> Ordering {
-        order(self.as_str(), other.as_str())
+        order::<N>(self.as_str(), other.as_str())
     }
 }
 
 /// Hashes as the `&str` of what is left does.
 ///
-/// # Contract
+/// # Examples
+///
+/// ```
+/// use arraystring::ArrayString;
+///
+/// use std::collections::HashSet;
+///
+/// let drained = ["a", "b", "a"].map(|text| ArrayString::<4>::from(text).drain(..).unwrap());
+/// assert_eq!(HashSet::from(drained).len(), 2);
+/// ```
+///
+/// <details><summary>Contract</summary>
 ///
 /// ```text
-/// ghost hash_input = { λ s. fed.str (bytes s.left) };
-/// ghost respects_eq = { (fed.on_Alike (λ s. s.left) (fed.same_Alike (λ t. fed.str (bytes t)) bytes_decides)).fed };
+/// hash_input = { λ s. fed.str (bytes s.left) };
+/// respects_eq = { (fed.on_Alike (λ s. s.left) (fed.same_Alike (λ t. fed.str (bytes t)) bytes_decides)).fed };
 /// ```
+///
+/// [How to read a contract](crate::contracts)
+///
+/// </details>
 impl<const N: usize> Hash for Drain<N> {
     #[inline]
     fn hash<H: Hasher>(&self, state: &mut H) {
@@ -85,6 +164,16 @@ impl<const N: usize> Hash for Drain<N> {
 }
 
 /// `Drain("bc")` if `bc` is left.
+///
+/// # Examples
+///
+/// ```
+/// use arraystring::{ArrayString, Drain};
+///
+/// let mut drained = ArrayString::<4>::from("abc").drain(..).unwrap();
+/// drained.next();
+/// assert_eq!(format!("{drained:?}"), r#"Drain("bc")"#);
+/// ```
 impl<const N: usize> fmt::Debug for Drain<N> {
     #[inline]
     fn fmt(&self, f: &mut fmt::Formatter<'_>) -> fmt::Result {
