@@ -53,7 +53,7 @@ pub fn ordered(source: &Source, made: String, tally: &mut Tally) -> Result<Strin
 /// Puts what the laws say on the page of their module: the reference has no call that does nothing.
 pub fn laws(made: &mut Made) -> Result<(), String> {
     let page = made.get(LAWS.page).ok_or("the page of the laws is not there")?.clone();
-    let mut told = String::new();
+    let mut told = format!("//!\n//! {}\n", LAWS.says);
     for (file, text) in LAWS.files.iter().filter_map(|file| Some((file, made.get(*file)?))) {
         let mut docs = String::new();
         for line in text.lines() {

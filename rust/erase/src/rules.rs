@@ -357,9 +357,15 @@ pub const ORDER: &[Order] = &[Order {
 pub struct Laws {
     pub page: &'static str,
     pub files: &'static [&'static str],
+    /// What the page says before them.
+    pub says: &'static str,
 }
 
-pub const LAWS: Laws = Laws { page: "laws.rs", files: &["arraystring_base/laws.rs", "arraystring_core/laws.rs"] };
+pub const LAWS: Laws = Laws {
+    page: "laws.rs",
+    files: &["arraystring_base/laws.rs", "arraystring_core/laws.rs"],
+    says: "A Rust program has no use for these calls, so only what they say is shown.",
+};
 
 /// What the documentation of a type has beyond its source.
 pub struct More {

@@ -62,7 +62,7 @@ beside!(
     () CacheString, &str
 );
 
-/// As `push_str`, which adds the longest prefix of whole characters that fits.
+/// As [`push_str`](ArrayString::push_str), which adds the longest prefix of whole characters that fits.
 ///
 /// ```
 /// let mut string = arraystring::ArrayString::<4>::from("abc");
@@ -76,7 +76,7 @@ impl<const N: usize> AddAssign<&str> for ArrayString<N> {
     }
 }
 
-/// As `push_str`, which adds the longest prefix of whole characters that fits.
+/// As [`push_str`](ArrayString::push_str), which adds the longest prefix of whole characters that fits.
 ///
 /// ```
 /// let mut key = arraystring::CacheString::from("user:");

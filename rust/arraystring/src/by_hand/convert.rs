@@ -131,7 +131,7 @@ macro_rules! as_text {
             }
         }
 
-        /// As `from_chars`: what does not fit is cut off.
+        /// As [`from_chars`](Self::from_chars): what does not fit is cut off.
         ///
         /// ```
         /// use arraystring::{ArrayString, CacheString};
@@ -145,7 +145,7 @@ macro_rules! as_text {
             }
         }
 
-        /// As `from_chars`: what does not fit is cut off.
+        /// As [`from_chars`](Self::from_chars): what does not fit is cut off.
         ///
         /// ```
         /// use arraystring::{ArrayString, CacheString};
@@ -159,7 +159,7 @@ macro_rules! as_text {
             }
         }
 
-        /// As `from_iterator`: what does not fit is cut off.
+        /// As [`from_iterator`](Self::from_iterator): what does not fit is cut off.
         ///
         /// ```
         /// use arraystring::{ArrayString, CacheString};
@@ -173,7 +173,7 @@ macro_rules! as_text {
             }
         }
 
-        /// As `extend_chars`: it adds what fits.
+        /// As [`extend_chars`](ArrayString::extend_chars): it adds what fits.
         ///
         /// ```
         /// use arraystring::{ArrayString, CacheString};
@@ -189,7 +189,7 @@ macro_rules! as_text {
             }
         }
 
-        /// As `extend_chars`: it adds what fits.
+        /// As [`extend_chars`](ArrayString::extend_chars): it adds what fits.
         ///
         /// ```
         /// use arraystring::{ArrayString, CacheString};
@@ -205,7 +205,7 @@ macro_rules! as_text {
             }
         }
 
-        /// As `extend_strs`: it adds what fits.
+        /// As [`extend_strs`](ArrayString::extend_strs): it adds what fits.
         ///
         /// ```
         /// use arraystring::{ArrayString, CacheString};
@@ -225,8 +225,8 @@ macro_rules! as_text {
 
 as_text!((const N: usize) ArrayString<N>, () CacheString);
 
-/// As `from_str_truncate`: what does not fit is **cut** off, also by `into`, and std's `try_from` is `Ok` of a cut text. `parse`
-/// and `try_from_str` refuse it.
+/// As [`from_str_truncate`](Self::from_str_truncate): what does not fit is **cut** off, also by `into`, and std's `try_from` is
+/// `Ok` of a cut text. `parse` and [`try_from_str`](Self::try_from_str) refuse it.
 ///
 /// ```
 /// use arraystring::CacheString;
@@ -245,7 +245,7 @@ impl From<&str> for CacheString {
 /// Implements the parts of a string by a kind of range.
 macro_rules! index {
     ($($range:ty),*) => {$(
-        /// As `slice`, which panics as the index of `str` does.
+        /// As [`slice`](Self::slice), which panics as the index of `str` does.
         ///
         /// ```
         /// let string = arraystring::ArrayString::<8>::from("aéb");

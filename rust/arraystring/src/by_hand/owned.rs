@@ -51,7 +51,7 @@ macro_rules! owned {
             }
         }
 
-        /// As `from_iterator`: what does not fit is cut off.
+        /// As [`from_iterator`](Self::from_iterator): what does not fit is cut off.
         ///
         /// ```
         /// use arraystring::{ArrayString, CacheString};
@@ -66,7 +66,7 @@ macro_rules! owned {
             }
         }
 
-        /// As `extend_strs`: it adds what fits.
+        /// As [`extend_strs`](ArrayString::extend_strs): it adds what fits.
         ///
         /// ```
         /// use arraystring::{ArrayString, CacheString};

@@ -6,7 +6,7 @@ use core::hash::{Hash, Hasher};
 use crate::error::{Error, OutOfBounds, Utf8, Utf16};
 use crate::utils::Steps;
 
-/// A fresh counter, as `new` returns it.
+/// A fresh counter, as [`new`](Self::new) returns it.
 ///
 /// ```
 /// use arraystring::utils::Steps;
@@ -38,7 +38,7 @@ impl fmt::Debug for Steps {
 /// Implements the hash of errors of one case.
 macro_rules! hashed {
     ($($error:ty),*) => {$(
-        /// Hashes as the case of its name of `Error` does.
+        /// Hashes as the case of its name of [`Error`] does.
         ///
         /// ```
         /// use arraystring::Error;

@@ -155,7 +155,10 @@ fn the_page_of_the_laws_says_what_they_say() {
     };
     let mut made = files("//! The page.\npub use laws::{parts};\n");
     assert_eq!(pages::laws(&mut made), Ok(()));
-    assert_eq!(made["laws.rs"], "//! The page.\n//!\n//! # `parts`\n//!\n//! It is so.\npub use laws::{parts};\n");
+    let says = crate::rules::LAWS.says;
+    let wanted =
+        format!("//! The page.\n//!\n//! {says}\n//!\n//! # `parts`\n//!\n//! It is so.\npub use laws::{{parts}};\n");
+    assert_eq!(made["laws.rs"], wanted);
     let why = "arraystring_base/laws.rs: the law `parts` is not named by laws.rs";
     assert_eq!(pages::laws(&mut files("//! The page.\n")), Err(why.to_string()));
 }
