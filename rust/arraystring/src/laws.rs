@@ -2,6 +2,8 @@
 //! Laws, which callers may rely on. Each carries its fact in its contract and changes nothing.
 //! `text_fits` and `left_fits` call `len` and `as_str`, the others do nothing when called.
 //!
+//! A Rust program has no use for these calls, so only what they say is shown.
+//!
 //! # `longest_cut`
 //!
 //! The cut of a text to `n` bytes is a prefix of it that fits, and no prefix that fits is longer;
