@@ -11,43 +11,45 @@ use crate::rules::{LAWS, ORDER, Part};
 /// A file with its modules in the order that the reference shows, if a rule has one.
 pub fn ordered(source: &Source, made: String, tally: &mut Tally) -> Result<String, Fault> {
     let Some(rule) = ORDER.iter().find(|rule| rule.file == source.path) else { return Ok(made) };
-    let fault = |why: &str| Fault::new(0, format!("the order of `{}`: {why}", rule.file));
-    let (before, rest) =
-        made.split_once(&format!("\n{} {{\n", rule.head)).ok_or_else(|| fault("its impl is not there"))?;
-    let (calls, behind) = rest.split_once("\n}\n").ok_or_else(|| fault("its impl has no end"))?;
+    let fault = |why: String| Fault::new(0, format!("the order of `{}`: {why}", rule.file));
+    let missing = |what: &str| fault(format!("{what} is not there"));
+    let (before, rest) = made.split_once(&format!("\n{} {{\n", rule.head)).ok_or_else(|| missing("its impl"))?;
+    let (mut calls, behind) = rest.split_once("\n}\n").ok_or_else(|| missing("the end of its impl"))?;
+    let first = before.find("\nmod ").ok_or_else(|| missing("a module"))? + 1;
     let is_module = |line: &&str| line.starts_with("mod ") && line.ends_with(';');
-    let mut left: Vec<_> = before.lines().filter(is_module).collect();
-    let first = before.find("\nmod ").ok_or_else(|| fault("it has no modules"))? + 1;
-    let (mut modules, mut calls) = (String::new(), calls);
+    let (mut left, others): (Vec<_>, Vec<_>) = before[first..].lines().partition(is_module);
+    let mut modules = String::new();
     for part in rule.parts {
-        match part {
-            Part::Module(name) => {
-                let line = format!("mod {name};");
-                let found = left.iter().position(|found| *found == line);
-                left.remove(found.ok_or_else(|| fault(&format!("`{line}` is not there")))?);
-                modules += &format!("{line}\n");
-            }
-            Part::ByHand(name, path) => modules += &format!("#[path = \"{path}\"]\nmod {name};\n"),
-            Part::Calls(name, last) => {
-                let at = calls.find(&format!("fn {last}(")).ok_or_else(|| fault(&format!("`{last}` is not there")))?;
-                let end = calls[at..].find("\n    }\n\n").map_or(calls.len(), |end| at + end + "\n    }\n".len());
-                let (these, rest) = calls.split_at(end);
-                modules += &format!("mod {name} {{\nuse super::*;\n\n{} {{\n{these}\n}}\n}}\n", rule.head);
-                calls = rest.trim_start_matches('\n');
-            }
-        }
+        modules += &module(part, rule.head, &mut left, &mut calls).map_err(|what| missing(&format!("`{what}`")))?;
     }
     if let Some(name) = left.first() {
-        return Err(fault(&format!("`{name}` has no place in it")));
+        return Err(fault(format!("`{name}` has no place in it")));
     }
     if !calls.is_empty() {
-        return Err(fault("a call of its impl has no place in it"));
+        return Err(fault("a call of its impl has no place in it".to_string()));
     }
     tally.count("files with an order of their own");
     tally.used.insert(format!("order {}", rule.file));
-    let others: String =
-        before[first..].lines().filter(|line| !is_module(line)).map(|line| format!("{line}\n")).collect();
-    Ok(format!("{}{modules}{others}{behind}", &before[..first]))
+    Ok(format!("{}{modules}{}\n{behind}", &before[..first], others.join("\n")))
+}
+
+/// The lines of one part, which is taken out of the modules or the calls that are left. Returns what is missing if it is not there.
+fn module(part: &Part, head: &str, left: &mut Vec<&str>, calls: &mut &str) -> Result<String, String> {
+    match part {
+        Part::Module(name) => {
+            let line = format!("mod {name};");
+            left.remove(left.iter().position(|found| *found == line).ok_or(line.clone())?);
+            Ok(line + "\n")
+        }
+        Part::ByHand(name, path) => Ok(format!("#[path = \"{path}\"]\nmod {name};\n")),
+        Part::Calls(name, last) => {
+            let at = calls.find(&format!("fn {last}(")).ok_or(last.to_string())?;
+            let end = calls[at..].find("\n    }\n\n").map_or(calls.len(), |end| at + end + "\n    }\n".len());
+            let (these, rest) = calls.split_at(end);
+            *calls = rest.trim_start_matches('\n');
+            Ok(format!("mod {name} {{\nuse super::*;\n\n{head} {{\n{these}\n}}\n}}\n"))
+        }
+    }
 }
 
 /// Puts what the laws say on the page of their module: the reference has no call that does nothing.
