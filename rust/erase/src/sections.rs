@@ -13,7 +13,7 @@ const PRECONDITION: &str = "/// # Precondition";
 /// What stands below each contract.
 const HOW: &str = "[How to read a contract](crate::contracts)";
 
-/// The lines that bring the names of an example into scope, and a blank one behind them.
+/// The lines that bring the names of an example into scope, and a blank one behind them if it imports nothing itself.
 pub fn imports(example: &str) -> String {
     let is_name = |ch: char| ch.is_alphanumeric() || ch == '_';
     let mut found: BTreeMap<&str, BTreeSet<&str>> = BTreeMap::new();
@@ -28,7 +28,9 @@ pub fn imports(example: &str) -> String {
         let joined = names.iter().copied().collect::<Vec<_>>().join(", ");
         if names.len() == 1 { format!("use {module}::{joined};\n") } else { format!("use {module}::{{{joined}}};\n") }
     };
-    found.into_iter().map(line).chain(["\n".to_string()]).collect()
+    let begins = example.trim_start_matches(['/', ' ', '\n']);
+    let blank = if begins.starts_with("use ") { "" } else { "\n" };
+    found.into_iter().map(line).chain([blank.to_string()]).collect()
 }
 
 /// Lines as a documentation.

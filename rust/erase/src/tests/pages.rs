@@ -68,6 +68,17 @@ fn what_became_of_a_precondition_replaces_its_section() {
 }
 
 #[test]
+fn an_example_imports_each_name_once_and_none_behind_a_path() {
+    let imports = crate::sections::imports;
+    assert_eq!(
+        imports("Utf8; Error::Utf8; ArrayStrings; Utf8"),
+        "use arraystring::Error;\nuse arraystring::error::Utf8;\n\n"
+    );
+    assert_eq!(imports("\n    /// use std::fmt;\n    /// Drain"), "use arraystring::Drain;\n");
+    assert_eq!(imports("my_Drain; Error::Utf8; utils::look"), "use arraystring::{Error, utils};\n\n");
+}
+
+#[test]
 fn an_example_of_an_unsafe_call_stands_with_its_fate() {
     let source = "\
 impl<const N: usize> ArrayString<N> {
