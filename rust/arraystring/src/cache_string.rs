@@ -778,7 +778,6 @@ impl<'a> Add<&'a str> for CacheString {
 ///
 /// ```
 /// use arraystring::CacheString;
-///
 /// use std::fmt::Write;
 ///
 /// let mut key = CacheString::new();

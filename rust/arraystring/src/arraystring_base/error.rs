@@ -59,7 +59,6 @@ impl Error {
 ///
 /// ```
 /// use arraystring::Error;
-///
 /// use std::collections::HashSet;
 ///
 /// let errors = HashSet::from([Error::Utf8, Error::Utf16, Error::Utf8]);

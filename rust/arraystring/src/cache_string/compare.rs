@@ -137,7 +137,6 @@ impl Ord for CacheString {
 ///
 /// ```
 /// use arraystring::CacheString;
-///
 /// use std::collections::HashMap;
 ///
 /// let ages = HashMap::from([(CacheString::from_str_truncate("ann"), 41)]);

@@ -88,7 +88,6 @@ impl<const N: usize> Ord for ArrayString<N> {
 ///
 /// ```
 /// use arraystring::ArrayString;
-///
 /// use std::collections::HashMap;
 ///
 /// let ages = HashMap::from([(ArrayString::<8>::from("ann"), 41)]);
@@ -177,7 +176,6 @@ impl<'a, const N: usize> Add<&'a str> for ArrayString<N> {
 ///
 /// ```
 /// use arraystring::ArrayString;
-///
 /// use std::fmt::Write;
 ///
 /// let mut string = ArrayString::<4>::new();

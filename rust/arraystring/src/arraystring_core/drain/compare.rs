@@ -139,7 +139,6 @@ impl<const N: usize> Ord for Drain<N> {
 ///
 /// ```
 /// use arraystring::ArrayString;
-///
 /// use std::collections::HashSet;
 ///
 /// let drained = ["a", "b", "a"].map(|text| ArrayString::<4>::from(text).drain(..).unwrap());
