@@ -1,12 +1,13 @@
 -- Laws of iterators that are passed in: what all their items are.
 use Rattle.std.proofs.Common.{◌≡◌, ℕ, ◌≤◌, List, ◌++◌, Option, map, Iter, IsUtf8, chars}
-use Rattle.std.specs.Iterator.{AlwaysYields}
+use Rattle.std.specs.Iterator.{AlwaysYields, YieldsFirst}
 use Rattle.std.specs.declared.iter.Copied.{Copied}
 use Rattle.std.specs.declared.str.Chars.{Chars}
 use Rattle.std.specs.Borrow.{Bor}
 use Rattle.std.proofs.iter.Yields.{copies, fronts}
 use Rattle.std.proofs.iter.TextItems.{spells}
 use Rattle.arraystring_base.specs.Text.{size, bytes}
+use Rattle.arraystring_core.specs.Drained.{Drained}
 use Rattle.arraystring_core.specs.Taken.{Fits, Gives, joined, joined_pieces, piece_text}
 use Rattle.arraystring_core.proofs.TakenLaws as law
 
@@ -18,6 +19,10 @@ text-gives = law.text-gives
 pub slice-gives : (s it : Copied (Iter (Bor (List ℕ)))) (pieces : List (Bor (List ℕ))) → s.iter.rest.now ≡ pieces → it ≡ s
     → AlwaysYields (copies fronts) piece_text it (map piece_text pieces)
 slice-gives = law.slice-gives
+
+-- a `Drain` gives the characters that are left
+pub drain-gives : (s it : Drained) (left : List ℕ) → s.left ≡ left → it ≡ s → AlwaysYields (YieldsFirst (λ d. d.left)) (λ c. c) it left
+drain-gives = law.drain-gives
 
 -- texts joined, of two lists of them
 pub joined-append : (a b : List (List ℕ)) → joined (a ++ b) ≡ joined a ++ joined b

@@ -1,6 +1,7 @@
 pub mod TextLaws
 pub mod CutLaws
 pub mod BoundaryLaws
+pub mod FindLaws
 pub mod OrderLaws
 pub mod Utf16Laws
 pub mod ReadingLaws

@@ -1,6 +1,9 @@
 //! Laws of texts, which callers may rely on. Each does nothing when it is called and carries its
 //! fact in its contract.
-ghost use Rattle.std.specs.Prelude.{◌≡◌, ◌≤◌, ◌↔◌, ◌⊎◌, ◌++◌, ℕ, List, IsTrue, chars, length, map};
+ghost use Rattle.std.specs.Prelude.{◌≡◌, ◌<◌, ◌≤◌, ◌↔◌, ◌⊎◌, ◌==◌, ◌++◌, ◌∷◌, ℕ, List, None, IsTrue, MatchOption, chars, length, map};
+ghost use Rattle.std.specs.List.{before_first, after_first, position_or_len};
+ghost use Rattle.std.specs.Str.{NonePass};
+ghost use Rattle.std.specs.Str.Pattern.{FindsChar, MatchBeginsAt, SplitsAroundMatch};
 ghost use Rattle.std.specs.Ordering.{nat_cmp};
 ghost use Rattle.std.specs.Cmp.Lexicographic.{slice_cmp};
 ghost use Rattle.std.specs.declared.cmp.Ordering.TheVariants.{Less, Equal, Greater};
@@ -84,4 +87,18 @@ pub fn text_reading()
 /// with what comes after it; no other stop is so.
 pub fn one_stop()
     ensures { (items : List Unit16) (n : ℕ) (stop : Stop) → (StopsAt items n stop) ↔ (first_stop items n ≡ stop) }
+{}
+
+/// Where `str::find` finds a character: at a boundary, and nowhere before. If it finds none, the
+/// text has none.
+pub fn found_first(text: &str, c: char, place: Option<usize>)
+    requires { MatchOption place (FindsChar c text.now None) (MatchBeginsAt (FindsChar c) text.now) }
+    ensures { MatchOption place (position_or_len (λ d. d == c) (chars text.now) ≡ length (chars text.now)) (λ i. (i < size (chars text.now)) × IsTrue (boundary (chars text.now) i) × (front (chars text.now) i ≡ before_first (λ d. d == c) (chars text.now)) × (back (chars text.now) i ≡ c ∷ after_first (λ d. d == c) (chars text.now))) }
+{}
+
+/// Where `str::split_once` splits at a character: at the first. If it gives no parts, the text has
+/// none.
+pub fn split_first(text: &str, c: char, parts: Option<(&str, &str)>)
+    requires { MatchOption parts (FindsChar c text.now None) (λ found. SplitsAroundMatch (FindsChar c) text.now found.0.now found.1.now) }
+    ensures { MatchOption parts.entry (position_or_len (λ d. d == c) (chars text.now) ≡ length (chars text.now)) (λ found. (position_or_len (λ d. d == c) (chars text.now) < length (chars text.now)) × (chars found.0.now ≡ before_first (λ d. d == c) (chars text.now)) × (chars found.1.now ≡ after_first (λ d. d == c) (chars text.now)) × (chars text.now ≡ chars found.0.now ++ c ∷ chars found.1.now) × NonePass (λ d. d == c) (chars found.0.now)) }
 {}

@@ -1,7 +1,7 @@
 -- Laws of texts that are joined, and of what is taken from an iterator.
-use Rattle.std.proofs.Common.{◌≡◌, ℕ, ◌<◌, ◌≤◌, List, [], ◌∷◌, ◌++◌, ◌⊎◌, refl, sym, ap, subst, ◌∙◌, arith, map, append_assoc, inl, inr, Option, Result, Iter, IsUtf8, chars}
+use Rattle.std.proofs.Common.{◌≡◌, ℕ, ◌<◌, ◌≤◌, List, [], ◌∷◌, ◌++◌, ◌⊎◌, refl, sym, ap, subst, ◌∙◌, arith, map, append_assoc, inl, inr, Option, Result, Iter, IsUtf8, chars, length, get_or, drop}
 use Rattle.std.proofs.lemmas.List.{map-id}
-use Rattle.std.specs.Iterator.{AlwaysYields, Yields, Drains}
+use Rattle.std.specs.Iterator.{AlwaysYields, Yields, Drains, YieldsFirst}
 use Rattle.std.specs.declared.iter.Copied.{Copied}
 use Rattle.std.specs.declared.str.Chars.{Chars}
 use Rattle.std.proofs.iter.Yields.{copies, fronts, gives_left, gives_Drains, Copied-slice}
@@ -13,6 +13,7 @@ use Rattle.arraystring_base.proofs.TextLaws.{size-append, bytes-append}
 use Rattle.arraystring_base.proofs.CutLaws.{cut-past}
 use Rattle.arraystring_base.specs.declared.error.Error.{Error}
 use Rattle.arraystring_core.specs.Stored.{Stored}
+use Rattle.arraystring_core.specs.Drained.{Drained}
 use Rattle.arraystring_core.specs.Construct.{IsWholeOrRefused}
 use Rattle.arraystring_core.proofs.ConstructLaws.{made-more}
 use Rattle.arraystring_core.specs.Taken.{joined, joined_pieces, piece_text, TakesAll, Takes, Fits, Gives}
@@ -130,3 +131,17 @@ slice-gives s it pieces rest e =
 -- one over the characters of a text gives these
 pub text-gives : (s it : Chars) (bs : List ℕ) → IsUtf8 bs → s.rest.now ≡ bs → it ≡ s → AlwaysYields spells (λ c. c) it (chars bs)
 text-gives s it bs u rest e = Chars-gives (chars bs) it (encodes-chars bs u ∙ sym (ap (λ i. i.rest.now) e ∙ rest))
+
+-- an iterator that gives the first of what is left, and leaves the others, gives all that is left
+first-gives : {S A : Type 0} (rest : S → List A) (s : S) (all : List A) → rest s ≡ all → AlwaysYields (YieldsFirst rest) (λ x. x) s all
+first-gives rest s [] e = λ x j step. absurd (omega (arith, ap length (sym e ∙ step)))
+first-gives rest s (y ∷ ys) e = (
+  λ j step. absurd (omega (arith, ap length (sym e ∙ step.0))),
+  λ x j step.
+      let same : y ∷ ys ≡ x ∷ rest j = sym e ∙ step in
+      (sym (ap (λ l. get_or l 0 x) same), first-gives rest j ys (sym (ap (drop 1) same))),
+)
+
+-- a `Drain` gives the characters that are left
+pub drain-gives : (s it : Drained) (left : List ℕ) → s.left ≡ left → it ≡ s → AlwaysYields (YieldsFirst (λ d. d.left)) (λ c. c) it left
+drain-gives s it left is e = first-gives (λ d. d.left) it left (ap (λ d. d.left) e ∙ is)

@@ -1,7 +1,9 @@
 //! Laws of strings, which callers may rely on. Each carries its fact in its contract and changes
-//! nothing. `text_fits` and `left_fits` call `len` and `as_str`, the others do nothing when called.
+//! nothing. `text_fits`, `text_spelled` and `left_fits` call `len` or `as_str`, the others do nothing
+//! when called.
 ghost use Rattle.std.specs.Prelude.{◌≡◌, ◌≢◌, ◌+◌, ◌-◌, ◌<◌, ◌≤◌, ◌++◌, ◌∷◌, ◌↔◌, ℕ, Bool, false, List, [], All, IfSome, IsTrue, None, Some, Result, IsOkAnd, length, map, nat_eq, option_map, reverse, chars};
 ghost use Rattle.std.specs.Char.{is_whitespace};
+ghost use Rattle.std.specs.Iterator.{AlwaysYields, YieldsFirst};
 ghost use Rattle.std.specs.Cmp.Lexicographic.{pointwise};
 ghost use Rattle.std.specs.Hash as fed;
 ghost use Rattle.serde_json.specs.Data.{Data};
@@ -10,7 +12,7 @@ ghost use Rattle.arraystring_base.specs.declared.error.Error.{Error};
 ghost use Rattle.arraystring_base.specs.declared.error.Utf16.{Utf16};
 ghost use Rattle.arraystring_base.specs.declared.utf16.Unit16.{Unit16};
 ghost use Rattle.arraystring_base.specs.Utf16.{IsReading, first_stop, lossy_text, text_units};
-ghost use Rattle.arraystring_core.specs.Drained.{End, walked};
+ghost use Rattle.arraystring_core.specs.Drained.{Drained, End, walked};
 ghost use Rattle.arraystring_core.specs.Edits.{first_cause, first_of, last_of, part, popping, replacement, split, trimming, is_white_space};
 ghost use Rattle.arraystring_core.specs.FromUtf16.{GivesWhole, GivesPrefix};
 ghost use Rattle.arraystring_core.specs.Json.{json_text, text_within, whole_text};
@@ -27,6 +29,21 @@ pub fn text_fits<const N: usize>(string: &ArrayString<N>)
     // The invariant of a type is known of a value only after a call on it.
     let _ = string.len();
 }
+
+/// The UTF-8 of the text of a string spells that text.
+#[inline]
+pub fn text_spelled<const N: usize>(string: &ArrayString<N>)
+    ensures { chars (bytes string.now.text) ≡ string.now.text }
+{
+    // As in `text_fits`.
+    let _spelled = string.as_str();
+}
+
+/// A drain, as an iterator, gives the characters that are left.
+#[inline]
+pub fn left_given<const N: usize>(drained: &Drain<N>)
+    ensures { (it : Drained) → it ≡ drained.now → AlwaysYields (YieldsFirst (λ d. d.left)) (λ c. c) it drained.now.left }
+{}
 
 /// What is left of a drain fits the capacity of the string from which it was taken.
 #[inline]

@@ -28,6 +28,8 @@ mod examples;
 #[cfg(test)]
 mod extend;
 #[cfg(test)]
+mod find;
+#[cfg(test)]
 mod insert;
 #[cfg(test)]
 mod json;

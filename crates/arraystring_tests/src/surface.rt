@@ -113,10 +113,14 @@ fn the_laws_are_at_hand(_rt: HostRuntime) {
     laws::json_reads_whole();
     let mut text = ArrayString::<5>::from("é");
     laws::text_fits(&text);
+    laws::text_spelled(&text);
     if let Ok(drained) = text.drain(..) {
         laws::left_fits(&drained);
+        laws::left_given(&drained);
     }
     laws::borrowed_text("a");
+    laws::found_first("a", 'a', "a".find('a'));
+    laws::split_first("a", 'a', "a".split_once('a'));
     laws::longest_cut();
     laws::one_stop();
     laws::one_text();

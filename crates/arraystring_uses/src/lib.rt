@@ -4,6 +4,7 @@
 pub mod greeting;
 pub mod json;
 pub mod log_line;
+pub mod pair;
 pub mod parts;
 pub mod scores;
 #[cfg(test)]

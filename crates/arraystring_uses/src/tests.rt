@@ -1,7 +1,8 @@
-//! Each use once, on values worked out by hand.
+//! Each use, on values worked out by hand.
 use crate::greeting::greet;
 use crate::json::sent_and_read;
 use crate::log_line::{Level, log_line};
+use crate::pair::{first_left, pair, pair_of, split_value};
 use crate::parts::{drop_part, part};
 use crate::scores::{look_up, record};
 use arraystring::{ArrayString, Error};
@@ -47,6 +48,91 @@ fn a_long_line_is_marked(rt: HostRuntime) {
         log_line(Level::Warning, over).as_str(),
         "warning: 012345678901234567890123456789012345678901234567890…",
     );
+}
+
+/// A text without `=`, of characters of one to four bytes. Its 22 bytes are two more than fit in a key.
+const BEFORE: &str = "aé€🤔bè₭🤕cd";
+
+/// A text with `=` in it. Its 41 bytes are one more than fit in a value.
+const BEHIND: &str = "é=€🤔==bcdefghijklmnopqrstuvwxyz0123";
+
+/// Asserts what a line of these parts gives, of which the first has no `=`.
+fn check_line(rt: &impl Abort, before: &str, behind: &str) {
+    let mut line = ArrayString::<64>::from_str_truncate(before);
+    agree(rt, line.try_push_str("="), Ok(()));
+    agree(rt, line.try_push_str(behind), Ok(()));
+    let parts = pair_of(&line);
+    agree(rt, pair(line.as_str()), parts);
+    if before.len() > 20 || behind.len() > 40 {
+        agree(rt, parts, Err(Error::OutOfBounds));
+    } else {
+        let (key, value) = parts.unwrap_or_default();
+        agree(rt, key.as_str(), before);
+        agree(rt, value.as_str(), behind);
+    }
+    let rest = split_value(&mut line).unwrap_or_default();
+    agree(rt, line.as_str(), before);
+    agree(rt, rest.as_str().strip_prefix('='), Some(behind));
+}
+
+/// Asserts that a line without `=` is refused.
+fn check_line_without_sign(rt: &impl Abort, text: &str) {
+    let mut line = ArrayString::<64>::from_str_truncate(text);
+    let refused = Err(Error::OutOfBounds);
+    agree(rt, pair(text), refused);
+    agree(rt, pair_of(&line), refused);
+    agree(rt, split_value(&mut line), None);
+    agree(rt, line.as_str(), text);
+}
+
+/// The first sign at each boundary, and nothing, a sign, and so on behind it.
+#[test]
+fn lines_are_split_at_their_first_sign(rt: HostRuntime) {
+    for at in 0..=BEFORE.len() {
+        let Some(before) = BEFORE.get(..at) else {
+            continue;
+        };
+        check_line_without_sign(&rt, before);
+        for cut in 0..=BEHIND.len() {
+            if let (Some(front), Some(back)) = (BEHIND.get(..cut), BEHIND.get(cut..)) {
+                check_line(&rt, before, front);
+                check_line(&rt, before, back);
+            }
+        }
+    }
+}
+
+/// Asserts that of what is left of a drain, behind a step from each end, the characters that fit are
+/// kept.
+fn check_left(rt: &impl Abort, left: &str, kept: &str) {
+    let mut line = ArrayString::<64>::from_str_truncate("€");
+    line.push_str(left);
+    line.push_str("🤔");
+    let mut drained = line.drain(..).unwrap_or_default();
+    agree(rt, drained.next(), Some('€'));
+    agree(rt, drained.next_back(), Some('🤔'));
+    agree(rt, first_left(drained).as_str(), kept);
+}
+
+#[test]
+fn what_is_left_is_cut_to_eight_bytes(rt: HostRuntime) {
+    for (left, kept) in [
+        ("", ""),
+        ("a", "a"),
+        ("abcdefg", "abcdefg"),
+        ("abcdefgh", "abcdefgh"),
+        ("abcdefghi", "abcdefgh"),
+        ("abcdefgé", "abcdefg"),
+        ("abcdefé", "abcdefé"),
+        ("abcdef€", "abcdef"),
+        ("abcde€", "abcde€"),
+        ("abcde🤔", "abcde"),
+        ("abcd🤔", "abcd🤔"),
+        ("abcdefgéa", "abcdefg"),
+        ("🤔🤔🤔", "🤔🤔"),
+    ] {
+        check_left(&rt, left, kept);
+    }
 }
 
 #[test]

@@ -1,0 +1,92 @@
+//! Where a character first stands in a text, by std's `find` and `split_once`: each character of one
+//! to four bytes, at each boundary, before each text, and not at all. The laws of it are called, and
+//! change nothing.
+use super::table::agree;
+use arraystring::ArrayString;
+use arraystring::laws::{found_first, left_given, split_first, text_spelled};
+use arraystring::utils::is_char_boundary;
+use std::process::Abort;
+
+/// The characters that are looked for, of one to four bytes.
+const FOUND: &str = "=é€🤔";
+
+/// Characters that differ from those in their last byte alone, as `<` is 3C and `=` is 3D, each twice.
+const OTHERS: &str = "<è₭🤕<è₭🤕";
+
+/// Asserts that `c` is found behind `before`, in which it is not.
+fn check_found(rt: &impl Abort, c: char, before: &str, after: &str) {
+    let mut text = ArrayString::<64>::from(before);
+    let at = text.len();
+    agree(rt, before, text.try_push(c), Ok(()));
+    agree(rt, before, text.try_push_str(after), Ok(()));
+    text_spelled(&text);
+    let whole = text.as_str();
+    let place = whole.find(c);
+    found_first(whole, c, place);
+    agree(rt, whole, place, Some(before.len()));
+    agree(rt, whole, is_char_boundary(&text, at), Ok(()));
+    let parts = whole.split_once(c);
+    split_first(whole, c, parts);
+    agree(rt, whole, parts, Some((before, after)));
+    check_parts(rt, text, at, before, after);
+}
+
+/// Asserts that `text` is parted at `at` into `before`, a character, and `after`.
+fn check_parts(rt: &impl Abort, text: ArrayString<64>, at: u8, before: &str, after: &str) {
+    let (mut front, mut removed) = (text, text);
+    let back = front.split_off(at).unwrap_or_default();
+    agree(rt, before, front.as_str(), before);
+    let mut rest = back.as_str().chars();
+    let first = rest.next();
+    agree(rt, before, rest.as_str(), after);
+    agree(rt, before, removed.remove(at).ok(), first);
+    let behind = removed.drain(at..).unwrap_or_default();
+    left_given(&behind);
+    agree(
+        rt,
+        before,
+        ArrayString::<64>::from_chars(behind).as_str(),
+        after,
+    );
+    agree(rt, before, removed.as_str(), before);
+}
+
+/// Asserts that `c`, which is not in `text`, is not found.
+fn check_not_found(rt: &impl Abort, c: char, text: &str) {
+    let place = text.find(c);
+    found_first(text, c, place);
+    agree(rt, text, place, None);
+    let parts = text.split_once(c);
+    split_first(text, c, parts);
+    agree(rt, text, parts, None);
+}
+
+/// Looks for `c` behind each text before it, and with each text after it: none, one in which it is
+/// again, and so on.
+fn check_places(rt: &impl Abort, c: char) {
+    for at in 0..=OTHERS.len() {
+        let Some(before) = OTHERS.get(..at) else {
+            continue;
+        };
+        check_not_found(rt, c, before);
+        for end in 0..=OTHERS.len() {
+            let Some(after) = OTHERS.get(..end) else {
+                continue;
+            };
+            check_found(rt, c, before, after);
+        }
+        for start in 0..=FOUND.len() {
+            let Some(after) = FOUND.get(start..) else {
+                continue;
+            };
+            check_found(rt, c, before, after);
+        }
+    }
+}
+
+#[test]
+fn each_character_at_each_place(rt: HostRuntime) {
+    for c in FOUND.chars() {
+        check_places(&rt, c);
+    }
+}

@@ -1,0 +1,67 @@
+//! Lines `key=value`: where a character first stands, and what is before and after it.
+ghost use Rattle.std.specs.Prelude.{◌≡◌, ◌<◌, ◌≤◌, ◌↔◌, ◌==◌, ◌∷◌, IsOk, IfOk, IfErr, MatchOption, chars, length};
+ghost use Rattle.std.specs.List.{before_first, after_first, position_or_len};
+ghost use Rattle.arraystring.specs.Refusals.{OutOfBounds};
+ghost use Rattle.arraystring.specs.Text.{size, cut};
+
+use arraystring::laws::{found_first, left_given, split_first, text_fits, text_spelled};
+use arraystring::{ArrayString, Drain, Error};
+
+/// Splits `line` at its first `=` into what is before it and what is after it.
+///
+/// # Errors
+///
+/// Returns `Err(OutOfBounds)` if `line` has no `=`, or a part does not fit.
+pub fn pair(line: &str) -> Result<(ArrayString<20>, ArrayString<40>), Error>
+    ensures key { IfOk result (λ pair. pair.0.text ≡ before_first (λ c. c == 61) (chars line.now)) }
+    ensures value { IfOk result (λ pair. pair.1.text ≡ after_first (λ c. c == 61) (chars line.now)) }
+    ensures made { IsOk result ↔ ((position_or_len (λ c. c == 61) (chars line.now) < length (chars line.now)) × (size (before_first (λ c. c == 61) (chars line.now)) ≤ 20) × (size (after_first (λ c. c == 61) (chars line.now)) ≤ 40)) }
+    ensures refused { IfErr result (λ error. error ≡ OutOfBounds) }
+{
+    let found = line.split_once('=');
+    split_first(line, '=', found);
+    let (name, rest) = found.ok_or(Error::OutOfBounds)?;
+    let key = ArrayString::try_from_str(name)?;
+    let value = ArrayString::try_from_str(rest)?;
+    Ok((key, value))
+}
+
+/// Splits a bounded line, as `pair` does.
+///
+/// # Errors
+///
+/// Those of `pair`.
+pub fn pair_of(line: &ArrayString<64>) -> Result<(ArrayString<20>, ArrayString<40>), Error>
+    ensures key { IfOk result (λ pair. pair.0.text ≡ before_first (λ c. c == 61) line.now.text) }
+    ensures value { IfOk result (λ pair. pair.1.text ≡ after_first (λ c. c == 61) line.now.text) }
+    ensures made { IsOk result ↔ ((position_or_len (λ c. c == 61) line.now.text < length line.now.text) × (size (before_first (λ c. c == 61) line.now.text) ≤ 20) × (size (after_first (λ c. c == 61) line.now.text) ≤ 40)) }
+    ensures refused { IfErr result (λ error. error ≡ OutOfBounds) }
+{
+    text_spelled(line);
+    pair(line.as_str())
+}
+
+/// Takes the first `=` of `line` and all after it out, and returns that. Returns `None` if there is
+/// no `=`. `line` is then as it was.
+pub fn split_value(line: &mut ArrayString<64>) -> Option<ArrayString<64>>
+    ensures { MatchOption result ((line.new.text ≡ line.old.text) × (position_or_len (λ c. c == 61) line.old.text ≡ length line.old.text)) (λ rest. (line.new.text ≡ before_first (λ c. c == 61) line.old.text) × (rest.text ≡ 61 ∷ after_first (λ c. c == 61) line.old.text)) }
+{
+    text_fits(line);
+    text_spelled(line);
+    let text = line.as_str();
+    let place = text.find('=');
+    found_first(text, '=', place);
+    match place {
+        None => None,
+        Some(at) => line.split_off(at as u8).ok(),
+    }
+}
+
+/// Returns the longest prefix of whole characters of what is left of `drained` that fits into 8
+/// bytes.
+pub fn first_left(drained: Drain<64>) -> ArrayString<8>
+    ensures { result.text ≡ cut drained.left 8 }
+{
+    left_given(&drained);
+    ArrayString::from_chars(drained)
+}
