@@ -1,7 +1,7 @@
 -- Laws of what is stored.
-use Rattle.std.proofs.Common.{◌≡◌, ℕ, ◌+◌, ◌-◌, List, take, drop, subst, sym, ap, ◌∙◌, arith}
+use Rattle.std.proofs.Common.{◌≡◌, ℕ, ◌+◌, ◌-◌, List, take, drop, refl, subst, sym, ap, ◌∙◌, arith, chars}
 use Rattle.arraystring_base.specs.Text.{size, bytes, IsText}
-use Rattle.arraystring_base.proofs.TextLaws.{text-chars}
+use Rattle.arraystring_base.proofs.TextLaws.{text-chars, chars-bytes, bytes-utf8}
 use Rattle.arraystring_core.specs.Stored.{Stored, stored, IsStored}
 use Rattle.arraystring_core.specs.GhostProofs as ghost_proof
 
@@ -19,3 +19,7 @@ module _ (array_size : ℕ) (array : List ℕ) (start n : ℕ) (is : IsStored ar
 
   pub opened-text : (v : Stored) → stored array start n ≡ v → IsText v.text
   opened-text v e = subst (λ (s : Stored). IsText s.text) e (text-chars (ghost_proof.stored-utf8 array_size array start n is))
+
+-- UTF-8 of a text spells it
+pub text_spelled : (t : List ℕ) → IsText t → chars (bytes t) ≡ t
+text_spelled t is = chars-bytes (bytes-utf8 t is) refl

@@ -32,11 +32,12 @@ pub fn text_fits<const N: usize>(string: &ArrayString<N>)
 
 /// The UTF-8 of the text of a string spells that text.
 #[inline]
+#[tactic(auto, using(crate::proofs::StoredLaws::text_spelled))]
 pub fn text_spelled<const N: usize>(string: &ArrayString<N>)
     ensures { chars (bytes string.now.text) ≡ string.now.text }
 {
     // As in `text_fits`.
-    let _spelled = string.as_str();
+    let _ = string.as_str();
 }
 
 /// A drain, as an iterator, gives the characters that are left.

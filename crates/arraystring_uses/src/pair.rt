@@ -2,10 +2,10 @@
 ghost use Rattle.std.specs.Prelude.{◌≡◌, ◌<◌, ◌≤◌, ◌↔◌, ◌==◌, ◌∷◌, IsOk, IfOk, IfErr, MatchOption, chars, length};
 ghost use Rattle.std.specs.List.{before_first, after_first, position_or_len};
 ghost use Rattle.arraystring.specs.Refusals.{OutOfBounds};
-ghost use Rattle.arraystring.specs.Text.{size, cut};
+ghost use Rattle.arraystring.specs.Text.{size};
 
-use arraystring::laws::{found_first, left_given, split_first, text_fits, text_spelled};
-use arraystring::{ArrayString, Drain, Error};
+use arraystring::laws::{found_first, split_first, text_fits, text_spelled};
+use arraystring::{ArrayString, Error};
 
 /// Splits `line` at its first `=` into what is before it and what is after it.
 ///
@@ -55,13 +55,4 @@ pub fn split_value(line: &mut ArrayString<64>) -> Option<ArrayString<64>>
         None => None,
         Some(at) => line.split_off(at as u8).ok(),
     }
-}
-
-/// Returns the longest prefix of whole characters of what is left of `drained` that fits into 8
-/// bytes.
-pub fn first_left(drained: Drain<64>) -> ArrayString<8>
-    ensures { result.text ≡ cut drained.left 8 }
-{
-    left_given(&drained);
-    ArrayString::from_chars(drained)
 }

@@ -1,8 +1,10 @@
-//! Parts of a string, by ranges of byte indices.
+//! Parts of a string, by ranges of byte indices, and what is left of a part that is taken out.
 ghost use Rattle.std.specs.Prelude.{◌≡◌, ◌≤◌, MatchOption, None, Some, chars};
 ghost use Rattle.arraystring.specs.Edits.{draining, first_cause, ok_unless, part_in, text_of};
+ghost use Rattle.arraystring.specs.Text.{cut};
 
-use arraystring::{ArrayString, Error};
+use arraystring::laws::left_given;
+use arraystring::{ArrayString, Drain, Error};
 
 /// Returns the bytes from `start` to `end`, borrowed, or `None` if there is no such part.
 pub fn part<const N: usize>(text: &ArrayString<N>, start: u8, end: u8) -> Option<&str>
@@ -27,4 +29,13 @@ pub fn drop_part<const N: usize>(text: &mut ArrayString<N>, start: u8, end: u8) 
 {
     text.drain(start..end)?;
     Ok(())
+}
+
+/// Returns the longest prefix of whole characters of what is left of `drained` that fits into 8
+/// bytes.
+pub fn first_left(drained: Drain<64>) -> ArrayString<8>
+    ensures { result.text ≡ cut drained.left 8 }
+{
+    left_given(&drained);
+    ArrayString::from_chars(drained)
 }

@@ -2,8 +2,8 @@
 use crate::greeting::greet;
 use crate::json::sent_and_read;
 use crate::log_line::{Level, log_line};
-use crate::pair::{first_left, pair, pair_of, split_value};
-use crate::parts::{drop_part, part};
+use crate::pair::{pair, pair_of, split_value};
+use crate::parts::{drop_part, first_left, part};
 use crate::scores::{look_up, record};
 use arraystring::{ArrayString, Error};
 use std::collections::BTreeMap;
@@ -61,14 +61,15 @@ fn check_line(rt: &impl Abort, before: &str, behind: &str) {
     let mut line = ArrayString::<64>::from_str_truncate(before);
     agree(rt, line.try_push_str("="), Ok(()));
     agree(rt, line.try_push_str(behind), Ok(()));
-    let parts = pair_of(&line);
-    agree(rt, pair(line.as_str()), parts);
-    if before.len() > 20 || behind.len() > 40 {
-        agree(rt, parts, Err(Error::OutOfBounds));
-    } else {
-        let (key, value) = parts.unwrap_or_default();
-        agree(rt, key.as_str(), before);
-        agree(rt, value.as_str(), behind);
+    agree(rt, pair(line.as_str()), pair_of(&line));
+    let fits = before.len() <= 20 && behind.len() <= 40;
+    agree(rt, pair_of(&line).is_ok(), fits);
+    match pair_of(&line) {
+        Ok((key, value)) => {
+            agree(rt, key.as_str(), before);
+            agree(rt, value.as_str(), behind);
+        }
+        Err(error) => agree(rt, error, Error::OutOfBounds),
     }
     let rest = split_value(&mut line).unwrap_or_default();
     agree(rt, line.as_str(), before);
@@ -78,9 +79,8 @@ fn check_line(rt: &impl Abort, before: &str, behind: &str) {
 /// Asserts that a line without `=` is refused.
 fn check_line_without_sign(rt: &impl Abort, text: &str) {
     let mut line = ArrayString::<64>::from_str_truncate(text);
-    let refused = Err(Error::OutOfBounds);
-    agree(rt, pair(text), refused);
-    agree(rt, pair_of(&line), refused);
+    agree(rt, pair(text), Err(Error::OutOfBounds));
+    agree(rt, pair_of(&line), Err(Error::OutOfBounds));
     agree(rt, split_value(&mut line), None);
     agree(rt, line.as_str(), text);
 }
@@ -100,6 +100,22 @@ fn lines_are_split_at_their_first_sign(rt: HostRuntime) {
             }
         }
     }
+}
+
+#[test]
+fn parts_end_between_characters(rt: HostRuntime) -> Result<(), Fail> {
+    let mut text = ArrayString::<16>::try_from_str("añb 🤔")?;
+    agree(&rt, part(&text, 1, 3), Some("ñ"));
+    agree(&rt, part(&text, 5, 9), Some("🤔"));
+    agree(&rt, part(&text, 0, 2), None);
+    agree(&rt, part(&text, 3, 1), None);
+    agree(&rt, part(&text, 3, 10), None);
+    agree(&rt, drop_part(&mut text, 1, 4), Ok(()));
+    agree(&rt, text.as_str(), "a 🤔");
+    agree(&rt, drop_part(&mut text, 2, 5), Err(Error::Utf8));
+    agree(&rt, drop_part(&mut text, 2, 7), Err(Error::OutOfBounds));
+    agree(&rt, text.as_str(), "a 🤔");
+    Ok(())
 }
 
 /// Asserts that of what is left of a drain, behind a step from each end, the characters that fit are
@@ -133,22 +149,6 @@ fn what_is_left_is_cut_to_eight_bytes(rt: HostRuntime) {
     ] {
         check_left(&rt, left, kept);
     }
-}
-
-#[test]
-fn parts_end_between_characters(rt: HostRuntime) -> Result<(), Fail> {
-    let mut text = ArrayString::<16>::try_from_str("añb 🤔")?;
-    agree(&rt, part(&text, 1, 3), Some("ñ"));
-    agree(&rt, part(&text, 5, 9), Some("🤔"));
-    agree(&rt, part(&text, 0, 2), None);
-    agree(&rt, part(&text, 3, 1), None);
-    agree(&rt, part(&text, 3, 10), None);
-    agree(&rt, drop_part(&mut text, 1, 4), Ok(()));
-    agree(&rt, text.as_str(), "a 🤔");
-    agree(&rt, drop_part(&mut text, 2, 5), Err(Error::Utf8));
-    agree(&rt, drop_part(&mut text, 2, 7), Err(Error::OutOfBounds));
-    agree(&rt, text.as_str(), "a 🤔");
-    Ok(())
 }
 
 #[test]

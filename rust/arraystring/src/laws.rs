@@ -1,6 +1,7 @@
 // Made from crates/arraystring/src/laws.rt by rust/erase. A change goes there.
 //! Laws, which callers may rely on. Each carries its fact in its contract and changes nothing.
-//! `text_fits` and `left_fits` call `len` and `as_str`, the others do nothing when called.
+//! `text_fits`, `text_spelled` and `left_fits` call `len` or `as_str`, the others do nothing when
+//! called.
 //!
 //! A Rust program has no use for these calls, so only what they say is shown.
 //!
@@ -189,6 +190,46 @@
 //!
 //! </details>
 //!
+//! # `found_first`
+//!
+//! Where `str::find` finds a character: at a boundary, and nowhere before. If it finds none, the
+//! text has none.
+//!
+//! # In Rust
+//!
+//! The law does nothing when it is called.
+//!
+//! <details><summary>Contract</summary>
+//!
+//! ```text
+//! requires { MatchOption place (FindsChar c text.now None) (MatchBeginsAt (FindsChar c) text.now) }
+//! ensures { MatchOption place (position_or_len (λ d. d == c) (chars text.now) ≡ length (chars text.now)) (λ i. (i < size (chars text.now)) × IsTrue (boundary (chars text.now) i) × (front (chars text.now) i ≡ before_first (λ d. d == c) (chars text.now)) × (back (chars text.now) i ≡ c ∷ after_first (λ d. d == c) (chars text.now))) }
+//! ```
+//!
+//! [How to read a contract](crate::contracts)
+//!
+//! </details>
+//!
+//! # `split_first`
+//!
+//! Where `str::split_once` splits at a character: at the first. If it gives no parts, the text has
+//! none.
+//!
+//! # In Rust
+//!
+//! The law does nothing when it is called.
+//!
+//! <details><summary>Contract</summary>
+//!
+//! ```text
+//! requires { MatchOption parts (FindsChar c text.now None) (λ found. SplitsAroundMatch (FindsChar c) text.now found.0.now found.1.now) }
+//! ensures { MatchOption parts.entry (position_or_len (λ d. d == c) (chars text.now) ≡ length (chars text.now)) (λ found. (position_or_len (λ d. d == c) (chars text.now) < length (chars text.now)) × (chars found.0.now ≡ before_first (λ d. d == c) (chars text.now)) × (chars found.1.now ≡ after_first (λ d. d == c) (chars text.now)) × (chars text.now ≡ chars found.0.now ++ c ∷ chars found.1.now) × NonePass (λ d. d == c) (chars found.0.now)) }
+//! ```
+//!
+//! [How to read a contract](crate::contracts)
+//!
+//! </details>
+//!
 //! # `text_fits`
 //!
 //! The text of a string fits its capacity.
@@ -197,6 +238,34 @@
 //!
 //! ```text
 //! ensures { size string.now.text ≤ cap N }
+//! ```
+//!
+//! [How to read a contract](crate::contracts)
+//!
+//! </details>
+//!
+//! # `text_spelled`
+//!
+//! The UTF-8 of the text of a string spells that text.
+//!
+//! <details><summary>Contract</summary>
+//!
+//! ```text
+//! ensures { chars (bytes string.now.text) ≡ string.now.text }
+//! ```
+//!
+//! [How to read a contract](crate::contracts)
+//!
+//! </details>
+//!
+//! # `left_given`
+//!
+//! A drain, as an iterator, gives the characters that are left.
+//!
+//! <details><summary>Contract</summary>
+//!
+//! ```text
+//! ensures { (it : Drained) → it ≡ drained.now → AlwaysYields (YieldsFirst (λ d. d.left)) (λ c. c) it drained.now.left }
 //! ```
 //!
 //! [How to read a contract](crate::contracts)
@@ -387,10 +456,10 @@
 //!
 //! </details>
 pub use crate::arraystring_base::laws::{
-    borrowed_text, boundaries, cut_of_cut, longest_cut, one_stop, one_text, only_reading, order_of_bytes,
-    order_of_texts, parts, size_is_length, text_reading,
+    borrowed_text, boundaries, cut_of_cut, found_first, longest_cut, one_stop, one_text, only_reading, order_of_bytes,
+    order_of_texts, parts, size_is_length, split_first, text_reading,
 };
 pub use crate::arraystring_core::laws::{
-    equal_texts, left_fits, pieces_make_one_text, popped, replaced_back, split_back, text_fits, trimmed,
-    units_read_back, walks, what_comes_past_the_room, white_space,
+    equal_texts, left_fits, left_given, pieces_make_one_text, popped, replaced_back, split_back, text_fits,
+    text_spelled, trimmed, units_read_back, walks, what_comes_past_the_room, white_space,
 };

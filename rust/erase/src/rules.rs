@@ -76,6 +76,7 @@ const MUST_LIE_IN_ARRAY: &str = "What is written must lie in the array.";
 const ENDS: &str = "An iterator that never ends, or that panics, is allowed. The call stops at the first item that does not fit, \
                     so only empty pieces without an end keep it. What was taken before a panic is a text.";
 const COUNTS: &str = "A count that would pass 2^64 - 1 stays there.";
+const LAW: &str = "The law does nothing when it is called.";
 const LIKE_STR: &str = "Where the range ends before it starts, ends past the text, or has an end inside a character, as the index of \
                         `str` does.";
 
@@ -266,6 +267,8 @@ pub const FATES: &[(&str, Fate)] = &[
     ("ArrayString::replace_range_counted", Safe(COUNTS)),
     ("utils::truncate_str_counted", Safe(COUNTS)),
     ("utils::last_char", Safe(COUNTS)),
+    ("laws::found_first", Safe(LAW)),
+    ("laws::split_first", Safe(LAW)),
 ];
 
 /// What an example names, and where a program finds it.
@@ -423,6 +426,7 @@ pub const GIVEN_UP: &[&str] = &[
     "IsFiniteIterable",
     "IsCallableInTurn",
     "IsAlwaysCallable",
+    "FindsChar",
 ];
 
 /// The functions that give up a clause, and whose `prove!` are facts all the same, with the reason.

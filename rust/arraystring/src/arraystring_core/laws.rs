@@ -1,6 +1,7 @@
 // Made from crates/arraystring_core/src/laws.rt by rust/erase. A change goes there.
 //! Laws of strings, which callers may rely on. Each carries its fact in its contract and changes
-//! nothing. `text_fits` and `left_fits` call `len` and `as_str`, the others do nothing when called.
+//! nothing. `text_fits`, `text_spelled` and `left_fits` call `len` or `as_str`, the others do nothing
+//! when called.
 
 use crate::arraystring_core::{ArrayString, Drain};
 
@@ -21,6 +22,40 @@ pub fn text_fits<const N: usize>(string: &ArrayString<N>) {
     // The invariant of a type is known of a value only after a call on it.
     let _ = string.len();
 }
+
+/// The UTF-8 of the text of a string spells that text.
+///
+/// <details><summary>Contract</summary>
+///
+/// ```text
+/// ensures { chars (bytes string.now.text) ≡ string.now.text }
+/// ```
+///
+/// [How to read a contract](crate::contracts)
+///
+/// </details>
+#[doc(hidden)]
+#[inline]
+pub fn text_spelled<const N: usize>(string: &ArrayString<N>) {
+    // As in `text_fits`.
+    let _ = string.as_str();
+}
+
+/// A drain, as an iterator, gives the characters that are left.
+///
+/// <details><summary>Contract</summary>
+///
+/// ```text
+/// ensures { (it : Drained) → it ≡ drained.now → AlwaysYields (YieldsFirst (λ d. d.left)) (λ c. c) it drained.now.left }
+/// ```
+///
+/// [How to read a contract](crate::contracts)
+///
+/// </details>
+#[doc(hidden)]
+#[allow(unused_variables)]
+#[inline]
+pub fn left_given<const N: usize>(drained: &Drain<N>) {}
 
 /// What is left of a drain fits the capacity of the string from which it was taken.
 ///
