@@ -168,15 +168,13 @@ module _ (K : ℕ) (few : K ≤ 64) (a b : List ℕ) (at : ℕ) (in_a : at + K �
     pub first-in_b : at + first < length b
     first-in_b = omega (arith, within)
 
-    apart_there : get_or a (at + first) 0 ≢ get_or b (at + first) 0
+    pub apart_there : get_or a (at + first) 0 ≢ get_or b (at + first) 0
     apart_there e = found.2 (read a ∙ e ∙ sym (read b))
 
-    pub block_decides : slice_cmp nat_cmp a b ≡ nat_cmp (get_or a (at + first) 0) (get_or b (at + first) 0)
-    block_decides =
-        let same : take (at + first) a ≡ take (at + first) b =
+    pub first_same : take (at + first) a ≡ take (at + first) b
+    first_same =
         take-add at first a ∙ ap (λ l. l ++ take first (drop at a)) before
-        ∙ ap (λ l. take at b ++ l) (sym (taken a) ∙ found.1 ∙ taken b) ∙ sym (take-add at first b) in
-        first_decides a b (at + first) first-in_a first-in_b same apart_there
+        ∙ ap (λ l. take at b ++ l) (sym (taken a) ∙ found.1 ∙ taken b) ∙ sym (take-add at first b)
 
   -- the same, told by a vector of which a lane is zero where the bytes are equal
   module _ (vector : List ℕ) (is : vector ≡ zip2 bit_xor (take K (drop at a)) (take K (drop at b))) (some : vector ≢ replicate K 0) where
@@ -211,8 +209,11 @@ module _ (K : ℕ) (few : K ≤ 64) (a b : List ℕ) (at : ℕ) (in_a : at + K �
     pub told-in_b : at + trailing_zeros w64 told < length b
     told-in_b = rw told-is (first-in_b some-set)
 
-    pub told_decides : nat_cmp (get_or a (at + trailing_zeros w64 told) 0) (get_or b (at + trailing_zeros w64 told) 0) ≡ slice_cmp nat_cmp a b
-    told_decides = rw told-is (sym (block_decides some-set))
+    pub told_same : take (at + trailing_zeros w64 told) a ≡ take (at + trailing_zeros w64 told) b
+    told_same = rw told-is (first_same some-set)
+
+    pub told_apart : get_or a (at + trailing_zeros w64 told) 0 ≢ get_or b (at + trailing_zeros w64 told) 0
+    told_apart = rw told-is (apart_there some-set)
 
 -- one list begins the other
 pub prefix_decides : (a b : List ℕ) (n : ℕ) → n ≡ min (length a) (length b) → take n a ≡ take n b

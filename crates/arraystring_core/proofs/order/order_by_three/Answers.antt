@@ -1,10 +1,10 @@
 use Rattle.std.proofs.Common.{◌≡◌, ◌+◌, ◌-◌, arith}
 use Rattle.arraystring_core.proofs.OrderLemmas.{shorter_same}
-use Rattle.arraystring_core.proofs.order.numbers_by_three.Goals as goal
-use Rattle.arraystring_core.proofs.order.numbers_by_three.Goals.{then-common-gt32+in_default-block_numbers, then-common-gt48+else-common-gt64+in_default, else-common-gt48, else-common-gt32}
+use Rattle.arraystring_core.proofs.order.order_by_three.Goals as goal
+use Rattle.arraystring_core.proofs.order.order_by_three.Goals.{then-common-gt32+in_default-block_order, then-common-gt48+else-common-gt64+in_default, else-common-gt48, else-common-gt32}
 
-pub block_numbers-requires-then-common-gt32-clause-before : goal.block_numbers-requires-then-common-gt32-clause-before
-block_numbers-requires-then-common-gt32-clause-before c =
+pub block_order-requires-then-common-gt32-clause-before : goal.block_order-requires-then-common-gt32-clause-before
+block_order-requires-then-common-gt32-clause-before c =
     elim c.if-common-gt48.branch [
       | then-common-gt48+else-common-gt64+in_default w ↦
           shorter_same (c.args.common - 32) 32 c.args.a.now c.args.b.now (omega (arith, w.if-common-gt64.false)) w.in_default.ensures.none
@@ -12,11 +12,11 @@ block_numbers-requires-then-common-gt32-clause-before c =
           shorter_same (c.args.common - 32) 16 c.args.a.now c.args.b.now (omega (arith, w.if-common-gt48.false)) c.requires.before
     ]
 
-pub numbers_of_last-requires-clause-before : goal.numbers_of_last-requires-clause-before
-numbers_of_last-requires-clause-before c =
+pub order_of_last-requires-clause-before : goal.order_of_last-requires-clause-before
+order_of_last-requires-clause-before c =
     elim c.if-common-gt32.branch [
-      | then-common-gt32+in_default-block_numbers w ↦
+      | then-common-gt32+in_default-block_order w ↦
           let end : c.args.common - 32 + 16 ≡ c.args.common - 16 = omega (arith, w.if-common-gt32.true) in
-          rw end at w.in_default-block_numbers.ensures.none
+          rw end at w.in_default-block_order.ensures.none
       | else-common-gt32 w ↦ shorter_same (c.args.common - 16) 16 c.args.a.now c.args.b.now (omega (arith, w.if-common-gt32.false)) c.requires.before
     ]

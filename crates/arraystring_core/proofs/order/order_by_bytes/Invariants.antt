@@ -1,5 +1,5 @@
 use Rattle.std.proofs.Common.{◌-◌, ◌≡◌, ◌≤◌, take}
-use Rattle.arraystring_core.proofs.order.numbers_by_bytes.Given as goal
+use Rattle.arraystring_core.proofs.order.order_by_bytes.Given as goal
 
 abbrev pub invariant-loop-at : goal.invariant-loop-at
 invariant-loop-at l = (take l.at l.a ≡ take l.at l.b) × (l.at ≤ l.common)
