@@ -23,8 +23,8 @@ fn check_orders<const N: usize>(rt: &impl Abort, table: &str)
 }
 
 /// Asserts the order of the pair of a row behind `index` letters. Behind it each byte says the opposite,
-/// and there are none behind the shortest. One text begins at offset 0, and the other does, or behind
-/// it. What is before the pair is less.
+/// or none differs, and there are none behind the shortest. One text begins at offset 0, and the other
+/// does, or behind it. What is before the pair is less.
 fn check_pair<const N: usize>(rt: &impl Abort, row: &str, index: usize)
     requires { N ≤ 300 }
 {
@@ -39,14 +39,17 @@ fn check_pair<const N: usize>(rt: &impl Abort, row: &str, index: usize)
     let shortest = behind::<N>(offset, [front, greater, ""]);
     let mut low = behind::<N>(0, [front, less, LETTERS]);
     let mut high = behind::<N>(0, [front, greater, MANY_LETTERS]);
+    let mut alone = behind::<N>(offset, [front, greater, LETTERS]);
     let mut moved = behind::<N>(offset, [front, greater, MANY_LETTERS]);
     is_less(rt, row, &low.as_str(), &high.as_str());
     for cut in 0..room + 1 {
         let size = capacity - cut;
         let _ = low.truncate(size as u8);
         let _ = high.truncate(size as u8);
+        let _ = alone.truncate(size as u8);
         let _ = moved.truncate(size as u8);
         is_less(rt, row, &low, &high);
+        is_less(rt, row, &low, &alone);
         is_less(rt, row, &low, &moved);
         is_less(rt, row, &low, &shortest);
         is_less(rt, row, &before, &low);
