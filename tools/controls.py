@@ -75,12 +75,8 @@ def fault(root, control):
         texts, _ = edits.applied(folder / "controls" / f"{name}.edit", folder)
     except (OSError, edits.BadEdit) as error:
         return f"BAD CONTROL: {error}"
-    before = {path: path.read_bytes() for path in texts}
-    for path, text in texts.items():
-        path.write_text(text, encoding="utf-8")
-    is_proved, said = rt.check(folder)
-    for path, kept in before.items():
-        path.write_bytes(kept)
+    with edits.put_in(texts):
+        is_proved, said = rt.check(folder)
     return None if is_proved else f"REFUSED: {rt.first_message(said)}"
 
 

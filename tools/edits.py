@@ -1,4 +1,6 @@
 """The edits of must-fail/ and controls/: lines `file: PATH`, `old: TEXT` and `new: TEXT`, each on what the ones before made."""
+from contextlib import contextmanager
+
 from repository import read
 
 
@@ -38,3 +40,16 @@ def applied(edit, folder):
         places.append((file, before.count("\n")))
         texts[file] = before + new + behind
     return texts, places
+
+
+@contextmanager
+def put_in(texts):
+    """Files have these texts for as long as it is needed."""
+    before = {path: path.read_bytes() for path in texts}
+    try:
+        for path, text in texts.items():
+            path.write_text(text, encoding="utf-8")
+        yield
+    finally:
+        for path, kept in before.items():
+            path.write_bytes(kept)

@@ -90,11 +90,16 @@ def profile(copy, crate, top):
     return None
 
 
+def names_and_top(arguments):
+    """The names of crates that a call gives, and how many lines it wants of a table."""
+    if "--top" not in arguments:
+        return arguments, 10
+    at = arguments.index("--top")
+    return arguments[:at] + arguments[at + 2:], int(arguments[at + 1])
+
+
 def main(arguments, root):
-    top, names = 10, list(arguments)
-    if "--top" in names:
-        at = names.index("--top")
-        top, names = int(names[at + 1]), names[:at] + names[at + 2:]
+    names, top = names_and_top(arguments)
     fault = repository.unknown_crate(root, names) if names else "name a crate"
     if fault:
         return fault

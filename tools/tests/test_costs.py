@@ -1,0 +1,72 @@
+"""What is said of the wrong bodies of a crate, and that each is tried over the same."""
+from unittest import mock
+
+import costs
+import rt
+from tests.trees import TreeTest
+
+EDIT = "file: src/lib.rt\nold:     value + value\nnew:     {}\n"
+BEGINNING = {"numbers.oantt": "a module", "last-used": "a day"}
+
+
+class Costs(TreeTest):
+    FILES = {
+        "crates.txt": "numbers:\n",
+        "crates/numbers/src/lib.rt": "fn twice(value: u8) -> u8 {\n    value + value\n}\n",
+        "crates/numbers/must-fail/twice_is_once.edit": EDIT.format("value + 0"),
+        "crates/numbers/must-fail/twice_is_thrice.edit": EDIT.format("value + value + value"),
+        **{f"crates/numbers/out/{name}": text for name, text in BEGINNING.items()},
+    }
+
+    def setUp(self):
+        super().setUp()
+        self.spent = 0.0
+        # what a check takes and comes to, by the body that it meets
+        self.checks = {
+            "value + value\n": (2.0, True, "logic=proved\n"),
+            "value + 0\n": (5.5, False, "note: ./proofs/twice/Answers.antt:3:1: no\nsrc/lib.rt:1:1: error: open\n"),
+            "value + value + value\n": (31.25, False, "read\nnote: ./proofs/twice/Answers.antt:3:1: no\nlogic=not-proved\n"),
+        }
+        for where, name, stand_in in ((rt, "check", self.check), (costs, "seconds_spent", lambda: self.spent)):
+            patch = mock.patch.object(where, name, stand_in)
+            patch.start()
+            self.addCleanup(patch.stop)
+
+    def check(self, folder, *flags):
+        """Stands for the check, which keeps modules in out/, and sees what it begins with."""
+        self.assertEqual(flags, ("--jobs", "1"))
+        self.assertNotEqual(folder, self.root / "crates/numbers")
+        self.assertEqual({it.name: it.read_text(encoding="utf-8") for it in (folder / "out").iterdir()}, BEGINNING)
+        body = (folder / "src/lib.rt").read_text(encoding="utf-8").split("    ")[1].removesuffix("}\n")
+        seconds, is_proved, said = self.checks[body]
+        self.spent += seconds
+        if not is_proved:
+            (folder / "out/numbers.oantt").unlink()
+            (folder / "out/twice.oantt").write_text(body, encoding="utf-8")
+            (folder / "out/last-used").write_text("today", encoding="utf-8")
+        return is_proved, said
+
+    def test_each_is_told_and_the_dearest_come_first(self):
+        printed = self.assert_passes(costs, "numbers")
+        once = "  5.5 s  twice_is_once: src/lib.rt:1:1: error: open\n"
+        thrice = " 31.2 s  twice_is_thrice: note: ./proofs/twice/Answers.antt:3:1: no\n"
+        head = "numbers: 2.0 s for a check that has nothing to prove\n"
+        self.assertEqual(printed, head + once + thrice + "37 s for 2 wrong bodies; the dearest:\n" + thrice + once)
+        self.assertTrue(self.assert_passes(costs, "numbers", "--top", "1").endswith("the dearest:\n" + thrice))
+
+    def test_one_that_proves_fails(self):
+        self.checks["value + 0\n"] = 3.0, True, "logic=proved\n"
+        self.assert_fails("  3.0 s  twice_is_once: NOT REFUSED\n", costs, "numbers")
+
+    def test_one_that_cannot_be_applied_fails(self):
+        self.write("crates/numbers/must-fail/twice_is_once.edit", EDIT.replace("value + value", "three").format("3"))
+        self.assert_fails("  0.0 s  twice_is_once: BAD EDIT: src/lib.rt does not have this once", costs, "numbers")
+
+    def test_nothing_is_tried_of_a_crate_that_is_not_proved(self):
+        self.checks["value + value\n"] = 2.0, False, "src/lib.rt:1:1: error: open\n"
+        printed = self.told(costs, "numbers")
+        self.assertEqual(printed, (True, "numbers is not proved: src/lib.rt:1:1: error: open\n"))
+
+    def test_a_crate_is_named(self):
+        self.assertEqual(costs.main([], self.root), "name a crate")
+        self.assertEqual(costs.main(["letters"], self.root), "no crate is named letters")
