@@ -230,29 +230,29 @@ fn made_with(path: &str, text: &str, is_whole: bool) -> Result<String, String> {
 
 #[test]
 fn a_clause_of_the_list_is_known_at_the_start_of_its_body() {
-    let write_over = |clause: &str| {
+    let write_any_run = |clause: &str| {
         let text = format!(
-            "/// Writes.\npub fn write_over<const N: usize>(array: &mut [u8; N], at: usize, given: &[u8])\n    requires {clause}\n{{\n    write(array, at, given);\n}}\n"
+            "/// Writes.\nfn write_any_run<const N: usize>(array: &mut [u8; N], at: usize, given: &[u8])\n    requires {clause}\n{{\n    write(array, at, given);\n}}\n"
         );
         made_as("arraystring_base/src/moves.rt", &text)
     };
     let known =
         "given: &[u8]) {\n    known!(precondition: at + given.len() <= N && at <= at + given.len());\n    write(array";
-    let text = write_over("{ at + length given.now ≤ N }").unwrap();
+    let text = write_any_run("{ at + length given.now ≤ N }").unwrap();
     assert!(text.contains(known), "{text}");
-    let name = "`moves::write_over`: it has no clause `` that could be known";
-    assert_eq!(write_over("room { at + length given.now ≤ N }").unwrap_err(), name);
-    let unread = "`moves::write_over`: `≢` in a clause that is to be known";
-    assert_eq!(write_over("{ at ≢ N }").unwrap_err(), unread);
-    let given_up = "`moves::write_over` has no precondition on which something rests";
-    assert_eq!(write_over("{ steps.old.moved < 3 }").unwrap_err(), given_up);
+    let name = "`moves::write_any_run`: it has no clause `` that could be known";
+    assert_eq!(write_any_run("room { at + length given.now ≤ N }").unwrap_err(), name);
+    let unread = "`moves::write_any_run`: `≢` in a clause that is to be known";
+    assert_eq!(write_any_run("{ at ≢ N }").unwrap_err(), unread);
+    let given_up = "`moves::write_any_run`: `` is no fact in Rust, since safe calls do not show it";
+    assert_eq!(write_any_run("{ steps.old.moved < 3 }").unwrap_err(), given_up);
 }
 
 #[test]
 fn a_clause_that_is_given_up_is_never_known() {
-    let text = "fn bytes_at<const N: usize>(at: usize)\n    requires { steps.old.moved < at }\n{\n    f();\n}\n";
+    let text = "fn bytes_of<const K: usize>(at: usize)\n    requires { steps.old.moved < at }\n{\n    f();\n}\n";
     let why = made_as("arraystring_base/src/moves.rt", text).unwrap_err();
-    assert_eq!(why, "`moves::bytes_at`: `` is no fact in Rust, since safe calls do not show it");
+    assert_eq!(why, "`moves::bytes_of`: `` is no fact in Rust, since safe calls do not show it");
 }
 
 #[test]
