@@ -26,7 +26,6 @@ use crate::by_hand::simd::Simd;
 /// </details>
 #[inline(always)]
 pub unsafe fn move_run<const N: usize>(array: &mut [u8; N], from: usize, to: usize, len: usize) {
-    known!(source: from + len <= N && from <= from + len);
     known!(target: to + len <= N && to <= to + len);
     if N > 64 && len > 64 {
         // SAFETY: the proof of `move_run` in crates/arraystring_base/src/moves.rt shows `source`, `target` and `long` of `move_much`.
@@ -61,7 +60,6 @@ pub unsafe fn move_run<const N: usize>(array: &mut [u8; N], from: usize, to: usi
 #[inline(always)]
 unsafe fn move_short_run<const N: usize>(array: &mut [u8; N], from: usize, to: usize, len: usize) {
     known!(source: from + len <= N && from <= from + len);
-    known!(target: to + len <= N && to <= to + len);
     if len >= 4 {
         if len >= 8 {
             // SAFETY: the proof of `move_short_run` in crates/arraystring_base/src/moves.rt shows `source`, `target`, `least` and `most` of `move_ends`.
@@ -100,8 +98,6 @@ unsafe fn move_short_run<const N: usize>(array: &mut [u8; N], from: usize, to: u
 /// </details>
 #[inline(always)]
 unsafe fn move_long_run<const N: usize>(array: &mut [u8; N], from: usize, to: usize, len: usize) {
-    known!(source: from + len <= N && from <= from + len);
-    known!(target: to + len <= N && to <= to + len);
     if N > 32 && len > 32 {
         // SAFETY: the proof of `move_long_run` in crates/arraystring_base/src/moves.rt shows `source`, `target`, `least` and `most` of `move_ends`.
         unsafe { move_ends::<N, 32>(array, from, to, len) };
@@ -131,8 +127,6 @@ unsafe fn move_long_run<const N: usize>(array: &mut [u8; N], from: usize, to: us
 /// </details>
 #[inline(always)]
 unsafe fn move_much<const N: usize>(array: &mut [u8; N], from: usize, to: usize, len: usize) {
-    known!(source: from + len <= N && from <= from + len);
-    known!(target: to + len <= N && to <= to + len);
     if len <= 128 {
         // SAFETY: the proof of `move_much` in crates/arraystring_base/src/moves.rt shows `source`, `target`, `least` and `most` of `move_ends`.
         unsafe { move_ends::<N, 64>(array, from, to, len) };
@@ -165,8 +159,6 @@ unsafe fn move_much<const N: usize>(array: &mut [u8; N], from: usize, to: usize,
 #[cold]
 #[inline(never)]
 unsafe fn move_any_run<const N: usize>(array: &mut [u8; N], from: usize, to: usize, len: usize) {
-    known!(source: from + len <= N && from <= from + len);
-    known!(target: to + len <= N && to <= to + len);
     let all = &mut array[..];
     all.copy_within(from..from + len, to);
 }
@@ -192,9 +184,7 @@ unsafe fn move_any_run<const N: usize>(array: &mut [u8; N], from: usize, to: usi
 /// </details>
 #[inline(always)]
 unsafe fn move_ends<const N: usize, const K: usize>(array: &mut [u8; N], from: usize, to: usize, len: usize) {
-    known!(source: from + len <= N && from <= from + len);
     known!(target: to + len <= N && to <= to + len);
-    known!(least: K <= len);
     let rest = len - K;
     // SAFETY: the proof of `move_ends` in crates/arraystring_base/src/moves.rt shows the precondition of `bytes_at`.
     let first = unsafe { bytes_at::<N, K>(array, from) };
@@ -228,8 +218,6 @@ unsafe fn move_ends<const N: usize, const K: usize>(array: &mut [u8; N], from: u
 #[inline(always)]
 unsafe fn move_pairs<const N: usize, const K: usize>(array: &mut [u8; N], from: usize, to: usize, len: usize) {
     known!(source: from + len <= N && from <= from + len);
-    known!(target: to + len <= N && to <= to + len);
-    known!(least: K + K <= len && K <= K + K);
     let rest = len - (K + K);
     // SAFETY: the proof of `move_pairs` in crates/arraystring_base/src/moves.rt shows the precondition of `bytes_at`.
     let front = unsafe { bytes_at::<N, K>(array, from) };
@@ -264,7 +252,6 @@ unsafe fn move_pairs<const N: usize, const K: usize>(array: &mut [u8; N], from: 
 /// </details>
 #[inline(always)]
 pub unsafe fn write_over<const N: usize>(array: &mut [u8; N], at: usize, given: &[u8]) {
-    known!(precondition: at + given.len() <= N && at <= at + given.len());
     if given.len() >= 16 {
         // SAFETY: the proof of `write_over` in crates/arraystring_base/src/moves.rt shows `room` and `least` of `write_long_run`.
         unsafe { write_long_run(array, at, given) };
@@ -388,8 +375,6 @@ unsafe fn write_any_run<const N: usize>(array: &mut [u8; N], at: usize, given: &
 /// </details>
 #[inline(always)]
 unsafe fn copy_ends<const N: usize, const K: usize>(array: &mut [u8; N], at: usize, given: &[u8]) {
-    known!(room: at + given.len() <= N && at <= at + given.len());
-    known!(least: K <= given.len());
     let rest = given.len() - K;
     // SAFETY: the proof of `copy_ends` in crates/arraystring_base/src/moves.rt shows the precondition of `bytes_of`.
     let first = unsafe { bytes_of::<K>(given, 0) };
@@ -419,7 +404,6 @@ unsafe fn copy_ends<const N: usize, const K: usize>(array: &mut [u8; N], at: usi
 /// </details>
 #[inline(always)]
 unsafe fn bytes_at<const N: usize, const K: usize>(array: &[u8; N], at: usize) -> Simd<u8, K> {
-    known!(precondition: at + K <= N && at <= at + K);
     let all = &array[..];
     // SAFETY: the proof of `bytes_at` in crates/arraystring_base/src/moves.rt shows the precondition of `bytes_of`.
     unsafe { bytes_of(all, at) }

@@ -128,7 +128,6 @@ impl<const N: usize> ArrayString<N> {
 /// </details>
 #[inline]
 unsafe fn uppercase_bytes<const N: usize>(array: &mut [u8; N], start: usize, end: usize) {
-    known!(order: start <= end);
     known!(within: end <= N);
     let all = &mut array[..];
     all[start..end].make_ascii_uppercase();
@@ -153,7 +152,6 @@ unsafe fn uppercase_bytes<const N: usize>(array: &mut [u8; N], start: usize, end
 /// </details>
 #[inline]
 unsafe fn lowercase_bytes<const N: usize>(array: &mut [u8; N], start: usize, end: usize) {
-    known!(order: start <= end);
     known!(within: end <= N);
     let all = &mut array[..];
     all[start..end].make_ascii_lowercase();

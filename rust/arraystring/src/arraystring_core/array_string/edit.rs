@@ -91,7 +91,6 @@ impl<const N: usize> ArrayString<N> {
     #[cold]
     #[inline(never)]
     pub(super) unsafe fn compact_and_push(&mut self, ch: char) {
-        known!(invariant: self.start as usize + self.size as usize <= crate::ArrayString::<N>::capacity() as usize);
         let (start, size) = (self.start as usize, self.size as usize);
         self.start = 0;
         // SAFETY: the proof of `compact_and_push` in crates/arraystring_core/src/array_string/edit.rt shows `source` and `target` of `shift`.
@@ -153,7 +152,6 @@ impl<const N: usize> ArrayString<N> {
     /// </details>
     #[inline(always)]
     pub(super) unsafe fn splice(&mut self, start: usize, end: usize, given: &str, steps: &mut Steps) {
-        known!(invariant: self.start as usize + self.size as usize <= crate::ArrayString::<N>::capacity() as usize);
         let text = Span { offset: self.start as usize, size: self.size as usize };
         let len = given.len();
         let tail = text.size - end;
@@ -195,7 +193,6 @@ impl<const N: usize> ArrayString<N> {
     #[cold]
     #[inline(never)]
     pub(super) unsafe fn compact_and_splice(&mut self, start: usize, end: usize, given: &str, steps: &mut Steps) {
-        known!(invariant: self.start as usize + self.size as usize <= crate::ArrayString::<N>::capacity() as usize);
         let text = Span { offset: self.start as usize, size: self.size as usize };
         let len = given.len();
         self.start = 0;
@@ -225,7 +222,6 @@ impl<const N: usize> ArrayString<N> {
     /// </details>
     #[inline(always)]
     pub(super) unsafe fn put_char(&mut self, at: usize, ch: char) {
-        known!(invariant: self.start as usize + self.size as usize <= crate::ArrayString::<N>::capacity() as usize);
         let text = Span { offset: self.start as usize, size: self.size as usize };
         let len = ch.len_utf8();
         if text.offset + text.size + len > Self::capacity() as usize {
