@@ -2,7 +2,8 @@
 //! peers, with the same tests before them. The calls and the peers are those of the bench of the proved build.
 //!
 //! Arguments: the capacity, `ascii` or `mixed`, `front`, `middle` or `lookup`, and how often each call is made. All sides have to
-//! give the same answer and to leave the same text. `lookup` prints the title of each case.
+//! give the same answer and to leave the same text. `lookup` prints the title of each case. What is always inlined of `String`
+//! is so of the crate. With the setting `walked_by_std` a drain is walked as the `chars` of its text.
 
 #[cfg(has_arrayvec)]
 #[path = "../../bench/arrayvec.rs"]
@@ -39,10 +40,12 @@ impl<const N: usize> Peer for ArrayString<N> {
         Self::len(self) as usize
     }
 
+    #[inline(always)]
     fn try_push_str(&mut self, given: &str) -> bool {
         Self::try_push_str(self, given).is_ok()
     }
 
+    #[inline(always)]
     fn try_push(&mut self, ch: char) -> bool {
         Self::try_push(self, ch).is_ok()
     }
@@ -63,6 +66,7 @@ impl<const N: usize> Peer for ArrayString<N> {
         Self::try_from_str(given).ok()
     }
 
+    #[inline(always)]
     fn from_str_truncate(given: &str) -> Self {
         Self::from_str_truncate(given)
     }
@@ -115,10 +119,13 @@ impl<const N: usize> Peer for ArrayString<N> {
         Self::split_off(self, at as u8).ok()
     }
 
+    #[inline(always)]
     fn drain(&mut self, start: usize, end: usize, from_back: bool) -> u32 {
         let Ok(drained) = Self::drain(self, start as u8..end as u8) else {
             return 0;
         };
+        #[cfg(walked_by_std)]
+        let drained = drained.as_str().chars();
         let mut sum = 0u32;
         if from_back {
             for ch in drained.rev() {

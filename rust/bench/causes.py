@@ -1,0 +1,159 @@
+"""What is blamed for the counts of the Rust crate that are behind: one thing each, which `run --write` changes in a copy of the
+crate, whose calls it counts then. A change says where the instructions are. It is no proposal, and some are not sound.
+"""
+from collections import namedtuple
+
+# `rows` are titles of the bench's table, `says` is what is blamed, and `changed` is the change in words. An edit is a file of
+# the crate's sources, the text that is there, and what takes its place. Vectors need what stable Rust does not have. A setting is
+# one of drive.rs.
+Cause = namedtuple("Cause", "rows says changed edits with_vectors settings", defaults=[[], False, []])
+
+CORE = "arraystring_core"
+STRING, EDIT, INSERT = f"{CORE}/array_string.rs", f"{CORE}/array_string/edit.rs", f"{CORE}/array_string/insert.rs"
+CONSTRUCT = f"{CORE}/array_string/construct.rs"
+NO_BYTES = "unsafe { core::mem::MaybeUninit::<[u8; N]>::uninit().assume_init() }"
+WITH_VECTORS = [
+    ("lib.rs", "#![no_std]", "#![no_std]\n#![feature(portable_simd)]"),
+    ("arraystring_base/moves.rs", "use crate::by_hand::simd::Simd;", "use core::simd::Simd;"),
+]
+REMOVALS = ["`remove` in the middle"]
+QUEUE = ["`remove(0)`, `try_push`, full"]
+DRAINS = ["`drain` at the front, walked", "`drain` in the middle, walked", "`drain`, walked from the back"]
+RETAIN = ["`retain`, one in ten dropped", "`retain`, one in four dropped"]
+CHARACTERS = ["`try_insert` at the front", "`try_insert` in the middle"]
+TEXTS = ["`try_insert_str` at the front", "`try_insert_str` in the middle", "`replace_range` in the middle"]
+NEW = ["`new` and `try_push_str`", "`new` and ten `try_push_str`"]
+UTF8 = ["`try_from_utf8`", "`from_utf8` of too much"]
+
+
+def by_word(words, others):
+    """Two texts of 16 bytes are compared as one word each, and others by std."""
+    texts = "(<[u8; 16]>::try_from(text.as_bytes()), <[u8; 16]>::try_from(other.as_bytes()))"
+    return f"match {texts} {{ (Ok(one), Ok(two)) => {words}, _ => {others} }}"
+
+
+CAUSES = [
+    Cause(
+        [*NEW, *CHARACTERS, *TEXTS, *REMOVALS, *QUEUE, *DRAINS],
+        "A run of bytes is held as an array or as words, of which some go through the stack.",
+        "std's vectors hold it, as in the proved build",
+        with_vectors=True,
+    ),
+    Cause(
+        NEW,
+        "`new` clears the array, as the proof has it.",
+        "it leaves the array as it is",
+        [(STRING, "array: [0; N], start: 0", f"array: {NO_BYTES}, start: 0")],
+    ),
+    Cause(
+        ["`try_from_str`"],
+        "The array is cleared: of 101 instructions 18 by callgrind's lines, and 6 of 47, where the text is written by a call of 20 "
+        "that takes `memcpy` 11. The copies are those of arrayvec. Without the clearing the compiler copies otherwise, which costs more.",
+        "it leaves the array as it is",
+        [
+            (CONSTRUCT, "let mut array = [0; N];\n        let (refused", "let mut array = core::mem::MaybeUninit::<[u8; N]>::uninit();\n        let (refused"),
+            (CONSTRUCT, "try_fill(&mut array,", "try_fill(unsafe { &mut *array.as_mut_ptr() },"),
+            (CONSTRUCT, "Ok(ArrayString { array, start: 0, size })", "Ok(ArrayString { array: unsafe { array.assume_init() }, start: 0, size })"),
+        ],
+    ),
+    Cause(
+        UTF8,
+        "std tests UTF-8. Its test of what is not ASCII takes nearly all, and of ASCII it takes bytes one by one behind the words.",
+        "the bytes are taken as UTF-8",
+        [(f"{CORE}/well_formed.rs", "    let (blocks,", "    return Ok(unsafe { str::from_utf8_unchecked(given) });\n    let (blocks,")],
+    ),
+    Cause(
+        CHARACTERS,
+        "The width of a character is told twice, each time by branches.",
+        "it is told once",
+        [
+            (INSERT, "        if self.len() as usize + ch.len_utf8() > Self::", "        let len = ch.len_utf8();\n        if self.len() as usize + len > Self::"),
+            (INSERT, "unsafe { self.insert_unchecked(index, ch) };\n        Ok(())", "unsafe { self.put_wide(index as usize, ch, len) };\n        Ok(())"),
+            (EDIT, "fn put_char(&mut self, at: usize, ch: char) {", "fn put_char(&mut self, at: usize, ch: char) {\n        unsafe { self.put_wide(at, ch, ch.len_utf8()) }\n    }\n\n    #[inline(always)]\n    pub(super) unsafe fn put_wide(&mut self, at: usize, ch: char, len: usize) {"),
+            (EDIT, "        let len = ch.len_utf8();\n        if text.offset + text.size + len", "        if text.offset + text.size + len"),
+        ],
+    ),
+    Cause(
+        [*REMOVALS, *DRAINS],
+        "A removal at the front has a path of its own, on which nothing moves.",
+        "it has none",
+        [(EDIT, "        if start == 0 {\n            // SAFETY: the proof of `take_out`", "        if start == usize::MAX {\n            // SAFETY: the proof of `take_out`")],
+    ),
+    Cause(
+        [*REMOVALS, *TEXTS],
+        "What stays in its place is not moved, and no move is counted.",
+        "a run is moved without that test",
+        [("arraystring_base/utils.rs", "    if from != to {\n", "    if from <= usize::MAX {\n")],
+    ),
+    Cause(
+        QUEUE,
+        "Without room behind the text a push is a call, which moves the text to the start of the array.",
+        "it is inlined",
+        [(EDIT, "    #[cold]\n    #[inline(never)]\n    pub(super) unsafe fn compact_and_push(", "    #[inline(always)]\n    pub(super) unsafe fn compact_and_push(")],
+    ),
+    Cause(
+        ["`trim`"],
+        "std finds in tables whether what is not ASCII is white space.",
+        "only ASCII is white space",
+        [(f"{CORE}/array_string/trim.rs", "    ch.is_whitespace()\n", "    matches!(ch, '\\t'..='\\r' | ' ')\n")],
+    ),
+    Cause(
+        RETAIN,
+        "std decodes a character, by its first byte and a walk.",
+        "its width is told by its first byte, and its bytes are joined",
+        [
+            (
+                f"{CORE}/decode.rs",
+                "    let mut rest = text.chars();\n    let Some(ch) = rest.next() else {\n        unreachable!();\n    };\n    (ch, text.len() - rest.as_str().len())\n",
+                """    let at = |index: usize| unsafe { *text.as_bytes().get_unchecked(index) as u32 };
+    let (first, second) = (at(0), at(1) & 63);
+    let (code, width) = match first {
+        0..0xE0 => ((first & 31) << 6 | second, 2),
+        0xE0..0xF0 => ((first & 15) << 12 | second << 6 | at(2) & 63, 3),
+        _ => ((first & 7) << 18 | second << 12 | (at(2) & 63) << 6 | at(3) & 63, 4),
+    };
+    (unsafe { char::from_u32_unchecked(code) }, width)
+""",
+            )
+        ],
+    ),
+    Cause(
+        RETAIN,
+        "The size of what is kept is in its place whenever the closure is called, which may panic.",
+        "it is written at the end",
+        [
+            (f"{CORE}/retain.rs", "    *kept = 0;\n", "    let out = kept;\n    let kept = &mut 0;\n"),
+            (f"{CORE}/retain.rs", "            read += width;\n        }\n    }\n", "            read += width;\n        }\n    }\n    *out = *kept;\n"),
+        ],
+    ),
+    Cause(
+        ["`from_utf16_lossy`"],
+        "Behind a lone surrogate each unit is pushed by itself, and its room is tested twice.",
+        "it is tested once",
+        [
+            (
+                STRING,
+                "            unsafe { self.push_unchecked(ch) };\n            return Ok(());",
+                "            let len = unsafe { encode(ch, &mut self.array, end) };\n            self.size = (self.size as usize + len) as u8;\n            return Ok(());",
+            )
+        ],
+    ),
+    Cause(
+        DRAINS,
+        "A drain has an index for each end, and reads the array by them.",
+        "its text is walked by the pointers of `chars`",
+        settings=["walked_by_std"],
+    ),
+    Cause(
+        ["`cmp` of equal texts", "`<`, the last character differs"],
+        "std orders by a call of `memcmp`, also a short text.",
+        "two texts of 16 bytes are ordered as two numbers",
+        [(f"{CORE}/order.rs", "text.cmp(other)", by_word("u128::from_be_bytes(one).cmp(&u128::from_be_bytes(two))", "text.cmp(other)"))],
+    ),
+    Cause(
+        ["`==` of equal texts"],
+        "std compares by a call of `memcmp`, also a short text.",
+        "two texts of 16 bytes are compared as two numbers",
+        [(f"{CORE}/equal.rs", "text == other", by_word("u128::from_le_bytes(one) == u128::from_le_bytes(two)", "text == other"))],
+    ),
+]
