@@ -4,7 +4,7 @@ use Rattle.std.proofs.Math.Seq.{take-add}
 use Rattle.std.proofs.lemmas.Bool.{eq-eqb, both_ways}
 use Rattle.std.proofs.lemmas.Nat.{le_or_l, le_or_r}
 use Rattle.std.proofs.lemmas.Simd.{length-zip2}
-use lib.Bits.{bit_and, xor_add_and, and_le_l, and_le_r, and_self}
+use lib.Bits.{xor_add_and, and_le_l, and_le_r, and_self}
 use lib.Lanes.{zip2, fold_l}
 use Rattle.arraystring_core.proofs.EqualLemmas.{apart}
 
