@@ -7,7 +7,7 @@ ghost use Rattle.arraystring_core.specs.Edits.{Makes, from_out_of_bounds, additi
 use crate::ArrayString;
 use crate::gap::{Span, compact_and_open_gap, open_gap};
 use arraystring_base::error::OutOfBounds;
-use arraystring_base::utils::{Steps, encode, is_boundary, shift, write_over};
+use arraystring_base::utils::{Steps, encode, is_boundary, move_run, shift, write_over};
 
 impl<const N: usize> ArrayString<N> {
     /// Whether a character begins at `at`, or the text ends there.
@@ -52,7 +52,7 @@ impl<const N: usize> ArrayString<N> {
     {
         let (start, size) = (self.start as usize, self.size as usize);
         self.start = 0;
-        shift(&mut self.array, start, 0, size, &mut Steps::new());
+        move_run(&mut self.array, start, 0, size);
         prove!(size < N);
         let len = encode(ch, &mut self.array, size);
         self.size = (size + len) as u8;

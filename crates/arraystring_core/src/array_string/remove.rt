@@ -60,6 +60,7 @@ impl<const N: usize> ArrayString<N> {
     /// assert_eq!(string.as_str(), "b");
     /// assert_eq!(string.remove(1), Err(Error::OutOfBounds)); // at the end
     /// ```
+    #[inline(always)]
     pub fn remove(&mut self, index: u8) -> Result<char, Error>
         ensures { Makes (removal self.old.text index) self.old.text result self.new.text }
     {
@@ -86,6 +87,7 @@ impl<const N: usize> ArrayString<N> {
     /// assert_eq!(string.remove_counted(2, &mut steps), Ok('c'));
     /// assert_eq!((string.as_str(), steps.moved()), ("abd", 1)); // `d` moved
     /// ```
+    #[inline(always)]
     pub fn remove_counted(&mut self, index: u8, steps: &mut Steps) -> Result<char, Error>
         requires looks { steps.old.looked ≤ 2 ^ 63 }
         requires moves { steps.old.moved ≤ 2 ^ 63 }

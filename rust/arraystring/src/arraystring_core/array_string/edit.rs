@@ -3,7 +3,7 @@
 //! something out, or move the text to the start of the array for it.
 
 use crate::arraystring_base::error::OutOfBounds;
-use crate::arraystring_base::utils::{Steps, encode, is_boundary, shift, write_over};
+use crate::arraystring_base::utils::{Steps, encode, is_boundary, move_run, shift, write_over};
 use crate::arraystring_core::ArrayString;
 use crate::arraystring_core::gap::{Span, compact_and_open_gap, open_gap};
 
@@ -93,8 +93,8 @@ impl<const N: usize> ArrayString<N> {
     pub(super) unsafe fn compact_and_push(&mut self, ch: char) {
         let (start, size) = (self.start as usize, self.size as usize);
         self.start = 0;
-        // SAFETY: the proof of `compact_and_push` in crates/arraystring_core/src/array_string/edit.rt shows `source` and `target` of `shift`.
-        unsafe { shift(&mut self.array, start, 0, size, &mut Steps::new()) };
+        // SAFETY: the proof of `compact_and_push` in crates/arraystring_core/src/array_string/edit.rt shows `source` and `target` of `move_run`.
+        unsafe { move_run(&mut self.array, start, 0, size) };
         known!(proved: size < N);
         // SAFETY: the proof of `compact_and_push` in crates/arraystring_core/src/array_string/edit.rt shows the precondition of `encode`.
         let len = unsafe { encode(ch, &mut self.array, size) };

@@ -81,7 +81,7 @@ impl<const N: usize> ArrayString<N> {
     /// [How to read a contract](crate::contracts)
     ///
     /// </details>
-    #[inline]
+    #[inline(always)]
     pub fn remove(&mut self, index: u8) -> Result<char, Error> {
         self.remove_counted(index, &mut Steps::new())
     }
@@ -127,7 +127,7 @@ impl<const N: usize> ArrayString<N> {
     /// [How to read a contract](crate::contracts)
     ///
     /// </details>
-    #[inline]
+    #[inline(always)]
     pub fn remove_counted(&mut self, index: u8, steps: &mut Steps) -> Result<char, Error> {
         if index >= self.len() {
             return Err(Error::OutOfBounds);
