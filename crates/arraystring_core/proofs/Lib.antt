@@ -7,6 +7,7 @@ mod JsonLaws
 mod StoredLaws
 mod GapLemmas
 mod SpanLemmas
+mod AppendLemmas
 mod TakenLemmas
 mod AsciiLemmas
 mod TrimLemmas

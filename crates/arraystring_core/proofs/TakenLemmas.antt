@@ -1,12 +1,12 @@
 -- One turn of a loop that adds what an iterator gives.
-use Rattle.std.proofs.Common.{◌≡◌, ℕ, ◌+◌, ◌-◌, ◌<◌, ◌≤◌, List, [], ◌∷◌, ◌++◌, refl, sym, ap, ◌∙◌, arith, map, append_assoc}
+use Rattle.std.proofs.Common.{◌≡◌, ℕ, ◌+◌, ◌-◌, ◌<◌, ◌≤◌, List, [], ◌∷◌, ◌++◌, Option, refl, sym, ap, ◌∙◌, arith, map, append_assoc, inl, inr}
 use Rattle.std.proofs.lemmas.Bool.{lt-leb}
 use Rattle.std.proofs.lemmas.List.{append-nil, map-append}
 use Rattle.std.specs.Borrow.{Bor}
 use Rattle.arraystring_base.specs.Text.{width, size, cut}
 use Rattle.arraystring_base.proofs.TextLaws.{size-append}
-use Rattle.arraystring_base.proofs.CutLaws.{cut-past_part}
-use Rattle.arraystring_core.specs.Taken.{IsFirstPast, joined, joined_pieces, piece_text}
+use Rattle.arraystring_base.proofs.CutLaws.{cut-all, cut-past_part}
+use Rattle.arraystring_core.specs.Taken.{IsFirstPast, Takes, TakesAll, Fits, joined, joined_pieces, piece_text}
 use Rattle.arraystring_core.proofs.TakenLaws.{joined-append}
 
 -- one more character, and one more piece
@@ -80,3 +80,14 @@ module _ {A : Type 0} (spelled : List A → List ℕ) (one : A → List ℕ)
 
   pub next-text : (new : List ℕ) → new ≡ now ++ one x → new ≡ spelled (items ++ x ∷ [])
   next-text new e = e ∙ ap (λ l. l ++ one x) is ∙ sym (more items x)
+
+-- characters that were taken and all fit are all that come
+pub fitting-all : {U T : Type 0} (becomes : U → T → Type 0) (steps : T → Option ℕ → T → Type 0) (iter : U) (n : ℕ)
+    → Fits becomes steps (λ cs. cs) iter n → (taken : List ℕ) → Takes becomes steps (λ cs. cs) iter n taken
+    → TakesAll becomes steps iter taken × (cut taken n ≡ taken)
+fitting-all becomes steps iter n fits taken takes = elim takes.2 [
+  | inl ends ↦ ((takes.0, takes.1, ends.0), cut-all ends.1)
+  | inr stops ↦
+      let within : size taken ≤ n = fits takes.0 takes.1 taken stops.0 stops.1 in
+      absurd (omega (arith, within, stops.2.4))
+]

@@ -179,9 +179,10 @@ impl<const N: usize> ArrayString<N> {
         ensures whole { (all : List ℕ) → Gives I.into_iter_gives I.IntoIter.next_gives (λ c. c) characters all
             → IsWholeOrRefused all (cap N) (from_out_of_bounds result) }
     {
-        let mut made = Self::new();
-        made.add_chars(characters)?;
-        Ok(made)
+        let mut array = [0; N];
+        let (mut start, mut size) = (0, 0);
+        Self::append_chars(&mut array, &mut start, &mut size, characters)?;
+        Ok(ArrayString { array, start, size })
     }
 
     /// Creates a string from the longest prefix of the characters that fits. It ends before the
@@ -204,9 +205,10 @@ impl<const N: usize> ArrayString<N> {
         ensures whole { (all : List ℕ) → Gives I.into_iter_gives I.IntoIter.next_gives (λ c. c) characters all
             → result.text ≡ cut all (cap N) }
     {
-        let mut made = Self::new();
-        made.extend_chars(characters);
-        made
+        let mut array = [0; N];
+        let (mut start, mut size) = (0, 0);
+        let _ = Self::append_chars(&mut array, &mut start, &mut size, characters);
+        ArrayString { array, start, size }
     }
 
     /// Creates a string from all characters.
@@ -222,11 +224,7 @@ impl<const N: usize> ArrayString<N> {
         ensures whole { (all : List ℕ) → Gives I.into_iter_gives I.IntoIter.next_gives (λ c. c) characters all
             → result.text ≡ all }
     {
-        let mut made = Self::new();
-        for ch in characters {
-            made.push_unchecked(ch);
-        }
-        made
+        Self::from_chars(characters)
     }
 
     /// Creates a string from the UTF-8 in `given`.

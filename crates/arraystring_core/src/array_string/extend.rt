@@ -1,14 +1,16 @@
 //! What is appended from an iterator that is passed in.
-ghost use Rattle.std.specs.Prelude.{◌≡◌, ℕ, ◌-◌, ◌<◌, ◌≤◌, ◌++◌, List, Ok, MatchResult};
+ghost use Rattle.std.specs.Prelude.{◌≡◌, ℕ, ◌+◌, ◌-◌, ◌<◌, ◌≤◌, [], ◌∷◌, ◌++◌, List, Ok, IfSome, MatchOption, MatchResult};
 ghost use Rattle.std.specs.Borrow.{Bor};
 ghost use Rattle.std.specs.Iterator.{IsFiniteIterable};
-ghost use Rattle.arraystring_base.specs.Text.{size, cap, cut};
+ghost use Rattle.arraystring_base.specs.Text.{size, width, cap, cut};
 ghost use Rattle.arraystring_core.specs.Edits.{Makes, addition_of_cut};
+ghost use Rattle.arraystring_core.specs.Stored.{stored, IsStored};
 ghost use Rattle.arraystring_core.specs.Taken.{Takes, Gives, joined, joined_pieces, piece_text};
 
 use super::ArrayString;
 use crate::laws::text_fits;
 use arraystring_base::error::OutOfBounds;
+use arraystring_base::utils::{encode, move_run};
 
 impl<const N: usize> ArrayString<N> {
     /// Appends the longest prefix of the characters that fits.
@@ -67,13 +69,7 @@ impl<const N: usize> ArrayString<N> {
             × MatchResult result (λ _. size taken ≤ cap N - size self.old.text) (λ _. cap N - size self.old.text < size taken)
             × (self.new.text ≡ self.old.text ++ cut taken (cap N - size self.old.text)) }
     {
-        text_fits(self);
-        for ch in characters {
-            if let Err(refusal) = self.try_push(ch) {
-                return Err(refusal);
-            }
-        }
-        Ok(())
+        Self::append_chars(&mut self.array, &mut self.start, &mut self.size, characters)
     }
 
     /// Appends the pieces before the first that does not fit, and of that one what fits. Refuses
@@ -96,4 +92,86 @@ impl<const N: usize> ArrayString<N> {
         }
         Ok(())
     }
+
+    /// Appends the characters before the first that does not fit to a text of the array, the `len` bytes
+    /// from `start` on. Refuses if there is such a one. The loop knows where the text ends, and does not
+    /// read it again; `len` is right whenever the iterator is called.
+    #[inline(always)]
+    pub(super) fn append_chars<I: IntoIterator<Item = char> + Drop>(
+        array: &mut [u8; N],
+        start: &mut u8,
+        len: &mut u8,
+        characters: I,
+    ) -> Result<(), OutOfBounds>
+        requires held { IsStored N array.old start.old len.old }
+        requires ends { IsFiniteIterable I.into_iter_gives I.IntoIter.can_next I.IntoIter.remaining characters }
+        ensures held { IsStored N array.new start.new len.new }
+        ensures taken { let t = (stored array.old start.old len.old).text in
+            (taken : List ℕ) × Takes I.into_iter_gives I.IntoIter.next_gives (λ cs. cs) characters (cap N - size t) taken
+            × MatchResult result (λ _. size taken ≤ cap N - size t) (λ _. cap N - size t < size taken)
+            × ((stored array.new start.new len.new).text ≡ t ++ cut taken (cap N - size t)) }
+    {
+        let mut end = *start as usize + *len as usize;
+        for ch in characters {
+            match Self::append_char(array, start, len, end, ch) {
+                Some(next) => {
+                    end = next;
+                }
+                None => return Err(OutOfBounds),
+            }
+        }
+        Ok(())
+    }
+
+    /// Appends `ch` to a text of the array that ends at `end`, and returns where it ends then. Returns
+    /// `None` if it does not fit.
+    #[inline(always)]
+    fn append_char(
+        array: &mut [u8; N],
+        start: &mut u8,
+        len: &mut u8,
+        end: usize,
+        ch: char,
+    ) -> Option<usize>
+        requires held { IsStored N array.old start.old len.old }
+        requires end { end ≡ start.old + len.old }
+        ensures held { IsStored N array.new start.new len.new }
+        ensures end { IfSome result (λ next. next ≡ start.new + len.new) }
+        ensures text { let t = (stored array.old start.old len.old).text in let new = (stored array.new start.new len.new).text in
+            MatchOption result ((cap N < size t + size (ch ∷ [])) × (new ≡ t)) (λ _. (size t + size (ch ∷ []) ≤ cap N) × (new ≡ t ++ ch ∷ [])) }
+    {
+        if !Self::has_room(end, ch) {
+            let held = end - *start as usize;
+            if !Self::has_room(held, ch) {
+                return None;
+            }
+            let held = compact_and_append(array, *start as usize, held, ch);
+            *start = 0;
+            *len = held as u8;
+            return Some(held);
+        }
+        let next = end + encode(ch, array, end);
+        *len = (next - *start as usize) as u8;
+        Some(next)
+    }
+}
+
+/// Moves a text to the start of the array, appends `ch`, and returns the size that it has then.
+#[cold]
+#[inline(never)]
+fn compact_and_append<const N: usize>(
+    array: &mut [u8; N],
+    start: usize,
+    size: usize,
+    ch: char,
+) -> usize
+    requires held { IsStored N array.old start size }
+    requires room { size + width ch ≤ cap N }
+    ensures size { result ≡ size + width ch }
+    ensures held { IsStored N array.new 0 result }
+    ensures text { (stored array.new 0 result).text ≡ (stored array.old start size).text ++ ch ∷ [] }
+{
+    move_run(array, start, 0, size);
+    prove!(size < N);
+    size + encode(ch, array, size)
 }

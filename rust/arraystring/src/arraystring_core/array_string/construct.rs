@@ -266,9 +266,11 @@ impl<const N: usize> ArrayString<N> {
     /// </details>
     #[inline]
     pub fn try_from_chars<I: IntoIterator<Item = char>>(characters: I) -> Result<Self, OutOfBounds> {
-        let mut made = Self::new();
-        made.add_chars(characters)?;
-        Ok(made)
+        let mut array = [0; N];
+        let (mut start, mut size) = (0, 0);
+        // SAFETY: the proof of `try_from_chars` in crates/arraystring_core/src/array_string/construct.rt shows `held` of `append_chars`.
+        unsafe { Self::append_chars(&mut array, &mut start, &mut size, characters) }?;
+        Ok(ArrayString { array, start, size })
     }
 
     /// Creates a string from the longest prefix of the characters that fits. It ends before the
@@ -303,9 +305,11 @@ impl<const N: usize> ArrayString<N> {
     /// </details>
     #[inline]
     pub fn from_chars<I: IntoIterator<Item = char>>(characters: I) -> Self {
-        let mut made = Self::new();
-        made.extend_chars(characters);
-        made
+        let mut array = [0; N];
+        let (mut start, mut size) = (0, 0);
+        // SAFETY: the proof of `from_chars` in crates/arraystring_core/src/array_string/construct.rt shows `held` of `append_chars`.
+        let _ = unsafe { Self::append_chars(&mut array, &mut start, &mut size, characters) };
+        ArrayString { array, start, size }
     }
 
     /// Creates a string from all characters.
@@ -340,12 +344,7 @@ impl<const N: usize> ArrayString<N> {
     /// </details>
     #[inline]
     pub unsafe fn from_chars_unchecked<I: IntoIterator<Item = char>>(characters: I) -> Self {
-        let mut made = Self::new();
-        for ch in characters {
-            // SAFETY: the proof of `from_chars_unchecked` in crates/arraystring_core/src/array_string/construct.rt shows the precondition of `push_unchecked`.
-            unsafe { made.push_unchecked(ch) };
-        }
-        made
+        Self::from_chars(characters)
     }
 
     /// Creates a string from the UTF-8 in `given`.

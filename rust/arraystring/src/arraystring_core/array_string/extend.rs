@@ -3,6 +3,7 @@
 
 use super::ArrayString;
 use crate::arraystring_base::error::OutOfBounds;
+use crate::arraystring_base::utils::{encode, move_run};
 
 impl<const N: usize> ArrayString<N> {
     /// Appends the longest prefix of the characters that fits.
@@ -91,12 +92,8 @@ impl<const N: usize> ArrayString<N> {
     /// </details>
     #[inline]
     pub(super) fn add_chars<I: IntoIterator<Item = char>>(&mut self, characters: I) -> Result<(), OutOfBounds> {
-        for ch in characters {
-            if let Err(refusal) = self.try_push(ch) {
-                return Err(refusal);
-            }
-        }
-        Ok(())
+        // SAFETY: the proof of `add_chars` in crates/arraystring_core/src/array_string/extend.rt shows `held` of `append_chars`.
+        unsafe { Self::append_chars(&mut self.array, &mut self.start, &mut self.size, characters) }
     }
 
     /// Appends the pieces before the first that does not fit, and of that one what fits. Refuses
@@ -125,4 +122,106 @@ impl<const N: usize> ArrayString<N> {
         }
         Ok(())
     }
+
+    /// Appends the characters before the first that does not fit to a text of the array, the `len` bytes
+    /// from `start` on. Refuses if there is such a one. The loop knows where the text ends, and does not
+    /// read it again; `len` is right whenever the iterator is called.
+    ///
+    /// # Safety
+    ///
+    /// Each clause `requires` of the contract must hold, but for those on counts, on iterators and on closures.
+    ///
+    /// # Contract
+    ///
+    /// ```text
+    /// requires held { IsStored N array.old start.old len.old }
+    /// requires ends { IsFiniteIterable I.into_iter_gives I.IntoIter.can_next I.IntoIter.remaining characters }
+    /// ensures held { IsStored N array.new start.new len.new }
+    /// ensures taken { let t = (stored array.old start.old len.old).text in
+    ///     (taken : List ℕ) × Takes I.into_iter_gives I.IntoIter.next_gives (λ cs. cs) characters (cap N - size t) taken
+    ///     × MatchResult result (λ _. size taken ≤ cap N - size t) (λ _. cap N - size t < size taken)
+    ///     × ((stored array.new start.new len.new).text ≡ t ++ cut taken (cap N - size t)) }
+    /// ```
+    #[inline(always)]
+    pub(super) unsafe fn append_chars<I: IntoIterator<Item = char>>(
+        array: &mut [u8; N],
+        start: &mut u8,
+        len: &mut u8,
+        characters: I,
+    ) -> Result<(), OutOfBounds> {
+        let mut end = *start as usize + *len as usize;
+        for ch in characters {
+            // SAFETY: the proof of `append_chars` in crates/arraystring_core/src/array_string/extend.rt shows `held` and `end` of `append_char`.
+            match unsafe { Self::append_char(array, start, len, end, ch) } {
+                Some(next) => {
+                    end = next;
+                }
+                None => return Err(OutOfBounds),
+            }
+        }
+        Ok(())
+    }
+
+    /// Appends `ch` to a text of the array that ends at `end`, and returns where it ends then. Returns
+    /// `None` if it does not fit.
+    ///
+    /// # Safety
+    ///
+    /// Each clause `requires` of the contract must hold, but for those on counts, on iterators and on closures.
+    ///
+    /// # Contract
+    ///
+    /// ```text
+    /// requires held { IsStored N array.old start.old len.old }
+    /// requires end { end ≡ start.old + len.old }
+    /// ensures held { IsStored N array.new start.new len.new }
+    /// ensures end { IfSome result (λ next. next ≡ start.new + len.new) }
+    /// ensures text { let t = (stored array.old start.old len.old).text in let new = (stored array.new start.new len.new).text in
+    ///     MatchOption result ((cap N < size t + size (ch ∷ [])) × (new ≡ t)) (λ _. (size t + size (ch ∷ []) ≤ cap N) × (new ≡ t ++ ch ∷ [])) }
+    /// ```
+    #[inline(always)]
+    unsafe fn append_char(array: &mut [u8; N], start: &mut u8, len: &mut u8, end: usize, ch: char) -> Option<usize> {
+        // SAFETY: the proof of `append_char` in crates/arraystring_core/src/array_string/extend.rt shows the precondition of `has_room`.
+        if !unsafe { Self::has_room(end, ch) } {
+            let held = end - *start as usize;
+            // SAFETY: the proof of `append_char` in crates/arraystring_core/src/array_string/extend.rt shows the precondition of `has_room`.
+            if !unsafe { Self::has_room(held, ch) } {
+                return None;
+            }
+            // SAFETY: the proof of `append_char` in crates/arraystring_core/src/array_string/extend.rt shows `held` and `room` of `compact_and_append`.
+            let held = unsafe { compact_and_append(array, *start as usize, held, ch) };
+            *start = 0;
+            *len = held as u8;
+            return Some(held);
+        }
+        // SAFETY: the proof of `append_char` in crates/arraystring_core/src/array_string/extend.rt shows the precondition of `encode`.
+        let next = end + unsafe { encode(ch, array, end) };
+        *len = (next - *start as usize) as u8;
+        Some(next)
+    }
+}
+
+/// Moves a text to the start of the array, appends `ch`, and returns the size that it has then.
+///
+/// # Safety
+///
+/// Each clause `requires` of the contract must hold, but for those on counts, on iterators and on closures.
+///
+/// # Contract
+///
+/// ```text
+/// requires held { IsStored N array.old start size }
+/// requires room { size + width ch ≤ cap N }
+/// ensures size { result ≡ size + width ch }
+/// ensures held { IsStored N array.new 0 result }
+/// ensures text { (stored array.new 0 result).text ≡ (stored array.old start size).text ++ ch ∷ [] }
+/// ```
+#[cold]
+#[inline(never)]
+unsafe fn compact_and_append<const N: usize>(array: &mut [u8; N], start: usize, size: usize, ch: char) -> usize {
+    // SAFETY: the proof of `compact_and_append` in crates/arraystring_core/src/array_string/extend.rt shows `source` and `target` of `move_run`.
+    unsafe { move_run(array, start, 0, size) };
+    known!(proved: size < N);
+    // SAFETY: the proof of `compact_and_append` in crates/arraystring_core/src/array_string/extend.rt shows the precondition of `encode`.
+    size + unsafe { encode(ch, array, size) }
 }

@@ -1,16 +1,31 @@
-use Rattle.std.proofs.Common.{subst}
+use Rattle.std.proofs.Common.{◌≡◌, ◌∙◌, subst, rules, arith, length}
+use Rattle.std.proofs.lemmas.Str.{chars-nil, IsUtf8-nil}
+use Rattle.std.proofs.lemmas.List.{length-replicate}
+use Rattle.std.proofs.Math.ListN.{replicate}
 use Rattle.arraystring_base.specs.Text.{cap}
 use Rattle.arraystring_core.specs.Taken.{Takes}
+use Rattle.arraystring_core.proofs.TakenLaws.{chars-cut}
 use Rattle.arraystring_core.proofs.ConstructLaws.{fresh-room, fresh-cut}
 use Rattle.arraystring_core.proofs.array_string.ArrayString.from_chars.Goals as goal
 
+pub append_chars-requires : goal.append_chars-requires
+append_chars-requires g c =
+    (search rules, ((omega arith, length-replicate g.row.N 0, ∣ IsUtf8-nil ∣₁), c.requires))
+
 pub returns-clause-taken : goal.returns-clause-taken
 returns-clause-taken g c =
-    let ensured = c.extend_chars.ensures.taken in
+    let ensured = c.append_chars.ensures.taken in
     let becomes = g.I.IntoIterator.into_iter_gives in
     let steps = g.I.IntoIter.Iterator.next_gives in
-    let room = fresh-room c.new-made.result.text ensured.0 (cap g.row.N) c.new-made.ensures in (
-      ensured.0,
-      subst (λ k. Takes becomes steps (λ cs. cs) c.args.characters k ensured.0) room ensured.1,
-      fresh-cut c.new-made.result.text ensured.0 (cap g.row.N) c.new-made.ensures c.extend_chars.new.self.text ensured.2.ok,
-    )
+    let n = cap g.row.N in
+    let takes = subst (λ k. Takes becomes steps (λ cs. cs) c.args.characters k ensured.0) (fresh-room _ ensured.0 n chars-nil) ensured.1 in
+    (ensured.0, takes, fresh-cut _ ensured.0 n chars-nil _ ensured.3)
+
+pub returns-clause-whole : goal.returns-clause-whole
+returns-clause-whole g c = λ all gives.
+    let ensured = c.append_chars.ensures.taken in
+    let becomes = g.I.IntoIterator.into_iter_gives in
+    let steps = g.I.IntoIter.Iterator.next_gives in
+    let n = cap g.row.N in
+    let takes = subst (λ k. Takes becomes steps (λ cs. cs) c.args.characters k ensured.0) (fresh-room _ ensured.0 n chars-nil) ensured.1 in
+    fresh-cut _ ensured.0 n chars-nil _ ensured.3 ∙ chars-cut becomes steps c.args.characters all gives ensured.0 n takes
