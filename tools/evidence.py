@@ -9,18 +9,13 @@ the public one.
 Every public function that has a body is asked for, each function of a trait's impl that has clauses or ghost members and
 whose type is public, and of a program all functions but `main`; tests, what a trait declares and the crates FOR_TESTS are
 not. None is asked for a door to a function that a wrong body touches: at most three lines without a branch, of which the last
-names a function of the crate that is private, or has the same name with `_counted`. EXCEPTIONS says why another one needs
-none. An exception whose function has one or is gone fails too.
+names a function of the crate that is private, or has the same name with `_counted`.
 """
 import edits
 import repository
 import sources
 
 FOR_TESTS = {"test_support"}  # only tests call it: a wrong body there is seen by its own tests and theirs
-EXCEPTIONS = {
-    "arraystring_core from_chars": "extend_chars.takes_a_later_shorter_character stands in add_chars, which does its work",
-    "arraystring_core from_iterator": "extend_strs.drops_the_part_that_fits stands in add_strs, which does its work",
-}
 
 
 def asked_and_tried(folder, faults):
@@ -50,13 +45,12 @@ def asked_and_tried(folder, faults):
     return {name: name in tried or it in touched and bool(it.named) for name, it in asked.items()}
 
 
-def main(arguments, root, exceptions=EXCEPTIONS):
+def main(arguments, root):
     found, faults = {}, []
     for crate in repository.crates(root):
         if crate not in FOR_TESTS:
             told = asked_and_tried(root / "crates" / crate, faults)
             found |= {f"{crate} {name}": is_tried for name, is_tried in told.items()}
-    faults += [f"no wrong body of {name}" for name, is_tried in found.items() if not is_tried and name not in exceptions]
-    faults += [f"an exception that has one or is gone: {name}" for name in exceptions if found.get(name, True)]
-    print("\n".join(faults) or f"wrong bodies try {sum(found.values())} functions; {len(exceptions)} are exceptions")
+    faults += [f"no wrong body of {name}" for name, is_tried in found.items() if not is_tried]
+    print("\n".join(faults) or f"wrong bodies try {len(found)} functions")
     return bool(faults) or not found

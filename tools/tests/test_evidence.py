@@ -42,58 +42,53 @@ class Evidence(TreeTest):
         (folder / f"{name}.edit").rename(folder / f"{other}.edit")
 
     def test_a_wrong_body_of_its_name_touches_the_function_or_what_it_names(self):
-        self.assertIn("try 2 functions", self.assert_passes(evidence, exceptions={}))
+        self.assertIn("try 2 functions", self.assert_passes(evidence))
 
     def test_a_function_without_one_is_named(self):
         (self.root / "crates/numbers/must-fail/doubled.is_once.edit").unlink()
-        self.assert_fails("no wrong body of numbers doubled", evidence, exceptions={})
-        self.assert_passes(evidence, exceptions={"numbers doubled": "it is tried elsewhere"})
+        self.assert_fails("no wrong body of numbers doubled", evidence)
 
     def test_an_impl_without_one_is_named(self):
         (self.root / "crates/numbers/must-fail/default.is_one.edit").unlink()
-        self.assert_fails("no wrong body of numbers default", evidence, exceptions={})
+        self.assert_fails("no wrong body of numbers default", evidence)
 
     def test_a_name_belongs_to_a_public_function(self):
         for other in ("twice.is_once", "tripled.is_once", "is_once"):
             self.rename("doubled.is_once", other)
-            self.assert_fails(f"{other}.edit: no public function has this name", evidence, exceptions={})
+            self.assert_fails(f"{other}.edit: no public function has this name", evidence)
             self.rename(other, "doubled.is_once")
 
     def test_a_wrong_body_touches_what_it_is_named_for(self):
         self.rename("default.is_one", "doubled.is_one")
-        self.assert_fails("doubled.is_one.edit: it does not touch doubled, nor what that names", evidence, exceptions={})
+        self.assert_fails("doubled.is_one.edit: it does not touch doubled, nor what that names", evidence)
 
     def test_a_door_to_what_is_touched_needs_none(self):
         source = SOURCE.replace("fn twice", "pub fn doubled_again(value: u8) -> u8 {\n    twice(value)\n}\n\nfn twice")
         self.write("crates/numbers/src/lib.rt", source)
-        self.assertIn("try 3 functions", self.assert_passes(evidence, exceptions={}))
+        self.assertIn("try 3 functions", self.assert_passes(evidence))
         self.write("crates/numbers/src/lib.rt", source.replace("{\n    twice(value)", "{\n    if true { twice(value) } else { 0 }"))
-        self.assert_fails("no wrong body of numbers doubled_again", evidence, exceptions={})
+        self.assert_fails("no wrong body of numbers doubled_again", evidence)
 
     def test_the_type_and_the_trait_tell_equal_names_apart(self):
         text = self.FILES["crates/numbers/src/lib.rt"]
         letter = text.replace("Number", "Letter").replace("fn twice(value: u8) -> u8 {\n    value + value\n}\n", "")
         self.write("crates/numbers/src/letter.rt", letter)
-        self.assert_fails("doubled.is_once.edit: no public function has this name", evidence, exceptions={})
+        self.assert_fails("doubled.is_once.edit: no public function has this name", evidence)
         self.rename("doubled.is_once", "Number.doubled.is_once")
         self.rename("default.is_one", "Number.default.is_one")
-        self.assert_fails("no wrong body of numbers Letter.default", evidence, exceptions={})
+        self.assert_fails("no wrong body of numbers Letter.default", evidence)
         self.write("crates/numbers/must-fail/Letter.default.is_one.edit",
                    "file: src/letter.rt\nold:         Letter { value: 0 }\nnew:         Letter { value: 1 }\n")
-        self.assert_passes(evidence, exceptions={})
+        self.assert_passes(evidence)
         shown = "".join(f"impl {it} for Number {{\n    ghost output = {{ 0 }};\n    fn fmt() {{\n        {it}\n    }}\n}}\n\n" for it in ("Debug", "Display"))
         self.write("crates/numbers/src/shown.rt", shown)
-        self.assert_fails("no wrong body of numbers Number.Display", evidence, exceptions={})
-
-    def test_an_exception_that_has_one_or_is_gone_is_named(self):
-        for name in ("doubled", "tripled"):
-            self.assert_fails(f"has one or is gone: numbers {name}", evidence, exceptions={f"numbers {name}": ""})
+        self.assert_fails("no wrong body of numbers Number.Display", evidence)
 
     def test_a_wrong_body_that_cannot_be_applied_is_named(self):
         self.write("crates/numbers/must-fail/doubled.is_once.edit", "file: src/lib.rt\nold: three\nnew: 3\n")
-        self.assert_fails("doubled.is_once.edit: src/lib.rt does not have this once", evidence, exceptions={})
+        self.assert_fails("doubled.is_once.edit: src/lib.rt does not have this once", evidence)
 
     def test_of_a_program_all_but_main_is_asked_for(self):
         self.write("crates.txt", "numbers:\nprogram:\n")
         self.write("crates/program/src/main.rt", "fn main() {\n    print()\n}\n\nfn print() {\n    1\n}\n")
-        self.assert_fails("no wrong body of program print", evidence, exceptions={})
+        self.assert_fails("no wrong body of program print", evidence)
