@@ -91,6 +91,10 @@ pub fn one_stop()
 
 /// Where `str::find` finds a character: at a boundary, and nowhere before. If it finds none, the
 /// text has none.
+///
+/// # Precondition
+///
+/// `place` must be what `text.find(c)` returned.
 pub fn found_first(text: &str, c: char, place: Option<usize>)
     requires { MatchOption place (FindsChar c text.now None) (MatchBeginsAt (FindsChar c) text.now) }
     ensures { MatchOption place (position_or_len (λ d. d == c) (chars text.now) ≡ length (chars text.now)) (λ i. (i < size (chars text.now)) × IsTrue (boundary (chars text.now) i) × (front (chars text.now) i ≡ before_first (λ d. d == c) (chars text.now)) × (back (chars text.now) i ≡ c ∷ after_first (λ d. d == c) (chars text.now))) }
@@ -98,6 +102,10 @@ pub fn found_first(text: &str, c: char, place: Option<usize>)
 
 /// Where `str::split_once` splits at a character: at the first. If it gives no parts, the text has
 /// none.
+///
+/// # Precondition
+///
+/// `parts` must be what `text.split_once(c)` returned.
 pub fn split_first(text: &str, c: char, parts: Option<(&str, &str)>)
     requires { MatchOption parts (FindsChar c text.now None) (λ found. SplitsAroundMatch (FindsChar c) text.now found.0.now found.1.now) }
     ensures { MatchOption parts.entry (position_or_len (λ d. d == c) (chars text.now) ≡ length (chars text.now)) (λ found. (position_or_len (λ d. d == c) (chars text.now) < length (chars text.now)) × (chars found.0.now ≡ before_first (λ d. d == c) (chars text.now)) × (chars found.1.now ≡ after_first (λ d. d == c) (chars text.now)) × (chars text.now ≡ chars found.0.now ++ c ∷ chars found.1.now) × NonePass (λ d. d == c) (chars found.0.now)) }
