@@ -192,10 +192,6 @@ pub fn one_stop() {}
 /// Where `str::find` finds a character: at a boundary, and nowhere before. If it finds none, the
 /// text has none.
 ///
-/// # Precondition
-///
-/// `place` must be what `text.find(c)` returned.
-///
 /// # In Rust
 ///
 /// The law does nothing when it is called.
@@ -216,10 +212,6 @@ pub fn found_first(text: &str, c: char, place: Option<usize>) {}
 
 /// Where `str::split_once` splits at a character: at the first. If it gives no parts, the text has
 /// none.
-///
-/// # Precondition
-///
-/// `parts` must be what `text.split_once(c)` returned.
 ///
 /// # In Rust
 ///

@@ -131,7 +131,7 @@ impl<const N: usize> ArrayString<N> {
     ///
     /// Each clause `requires` of the contract must hold, but for those on counts, on iterators and on closures.
     ///
-    /// # Contract
+    /// <details><summary>Contract</summary>
     ///
     /// ```text
     /// requires held { IsStored N array.old start.old len.old }
@@ -142,6 +142,10 @@ impl<const N: usize> ArrayString<N> {
     ///     × MatchResult result (λ _. size taken ≤ cap N - size t) (λ _. cap N - size t < size taken)
     ///     × ((stored array.new start.new len.new).text ≡ t ++ cut taken (cap N - size t)) }
     /// ```
+    ///
+    /// [How to read a contract](crate::contracts)
+    ///
+    /// </details>
     #[inline(always)]
     pub(super) unsafe fn append_chars<I: IntoIterator<Item = char>>(
         array: &mut [u8; N],
@@ -169,7 +173,7 @@ impl<const N: usize> ArrayString<N> {
     ///
     /// Each clause `requires` of the contract must hold, but for those on counts, on iterators and on closures.
     ///
-    /// # Contract
+    /// <details><summary>Contract</summary>
     ///
     /// ```text
     /// requires held { IsStored N array.old start.old len.old }
@@ -179,6 +183,10 @@ impl<const N: usize> ArrayString<N> {
     /// ensures text { let t = (stored array.old start.old len.old).text in let new = (stored array.new start.new len.new).text in
     ///     MatchOption result ((cap N < size t + size (ch ∷ [])) × (new ≡ t)) (λ _. (size t + size (ch ∷ []) ≤ cap N) × (new ≡ t ++ ch ∷ [])) }
     /// ```
+    ///
+    /// [How to read a contract](crate::contracts)
+    ///
+    /// </details>
     #[inline(always)]
     unsafe fn append_char(array: &mut [u8; N], start: &mut u8, len: &mut u8, end: usize, ch: char) -> Option<usize> {
         // SAFETY: the proof of `append_char` in crates/arraystring_core/src/array_string/extend.rt shows the precondition of `has_room`.
@@ -207,7 +215,7 @@ impl<const N: usize> ArrayString<N> {
 ///
 /// Each clause `requires` of the contract must hold, but for those on counts, on iterators and on closures.
 ///
-/// # Contract
+/// <details><summary>Contract</summary>
 ///
 /// ```text
 /// requires held { IsStored N array.old start size }
@@ -216,6 +224,10 @@ impl<const N: usize> ArrayString<N> {
 /// ensures held { IsStored N array.new 0 result }
 /// ensures text { (stored array.new 0 result).text ≡ (stored array.old start size).text ++ ch ∷ [] }
 /// ```
+///
+/// [How to read a contract](crate::contracts)
+///
+/// </details>
 #[cold]
 #[inline(never)]
 unsafe fn compact_and_append<const N: usize>(array: &mut [u8; N], start: usize, size: usize, ch: char) -> usize {
