@@ -1,10 +1,8 @@
-use Rattle.std.proofs.Common.{◌≡◌, ◌+◌, ◌-◌, ◌<◌, ◌≤◌, ◌∷◌, [], ◌++◌, refl, arith, rules}
+use Rattle.std.proofs.Common.{◌≡◌, ◌+◌, ◌-◌, ◌<◌, ◌≤◌, refl, arith, rules}
 use Rattle.std.proofs.Math.Nat.{lt_of_not-le}
 use Rattle.std.proofs.lemmas.Bool.{iff_false}
 use Rattle.arraystring_base.specs.Text.{cap, width}
-use Rattle.arraystring_core.specs.Stored.{stored}
 use Rattle.arraystring_core.specs.GhostProofs.{stored-size}
-use Rattle.arraystring_core.proofs.SpanLemmas.{Lies}
 use Rattle.arraystring_core.proofs.AppendLemmas.{char-appended}
 use Rattle.arraystring_core.proofs.array_string.ArrayString.append_char.Goals as goal
 

@@ -1,6 +1,6 @@
-use Rattle.std.proofs.Common.{◌≡◌, ℕ, ◌+◌, ◌-◌, ◌<◌, ◌≤◌, ◌++◌, ◌∷◌, [], refl, sym, arith, inl, inr, append-nil}
+use Rattle.std.proofs.Common.{◌≡◌, ◌+◌, ◌-◌, ◌<◌, ◌≤◌, ◌++◌, ◌∷◌, [], refl, sym, arith, inl, inr, append-nil}
 use Rattle.std.proofs.iter.Next.{Yields-more}
-use Rattle.arraystring_base.specs.Text.{size, width, cap, cut}
+use Rattle.arraystring_base.specs.Text.{size, cap, cut}
 use Rattle.arraystring_base.proofs.TextLaws.{width-bounds}
 use Rattle.arraystring_base.proofs.CutLaws.{cut-all}
 use Rattle.arraystring_core.specs.Stored.{stored}

@@ -1,7 +1,6 @@
-use Rattle.std.proofs.Common.{◌≡◌, ◌∙◌, subst, rules, arith, length}
+use Rattle.std.proofs.Common.{◌∙◌, subst, rules, arith}
 use Rattle.std.proofs.lemmas.Str.{chars-nil, IsUtf8-nil}
 use Rattle.std.proofs.lemmas.List.{length-replicate}
-use Rattle.std.proofs.Math.ListN.{replicate}
 use Rattle.arraystring_base.specs.Text.{cap}
 use Rattle.arraystring_core.specs.Taken.{Takes}
 use Rattle.arraystring_core.proofs.TakenLaws.{chars-cut}
