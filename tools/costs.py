@@ -81,7 +81,7 @@ def costs(folder, top):
         table.append((seconds, f"{edit.stem}: {said}"))
         failed = failed or not is_refused
         print(dearest(table[-1:], 1), flush=True)
-    print(f"{sum(seconds for seconds, _ in table):.0f} s for {len(table)} wrong bodies; the dearest:\n{dearest(table, top)}", flush=True)
+    print(f"{sum(seconds for seconds, _ in table):.0f} s together, of {len(table)}; the dearest:\n{dearest(table, top)}", flush=True)
     return failed
 
 

@@ -51,7 +51,7 @@ class Costs(TreeTest):
         once = "  5.5 s  twice_is_once: src/lib.rt:1:1: error: open\n"
         thrice = " 31.2 s  twice_is_thrice: note: ./proofs/twice/Answers.antt:3:1: no\n"
         head = "numbers: 2.0 s for a check that has nothing to prove\n"
-        self.assertEqual(printed, head + once + thrice + "37 s for 2 wrong bodies; the dearest:\n" + thrice + once)
+        self.assertEqual(printed, head + once + thrice + "37 s together, of 2; the dearest:\n" + thrice + once)
         self.assertTrue(self.assert_passes(costs, "numbers", "--top", "1").endswith("the dearest:\n" + thrice))
 
     def test_one_that_proves_fails(self):
