@@ -119,11 +119,12 @@ CAUSES = [
                 f"{CORE}/decode.rs",
                 "    let mut rest = text.chars();\n    let Some(ch) = rest.next() else {\n        unreachable!();\n    };\n    (ch, text.len() - rest.as_str().len())\n",
                 """    let at = |index: usize| unsafe { *text.as_bytes().get_unchecked(index) as u32 };
-    let (first, second) = (at(0), at(1) & 63);
+    let first = at(0);
     let (code, width) = match first {
-        0..0xE0 => ((first & 31) << 6 | second, 2),
-        0xE0..0xF0 => ((first & 15) << 12 | second << 6 | at(2) & 63, 3),
-        _ => ((first & 7) << 18 | second << 12 | (at(2) & 63) << 6 | at(3) & 63, 4),
+        0..0x80 => (first, 1),
+        0x80..0xE0 => ((first & 31) << 6 | at(1) & 63, 2),
+        0xE0..0xF0 => ((first & 15) << 12 | (at(1) & 63) << 6 | at(2) & 63, 3),
+        _ => ((first & 7) << 18 | (at(1) & 63) << 12 | (at(2) & 63) << 6 | at(3) & 63, 4),
     };
     (unsafe { char::from_u32_unchecked(code) }, width)
 """,
