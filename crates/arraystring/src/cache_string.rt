@@ -1,13 +1,13 @@
 //! `CacheString`: a string of at most 63 bytes under a name of its own. Each call is that of the
-//! string inside.
-ghost use Rattle.std.specs.Prelude.{◌≡◌, ℕ, ◌≤◌, ◌↔◌, ◌++◌, [], List, Ok, Err, Some, IsOk, IfOk, chars, length};
+//! string inside. `traits` has its impls of traits.
+ghost use Rattle.std.specs.Prelude.{◌≡◌, ℕ, ◌≤◌, ◌↔◌, [], List, Err, IsOk, IfOk, chars, length};
 ghost use Rattle.std.specs.Borrow.{Bor};
 ghost use Rattle.std.specs.Iterator.{IsFiniteIterable};
 ghost use Rattle.arraystring_base.specs.declared.error.Error.TheVariants as error;
 ghost use Rattle.arraystring_base.specs.declared.utf16.Unit16.{Unit16};
 ghost use Rattle.arraystring_base.specs.Text.{size, bytes, cut, IsText, IsWellFormed};
 ghost use Rattle.arraystring_base.specs.Utf16.{IsReading, first_stop, lossy_text};
-ghost use Rattle.arraystring_core.specs.Edits.{Makes, from_out_of_bounds, with_text, addition, addition_of_cut, split};
+ghost use Rattle.arraystring_core.specs.Edits.{Makes, from_out_of_bounds, with_text, split};
 ghost use Rattle.arraystring_core.specs.FromUtf16.{GivesWhole, GivesPrefix};
 ghost use Rattle.arraystring_core.specs.Construct.{IsWholeOrRefused};
 ghost use Rattle.arraystring_core.specs.Taken.{Takes, TakesAll, Fits, Gives, joined, joined_pieces, piece_text};
@@ -15,11 +15,8 @@ ghost use Rattle.arraystring.specs.Cached.{held};
 
 use crate::error::{Error, OutOfBounds, Utf8, Utf16};
 use arraystring_core::ArrayString;
-use std::fmt;
-use std::ops::Add;
-use std::str::FromStr;
 
-mod compare;
+mod traits;
 
 /// A string of at most 63 bytes of UTF-8. Calls that it lacks are made on the `ArrayString<63>` in
 /// its field `0`.
@@ -385,123 +382,5 @@ impl CacheString {
         ensures { Makes (split self.old.0.text at) self.old.0.text (with_text (held result)) self.new.0.text }
     {
         Ok(CacheString(self.0.split_off(at)?))
-    }
-}
-
-/// An empty string.
-///
-/// # Examples
-///
-/// ```
-/// assert_eq!(CacheString::default().0.as_str(), "");
-/// ```
-impl Default for CacheString {
-    ghost is_default = { λ s. s.0.text ≡ [] };
-
-    fn default() -> Self {
-        Self::new()
-    }
-}
-
-/// A `CacheString` of the same text.
-///
-/// # Examples
-///
-/// ```
-/// assert_eq!(CacheString::from(ArrayString::from("user:42")).0.as_str(), "user:42");
-/// ```
-impl From<ArrayString<63>> for CacheString {
-    ghost from_gives = { λ string made. made.0.text ≡ string.text };
-
-    fn from(string: ArrayString<63>) -> Self {
-        CacheString(string)
-    }
-}
-
-/// The same as `try_from_str`.
-///
-/// # Examples
-///
-/// ```
-/// assert_eq!("user:42".parse().map(|key: CacheString| key.0.len()), Ok(7));
-/// assert_eq!("m".repeat(64).parse::<CacheString>(), Err(OutOfBounds));
-/// ```
-impl FromStr for CacheString {
-    type Err = OutOfBounds;
-
-    ghost from_str_gives = { λ string result. IsWholeOrRefused (chars string) 63 (from_out_of_bounds (held result)) };
-
-    /// Creates a string from `string`.
-    ///
-    /// # Errors
-    ///
-    /// Returns `Err(OutOfBounds)` if `string` is larger than the capacity.
-    fn from_str(string: &str) -> Result<Self, OutOfBounds> {
-        Self::try_from_str(string)
-    }
-}
-
-/// Writes the text. A width and a precision in the format are ignored: nothing is padded, and
-/// nothing is cut.
-///
-/// # Examples
-///
-/// ```
-/// let key = CacheString::from_str_truncate("abc");
-/// assert_eq!(format!("[{key}] [{key:8.1}]"), "[abc] [abc]");
-/// ```
-impl fmt::Display for CacheString {
-    ghost output = { λ s. Some (bytes s.0.text) };
-
-    ghost styled_output = { λ s _. Some (bytes s.0.text) };
-
-    fn fmt<W: fmt::Write>(&self, f: &mut fmt::Formatter<W>) -> fmt::Result {
-        f.write_str(self.0.as_str())
-    }
-}
-
-/// Appends the longest prefix of whole characters of the `&str` that fits.
-///
-/// # Examples
-///
-/// ```
-/// assert_eq!((CacheString::new() + "user:" + "42").0.as_str(), "user:42");
-/// ```
-impl<'a> Add<&'a str> for CacheString {
-    type Output = Self;
-
-    ghost add_gives = { λ s given sum. Makes (addition_of_cut s.0.text (chars given.now) 63) s.0.text (Ok tt) sum.0.text };
-
-    fn add(self, given: &'a str) -> Self {
-        CacheString(self.0 + given)
-    }
-}
-
-/// `write!` appends what it prints, each piece whole.
-///
-/// # Examples
-///
-/// ```
-/// use std::fmt::Write;
-///
-/// let mut key = CacheString::new();
-/// assert!(write!(key, "user:{}", 42).is_ok());
-/// assert!(write!(key, "{}", "m".repeat(64)).is_err());
-/// assert_eq!(key.0.as_str(), "user:42");
-/// ```
-impl fmt::Write for CacheString {
-    ghost write_str_gives = { λ s given t. bytes t.0.text ≡ bytes s.0.text ++ given };
-
-    /// Appends `string`.
-    ///
-    /// # Errors
-    ///
-    /// Returns `Err(fmt::Error)` if not all of `string` fits. The text is then unchanged. A
-    /// `write!` of several pieces keeps those before the one that is refused.
-    fn write_str(&mut self, string: &str) -> fmt::Result
-        ensures ok { IsOk result → bytes self.new.0.text ≡ bytes self.old.0.text ++ string.now }
-        ensures made { Makes (addition self.old.0.text (chars string.now) 63) self.old.0.text (from_out_of_bounds result) self.new.0.text }
-    {
-        self.0.write_str(string)
     }
 }

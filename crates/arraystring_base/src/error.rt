@@ -47,23 +47,19 @@ impl Error {
     }
 }
 
-/// Writes the name to the hasher, as `str` does.
+/// `Error::` and the name.
 ///
 /// # Examples
 ///
 /// ```
-/// use std::collections::HashSet;
-///
-/// let errors = HashSet::from([Error::Utf8, Error::Utf16, Error::Utf8]);
-/// assert_eq!(errors.len(), 2);
+/// assert_eq!(format!("{:?}", Error::Utf8), "Error::Utf8");
 /// ```
-impl Hash for Error {
-    ghost hash_input = { λ e. fed.str (error_name e) };
+impl fmt::Debug for Error {
+    ghost debug_output = { λ e. Some (codes "Error::" ++ error_name e) };
 
-    ghost respects_eq = { λ x y h. ap fed.str (same_names x y h) };
-
-    fn hash<H: Hasher>(&self, state: &mut H) {
-        self.name().hash(state);
+    fn fmt<W: fmt::Write>(&self, f: &mut fmt::Formatter<W>) -> fmt::Result {
+        f.write_str("Error::")?;
+        f.write_str(self.name())
     }
 }
 
@@ -84,22 +80,6 @@ impl fmt::Display for Error {
     }
 }
 
-/// `Error::` and the name.
-///
-/// # Examples
-///
-/// ```
-/// assert_eq!(format!("{:?}", Error::Utf8), "Error::Utf8");
-/// ```
-impl fmt::Debug for Error {
-    ghost debug_output = { λ e. Some (codes "Error::" ++ error_name e) };
-
-    fn fmt<W: fmt::Write>(&self, f: &mut fmt::Formatter<W>) -> fmt::Result {
-        f.write_str("Error::")?;
-        f.write_str(self.name())
-    }
-}
-
 /// As an error of any kind. It has no source.
 ///
 /// # Examples
@@ -113,6 +93,90 @@ impl fmt::Debug for Error {
 /// assert_eq!(parsed("2555").unwrap_err().to_string(), "OutOfBounds");
 /// ```
 impl StdError for Error {}
+
+/// The case of its name.
+///
+/// # Examples
+///
+/// ```
+/// fn two(text: &str) -> Result<ArrayString<2>, Error> {
+///     Ok(ArrayString::try_from_str(text)?)
+/// }
+///
+/// assert_eq!(two("abc"), Err(Error::OutOfBounds));
+/// ```
+impl From<OutOfBounds> for Error {
+    ghost from_gives = { λ _ error. error ≡ cases.OutOfBounds };
+
+    fn from(_error: OutOfBounds) -> Self {
+        Error::OutOfBounds
+    }
+}
+
+/// The case of its name.
+///
+/// # Examples
+///
+/// ```
+/// assert_eq!(Error::from(Utf16), Error::Utf16);
+/// ```
+impl From<Utf16> for Error {
+    ghost from_gives = { λ _ error. error ≡ cases.Utf16 };
+
+    fn from(_error: Utf16) -> Self {
+        Error::Utf16
+    }
+}
+
+/// The case of its name.
+///
+/// # Examples
+///
+/// ```
+/// assert_eq!(Error::from(Utf8), Error::Utf8);
+/// ```
+impl From<Utf8> for Error {
+    ghost from_gives = { λ _ error. error ≡ cases.Utf8 };
+
+    fn from(_error: Utf8) -> Self {
+        Error::Utf8
+    }
+}
+
+/// Bytes that `std` finds not to be UTF-8 are refused as `Error::Utf8`.
+///
+/// # Examples
+///
+/// ```
+/// assert_eq!(std::str::from_utf8(b"a\xFF").map_err(Error::from), Err(Error::Utf8));
+/// ```
+impl From<Utf8Error> for Error {
+    ghost from_gives = { λ _ error. error ≡ cases.Utf8 };
+
+    fn from(error: Utf8Error) -> Self {
+        Error::from(Utf8::from(error))
+    }
+}
+
+/// Writes the name to the hasher, as `str` does.
+///
+/// # Examples
+///
+/// ```
+/// use std::collections::HashSet;
+///
+/// let errors = HashSet::from([Error::Utf8, Error::Utf16, Error::Utf8]);
+/// assert_eq!(errors.len(), 2);
+/// ```
+impl Hash for Error {
+    ghost hash_input = { λ e. fed.str (error_name e) };
+
+    ghost respects_eq = { λ x y h. ap fed.str (same_names x y h) };
+
+    fn hash<H: Hasher>(&self, state: &mut H) {
+        self.name().hash(state);
+    }
+}
 
 /// Bytes that are not well-formed UTF-8 (the Unicode Standard, section 3.9), or an index inside a
 /// character. `is_char_boundary` returns it for an index past the text too.
@@ -132,12 +196,10 @@ pub struct Utf8;
 /// # Examples
 ///
 /// ```
-/// assert_eq!(Utf8.to_string(), "Utf8");
+/// assert_eq!(format!("{Utf8:?}"), "Utf8");
 /// ```
-impl fmt::Display for Utf8 {
-    ghost output = { λ _. Some (codes "Utf8") };
-
-    ghost styled_output = { λ _ _. Some (codes "Utf8") };
+impl fmt::Debug for Utf8 {
+    ghost debug_output = { λ _. Some (codes "Utf8") };
 
     fn fmt<W: fmt::Write>(&self, f: &mut fmt::Formatter<W>) -> fmt::Result {
         f.write_str("Utf8")
@@ -149,10 +211,12 @@ impl fmt::Display for Utf8 {
 /// # Examples
 ///
 /// ```
-/// assert_eq!(format!("{Utf8:?}"), "Utf8");
+/// assert_eq!(Utf8.to_string(), "Utf8");
 /// ```
-impl fmt::Debug for Utf8 {
-    ghost debug_output = { λ _. Some (codes "Utf8") };
+impl fmt::Display for Utf8 {
+    ghost output = { λ _. Some (codes "Utf8") };
+
+    ghost styled_output = { λ _ _. Some (codes "Utf8") };
 
     fn fmt<W: fmt::Write>(&self, f: &mut fmt::Formatter<W>) -> fmt::Result {
         f.write_str("Utf8")
@@ -169,6 +233,19 @@ impl fmt::Debug for Utf8 {
 /// ```
 impl StdError for Utf8 {}
 
+/// Bytes that `std` finds not to be UTF-8 are refused as `Utf8`.
+///
+/// # Examples
+///
+/// ```
+/// assert_eq!(std::str::from_utf8(b"a\xFF").map_err(Utf8::from), Err(Utf8));
+/// ```
+impl From<Utf8Error> for Utf8 {
+    fn from(_error: Utf8Error) -> Self {
+        Utf8
+    }
+}
+
 /// A lone surrogate in UTF-16 (the Unicode Standard, section 3.9).
 ///
 /// # Examples
@@ -184,12 +261,10 @@ pub struct Utf16;
 /// # Examples
 ///
 /// ```
-/// assert_eq!(Utf16.to_string(), "Utf16");
+/// assert_eq!(format!("{Utf16:?}"), "Utf16");
 /// ```
-impl fmt::Display for Utf16 {
-    ghost output = { λ _. Some (codes "Utf16") };
-
-    ghost styled_output = { λ _ _. Some (codes "Utf16") };
+impl fmt::Debug for Utf16 {
+    ghost debug_output = { λ _. Some (codes "Utf16") };
 
     fn fmt<W: fmt::Write>(&self, f: &mut fmt::Formatter<W>) -> fmt::Result {
         f.write_str("Utf16")
@@ -201,10 +276,12 @@ impl fmt::Display for Utf16 {
 /// # Examples
 ///
 /// ```
-/// assert_eq!(format!("{Utf16:?}"), "Utf16");
+/// assert_eq!(Utf16.to_string(), "Utf16");
 /// ```
-impl fmt::Debug for Utf16 {
-    ghost debug_output = { λ _. Some (codes "Utf16") };
+impl fmt::Display for Utf16 {
+    ghost output = { λ _. Some (codes "Utf16") };
+
+    ghost styled_output = { λ _ _. Some (codes "Utf16") };
 
     fn fmt<W: fmt::Write>(&self, f: &mut fmt::Formatter<W>) -> fmt::Result {
         f.write_str("Utf16")
@@ -237,12 +314,10 @@ pub struct OutOfBounds;
 /// # Examples
 ///
 /// ```
-/// assert_eq!(OutOfBounds.to_string(), "OutOfBounds");
+/// assert_eq!(format!("{OutOfBounds:?}"), "OutOfBounds");
 /// ```
-impl fmt::Display for OutOfBounds {
-    ghost output = { λ _. Some (codes "OutOfBounds") };
-
-    ghost styled_output = { λ _ _. Some (codes "OutOfBounds") };
+impl fmt::Debug for OutOfBounds {
+    ghost debug_output = { λ _. Some (codes "OutOfBounds") };
 
     fn fmt<W: fmt::Write>(&self, f: &mut fmt::Formatter<W>) -> fmt::Result {
         f.write_str("OutOfBounds")
@@ -254,10 +329,12 @@ impl fmt::Display for OutOfBounds {
 /// # Examples
 ///
 /// ```
-/// assert_eq!(format!("{OutOfBounds:?}"), "OutOfBounds");
+/// assert_eq!(OutOfBounds.to_string(), "OutOfBounds");
 /// ```
-impl fmt::Debug for OutOfBounds {
-    ghost debug_output = { λ _. Some (codes "OutOfBounds") };
+impl fmt::Display for OutOfBounds {
+    ghost output = { λ _. Some (codes "OutOfBounds") };
+
+    ghost styled_output = { λ _ _. Some (codes "OutOfBounds") };
 
     fn fmt<W: fmt::Write>(&self, f: &mut fmt::Formatter<W>) -> fmt::Result {
         f.write_str("OutOfBounds")
@@ -273,80 +350,3 @@ impl fmt::Debug for OutOfBounds {
 /// assert!(error.source().is_none());
 /// ```
 impl StdError for OutOfBounds {}
-
-/// Bytes that `std` finds not to be UTF-8 are refused as `Utf8`.
-///
-/// # Examples
-///
-/// ```
-/// assert_eq!(std::str::from_utf8(b"a\xFF").map_err(Utf8::from), Err(Utf8));
-/// ```
-impl From<Utf8Error> for Utf8 {
-    fn from(_error: Utf8Error) -> Self {
-        Utf8
-    }
-}
-
-/// Bytes that `std` finds not to be UTF-8 are refused as `Error::Utf8`.
-///
-/// # Examples
-///
-/// ```
-/// assert_eq!(std::str::from_utf8(b"a\xFF").map_err(Error::from), Err(Error::Utf8));
-/// ```
-impl From<Utf8Error> for Error {
-    ghost from_gives = { λ _ error. error ≡ cases.Utf8 };
-
-    fn from(error: Utf8Error) -> Self {
-        Error::from(Utf8::from(error))
-    }
-}
-
-/// The case of its name.
-///
-/// # Examples
-///
-/// ```
-/// assert_eq!(Error::from(Utf8), Error::Utf8);
-/// ```
-impl From<Utf8> for Error {
-    ghost from_gives = { λ _ error. error ≡ cases.Utf8 };
-
-    fn from(_error: Utf8) -> Self {
-        Error::Utf8
-    }
-}
-
-/// The case of its name.
-///
-/// # Examples
-///
-/// ```
-/// assert_eq!(Error::from(Utf16), Error::Utf16);
-/// ```
-impl From<Utf16> for Error {
-    ghost from_gives = { λ _ error. error ≡ cases.Utf16 };
-
-    fn from(_error: Utf16) -> Self {
-        Error::Utf16
-    }
-}
-
-/// The case of its name.
-///
-/// # Examples
-///
-/// ```
-/// fn two(text: &str) -> Result<ArrayString<2>, Error> {
-///     Ok(ArrayString::try_from_str(text)?)
-/// }
-///
-/// assert_eq!(two("abc"), Err(Error::OutOfBounds));
-/// ```
-impl From<OutOfBounds> for Error {
-    ghost from_gives = { λ _ error. error ≡ cases.OutOfBounds };
-
-    fn from(_error: OutOfBounds) -> Self {
-        Error::OutOfBounds
-    }
-}

@@ -2,9 +2,38 @@
 //! overlap, and both are read before the first is written. So does `memmove` with a short run. A
 //! byte that both have is written twice, to one offset: it moves once. They are read as vectors,
 //! since those stay in registers; arrays of bytes would be put on the stack.
-ghost use Rattle.std.specs.Prelude.{◌≡◌, ◌+◌, ◌-◌, ◌≤◌, ◌<◌, ◌++◌, length, take, drop};
+ghost use Rattle.std.specs.Prelude.{◌≡◌, ◌+◌, ◌-◌, ◌^◌, ◌==◌, if◌then◌else◌, ◌≤◌, ◌<◌, ◌++◌, length, take, drop};
 
+use crate::steps::Steps;
 use std::simd::Simd;
+
+/// Moves `len` bytes of the array from the offset `from` to the offset `to`; the two runs may
+/// overlap. Each byte counts as one move, also if it is written twice on the way (see `moves`), and
+/// none counts if `from` is `to`. No byte outside the target changes.
+///
+/// # Precondition
+///
+/// Both runs must lie in the array, and the count of moves plus `len` must be below 2^64.
+#[inline(always)]
+pub fn shift<const N: usize>(
+    array: &mut [u8; N],
+    from: usize,
+    to: usize,
+    len: usize,
+    steps: &mut Steps,
+)
+    requires source { from + len ≤ N }
+    requires target { to + len ≤ N }
+    requires countable { steps.old.moved + len < 2 ^ 64 }
+    ensures bytes { array.new ≡ take to array.old ++ (take len (drop from array.old) ++ drop (to + len) array.old) }
+    ensures moved { steps.new.moved ≡ steps.old.moved + (if from == to then 0 else len) }
+    ensures looked { steps.new.looked ≡ steps.old.looked }
+{
+    if from != to {
+        move_run(array, from, to, len);
+        steps.count_moves(len);
+    }
+}
 
 /// Moves `len` bytes of the array from the offset `from` to the offset `to`; the two runs may overlap.
 /// No byte outside the target changes, and nothing is counted. Up to 256 bytes cost no call.

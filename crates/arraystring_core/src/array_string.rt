@@ -1,32 +1,29 @@
-//! `ArrayString`: the type, the calls that read it, and those that push to its end or pop from it.
-//! The modules below have its other calls, and `edit` the private ones that put bytes into its
-//! array or take them out.
+//! `ArrayString`: the type, and the calls that read all of it. The modules below have its other calls,
+//! `traits` its impls of traits, and `in_place` the private calls that put bytes into its array or take
+//! them out.
 //!
 //! # Iterators
 //!
-//! An iterator that is passed in must end, and until it does its `next` must be callable. All
-//! calls but the unchecked ones stop at the first item that does not fit: their contracts say that
-//! no item after it matters, and a test shows that they take none.
-ghost use Rattle.std.specs.Prelude.{◌≡◌, ◌≢◌, ◌+◌, ◌-◌, ◌^◌, ◌<◌, ◌≤◌, ◌↔◌, min, IfSome, Ok, [], ◌∷◌, ◌++◌, IsTrue, chars, length, nat_eq};
-ghost use Rattle.std.specs.Cmp.{on_equiv, on_per, partial_equiv_from_equiv};
-ghost use Rattle.std.specs.Cmp.Lexicographic.{pointwise, nat_list_eq_equiv};
-ghost use Rattle.arraystring_base.specs.Text.{size, width, bytes, cap, front, back, boundary, IsText};
-ghost use Rattle.arraystring_core.specs.Edits.{Makes, from_out_of_bounds, addition, addition_of_cut, popping};
+//! An iterator that is passed in must end, and until it does the precondition of its `next` must
+//! hold. All calls but the unchecked ones stop at the first item that does not fit: their
+//! contracts say that no item after it matters, and a test shows that they take none.
+ghost use Rattle.std.specs.Prelude.{◌≡◌, ◌≤◌, ◌↔◌, [], IsTrue, length};
+ghost use Rattle.arraystring_base.specs.Text.{size, bytes, cap, boundary, IsText};
 
-use crate::equal::equal;
-use arraystring_base::error::OutOfBounds;
-use arraystring_base::utils::{Steps, encode, last_char, truncate_str, write_over};
+use arraystring_base::utils::is_boundary;
 use std::marker::Model;
-use std::{fmt, str};
+use std::str;
 
 mod ascii;
-mod compare;
 mod construct;
-mod edit;
-mod extend;
+mod fill;
+mod gap;
+mod in_place;
 mod insert;
+mod push;
 mod range;
 mod remove;
+mod traits;
 mod trim;
 mod utf16;
 
@@ -191,224 +188,10 @@ impl<const N: usize> ArrayString<N> {
         &all[start..start + self.size as usize]
     }
 
-    /// Appends `ch`.
-    ///
-    /// # Errors
-    ///
-    /// Returns `Err(OutOfBounds)` if `ch` does not fit. The text is then unchanged.
-    ///
-    /// # Examples
-    ///
-    /// ```
-    /// let mut string = ArrayString::<4>::from("ab");
-    /// assert_eq!(string.try_push('c'), Ok(()));
-    /// assert_eq!(string.try_push('é'), Err(OutOfBounds)); // one byte is left, and `é` takes two
-    /// assert_eq!(string.as_str(), "abc");
-    /// ```
-    #[inline(always)]
-    pub fn try_push(&mut self, ch: char) -> Result<(), OutOfBounds>
-        ensures { Makes (addition self.old.text (ch ∷ []) (cap N)) self.old.text (from_out_of_bounds result) self.new.text }
+    /// Whether a character begins at `at`, or the text ends there.
+    fn is_boundary(&self, at: usize) -> bool
+        ensures { result ≡ boundary self.now.text at }
     {
-        let end = self.start as usize + self.size as usize;
-        if Self::has_room(end, ch) {
-            self.push_unchecked(ch);
-            return Ok(());
-        }
-        self.try_push_near_end(ch)
-    }
-
-    /// Appends `ch`.
-    ///
-    /// # Precondition
-    ///
-    /// `ch` must fit.
-    #[inline(always)]
-    pub fn push_unchecked(&mut self, ch: char)
-        requires { size self.old.text + width ch ≤ cap N }
-        ensures { self.new.text ≡ self.old.text ++ ch ∷ [] }
-    {
-        let end = self.start as usize + self.size as usize;
-        if !Self::has_room(end, ch) {
-            return self.compact_and_push(ch);
-        }
-        let len = encode(ch, &mut self.array, end);
-        self.size = (self.size as usize + len) as u8;
-    }
-
-    /// Appends `string`.
-    ///
-    /// # Errors
-    ///
-    /// Returns `Err(OutOfBounds)` if not all of `string` fits. The text is then unchanged.
-    ///
-    /// # Examples
-    ///
-    /// ```
-    /// let mut string = ArrayString::<4>::from("ab");
-    /// assert_eq!(string.try_push_str("c"), Ok(()));
-    /// assert_eq!(string.try_push_str("de"), Err(OutOfBounds));
-    /// assert_eq!(string.as_str(), "abc");
-    /// ```
-    #[inline]
-    pub fn try_push_str(&mut self, string: &str) -> Result<(), OutOfBounds>
-        ensures { Makes (addition self.old.text (chars string.now) (cap N)) self.old.text (from_out_of_bounds result) self.new.text }
-    {
-        // Room after the text is tested first: if there is some, it is the only test.
-        let size = self.len() as usize;
-        let capacity = Self::capacity() as usize;
-        if self.start as usize + size + string.len() > capacity {
-            if size + string.len() > capacity {
-                return Err(OutOfBounds);
-            }
-            self.compact_and_push_str(string);
-        } else {
-            self.push_str_unchecked(string);
-        }
-        Ok(())
-    }
-
-    /// Appends the longest prefix of whole characters of `string` that fits.
-    ///
-    /// # Examples
-    ///
-    /// ```
-    /// let mut string = ArrayString::<4>::from("abc");
-    /// string.push_str("dé"); // one byte is left, and `é` takes two
-    /// assert_eq!(string.as_str(), "abcd");
-    /// ```
-    pub fn push_str(&mut self, string: &str)
-        ensures { Makes (addition_of_cut self.old.text (chars string.now) (cap N)) self.old.text (Ok result) self.new.text }
-    {
-        let room = Self::capacity() - self.len();
-        self.push_str_unchecked(truncate_str(string, room));
-    }
-
-    /// Appends `string`.
-    ///
-    /// # Precondition
-    ///
-    /// All of `string` must fit.
-    #[inline]
-    pub fn push_str_unchecked(&mut self, string: &str)
-        requires { size self.old.text + size (chars string.now) ≤ cap N }
-        ensures { self.new.text ≡ self.old.text ++ chars string.now }
-    {
-        let end = self.start as usize + self.size as usize;
-        if end + string.len() > Self::capacity() as usize {
-            return self.compact_and_push_str(string);
-        }
-        self.size = (self.size as usize + string.len()) as u8;
-        write_over(&mut self.array, end, string.as_bytes());
-    }
-
-    /// Removes the last character and returns it. Returns `None` if the text is empty.
-    ///
-    /// # Examples
-    ///
-    /// ```
-    /// let mut string = ArrayString::<4>::from("aé");
-    /// assert_eq!(string.pop(), Some('é'));
-    /// assert_eq!(string.pop(), Some('a'));
-    /// assert_eq!(string.pop(), None);
-    /// ```
-    pub fn pop(&mut self) -> Option<char>
-        ensures { Makes (popping self.old.text) self.old.text (Ok result) self.new.text }
-    {
-        self.pop_counted(&mut Steps::new())
-    }
-
-    /// The same as `pop`, counted in `steps`: at most four looks, at least one if there is a
-    /// character, and no moves.
-    ///
-    /// # Precondition
-    ///
-    /// Both counts of `steps` must be at most 2^63.
-    ///
-    /// # Examples
-    ///
-    /// ```
-    /// let mut string = ArrayString::<4>::from("aé");
-    /// let mut steps = Steps::new();
-    /// assert_eq!(string.pop_counted(&mut steps), Some('é'));
-    /// assert!((1..=4).contains(&steps.looked()) && steps.moved() == 0);
-    /// ```
-    pub fn pop_counted(&mut self, steps: &mut Steps) -> Option<char>
-        requires looks { steps.old.looked ≤ 2 ^ 63 }
-        requires moves { steps.old.moved ≤ 2 ^ 63 }
-        ensures edit { Makes (popping self.old.text) self.old.text (Ok result) self.new.text }
-        ensures looked { steps.new.looked ≤ steps.old.looked + 4 }
-        ensures least { IfSome result (λ _. steps.old.looked < steps.new.looked) }
-        ensures counted { steps.old.looked ≤ steps.new.looked }
-        ensures moved { steps.new.moved ≡ steps.old.moved }
-    {
-        let (start, ch) = last_char(self.as_str(), steps)?;
-        self.keep(start as u8);
-        Some(ch)
-    }
-}
-
-/// An empty string.
-///
-/// # Examples
-///
-/// ```
-/// assert_eq!(ArrayString::<4>::default().as_str(), "");
-/// ```
-impl<const N: usize> Default for ArrayString<N> {
-    ghost is_default = { λ s. s.text ≡ [] };
-
-    fn default() -> Self {
-        Self::new()
-    }
-}
-
-/// Strings are equal if and only if their texts are.
-///
-/// # Examples
-///
-/// ```
-/// let mut popped = ArrayString::<4>::from("ab");
-/// popped.pop();
-/// assert!(popped == ArrayString::from("a") && popped != ArrayString::from("A"));
-/// ```
-impl<const N: usize> PartialEq for ArrayString<N> {
-    ghost eq = { λ s t. pointwise nat_eq s.text t.text };
-
-    ghost laws = { on_per (λ s. s.text) (partial_equiv_from_equiv nat_list_eq_equiv) };
-
-    fn eq(&self, other: &Self) -> bool {
-        equal::<N>(self.as_str(), other.as_str())
-    }
-}
-
-/// Each string is equal to itself, and so to a copy of it.
-///
-/// # Examples
-///
-/// ```
-/// let string = ArrayString::<4>::from("a");
-/// let mut copy = string;
-/// assert_eq!(copy, string);
-/// copy.clear();
-/// assert_ne!(copy, string);
-/// ```
-impl<const N: usize> Eq for ArrayString<N> {
-    ghost laws = { on_equiv (λ s. s.text) nat_list_eq_equiv };
-}
-
-/// `ArrayString { array: "abc", size: 3 }` for the text `abc`; the size counts bytes of UTF-8.
-///
-/// # Examples
-///
-/// ```
-/// let string = ArrayString::<8>::from("é\n");
-/// assert_eq!(format!("{string:?}"), r#"ArrayString { array: "é\n", size: 3 }"#);
-/// ```
-impl<const N: usize> fmt::Debug for ArrayString<N> {
-    fn fmt<W: fmt::Write>(&self, f: &mut fmt::Formatter<W>) -> fmt::Result {
-        f.debug_struct("ArrayString")
-            .field("array", &self.as_str())
-            .field("size", &self.size)
-            .finish()
+        is_boundary(self.as_str(), at)
     }
 }

@@ -1,15 +1,12 @@
-//! `Drain`: the characters that were removed from a string, from both ends.
-ghost use Rattle.std.specs.Prelude.{◌≡◌, ◌≤◌, []};
-ghost use Rattle.std.specs.Iterator.{YieldsFirst, YieldsLast, item_count};
+//! `Drain`: the characters that were removed from a string, from both ends. `traits` has its impls of traits.
+ghost use Rattle.std.specs.Prelude.{◌≡◌, ◌≤◌};
 ghost use Rattle.arraystring_base.specs.Text.{bytes, cap, size, IsText};
 ghost use Rattle.arraystring_core.specs.Stored.{stored, IsStored};
 
-use arraystring_base::utils::{Steps, last_char};
-use std::iter::FusedIterator;
 use std::marker::Model;
 use std::str;
 
-mod compare;
+mod traits;
 
 /// An iterator over the characters that `drain` removed from a string. It returns each of them
 /// once, from the front or from the back, and borrows nothing.
@@ -97,94 +94,3 @@ impl<const N: usize> Drain<N> {
         unsafe { str::from_utf8_unchecked(&all[front..end]) }
     }
 }
-
-/// An empty drain: nothing is left.
-///
-/// # Examples
-///
-/// ```
-/// assert_eq!(Drain::<4>::default().as_str(), "");
-/// ```
-impl<const N: usize> Default for Drain<N> {
-    ghost is_default = { λ d. d.left ≡ [] };
-
-    fn default() -> Self {
-        Drain::new([0; N], 0, 0)
-    }
-}
-
-/// The characters that are left, from the front.
-///
-/// # Examples
-///
-/// ```
-/// let drained = ArrayString::<4>::from("aéb").drain(1..).unwrap();
-/// assert!(drained.eq(['é', 'b']));
-/// ```
-impl<const N: usize> Iterator for Drain<N> {
-    type Item = char;
-
-    ghost next_gives = { YieldsFirst (λ d. d.left) };
-
-    ghost remaining = { item_count (λ d. d.left) };
-
-    /// Returns the first character that is left. Returns `None` if none is left, and at each call
-    /// after that.
-    #[inline(always)]
-    fn next(&mut self) -> Option<char> {
-        if self.front == self.size {
-            return None;
-        }
-        prove!(self.front < self.size);
-        // A byte of ASCII is its character; others take the decoder.
-        let first = self.array[self.start as usize + self.front as usize];
-        if first < 0x80 {
-            self.front += 1;
-            return Some(first as char);
-        }
-        let mut left = self.as_str().chars();
-        let ch = left.next()?;
-        self.front = self.size - left.as_str().len() as u8;
-        Some(ch)
-    }
-}
-
-/// The characters that are left, from the back.
-///
-/// # Examples
-///
-/// ```
-/// let drained = ArrayString::<4>::from("aéb").drain(1..).unwrap();
-/// assert!(drained.rev().eq(['b', 'é']));
-/// ```
-impl<const N: usize> DoubleEndedIterator for Drain<N> {
-    ghost next_back_gives = { YieldsLast (λ d. d.left) };
-
-    /// Returns the last character that is left. Returns `None` if none is left, and at each call
-    /// after that.
-    #[inline(always)]
-    fn next_back(&mut self) -> Option<char> {
-        if self.size == self.front {
-            return None;
-        }
-        prove!(self.front < self.size);
-        let last = self.array[self.start as usize + self.size as usize - 1];
-        if last < 0x80 {
-            self.size -= 1;
-            return Some(last as char);
-        }
-        let (kept, ch) = last_char(self.as_str(), &mut Steps::new())?;
-        self.size = self.front + kept as u8;
-        Some(ch)
-    }
-}
-
-/// Once nothing is left, `next` and `next_back` return `None` ever after.
-///
-/// # Examples
-///
-/// ```
-/// let mut drained = ArrayString::<4>::from("a").drain(..).unwrap();
-/// assert_eq!((drained.next(), drained.next(), drained.next()), (Some('a'), None, None));
-/// ```
-impl<const N: usize> FusedIterator for Drain<N> {}

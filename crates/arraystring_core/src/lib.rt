@@ -3,17 +3,12 @@
 #![tactic(auto)]
 
 pub mod array_string;
-mod decode;
 pub mod drain;
-mod equal;
-mod gap;
+mod fast;
 pub mod integration;
 pub mod laws;
-mod order;
 mod range_ends;
-mod retain;
 pub mod utils;
-mod well_formed;
 
 pub use array_string::ArrayString;
 pub use drain::Drain;

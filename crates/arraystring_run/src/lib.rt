@@ -4,6 +4,7 @@
 
 pub mod buffered;
 mod commands;
+mod execute;
 mod find;
 pub mod laws;
 mod line;
@@ -12,9 +13,9 @@ mod printing;
 pub mod program;
 mod runs;
 mod script;
-mod steps;
 
 pub use commands::{Command, Reply};
 pub use line::command;
-pub use player::{PlayFault, names_capacity, play, serve};
+pub use player::{PlayFault, play};
+pub use program::{names_capacity, serve};
 pub use runs::{Outcome, run, run_both};

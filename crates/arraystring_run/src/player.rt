@@ -1,11 +1,11 @@
 //! A script played from a reader to a writer.
-ghost use Rattle.std.specs.Prelude.{◌≡◌, ◌≢◌, is_some, IfOk, IfErr, IfSome, OnOk};
+ghost use Rattle.std.specs.Prelude.{◌≡◌, ◌≢◌, IfOk, IfErr, IfSome, OnOk};
 ghost use Rattle.std.specs.Io.KnownBytes.{Appends, IsAtEnd};
 ghost use Rattle.arraystring.specs.Text.{cap};
-ghost use Rattle.arraystring_run.specs.Script.{lines, IsBadAt, IfBadLine, IsPlayed, IsPartPlayed, IsServed, AppendsPrefix, run_printed, capacity_named, status_of, report_of};
+ghost use Rattle.arraystring_run.specs.Script.{lines, IsBadAt, IfBadLine, IsPlayed, IsPartPlayed, AppendsPrefix, run_printed};
 
-use crate::printing::{put, put_shown, write_all_replies};
-use crate::script::commands;
+use crate::printing::write_all_replies;
+use crate::script::parse_script;
 use crate::{Command, run};
 use arraystring::ArrayString;
 use std::alloc::Global;
@@ -62,69 +62,8 @@ pub fn play<const N: usize, I: Read, O: Write>(
     ensures end_of_bad { IfErr result (λ e. IfBadLine e (λ _. IsAtEnd (I.remaining input.new))) }
 {
     let script = read_all(alloc, input)?;
-    let commands = commands(alloc, &script)?;
+    let commands = parse_script(alloc, &script)?;
     play_commands::<N, O>(alloc, &commands, output)
-}
-
-/// The program: plays a script at the capacity of a word, `small` (23), `cache` (63) or `max`
-/// (255), and returns its exit status. The word is judged before anything is read.
-///
-/// If the status is not 0, one line on `errors` says why: 2 for another word, or none, and for a
-/// bad line; 3 if memory ran out; 4 for a read or a write that failed. A fault of `errors` changes
-/// nothing but how much of the line has gone out.
-pub fn serve<I: Read, O: Write, E: Write>(
-    alloc: Global,
-    word: Option<&str>,
-    input: &mut I,
-    output: &mut O,
-    errors: &mut E,
-) -> u8
-    ensures { IsServed word.entry (I.remaining input.old) (O.contents output.old) (O.contents output.new) (E.contents errors.old) (E.contents errors.new)
-        (input.new ≡ input.old) (output.new ≡ output.old) (errors.new ≡ errors.old) result }
-{
-    match word {
-        Some("small") => report(play::<23, I, O>(alloc, input, output), errors),
-        Some("cache") => report(play::<63, I, O>(alloc, input, output), errors),
-        Some("max") => report(play::<255, I, O>(alloc, input, output), errors),
-        _ => {
-            let _ = put(errors, "usage: arraystring_run small or cache or max\n");
-            2
-        }
-    }
-}
-
-/// Returns whether a word names a capacity, as `serve` reads it: `small`, `cache` or `max`.
-pub fn names_capacity(word: Option<&str>) -> bool
-    ensures { result ≡ is_some (capacity_named word.entry) }
-{
-    matches!(word, Some("small" | "cache" | "max"))
-}
-
-/// Writes the line of a fault, and returns the status.
-fn report<E: Write>(played: Result<(), PlayFault>, errors: &mut E) -> u8
-    ensures status { result ≡ status_of played }
-    ensures line { AppendsPrefix (E.contents errors.old) (E.contents errors.new) (report_of played) }
-    ensures quiet { result ≡ 0 → errors.new ≡ errors.old }
-{
-    match played {
-        Ok(()) => 0,
-        Err(PlayFault::BadLine(number)) => {
-            let _ = put_shown(errors, "bad line ", number);
-            2
-        }
-        Err(PlayFault::Memory) => {
-            let _ = put(errors, "out of memory\n");
-            3
-        }
-        Err(PlayFault::Read) => {
-            let _ = put(errors, "read failed\n");
-            4
-        }
-        Err(PlayFault::Write) => {
-            let _ = put(errors, "write failed\n");
-            4
-        }
-    }
 }
 
 /// Makes the run of commands from the empty text, and writes its lines.

@@ -1,20 +1,120 @@
-//! What a program's `main` calls: the word that it was given, and `serve` with a buffer before the
-//! output.
-ghost use Rattle.std.specs.Prelude.{◌≡◌, ◌≢◌, ℕ, ⊤, List, [], None, Result, vec_capacity};
+//! What a program's `main` calls: a script is played at the capacity of the word that it was given, with
+//! or without a buffer before the output.
+ghost use Rattle.std.specs.Prelude.{◌≡◌, ◌≢◌, is_some, ℕ, ⊤, List, [], None, Result, vec_capacity};
+ghost use Rattle.arraystring_run.specs.Script.{IsServed, AppendsPrefix, capacity_named, status_of, report_of};
 ghost use Rattle.std.specs.Io.KnownBytes.{append_known};
 ghost use Rattle.std.specs.declared.env.FillError.{FillError as Fault};
-ghost use Rattle.arraystring_run.specs.Script.{IsServed, capacity_named};
 ghost use Rattle.arraystring_run.specs.Word.{IsOnlyWord};
 
 use crate::buffered::Buffered;
-use crate::{names_capacity, serve};
+use crate::player::{PlayFault, play};
+use crate::printing::{put, put_shown};
 use arraystring::MaxString;
 use std::alloc::Global;
 use std::env::{Env, FillError};
 use std::io::{Read, Write};
 
+/// Returns whether a word names a capacity, as `serve` reads it: `small`, `cache` or `max`.
+pub fn names_capacity(word: Option<&str>) -> bool
+    ensures { result ≡ is_some (capacity_named word.entry) }
+{
+    matches!(word, Some("small" | "cache" | "max"))
+}
+
+/// The program: plays a script at the capacity of a word, `small` (23), `cache` (63) or `max`
+/// (255), and returns its exit status. The word is judged before anything is read.
+///
+/// If the status is not 0, one line on `errors` says why: 2 for another word, or none, and for a
+/// bad line; 3 if memory ran out; 4 for a read or a write that failed. A fault of `errors` changes
+/// nothing but how much of the line has gone out.
+pub fn serve<I: Read, O: Write, E: Write>(
+    alloc: Global,
+    word: Option<&str>,
+    input: &mut I,
+    output: &mut O,
+    errors: &mut E,
+) -> u8
+    ensures { IsServed word.entry (I.remaining input.old) (O.contents output.old) (O.contents output.new) (E.contents errors.old) (E.contents errors.new)
+        (input.new ≡ input.old) (output.new ≡ output.old) (errors.new ≡ errors.old) result }
+{
+    match word {
+        Some("small") => report(play::<23, I, O>(alloc, input, output), errors),
+        Some("cache") => report(play::<63, I, O>(alloc, input, output), errors),
+        Some("max") => report(play::<255, I, O>(alloc, input, output), errors),
+        _ => {
+            let _ = put(errors, "usage: arraystring_run small or cache or max\n");
+            2
+        }
+    }
+}
+
+/// Writes the line of a fault, and returns the status.
+fn report<E: Write>(played: Result<(), PlayFault>, errors: &mut E) -> u8
+    ensures status { result ≡ status_of played }
+    ensures line { AppendsPrefix (E.contents errors.old) (E.contents errors.new) (report_of played) }
+    ensures quiet { result ≡ 0 → errors.new ≡ errors.old }
+{
+    match played {
+        Ok(()) => 0,
+        Err(PlayFault::BadLine(number)) => {
+            let _ = put_shown(errors, "bad line ", number);
+            2
+        }
+        Err(PlayFault::Memory) => {
+            let _ = put(errors, "out of memory\n");
+            3
+        }
+        Err(PlayFault::Read) => {
+            let _ = put(errors, "read failed\n");
+            4
+        }
+        Err(PlayFault::Write) => {
+            let _ = put(errors, "write failed\n");
+            4
+        }
+    }
+}
+
 /// How many bytes the buffer before the output has room for.
 pub const BUFFER: usize = 8192;
+
+/// Serves a word with a buffer before the output, so that a line costs no system call of its own.
+/// For a word that names no capacity no memory is taken. If there is no memory for a buffer, the
+/// output is not buffered. Returns the output too. After a failed write bytes may be left in the
+/// buffer (`held`), which are dropped.
+pub fn serve_buffered<I: Read, O: Write + Drop, E: Write>(
+    alloc: Global,
+    word: Option<&str>,
+    input: &mut I,
+    output: O,
+    errors: &mut E,
+) -> (u8, O)
+    ensures { (held : List ℕ) × (result.0 ≢ 4 → held ≡ [])
+        × IsServed word.entry (I.remaining input.old) (O.contents output) (append_known (O.contents result.1) held)
+        (E.contents errors.old) (E.contents errors.new) (input.new ≡ input.old) (result.1 ≡ output) (errors.new ≡ errors.old) result.0 }
+{
+    let waiting = buffer(alloc, word);
+    let mut buffered = Buffered { output, waiting };
+    let status = serve(alloc, word, input, &mut buffered, errors);
+    let Buffered { output, waiting } = buffered;
+    // `serve` flushes what it played, which no contract of a writer says.
+    let is_whole = waiting.is_empty();
+    (if status == 0 && !is_whole { 4 } else { status }, output)
+}
+
+/// The room before the output: none for a word that names no capacity, or if there is no memory. A list
+/// without room has taken no memory.
+fn buffer(alloc: Global, word: Option<&str>) -> Vec<u8>
+    ensures empty { result.items ≡ [] }
+    ensures none_named { capacity_named word.entry ≡ None → vec_capacity result ≡ 0 }
+{
+    if names_capacity(word) {
+        if let Ok(waiting) = Vec::with_capacity(alloc, BUFFER) {
+            return waiting;
+        }
+    }
+    Vec::new(alloc)
+}
 
 /// The arguments of a program. The kit's `Env` does not say what its calls return; this trait names
 /// it, so that a contract can speak of it. A contract over it says no more than the impl does: of an
@@ -67,42 +167,4 @@ fn only_word(
         return None;
     };
     MaxString::try_from_utf8(first.get(..count)?).ok()
-}
-
-/// Serves a word with a buffer before the output, so that a line costs no system call of its own.
-/// For a word that names no capacity no memory is taken. If there is no memory for a buffer, the
-/// output is not buffered. Returns the output too. After a failed write bytes may be left in the
-/// buffer (`held`), which are dropped.
-pub fn serve_buffered<I: Read, O: Write + Drop, E: Write>(
-    alloc: Global,
-    word: Option<&str>,
-    input: &mut I,
-    output: O,
-    errors: &mut E,
-) -> (u8, O)
-    ensures { (held : List ℕ) × (result.0 ≢ 4 → held ≡ [])
-        × IsServed word.entry (I.remaining input.old) (O.contents output) (append_known (O.contents result.1) held)
-        (E.contents errors.old) (E.contents errors.new) (input.new ≡ input.old) (result.1 ≡ output) (errors.new ≡ errors.old) result.0 }
-{
-    let waiting = buffer(alloc, word);
-    let mut buffered = Buffered { output, waiting };
-    let status = serve(alloc, word, input, &mut buffered, errors);
-    let Buffered { output, waiting } = buffered;
-    // `serve` flushes what it played, which no contract of a writer says.
-    let is_whole = waiting.is_empty();
-    (if status == 0 && !is_whole { 4 } else { status }, output)
-}
-
-/// The room before the output: none for a word that names no capacity, or if there is no memory. A list
-/// without room has taken no memory.
-fn buffer(alloc: Global, word: Option<&str>) -> Vec<u8>
-    ensures empty { result.items ≡ [] }
-    ensures none_named { capacity_named word.entry ≡ None → vec_capacity result ≡ 0 }
-{
-    if names_capacity(word) {
-        if let Ok(waiting) = Vec::with_capacity(alloc, BUFFER) {
-            return waiting;
-        }
-    }
-    Vec::new(alloc)
 }

@@ -5,7 +5,7 @@ ghost use Rattle.arraystring.specs.Text.{cap, size};
 ghost use Rattle.arraystring_run.specs.Runs.{said, after, first_tight_from, earlier_of};
 ghost use Rattle.arraystring_run.specs.Agreement.{untight, AllAgree, IsNoSooner};
 
-use crate::steps::step;
+use crate::execute::execute;
 use crate::{Command, Reply};
 use arraystring::ArrayString;
 use arraystring::laws::text_fits;
@@ -73,7 +73,7 @@ fn fill<const N: usize>(
 {
     let mut first_tight = None;
     for (position, command) in commands.iter().enumerate() {
-        let (reply, is_tight) = step(text, *command);
+        let (reply, is_tight) = execute(text, *command);
         first_tight = earlier(first_tight, is_tight, position);
         replies.push_reserved(reply);
     }

@@ -13,7 +13,7 @@ use std::alloc::Global;
 use std::str;
 
 /// The commands of a whole script, one a line, which borrow their texts from it.
-pub(crate) fn commands(alloc: Global, script: &[u8]) -> Result<Vec<Command<'_>>, PlayFault>
+pub(crate) fn parse_script(alloc: Global, script: &[u8]) -> Result<Vec<Command<'_>>, PlayFault>
     ensures accepted { IfOk result (λ v. AreLinesOf (lines script.now) v.items) }
     ensures bad_line { IfErr result (λ e. IfBadLine e (IsBadAt (lines script.now))) }
     ensures faults { IfErr result (λ e. e ≢ PlayFault.Write) }

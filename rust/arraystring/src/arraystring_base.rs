@@ -8,4 +8,5 @@ pub mod laws;
 mod moves;
 mod steps;
 pub mod utf16;
+mod utf8;
 pub mod utils;

@@ -3,16 +3,11 @@
 //! memory, except to make a JSON value. Its tests are in `crates/arraystring_tests`.
 
 pub mod array_string;
-mod decode;
 pub mod drain;
-mod equal;
-mod gap;
+mod fast;
 pub mod laws;
-mod order;
 mod range_ends;
-mod retain;
 pub mod utils;
-mod well_formed;
 
 pub use array_string::ArrayString;
 pub use drain::Drain;

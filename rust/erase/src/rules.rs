@@ -219,13 +219,13 @@ pub const FATES: &[(&str, Fate)] = &[
         ),
     ),
     (
-        "utils::encode",
+        "utf8::encode",
         Unsafe(
             MUST_LIE_IN_ARRAY,
             &[
                 "let mut array = *b\"a__d\";",
                 "// SAFETY: `é` takes two bytes, and there are three from offset 1 on.",
-                "let len = unsafe { utils::encode('é', &mut array, 1) };",
+                "let len = unsafe { utf8::encode('é', &mut array, 1) };",
                 "assert_eq!((len, &array), (2, b\"a\\xC3\\xA9d\"));",
             ],
         ),
@@ -233,13 +233,13 @@ pub const FATES: &[(&str, Fate)] = &[
     ("moves::write_over", Unsafe(MUST_LIE_IN_ARRAY, &[])),
     ("moves::move_run", Unsafe("Both runs must lie in the array.", &[])),
     (
-        "utils::shift",
+        "moves::shift",
         Unsafe(
             "Both runs must lie in the array.",
             &[
                 "let (mut array, mut steps) = (*b\"abcd\", Steps::new());",
                 "// SAFETY: the bytes 0..3 and 1..4 lie in the array.",
-                "unsafe { utils::shift(&mut array, 0, 1, 3, &mut steps) };",
+                "unsafe { moves::shift(&mut array, 0, 1, 3, &mut steps) };",
                 "assert_eq!((&array, steps.moved()), (b\"aabc\", 3));",
             ],
         ),
@@ -265,8 +265,8 @@ pub const FATES: &[(&str, Fate)] = &[
     ("ArrayString::remove_counted", Safe(COUNTS)),
     ("ArrayString::drain_counted", Safe(COUNTS)),
     ("ArrayString::replace_range_counted", Safe(COUNTS)),
-    ("utils::truncate_str_counted", Safe(COUNTS)),
-    ("utils::last_char", Safe(COUNTS)),
+    ("utf8::truncate_str_counted", Safe(COUNTS)),
+    ("utf8::last_char", Safe(COUNTS)),
     ("laws::found_first", Safe(LAW)),
     ("laws::split_first", Safe(LAW)),
 ];
@@ -304,7 +304,7 @@ pub const LINKS: &[(&str, &str)] = &[
     ("Steps", "crate::utils::Steps"),
     ("is_char_boundary", "crate::utils::is_char_boundary"),
     ("look", "crate::utils::look"),
-    ("shift", "crate::utils::shift"),
+    ("shift", "crate::moves::shift"),
     ("truncate_str", "crate::utils::truncate_str"),
 ];
 
@@ -342,17 +342,18 @@ pub const ORDER: &[Order] = &[Order {
         Calls("empty", "new"),
         Module("construct"),
         Module("utf16"),
-        Calls("views", "as_bytes"),
+        Calls("views", "is_boundary"),
         ByHand("room", "../by_hand/room.rs"),
-        Calls("ends", "pop_counted"),
-        Module("extend"),
+        Module("push"),
         Module("insert"),
         Module("range"),
         Module("remove"),
         Module("trim"),
         Module("ascii"),
-        Module("compare"),
-        Module("edit"),
+        Module("traits"),
+        Module("in_place"),
+        Module("fill"),
+        Module("gap"),
     ],
 }];
 
@@ -431,7 +432,7 @@ pub const GIVEN_UP: &[&str] = &[
 
 /// The functions that give up a clause, and whose `prove!` are facts all the same, with the reason.
 pub const PROVED: &[(&str, &str)] = &[(
-    "retain::retain_at",
+    "remove::retain_at",
     "that an index is below N follows from `held`, and not from what the closure may be asked",
 )];
 
@@ -452,11 +453,11 @@ pub const KNOWN: &[(&str, &str)] = &[
     ("moves::write_any_run", ""),
     ("moves::bytes_of", ""),
     ("moves::put_bytes", ""),
-    ("utils::last_boundary", "within"),
-    ("gap::try_fill_small", ""),
-    ("gap::fill", ""),
-    ("gap::write_by_call", ""),
-    ("retain::retain_at", "held"),
+    ("utf8::last_boundary", "within"),
+    ("fill::try_fill_small", ""),
+    ("fill::fill", ""),
+    ("fill::write_by_call", ""),
+    ("remove::retain_at", "held"),
     ("ascii::uppercase_bytes", "within"),
     ("ascii::lowercase_bytes", "within"),
     ("ArrayString::char_at", "boundary"),
@@ -483,12 +484,12 @@ pub enum Why {
 
 pub const AGAIN: &[Again] = &[
     // Not in the branch of ASCII: the room that a caller has tested is enough there, and loops get slower by the clause.
-    Again { call: "utils::encode", before: "all[at..", clause: "", why: Why::Requires },
+    Again { call: "utf8::encode", before: "all[at..", clause: "", why: Why::Requires },
     Again {
-        call: "utils::truncate_str_counted",
+        call: "utf8::truncate_str_counted",
         before: "&text[..end]",
         clause: "boundary",
-        why: Why::Ensures("utils::last_boundary", "end"),
+        why: Why::Ensures("utf8::last_boundary", "end"),
     },
     Again {
         call: "utf16::add_prefix",
@@ -551,7 +552,7 @@ pub struct Added {
 }
 
 pub const ADDED: &[Added] = &[Added {
-    file: "arraystring_core/src/drain.rt",
+    file: "arraystring_core/src/drain/traits.rt",
     head: "impl<const N: usize> Iterator for Drain<N>",
     lines: &[
         "/// The bytes that are left bound the characters, which take one to four each.",
@@ -607,7 +608,7 @@ const MEMCMP: &str = "std compares by `memcmp`, which has larger vectors";
 
 pub const BY_STD: &[ByStd] = &[
     ByStd {
-        file: "arraystring_core/src/equal.rt",
+        file: "arraystring_core/src/fast/equal.rt",
         module: "Whether two texts are equal, which std tells here.",
         imports: "",
         function: "equal",
@@ -616,7 +617,7 @@ pub const BY_STD: &[ByStd] = &[
         why: MEMCMP,
     },
     ByStd {
-        file: "arraystring_core/src/order.rt",
+        file: "arraystring_core/src/fast/order.rt",
         module: "The order of two texts, which std tells here.",
         imports: "use core::cmp::Ordering;",
         function: "order",
@@ -625,7 +626,7 @@ pub const BY_STD: &[ByStd] = &[
         why: MEMCMP,
     },
     ByStd {
-        file: "arraystring_core/src/well_formed.rt",
+        file: "arraystring_core/src/fast/well_formed.rt",
         module: "The test of UTF-8, which std makes here.",
         imports: "use crate::arraystring_base::error::Utf8;\nuse core::str;",
         function: "read_utf8",
@@ -759,6 +760,18 @@ pub const REPLACED: &[Replaced] = &[
         from: "pub struct Units<'a> {",
         to: "#[derive(Clone, Debug)]\npub struct Units<'a> {",
         why: "a walk is cloned and printed in Rust, as each of std's is",
+    },
+    Replaced {
+        file: "arraystring_base/src/utf8.rt",
+        from: "use crate::steps::{Steps, look};",
+        to: "use crate::steps::Steps;",
+        why: "bodies look by hand",
+    },
+    Replaced {
+        file: "arraystring_base/src/utils.rt",
+        from: "pub use crate::moves::{move_run, shift, write_over};",
+        to: "pub use crate::moves::{shift, write_over};",
+        why: "no body outside of `moves` calls the other",
     },
     Replaced {
         file: "arraystring/src/lib.rt",

@@ -1,5 +1,5 @@
 //! The constructors: from a `&str`, from pieces, from characters and from bytes of UTF-8.
-ghost use Rattle.std.specs.Prelude.{◌≡◌, ℕ, ◌≤◌, ◌↔◌, List, Ok, Err, IsOk, IfOk, chars, length};
+ghost use Rattle.std.specs.Prelude.{◌≡◌, ℕ, ◌≤◌, ◌↔◌, List, Err, IsOk, IfOk, chars, length};
 ghost use Rattle.std.specs.Borrow.{Bor};
 ghost use Rattle.std.specs.Iterator.{IsFiniteIterable};
 ghost use Rattle.arraystring_base.specs.Text.{size, bytes, cap, cut, IsText, IsWellFormed};
@@ -7,12 +7,12 @@ ghost use Rattle.arraystring_core.specs.Edits.{from_out_of_bounds};
 ghost use Rattle.arraystring_core.specs.Construct.{IsWholeOrRefused};
 ghost use Rattle.arraystring_core.specs.Taken.{Takes, TakesAll, Fits, Gives, joined, joined_pieces, piece_text};
 
-use super::ArrayString;
-use crate::gap::{fill, try_fill};
-use crate::well_formed::read_utf8;
+use crate::ArrayString;
+use crate::array_string::fill::{fill, try_fill};
+use crate::fast::well_formed::read_utf8;
 use arraystring_base::error::{Error, OutOfBounds, Utf8};
 use arraystring_base::utils::truncate_str;
-use std::str::{self, FromStr};
+use std::str;
 
 impl<const N: usize> ArrayString<N> {
     /// Creates a string from `string`.
@@ -299,45 +299,5 @@ impl<const N: usize> ArrayString<N> {
     {
         // SAFETY: the precondition `well_formed`.
         Self::from_str_unchecked(unsafe { str::from_utf8_unchecked(given) })
-    }
-}
-
-/// The same as `from_str_truncate`: what does not fit is **cut** off, also by `into`, and in Rust by
-/// std's `try_from`, which is then `Ok` of a cut text. `parse` and `try_from_str` refuse it.
-///
-/// # Examples
-///
-/// ```
-/// assert_eq!(ArrayString::<4>::from("hello").as_str(), "hell");
-/// assert!("hello".parse::<ArrayString<4>>().is_err());
-/// ```
-impl<'a, const N: usize> From<&'a str> for ArrayString<N> {
-    ghost from_gives = { λ string made. made.text ≡ cut (chars string.now) (cap N) };
-
-    fn from(string: &'a str) -> Self {
-        Self::from_str_truncate(string)
-    }
-}
-
-/// The same as `try_from_str`.
-///
-/// # Examples
-///
-/// ```
-/// assert_eq!("hell".parse(), Ok(ArrayString::<4>::from("hell")));
-/// assert_eq!("hello".parse::<ArrayString<4>>(), Err(OutOfBounds));
-/// ```
-impl<const N: usize> FromStr for ArrayString<N> {
-    type Err = OutOfBounds;
-
-    ghost from_str_gives = { λ string result. IsWholeOrRefused (chars string) (cap N) (from_out_of_bounds result) };
-
-    /// Creates a string from `string`.
-    ///
-    /// # Errors
-    ///
-    /// Returns `Err(OutOfBounds)` if `string` is larger than the capacity.
-    fn from_str(string: &str) -> Result<Self, OutOfBounds> {
-        Self::try_from_str(string)
     }
 }

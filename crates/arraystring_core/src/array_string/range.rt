@@ -99,7 +99,7 @@ impl<const N: usize> ArrayString<N> {
             Makes (draining t (saturated_start start) (saturated_end end (size t))) t (with_left result) self.new.text) }
     {
         let (start, end) = saturating_ends(range, self.len());
-        self.is_part(start, end)?;
+        self.check_part(start, end)?;
         // Made here, and not in a function that both calls share: each one would copy the array once more.
         let removed = Drain::new(self.array, self.start + start, end - start);
         self.take_out(start as usize, end as usize, &mut Steps::new());
@@ -149,7 +149,7 @@ impl<const N: usize> ArrayString<N> {
         ensures looked { steps.new.looked ≡ steps.old.looked }
     {
         let (from, to) = saturating_ends(range, self.len());
-        self.is_part(from, to)?;
+        self.check_part(from, to)?;
         let removed = Drain::new(self.array, self.start + from, to - from);
         self.take_out(from as usize, to as usize, steps);
         Ok(removed)
@@ -297,7 +297,7 @@ impl<const N: usize> ArrayString<N> {
     }
 
     /// Whether the bytes from `start` to `end` can be taken out, and else why not.
-    fn is_part(&self, start: u8, end: u8) -> Result<(), Error>
+    fn check_part(&self, start: u8, end: u8) -> Result<(), Error>
         ensures { result ≡ ok_unless (first_cause (draining self.now.text start end).tests) tt }
     {
         if start > end || end > self.len() {
@@ -326,7 +326,7 @@ impl<const N: usize> ArrayString<N> {
         ensures counted { steps.old.moved ≤ steps.new.moved }
         ensures looked { steps.new.looked ≡ steps.old.looked }
     {
-        self.can_replace(start, end, with)?;
+        self.check_replacement(start, end, with)?;
         let (from, to) = (start as usize, end as usize);
         self.splice(from, to, with, steps);
         Ok(())
@@ -334,7 +334,7 @@ impl<const N: usize> ArrayString<N> {
 
     /// Whether the bytes from `start` to `end` can be replaced by `with`, and else why not.
     #[inline(always)]
-    fn can_replace(&self, start: u8, end: u8, with: &str) -> Result<(), Error>
+    fn check_replacement(&self, start: u8, end: u8, with: &str) -> Result<(), Error>
         ensures { result ≡ ok_unless (first_cause (replacement self.now.text start end (chars with.now) (cap N)).tests) tt }
     {
         if start > end || end > self.len() {

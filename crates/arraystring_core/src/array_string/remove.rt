@@ -1,15 +1,15 @@
-//! What is removed from a string.
-ghost use Rattle.std.specs.Prelude.{◌≡◌, ◌+◌, ◌-◌, ◌^◌, ◌<◌, ◌≤◌, min, Ok, IsTrue, IfOk, OnErr, chars, slice_index, drop};
+//! What is removed from a string: characters at the end, at an index or by a closure, and the text from an
+//! index on.
+ghost use Rattle.std.specs.Prelude.{◌≡◌, ◌+◌, ◌-◌, ◌^◌, ◌<◌, ◌≤◌, min, IfSome, Ok, ◌++◌, IsTrue, chars, length, IfOk, OnErr, slice_index, drop, ℕ, List, take, IsUtf8};
+ghost use Rattle.arraystring_base.specs.Text.{size, width, back, boundary, utf8};
+ghost use Rattle.arraystring_core.specs.Edits.{Makes, popping, from_utf8_error, with_text, truncation, removal, clearing, split};
 ghost use Rattle.std.specs.List.Retain.{IsFiltered};
-ghost use Rattle.arraystring_base.specs.Text.{size, width, back, boundary};
-ghost use Rattle.arraystring_core.specs.Edits.{Makes, from_utf8_error, with_text, truncation, removal, clearing, split};
 ghost use Rattle.arraystring_core.specs.Retain.{IsCallableInTurn};
 
 use crate::ArrayString;
-use crate::decode::first_char;
-use crate::retain::retain_at;
 use arraystring_base::error::{Error, Utf8};
-use arraystring_base::utils::Steps;
+use arraystring_base::utils::{Steps, last_char, shift};
+use std::str;
 
 impl<const N: usize> ArrayString<N> {
     /// Shortens the text to its first `size` bytes. Nothing changes if it has no more.
@@ -39,6 +39,51 @@ impl<const N: usize> ArrayString<N> {
         }
         self.keep(size);
         Ok(())
+    }
+
+    /// Removes the last character and returns it. Returns `None` if the text is empty.
+    ///
+    /// # Examples
+    ///
+    /// ```
+    /// let mut string = ArrayString::<4>::from("aé");
+    /// assert_eq!(string.pop(), Some('é'));
+    /// assert_eq!(string.pop(), Some('a'));
+    /// assert_eq!(string.pop(), None);
+    /// ```
+    pub fn pop(&mut self) -> Option<char>
+        ensures { Makes (popping self.old.text) self.old.text (Ok result) self.new.text }
+    {
+        self.pop_counted(&mut Steps::new())
+    }
+
+    /// The same as `pop`, counted in `steps`: at most four looks, at least one if there is a
+    /// character, and no moves.
+    ///
+    /// # Precondition
+    ///
+    /// Both counts of `steps` must be at most 2^63.
+    ///
+    /// # Examples
+    ///
+    /// ```
+    /// let mut string = ArrayString::<4>::from("aé");
+    /// let mut steps = Steps::new();
+    /// assert_eq!(string.pop_counted(&mut steps), Some('é'));
+    /// assert!((1..=4).contains(&steps.looked()) && steps.moved() == 0);
+    /// ```
+    pub fn pop_counted(&mut self, steps: &mut Steps) -> Option<char>
+        requires looks { steps.old.looked ≤ 2 ^ 63 }
+        requires moves { steps.old.moved ≤ 2 ^ 63 }
+        ensures edit { Makes (popping self.old.text) self.old.text (Ok result) self.new.text }
+        ensures looked { steps.new.looked ≤ steps.old.looked + 4 }
+        ensures least { IfSome result (λ _. steps.old.looked < steps.new.looked) }
+        ensures counted { steps.old.looked ≤ steps.new.looked }
+        ensures moved { steps.new.moved ≡ steps.old.moved }
+    {
+        let (start, ch) = last_char(self.as_str(), steps)?;
+        self.keep(start as u8);
+        Some(ch)
     }
 
     /// Removes the character that begins at the byte index `index` and returns it.
@@ -133,21 +178,6 @@ impl<const N: usize> ArrayString<N> {
         retain_at(&mut self.array, &mut self.size, offset, size, f);
     }
 
-    /// Removes all characters.
-    ///
-    /// # Examples
-    ///
-    /// ```
-    /// let mut string = ArrayString::<4>::from("abc");
-    /// string.clear();
-    /// assert!(string.is_empty());
-    /// ```
-    pub fn clear(&mut self)
-        ensures { Makes clearing self.old.text (Ok result) self.new.text }
-    {
-        self.keep(0);
-    }
-
     /// Splits the text at the byte index `at`, which may be the length. Keeps the part before it
     /// and returns the part from it on.
     ///
@@ -181,6 +211,21 @@ impl<const N: usize> ArrayString<N> {
         Ok(rest)
     }
 
+    /// Removes all characters.
+    ///
+    /// # Examples
+    ///
+    /// ```
+    /// let mut string = ArrayString::<4>::from("abc");
+    /// string.clear();
+    /// assert!(string.is_empty());
+    /// ```
+    pub fn clear(&mut self)
+        ensures { Makes clearing self.old.text (Ok result) self.new.text }
+    {
+        self.keep(0);
+    }
+
     /// The character that begins at a boundary before the end, and how many bytes it takes.
     fn char_at(&self, at: usize) -> (char, usize)
         requires boundary { IsTrue (boundary self.now.text at) }
@@ -191,5 +236,70 @@ impl<const N: usize> ArrayString<N> {
         ensures rest { back self.now.text (at + width result.0) ≡ drop 1 (back self.now.text at) }
     {
         first_char(&self.as_str()[at..])
+    }
+}
+
+/// The first character of a text that has one, and how many bytes it takes.
+fn first_char(text: &str) -> (char, usize)
+    requires { 0 < length text.now }
+    ensures first { (rest : List ℕ) × (text.now ≡ utf8 result.0 ++ rest) }
+    ensures width { result.1 ≡ width result.0 }
+    ensures some { 0 < result.1 }
+    ensures within { result.1 ≤ length text.now }
+{
+    let mut rest = text.chars();
+    let Some(ch) = rest.next() else {
+        unreachable!();
+    };
+    (ch, text.len() - rest.as_str().len())
+}
+
+/// Calls `f` once with each character of a text, in order, and moves those for which it returns
+/// true together. The text is the `size` bytes of the array from `offset` on, and keeps
+/// its offset; `kept` becomes the size of what is kept. Each kept character is moved on its own, and
+/// only to the left. At each call of `f` the `kept` bytes from `offset` on are those of the
+/// characters that were kept so far: they are what a closure leaves that ends the loop.
+fn retain_at<const N: usize, F: FnMut(char) -> bool + Drop>(
+    array: &mut [u8; N],
+    kept: &mut u8,
+    offset: usize,
+    size: usize,
+    mut f: F,
+)
+    requires held { offset + size ≤ N }
+    requires small { size ≤ 255 }
+    requires text { IsUtf8 (take size (drop offset array.old)) }
+    requires callable { IsCallableInTurn F.pre F.step f (chars (take size (drop offset array.old))) }
+    ensures len { length array.new ≡ N }
+    ensures at_most { kept.new ≤ size }
+    ensures text { IsUtf8 (take kept.new (drop offset array.new)) }
+    ensures filtered { IsFiltered F.step f (chars (take size (drop offset array.old))) (chars (take kept.new (drop offset array.new))) }
+{
+    // From `read` on no byte was moved.
+    *kept = 0;
+    let mut read = 0;
+    while read < size {
+        prove!(offset + read < N);
+        // A byte of ASCII is its character; others take the decoder.
+        let first = array[offset + read];
+        if first < 0x80 {
+            if f(first as char) {
+                let to = offset + *kept as usize;
+                shift(array, offset + read, to, 1, &mut Steps::new());
+                *kept += 1;
+            }
+            read += 1;
+        } else {
+            let all = &array[..];
+            // SAFETY: the clause `text`: what was not read yet is UTF-8, since a character begins at `read`.
+            let text = unsafe { str::from_utf8_unchecked(&all[offset + read..offset + size]) };
+            let (ch, width) = first_char(text);
+            if f(ch) {
+                let to = offset + *kept as usize;
+                shift(array, offset + read, to, width, &mut Steps::new());
+                *kept += width as u8;
+            }
+            read += width;
+        }
     }
 }

@@ -53,32 +53,30 @@ impl Error {
     }
 }
 
-/// Writes the name to the hasher, as `str` does.
+/// `Error::` and the name.
 ///
 /// # Examples
 ///
 /// ```
 /// use arraystring::Error;
-/// use std::collections::HashSet;
 ///
-/// let errors = HashSet::from([Error::Utf8, Error::Utf16, Error::Utf8]);
-/// assert_eq!(errors.len(), 2);
+/// assert_eq!(format!("{:?}", Error::Utf8), "Error::Utf8");
 /// ```
 ///
 /// <details><summary>Contract</summary>
 ///
 /// ```text
-/// hash_input = { λ e. fed.str (error_name e) };
-/// respects_eq = { λ x y h. ap fed.str (same_names x y h) };
+/// debug_output = { λ e. Some (codes "Error::" ++ error_name e) };
 /// ```
 ///
 /// [How to read a contract](crate::contracts)
 ///
 /// </details>
-impl Hash for Error {
+impl fmt::Debug for Error {
     #[inline]
-    fn hash<H: Hasher>(&self, state: &mut H) {
-        self.name().hash(state);
+    fn fmt(&self, f: &mut fmt::Formatter<'_>) -> fmt::Result {
+        f.write_str("Error::")?;
+        f.write_str(self.name())
     }
 }
 
@@ -110,33 +108,6 @@ impl fmt::Display for Error {
     }
 }
 
-/// `Error::` and the name.
-///
-/// # Examples
-///
-/// ```
-/// use arraystring::Error;
-///
-/// assert_eq!(format!("{:?}", Error::Utf8), "Error::Utf8");
-/// ```
-///
-/// <details><summary>Contract</summary>
-///
-/// ```text
-/// debug_output = { λ e. Some (codes "Error::" ++ error_name e) };
-/// ```
-///
-/// [How to read a contract](crate::contracts)
-///
-/// </details>
-impl fmt::Debug for Error {
-    #[inline]
-    fn fmt(&self, f: &mut fmt::Formatter<'_>) -> fmt::Result {
-        f.write_str("Error::")?;
-        f.write_str(self.name())
-    }
-}
-
 /// As an error of any kind. It has no source.
 ///
 /// # Examples
@@ -154,6 +125,145 @@ impl fmt::Debug for Error {
 /// ```
 impl StdError for Error {}
 
+/// The case of its name.
+///
+/// # Examples
+///
+/// ```
+/// use arraystring::{ArrayString, Error};
+///
+/// fn two(text: &str) -> Result<ArrayString<2>, Error> {
+///     Ok(ArrayString::try_from_str(text)?)
+/// }
+///
+/// assert_eq!(two("abc"), Err(Error::OutOfBounds));
+/// ```
+///
+/// <details><summary>Contract</summary>
+///
+/// ```text
+/// from_gives = { λ _ error. error ≡ cases.OutOfBounds };
+/// ```
+///
+/// [How to read a contract](crate::contracts)
+///
+/// </details>
+impl From<OutOfBounds> for Error {
+    #[inline]
+    fn from(_error: OutOfBounds) -> Self {
+        Error::OutOfBounds
+    }
+}
+
+/// The case of its name.
+///
+/// # Examples
+///
+/// ```
+/// use arraystring::Error;
+/// use arraystring::error::Utf16;
+///
+/// assert_eq!(Error::from(Utf16), Error::Utf16);
+/// ```
+///
+/// <details><summary>Contract</summary>
+///
+/// ```text
+/// from_gives = { λ _ error. error ≡ cases.Utf16 };
+/// ```
+///
+/// [How to read a contract](crate::contracts)
+///
+/// </details>
+impl From<Utf16> for Error {
+    #[inline]
+    fn from(_error: Utf16) -> Self {
+        Error::Utf16
+    }
+}
+
+/// The case of its name.
+///
+/// # Examples
+///
+/// ```
+/// use arraystring::Error;
+/// use arraystring::error::Utf8;
+///
+/// assert_eq!(Error::from(Utf8), Error::Utf8);
+/// ```
+///
+/// <details><summary>Contract</summary>
+///
+/// ```text
+/// from_gives = { λ _ error. error ≡ cases.Utf8 };
+/// ```
+///
+/// [How to read a contract](crate::contracts)
+///
+/// </details>
+impl From<Utf8> for Error {
+    #[inline]
+    fn from(_error: Utf8) -> Self {
+        Error::Utf8
+    }
+}
+
+/// Bytes that `std` finds not to be UTF-8 are refused as [`Error::Utf8`](crate::Error::Utf8).
+///
+/// # Examples
+///
+/// ```
+/// use arraystring::Error;
+///
+/// assert_eq!(std::str::from_utf8(b"a\xFF").map_err(Error::from), Err(Error::Utf8));
+/// ```
+///
+/// <details><summary>Contract</summary>
+///
+/// ```text
+/// from_gives = { λ _ error. error ≡ cases.Utf8 };
+/// ```
+///
+/// [How to read a contract](crate::contracts)
+///
+/// </details>
+impl From<Utf8Error> for Error {
+    #[inline]
+    fn from(error: Utf8Error) -> Self {
+        Error::from(Utf8::from(error))
+    }
+}
+
+/// Writes the name to the hasher, as `str` does.
+///
+/// # Examples
+///
+/// ```
+/// use arraystring::Error;
+/// use std::collections::HashSet;
+///
+/// let errors = HashSet::from([Error::Utf8, Error::Utf16, Error::Utf8]);
+/// assert_eq!(errors.len(), 2);
+/// ```
+///
+/// <details><summary>Contract</summary>
+///
+/// ```text
+/// hash_input = { λ e. fed.str (error_name e) };
+/// respects_eq = { λ x y h. ap fed.str (same_names x y h) };
+/// ```
+///
+/// [How to read a contract](crate::contracts)
+///
+/// </details>
+impl Hash for Error {
+    #[inline]
+    fn hash<H: Hasher>(&self, state: &mut H) {
+        self.name().hash(state);
+    }
+}
+
 /// Bytes that are not well-formed UTF-8 (the Unicode Standard, section 3.9), or an index inside a
 /// character. [`is_char_boundary`](crate::utils::is_char_boundary) returns it for an index past the text too.
 ///
@@ -169,6 +279,32 @@ impl StdError for Error {}
 /// ```
 #[derive(Clone, Copy, Default, PartialEq, Eq)]
 pub struct Utf8;
+
+/// The name alone.
+///
+/// # Examples
+///
+/// ```
+/// use arraystring::error::Utf8;
+///
+/// assert_eq!(format!("{Utf8:?}"), "Utf8");
+/// ```
+///
+/// <details><summary>Contract</summary>
+///
+/// ```text
+/// debug_output = { λ _. Some (codes "Utf8") };
+/// ```
+///
+/// [How to read a contract](crate::contracts)
+///
+/// </details>
+impl fmt::Debug for Utf8 {
+    #[inline]
+    fn fmt(&self, f: &mut fmt::Formatter<'_>) -> fmt::Result {
+        f.write_str("Utf8")
+    }
+}
 
 /// The name alone.
 ///
@@ -197,32 +333,6 @@ impl fmt::Display for Utf8 {
     }
 }
 
-/// The name alone.
-///
-/// # Examples
-///
-/// ```
-/// use arraystring::error::Utf8;
-///
-/// assert_eq!(format!("{Utf8:?}"), "Utf8");
-/// ```
-///
-/// <details><summary>Contract</summary>
-///
-/// ```text
-/// debug_output = { λ _. Some (codes "Utf8") };
-/// ```
-///
-/// [How to read a contract](crate::contracts)
-///
-/// </details>
-impl fmt::Debug for Utf8 {
-    #[inline]
-    fn fmt(&self, f: &mut fmt::Formatter<'_>) -> fmt::Result {
-        f.write_str("Utf8")
-    }
-}
-
 /// As an error of any kind. It has no source.
 ///
 /// # Examples
@@ -234,6 +344,22 @@ impl fmt::Debug for Utf8 {
 /// assert!(error.source().is_none());
 /// ```
 impl StdError for Utf8 {}
+
+/// Bytes that `std` finds not to be UTF-8 are refused as [`Utf8`](crate::error::Utf8).
+///
+/// # Examples
+///
+/// ```
+/// use arraystring::error::Utf8;
+///
+/// assert_eq!(std::str::from_utf8(b"a\xFF").map_err(Utf8::from), Err(Utf8));
+/// ```
+impl From<Utf8Error> for Utf8 {
+    #[inline]
+    fn from(_error: Utf8Error) -> Self {
+        Utf8
+    }
+}
 
 /// A lone surrogate in UTF-16 (the Unicode Standard, section 3.9).
 ///
@@ -247,6 +373,32 @@ impl StdError for Utf8 {}
 /// ```
 #[derive(Clone, Copy, Default, PartialEq, Eq)]
 pub struct Utf16;
+
+/// The name alone.
+///
+/// # Examples
+///
+/// ```
+/// use arraystring::error::Utf16;
+///
+/// assert_eq!(format!("{Utf16:?}"), "Utf16");
+/// ```
+///
+/// <details><summary>Contract</summary>
+///
+/// ```text
+/// debug_output = { λ _. Some (codes "Utf16") };
+/// ```
+///
+/// [How to read a contract](crate::contracts)
+///
+/// </details>
+impl fmt::Debug for Utf16 {
+    #[inline]
+    fn fmt(&self, f: &mut fmt::Formatter<'_>) -> fmt::Result {
+        f.write_str("Utf16")
+    }
+}
 
 /// The name alone.
 ///
@@ -269,32 +421,6 @@ pub struct Utf16;
 ///
 /// </details>
 impl fmt::Display for Utf16 {
-    #[inline]
-    fn fmt(&self, f: &mut fmt::Formatter<'_>) -> fmt::Result {
-        f.write_str("Utf16")
-    }
-}
-
-/// The name alone.
-///
-/// # Examples
-///
-/// ```
-/// use arraystring::error::Utf16;
-///
-/// assert_eq!(format!("{Utf16:?}"), "Utf16");
-/// ```
-///
-/// <details><summary>Contract</summary>
-///
-/// ```text
-/// debug_output = { λ _. Some (codes "Utf16") };
-/// ```
-///
-/// [How to read a contract](crate::contracts)
-///
-/// </details>
-impl fmt::Debug for Utf16 {
     #[inline]
     fn fmt(&self, f: &mut fmt::Formatter<'_>) -> fmt::Result {
         f.write_str("Utf16")
@@ -334,6 +460,32 @@ pub struct OutOfBounds;
 /// ```
 /// use arraystring::error::OutOfBounds;
 ///
+/// assert_eq!(format!("{OutOfBounds:?}"), "OutOfBounds");
+/// ```
+///
+/// <details><summary>Contract</summary>
+///
+/// ```text
+/// debug_output = { λ _. Some (codes "OutOfBounds") };
+/// ```
+///
+/// [How to read a contract](crate::contracts)
+///
+/// </details>
+impl fmt::Debug for OutOfBounds {
+    #[inline]
+    fn fmt(&self, f: &mut fmt::Formatter<'_>) -> fmt::Result {
+        f.write_str("OutOfBounds")
+    }
+}
+
+/// The name alone.
+///
+/// # Examples
+///
+/// ```
+/// use arraystring::error::OutOfBounds;
+///
 /// assert_eq!(OutOfBounds.to_string(), "OutOfBounds");
 /// ```
 ///
@@ -354,32 +506,6 @@ impl fmt::Display for OutOfBounds {
     }
 }
 
-/// The name alone.
-///
-/// # Examples
-///
-/// ```
-/// use arraystring::error::OutOfBounds;
-///
-/// assert_eq!(format!("{OutOfBounds:?}"), "OutOfBounds");
-/// ```
-///
-/// <details><summary>Contract</summary>
-///
-/// ```text
-/// debug_output = { λ _. Some (codes "OutOfBounds") };
-/// ```
-///
-/// [How to read a contract](crate::contracts)
-///
-/// </details>
-impl fmt::Debug for OutOfBounds {
-    #[inline]
-    fn fmt(&self, f: &mut fmt::Formatter<'_>) -> fmt::Result {
-        f.write_str("OutOfBounds")
-    }
-}
-
 /// As an error of any kind. It has no source.
 ///
 /// # Examples
@@ -391,129 +517,3 @@ impl fmt::Debug for OutOfBounds {
 /// assert!(error.source().is_none());
 /// ```
 impl StdError for OutOfBounds {}
-
-/// Bytes that `std` finds not to be UTF-8 are refused as [`Utf8`](crate::error::Utf8).
-///
-/// # Examples
-///
-/// ```
-/// use arraystring::error::Utf8;
-///
-/// assert_eq!(std::str::from_utf8(b"a\xFF").map_err(Utf8::from), Err(Utf8));
-/// ```
-impl From<Utf8Error> for Utf8 {
-    #[inline]
-    fn from(_error: Utf8Error) -> Self {
-        Utf8
-    }
-}
-
-/// Bytes that `std` finds not to be UTF-8 are refused as [`Error::Utf8`](crate::Error::Utf8).
-///
-/// # Examples
-///
-/// ```
-/// use arraystring::Error;
-///
-/// assert_eq!(std::str::from_utf8(b"a\xFF").map_err(Error::from), Err(Error::Utf8));
-/// ```
-///
-/// <details><summary>Contract</summary>
-///
-/// ```text
-/// from_gives = { λ _ error. error ≡ cases.Utf8 };
-/// ```
-///
-/// [How to read a contract](crate::contracts)
-///
-/// </details>
-impl From<Utf8Error> for Error {
-    #[inline]
-    fn from(error: Utf8Error) -> Self {
-        Error::from(Utf8::from(error))
-    }
-}
-
-/// The case of its name.
-///
-/// # Examples
-///
-/// ```
-/// use arraystring::Error;
-/// use arraystring::error::Utf8;
-///
-/// assert_eq!(Error::from(Utf8), Error::Utf8);
-/// ```
-///
-/// <details><summary>Contract</summary>
-///
-/// ```text
-/// from_gives = { λ _ error. error ≡ cases.Utf8 };
-/// ```
-///
-/// [How to read a contract](crate::contracts)
-///
-/// </details>
-impl From<Utf8> for Error {
-    #[inline]
-    fn from(_error: Utf8) -> Self {
-        Error::Utf8
-    }
-}
-
-/// The case of its name.
-///
-/// # Examples
-///
-/// ```
-/// use arraystring::Error;
-/// use arraystring::error::Utf16;
-///
-/// assert_eq!(Error::from(Utf16), Error::Utf16);
-/// ```
-///
-/// <details><summary>Contract</summary>
-///
-/// ```text
-/// from_gives = { λ _ error. error ≡ cases.Utf16 };
-/// ```
-///
-/// [How to read a contract](crate::contracts)
-///
-/// </details>
-impl From<Utf16> for Error {
-    #[inline]
-    fn from(_error: Utf16) -> Self {
-        Error::Utf16
-    }
-}
-
-/// The case of its name.
-///
-/// # Examples
-///
-/// ```
-/// use arraystring::{ArrayString, Error};
-///
-/// fn two(text: &str) -> Result<ArrayString<2>, Error> {
-///     Ok(ArrayString::try_from_str(text)?)
-/// }
-///
-/// assert_eq!(two("abc"), Err(Error::OutOfBounds));
-/// ```
-///
-/// <details><summary>Contract</summary>
-///
-/// ```text
-/// from_gives = { λ _ error. error ≡ cases.OutOfBounds };
-/// ```
-///
-/// [How to read a contract](crate::contracts)
-///
-/// </details>
-impl From<OutOfBounds> for Error {
-    #[inline]
-    fn from(_error: OutOfBounds) -> Self {
-        Error::OutOfBounds
-    }
-}

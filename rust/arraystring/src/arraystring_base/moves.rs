@@ -4,7 +4,50 @@
 //! byte that both have is written twice, to one offset: it moves once. They are read as vectors,
 //! since those stay in registers; arrays of bytes would be put on the stack.
 
+use crate::arraystring_base::steps::Steps;
 use crate::by_hand::simd::Simd;
+
+/// Moves `len` bytes of the array from the offset `from` to the offset `to`; the two runs may
+/// overlap. Each byte counts as one move, also if it is written twice on the way (see `moves`), and
+/// none counts if `from` is `to`. No byte outside the target changes.
+///
+/// # Safety
+///
+/// Both runs must lie in the array.
+///
+/// # Examples
+///
+/// ```
+/// use arraystring::utils::Steps;
+///
+/// let (mut array, mut steps) = (*b"abcd", Steps::new());
+/// // SAFETY: the bytes 0..3 and 1..4 lie in the array.
+/// unsafe { moves::shift(&mut array, 0, 1, 3, &mut steps) };
+/// assert_eq!((&array, steps.moved()), (b"aabc", 3));
+/// ```
+///
+/// <details><summary>Contract</summary>
+///
+/// ```text
+/// requires source { from + len ≤ N }
+/// requires target { to + len ≤ N }
+/// requires countable { steps.old.moved + len < 2 ^ 64 }
+/// ensures bytes { array.new ≡ take to array.old ++ (take len (drop from array.old) ++ drop (to + len) array.old) }
+/// ensures moved { steps.new.moved ≡ steps.old.moved + (if from == to then 0 else len) }
+/// ensures looked { steps.new.looked ≡ steps.old.looked }
+/// ```
+///
+/// [How to read a contract](crate::contracts)
+///
+/// </details>
+#[inline(always)]
+pub unsafe fn shift<const N: usize>(array: &mut [u8; N], from: usize, to: usize, len: usize, steps: &mut Steps) {
+    if from != to {
+        // SAFETY: the proof of `shift` in crates/arraystring_base/src/moves.rt shows `source` and `target` of `move_run`.
+        unsafe { move_run(array, from, to, len) };
+        steps.count_moves(len);
+    }
+}
 
 /// Moves `len` bytes of the array from the offset `from` to the offset `to`; the two runs may overlap.
 /// No byte outside the target changes, and nothing is counted. Up to 256 bytes cost no call.

@@ -1,18 +1,16 @@
 // Made from crates/arraystring_core/src/array_string.rt by rust/erase. A change goes there.
-//! `ArrayString`: the type, the calls that read it, and those that push to its end or pop from it.
-//! The modules below have its other calls, and `edit` the private ones that put bytes into its
-//! array or take them out.
+//! `ArrayString`: the type, and the calls that read all of it. The modules below have its other calls,
+//! `traits` its impls of traits, and `in_place` the private calls that put bytes into its array or take
+//! them out.
 //!
 //! # Iterators
 //!
-//! An iterator that is passed in must end, and until it does its `next` must be callable. All
-//! calls but the unchecked ones stop at the first item that does not fit: their contracts say that
-//! no item after it matters, and a test shows that they take none.
+//! An iterator that is passed in must end, and until it does the precondition of its `next` must
+//! hold. All calls but the unchecked ones stop at the first item that does not fit: their
+//! contracts say that no item after it matters, and a test shows that they take none.
 
-use crate::arraystring_base::error::OutOfBounds;
-use crate::arraystring_base::utils::{Steps, encode, last_char, truncate_str, write_over};
-use crate::arraystring_core::equal::equal;
-use core::{fmt, str};
+use crate::arraystring_base::utils::is_boundary;
+use core::str;
 
 mod empty {
     use super::*;
@@ -190,286 +188,36 @@ mod views {
             let (size, start) = (self.size as usize, self.start as usize);
             self.array.split_at(start + size).0.split_at(start).1
         }
+
+        /// Whether a character begins at `at`, or the text ends there.
+        ///
+        /// <details><summary>Contract</summary>
+        ///
+        /// ```text
+        /// ensures { result ≡ boundary self.now.text at }
+        /// ```
+        ///
+        /// [How to read a contract](crate::contracts)
+        ///
+        /// </details>
+        #[inline]
+        fn is_boundary(&self, at: usize) -> bool {
+            is_boundary(self.as_str(), at)
+        }
     }
 }
 #[path = "../by_hand/room.rs"]
 mod room;
-mod ends {
-    use super::*;
-
-    impl<const N: usize> ArrayString<N> {
-        /// Appends `ch`.
-        ///
-        /// # Errors
-        ///
-        /// Returns [`Err(OutOfBounds)`](crate::error::OutOfBounds) if `ch` does not fit. The text is then unchanged.
-        ///
-        /// # Examples
-        ///
-        /// ```
-        /// use arraystring::ArrayString;
-        /// use arraystring::error::OutOfBounds;
-        ///
-        /// let mut string = ArrayString::<4>::from("ab");
-        /// assert_eq!(string.try_push('c'), Ok(()));
-        /// assert_eq!(string.try_push('é'), Err(OutOfBounds)); // one byte is left, and `é` takes two
-        /// assert_eq!(string.as_str(), "abc");
-        /// ```
-        ///
-        /// <details><summary>Contract</summary>
-        ///
-        /// ```text
-        /// ensures { Makes (addition self.old.text (ch ∷ []) (cap N)) self.old.text (from_out_of_bounds result) self.new.text }
-        /// ```
-        ///
-        /// [How to read a contract](crate::contracts)
-        ///
-        /// </details>
-        #[inline(always)]
-        pub fn try_push(&mut self, ch: char) -> Result<(), OutOfBounds> {
-            let end = self.start as usize + self.size as usize;
-            // SAFETY: the proof of `try_push` in crates/arraystring_core/src/array_string.rt shows the precondition of `has_room`.
-            if unsafe { Self::has_room(end, ch) } {
-                // SAFETY: the proof of `try_push` in crates/arraystring_core/src/array_string.rt shows the precondition of `push_unchecked`.
-                unsafe { self.push_unchecked(ch) };
-                return Ok(());
-            }
-            self.try_push_near_end(ch)
-        }
-
-        /// Appends `ch`.
-        ///
-        /// # Safety
-        ///
-        /// The text after the call must fit into the capacity.
-        ///
-        /// # Examples
-        ///
-        /// ```
-        /// use arraystring::ArrayString;
-        ///
-        /// let mut string = ArrayString::<4>::from("abc");
-        /// // SAFETY: there is room for one more byte.
-        /// unsafe { string.push_unchecked('d') };
-        /// assert_eq!(string, "abcd");
-        /// ```
-        ///
-        /// <details><summary>Contract</summary>
-        ///
-        /// ```text
-        /// requires { size self.old.text + width ch ≤ cap N }
-        /// ensures { self.new.text ≡ self.old.text ++ ch ∷ [] }
-        /// ```
-        ///
-        /// [How to read a contract](crate::contracts)
-        ///
-        /// </details>
-        #[inline(always)]
-        pub unsafe fn push_unchecked(&mut self, ch: char) {
-            let end = self.start as usize + self.size as usize;
-            // SAFETY: the proof of `push_unchecked` in crates/arraystring_core/src/array_string.rt shows the precondition of `has_room`.
-            if !unsafe { Self::has_room(end, ch) } {
-                // SAFETY: the proof of `push_unchecked` in crates/arraystring_core/src/array_string.rt shows the precondition of `compact_and_push`.
-                return unsafe { self.compact_and_push(ch) };
-            }
-            // SAFETY: the proof of `push_unchecked` in crates/arraystring_core/src/array_string.rt shows the precondition of `encode`.
-            let len = unsafe { encode(ch, &mut self.array, end) };
-            self.size = (self.size as usize + len) as u8;
-        }
-
-        /// Appends `string`.
-        ///
-        /// # Errors
-        ///
-        /// Returns [`Err(OutOfBounds)`](crate::error::OutOfBounds) if not all of `string` fits. The text is then unchanged.
-        ///
-        /// # Examples
-        ///
-        /// ```
-        /// use arraystring::ArrayString;
-        /// use arraystring::error::OutOfBounds;
-        ///
-        /// let mut string = ArrayString::<4>::from("ab");
-        /// assert_eq!(string.try_push_str("c"), Ok(()));
-        /// assert_eq!(string.try_push_str("de"), Err(OutOfBounds));
-        /// assert_eq!(string.as_str(), "abc");
-        /// ```
-        ///
-        /// <details><summary>Contract</summary>
-        ///
-        /// ```text
-        /// ensures { Makes (addition self.old.text (chars string.now) (cap N)) self.old.text (from_out_of_bounds result) self.new.text }
-        /// ```
-        ///
-        /// [How to read a contract](crate::contracts)
-        ///
-        /// </details>
-        #[inline]
-        pub fn try_push_str<S: AsRef<str>>(&mut self, string: S) -> Result<(), OutOfBounds> {
-            let string = string.as_ref();
-            // Room after the text is tested first: if there is some, it is the only test.
-            let size = self.len() as usize;
-            let capacity = Self::capacity() as usize;
-            if self.start as usize + size + string.len() > capacity {
-                if size + string.len() > capacity {
-                    return Err(OutOfBounds);
-                }
-                // SAFETY: the proof of `try_push_str` in crates/arraystring_core/src/array_string.rt shows the precondition of `compact_and_push_str`.
-                unsafe { self.compact_and_push_str(string) };
-            } else {
-                // SAFETY: the proof of `try_push_str` in crates/arraystring_core/src/array_string.rt shows the precondition of `push_str_unchecked`.
-                unsafe { self.push_str_unchecked(string) };
-            }
-            Ok(())
-        }
-
-        /// Appends the longest prefix of whole characters of `string` that fits.
-        ///
-        /// # Examples
-        ///
-        /// ```
-        /// use arraystring::ArrayString;
-        ///
-        /// let mut string = ArrayString::<4>::from("abc");
-        /// string.push_str("dé"); // one byte is left, and `é` takes two
-        /// assert_eq!(string.as_str(), "abcd");
-        /// ```
-        ///
-        /// <details><summary>Contract</summary>
-        ///
-        /// ```text
-        /// ensures { Makes (addition_of_cut self.old.text (chars string.now) (cap N)) self.old.text (Ok result) self.new.text }
-        /// ```
-        ///
-        /// [How to read a contract](crate::contracts)
-        ///
-        /// </details>
-        #[inline]
-        pub fn push_str<S: AsRef<str>>(&mut self, string: S) {
-            let string = string.as_ref();
-            let room = Self::capacity() - self.len();
-            // SAFETY: the proof of `push_str` in crates/arraystring_core/src/array_string.rt shows the precondition of `push_str_unchecked`.
-            unsafe { self.push_str_unchecked(truncate_str(string, room)) };
-        }
-
-        /// Appends `string`.
-        ///
-        /// # Safety
-        ///
-        /// The text after the call must fit into the capacity.
-        ///
-        /// # Examples
-        ///
-        /// ```
-        /// use arraystring::ArrayString;
-        ///
-        /// let mut string = ArrayString::<4>::from("ab");
-        /// // SAFETY: there is room for two more bytes, and `é` takes two.
-        /// unsafe { string.push_str_unchecked("é") };
-        /// assert_eq!(string, "abé");
-        /// ```
-        ///
-        /// <details><summary>Contract</summary>
-        ///
-        /// ```text
-        /// requires { size self.old.text + size (chars string.now) ≤ cap N }
-        /// ensures { self.new.text ≡ self.old.text ++ chars string.now }
-        /// ```
-        ///
-        /// [How to read a contract](crate::contracts)
-        ///
-        /// </details>
-        #[inline]
-        pub unsafe fn push_str_unchecked<S: AsRef<str>>(&mut self, string: S) {
-            let string = string.as_ref();
-            let end = self.start as usize + self.size as usize;
-            if end + string.len() > Self::capacity() as usize {
-                // SAFETY: the proof of `push_str_unchecked` in crates/arraystring_core/src/array_string.rt shows the precondition of `compact_and_push_str`.
-                return unsafe { self.compact_and_push_str(string) };
-            }
-            self.size = (self.size as usize + string.len()) as u8;
-            // SAFETY: the proof of `push_str_unchecked` in crates/arraystring_core/src/array_string.rt shows the precondition of `write_over`.
-            unsafe { write_over(&mut self.array, end, string.as_bytes()) };
-        }
-
-        /// Removes the last character and returns it. Returns `None` if the text is empty.
-        ///
-        /// # Examples
-        ///
-        /// ```
-        /// use arraystring::ArrayString;
-        ///
-        /// let mut string = ArrayString::<4>::from("aé");
-        /// assert_eq!(string.pop(), Some('é'));
-        /// assert_eq!(string.pop(), Some('a'));
-        /// assert_eq!(string.pop(), None);
-        /// ```
-        ///
-        /// <details><summary>Contract</summary>
-        ///
-        /// ```text
-        /// ensures { Makes (popping self.old.text) self.old.text (Ok result) self.new.text }
-        /// ```
-        ///
-        /// [How to read a contract](crate::contracts)
-        ///
-        /// </details>
-        #[inline]
-        pub fn pop(&mut self) -> Option<char> {
-            self.pop_counted(&mut Steps::new())
-        }
-
-        /// The same as [`pop`](crate::ArrayString::pop), counted in `steps`: at most four looks, at least one if there is a
-        /// character, and no moves.
-        ///
-        /// # In Rust
-        ///
-        /// A count that would pass 2^64 - 1 stays there.
-        ///
-        /// # Examples
-        ///
-        /// ```
-        /// use arraystring::ArrayString;
-        /// use arraystring::utils::Steps;
-        ///
-        /// let mut string = ArrayString::<4>::from("aé");
-        /// let mut steps = Steps::new();
-        /// assert_eq!(string.pop_counted(&mut steps), Some('é'));
-        /// assert!((1..=4).contains(&steps.looked()) && steps.moved() == 0);
-        /// ```
-        ///
-        /// <details><summary>Contract</summary>
-        ///
-        /// ```text
-        /// requires looks { steps.old.looked ≤ 2 ^ 63 }
-        /// requires moves { steps.old.moved ≤ 2 ^ 63 }
-        /// ensures edit { Makes (popping self.old.text) self.old.text (Ok result) self.new.text }
-        /// ensures looked { steps.new.looked ≤ steps.old.looked + 4 }
-        /// ensures least { IfSome result (λ _. steps.old.looked < steps.new.looked) }
-        /// ensures counted { steps.old.looked ≤ steps.new.looked }
-        /// ensures moved { steps.new.moved ≡ steps.old.moved }
-        /// ```
-        ///
-        /// [How to read a contract](crate::contracts)
-        ///
-        /// </details>
-        #[inline]
-        pub fn pop_counted(&mut self, steps: &mut Steps) -> Option<char> {
-            let (start, ch) = last_char(self.as_str(), steps)?;
-            // SAFETY: the proof of `pop_counted` in crates/arraystring_core/src/array_string.rt shows the precondition of `keep`.
-            unsafe { self.keep(start as u8) };
-            Some(ch)
-        }
-    }
-}
-mod extend;
+mod push;
 mod insert;
 mod range;
 mod remove;
 mod trim;
 mod ascii;
-mod compare;
-mod edit;
+mod traits;
+mod in_place;
+mod fill;
+mod gap;
 
 /// A string of at most `N` bytes of UTF-8, and at most 255, stored inline. Sizes, indices and the
 /// capacity count bytes of UTF-8.
@@ -528,101 +276,4 @@ pub struct ArrayString<const N: usize> {
     array: [u8; N],
     start: u8,
     size: u8,
-}
-
-/// An empty string.
-///
-/// # Examples
-///
-/// ```
-/// use arraystring::ArrayString;
-///
-/// assert_eq!(ArrayString::<4>::default().as_str(), "");
-/// ```
-///
-/// <details><summary>Contract</summary>
-///
-/// ```text
-/// is_default = { λ s. s.text ≡ [] };
-/// ```
-///
-/// [How to read a contract](crate::contracts)
-///
-/// </details>
-impl<const N: usize> Default for ArrayString<N> {
-    #[inline]
-    fn default() -> Self {
-        Self::new()
-    }
-}
-
-/// Strings are equal if and only if their texts are.
-///
-/// # Examples
-///
-/// ```
-/// use arraystring::ArrayString;
-///
-/// let mut popped = ArrayString::<4>::from("ab");
-/// popped.pop();
-/// assert!(popped == ArrayString::from("a") && popped != ArrayString::from("A"));
-/// ```
-///
-/// <details><summary>Contract</summary>
-///
-/// ```text
-/// eq = { λ s t. pointwise nat_eq s.text t.text };
-/// laws = { on_per (λ s. s.text) (partial_equiv_from_equiv nat_list_eq_equiv) };
-/// ```
-///
-/// [How to read a contract](crate::contracts)
-///
-/// </details>
-impl<const N: usize> PartialEq for ArrayString<N> {
-    #[inline]
-    fn eq(&self, other: &Self) -> bool {
-        equal::<N>(self.as_str(), other.as_str())
-    }
-}
-
-/// Each string is equal to itself, and so to a copy of it.
-///
-/// # Examples
-///
-/// ```
-/// use arraystring::ArrayString;
-///
-/// let string = ArrayString::<4>::from("a");
-/// let mut copy = string;
-/// assert_eq!(copy, string);
-/// copy.clear();
-/// assert_ne!(copy, string);
-/// ```
-///
-/// <details><summary>Contract</summary>
-///
-/// ```text
-/// laws = { on_equiv (λ s. s.text) nat_list_eq_equiv };
-/// ```
-///
-/// [How to read a contract](crate::contracts)
-///
-/// </details>
-impl<const N: usize> Eq for ArrayString<N> {}
-
-/// `ArrayString { array: "abc", size: 3 }` for the text `abc`; the size counts bytes of UTF-8.
-///
-/// # Examples
-///
-/// ```
-/// use arraystring::ArrayString;
-///
-/// let string = ArrayString::<8>::from("é\n");
-/// assert_eq!(format!("{string:?}"), r#"ArrayString { array: "é\n", size: 3 }"#);
-/// ```
-impl<const N: usize> fmt::Debug for ArrayString<N> {
-    #[inline]
-    fn fmt(&self, f: &mut fmt::Formatter<'_>) -> fmt::Result {
-        f.debug_struct("ArrayString").field("array", &self.as_str()).field("size", &self.size).finish()
-    }
 }

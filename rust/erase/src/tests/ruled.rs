@@ -83,7 +83,11 @@ pub fn encode<const N: usize>(ch: char, all: &mut [u8; N], at: usize)
     let known =
         "    known!(precondition: at + ch.len_utf8() <= N && at <= at + ch.len_utf8());\n    all[at..].fill(2);\n";
     let safety = "/// # Safety\n///\n/// What is written must lie in the array.\n";
-    has("arraystring_base/src/utils.rt", encode, &[known, safety, "\npub unsafe fn encode<", "        all[at] = 1;\n"]);
+    has(
+        "arraystring_base/src/sample/utf8.rt",
+        encode,
+        &[known, safety, "\npub unsafe fn encode<", "        all[at] = 1;\n"],
+    );
 }
 
 /// A callee that ensures a clause in these words, and what knows it behind the call.
@@ -118,14 +122,14 @@ fn what_a_callee_ensures_is_known_behind_the_call() {
         "shows `within` of `last_boundary`.\n    let end = unsafe { last_boundary(text, size) };\n",
         "    known!(within: usize::from(size) <= 3);\n    size as usize\n",
     ];
-    has("arraystring_base/src/utils.rt", &cut(says), &parts);
-    let why = |text: &str| made_with("arraystring_base/src/utils.rt", text, true).err();
-    let of = |why: &str| Some(format!("`utils::truncate_str_counted`: {why}"));
+    has("arraystring_base/src/sample/utf8.rt", &cut(says), &parts);
+    let why = |text: &str| made_with("arraystring_base/src/sample/utf8.rt", text, true).err();
+    let of = |why: &str| Some(format!("`utf8::truncate_str_counted`: {why}"));
     assert_eq!(why(&cut(says)), None);
     assert_eq!(why(&cut("result ≤ length text.now")), None);
     assert_eq!(why(&cut("IsCharBoundary text.now limit")), of("`limit` in a clause that is to be known"));
     let other = cut(says).replace("ensures boundary", "ensures other");
-    assert_eq!(why(&other), of("`utils::last_boundary` does not ensure a clause `boundary`"));
+    assert_eq!(why(&other), of("`utf8::last_boundary` does not ensure a clause `boundary`"));
     let no_result = of("`end` is not what `last_boundary` returns of the same names");
     for (line, other) in [
         ("last_boundary(text, size);", "last_boundary(rest, size);"),
@@ -202,7 +206,7 @@ impl<const N: usize> FusedIterator for Drain<N> {}
     let added = "        None\n    }\n\n    /// The bytes that are left bound the characters, which take one to four each.\n    \
                  #[inline]\n    fn size_hint(&self) -> (usize, Option<usize>) {\n        let len = self.as_str().len();\n        \
                  (len.div_ceil(4), Some(len))\n    }\n}\n\nimpl<const N: usize> FusedIterator for Drain<N> {}\n";
-    has("arraystring_core/src/drain.rt", source, &[added]);
+    has("arraystring_core/src/drain/traits.rt", source, &[added]);
     let elsewhere = made_as("arraystring_core/src/other.rt", source).unwrap();
     assert!(!elsewhere.contains("size_hint"), "{elsewhere}");
 }
@@ -311,7 +315,7 @@ fn shift(start: usize, end: usize)
 fn a_function_that_gives_up_a_clause_proves_only_by_its_rule() {
     let source = "fn retain_at(at: usize)\n    requires held { at < 3 }\n    requires { IsCallableInTurn f }\n{\n    prove!(at < 3);\n}\n";
     has(
-        "arraystring_core/src/retain.rt",
+        "arraystring_core/src/array_string/remove.rt",
         source,
         &["    known!(held: at < 3);\n    known!(proved: at < 3);\n", "\nunsafe fn retain_at("],
     );

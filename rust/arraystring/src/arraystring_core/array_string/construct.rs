@@ -1,12 +1,12 @@
 // Made from crates/arraystring_core/src/array_string/construct.rt by rust/erase. A change goes there.
 //! The constructors: from a `&str`, from pieces, from characters and from bytes of UTF-8.
 
-use super::ArrayString;
 use crate::arraystring_base::error::{Error, OutOfBounds, Utf8};
 use crate::arraystring_base::utils::truncate_str;
-use crate::arraystring_core::gap::{fill, try_fill};
-use crate::arraystring_core::well_formed::read_utf8;
-use core::str::{self, FromStr};
+use crate::arraystring_core::ArrayString;
+use crate::arraystring_core::array_string::fill::{fill, try_fill};
+use crate::arraystring_core::fast::well_formed::read_utf8;
+use core::str;
 
 impl<const N: usize> ArrayString<N> {
     /// Creates a string from `string`.
@@ -465,68 +465,5 @@ impl<const N: usize> ArrayString<N> {
         // SAFETY: the precondition `well_formed`.
         // SAFETY: the proof of `from_utf8_unchecked` in crates/arraystring_core/src/array_string/construct.rt shows the precondition of `from_str_unchecked`.
         unsafe { Self::from_str_unchecked(str::from_utf8_unchecked(given)) }
-    }
-}
-
-/// The same as [`from_str_truncate`](crate::ArrayString::from_str_truncate): what does not fit is **cut** off, also by `into`, and in Rust by
-/// std's `try_from`, which is then `Ok` of a cut text. `parse` and [`try_from_str`](crate::ArrayString::try_from_str) refuse it.
-///
-/// # Examples
-///
-/// ```
-/// use arraystring::ArrayString;
-///
-/// assert_eq!(ArrayString::<4>::from("hello").as_str(), "hell");
-/// assert!("hello".parse::<ArrayString<4>>().is_err());
-/// ```
-///
-/// <details><summary>Contract</summary>
-///
-/// ```text
-/// from_gives = { λ string made. made.text ≡ cut (chars string.now) (cap N) };
-/// ```
-///
-/// [How to read a contract](crate::contracts)
-///
-/// </details>
-impl<'a, const N: usize> From<&'a str> for ArrayString<N> {
-    #[inline]
-    fn from(string: &'a str) -> Self {
-        Self::from_str_truncate(string)
-    }
-}
-
-/// The same as [`try_from_str`](crate::ArrayString::try_from_str).
-///
-/// # Examples
-///
-/// ```
-/// use arraystring::ArrayString;
-/// use arraystring::error::OutOfBounds;
-///
-/// assert_eq!("hell".parse(), Ok(ArrayString::<4>::from("hell")));
-/// assert_eq!("hello".parse::<ArrayString<4>>(), Err(OutOfBounds));
-/// ```
-///
-/// <details><summary>Contract</summary>
-///
-/// ```text
-/// from_str_gives = { λ string result. IsWholeOrRefused (chars string) (cap N) (from_out_of_bounds result) };
-/// ```
-///
-/// [How to read a contract](crate::contracts)
-///
-/// </details>
-impl<const N: usize> FromStr for ArrayString<N> {
-    type Err = OutOfBounds;
-
-    /// Creates a string from `string`.
-    ///
-    /// # Errors
-    ///
-    /// Returns [`Err(OutOfBounds)`](crate::error::OutOfBounds) if `string` is larger than the capacity.
-    #[inline]
-    fn from_str(string: &str) -> Result<Self, OutOfBounds> {
-        Self::try_from_str(string)
     }
 }

@@ -119,7 +119,7 @@ impl<const N: usize> ArrayString<N> {
     #[inline(always)]
     pub fn drain<R: RangeBounds<u8>>(&mut self, range: R) -> Result<Drain<N>, Error> {
         let (start, end) = saturating_ends(range, self.len());
-        self.is_part(start, end)?;
+        self.check_part(start, end)?;
         // Made here, and not in a function that both calls share: each one would copy the array once more.
         // SAFETY: the proof of `drain` in crates/arraystring_core/src/array_string/range.rt shows the precondition of `new`.
         let removed = unsafe { Drain::new(self.array, self.start + start, end - start) };
@@ -178,7 +178,7 @@ impl<const N: usize> ArrayString<N> {
     #[inline(always)]
     pub fn drain_counted<R: RangeBounds<u8>>(&mut self, range: R, steps: &mut Steps) -> Result<Drain<N>, Error> {
         let (from, to) = saturating_ends(range, self.len());
-        self.is_part(from, to)?;
+        self.check_part(from, to)?;
         // SAFETY: the proof of `drain_counted` in crates/arraystring_core/src/array_string/range.rt shows the precondition of `new`.
         let removed = unsafe { Drain::new(self.array, self.start + from, to - from) };
         // SAFETY: the proof of `drain_counted` in crates/arraystring_core/src/array_string/range.rt shows `order`, `start` and `end` of `take_out`.
@@ -373,7 +373,7 @@ impl<const N: usize> ArrayString<N> {
     ///
     /// </details>
     #[inline]
-    fn is_part(&self, start: u8, end: u8) -> Result<(), Error> {
+    fn check_part(&self, start: u8, end: u8) -> Result<(), Error> {
         if start > end || end > self.len() {
             return Err(Error::OutOfBounds);
         }
@@ -403,7 +403,7 @@ impl<const N: usize> ArrayString<N> {
     /// </details>
     #[inline]
     fn replace_between(&mut self, start: u8, end: u8, with: &str, steps: &mut Steps) -> Result<(), Error> {
-        self.can_replace(start, end, with)?;
+        self.check_replacement(start, end, with)?;
         let (from, to) = (start as usize, end as usize);
         // SAFETY: the proof of `replace_between` in crates/arraystring_core/src/array_string/range.rt shows `order`, `start`, `end` and `room` of `splice`.
         unsafe { self.splice(from, to, with, steps) };
@@ -422,7 +422,7 @@ impl<const N: usize> ArrayString<N> {
     ///
     /// </details>
     #[inline(always)]
-    fn can_replace(&self, start: u8, end: u8, with: &str) -> Result<(), Error> {
+    fn check_replacement(&self, start: u8, end: u8, with: &str) -> Result<(), Error> {
         if start > end || end > self.len() {
             return Err(Error::OutOfBounds);
         }

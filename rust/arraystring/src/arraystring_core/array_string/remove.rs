@@ -1,11 +1,11 @@
 // Made from crates/arraystring_core/src/array_string/remove.rt by rust/erase. A change goes there.
-//! What is removed from a string.
+//! What is removed from a string: characters at the end, at an index or by a closure, and the text from an
+//! index on.
 
 use crate::arraystring_base::error::{Error, Utf8};
-use crate::arraystring_base::utils::Steps;
+use crate::arraystring_base::utils::{Steps, last_char, shift};
 use crate::arraystring_core::ArrayString;
-use crate::arraystring_core::decode::first_char;
-use crate::arraystring_core::retain::retain_at;
+use core::str;
 
 impl<const N: usize> ArrayString<N> {
     /// Shortens the text to its first `size` bytes. Nothing changes if it has no more.
@@ -48,6 +48,75 @@ impl<const N: usize> ArrayString<N> {
         // SAFETY: the proof of `truncate` in crates/arraystring_core/src/array_string/remove.rt shows the precondition of `keep`.
         unsafe { self.keep(size) };
         Ok(())
+    }
+
+    /// Removes the last character and returns it. Returns `None` if the text is empty.
+    ///
+    /// # Examples
+    ///
+    /// ```
+    /// use arraystring::ArrayString;
+    ///
+    /// let mut string = ArrayString::<4>::from("aé");
+    /// assert_eq!(string.pop(), Some('é'));
+    /// assert_eq!(string.pop(), Some('a'));
+    /// assert_eq!(string.pop(), None);
+    /// ```
+    ///
+    /// <details><summary>Contract</summary>
+    ///
+    /// ```text
+    /// ensures { Makes (popping self.old.text) self.old.text (Ok result) self.new.text }
+    /// ```
+    ///
+    /// [How to read a contract](crate::contracts)
+    ///
+    /// </details>
+    #[inline]
+    pub fn pop(&mut self) -> Option<char> {
+        self.pop_counted(&mut Steps::new())
+    }
+
+    /// The same as [`pop`](crate::ArrayString::pop), counted in `steps`: at most four looks, at least one if there is a
+    /// character, and no moves.
+    ///
+    /// # In Rust
+    ///
+    /// A count that would pass 2^64 - 1 stays there.
+    ///
+    /// # Examples
+    ///
+    /// ```
+    /// use arraystring::ArrayString;
+    /// use arraystring::utils::Steps;
+    ///
+    /// let mut string = ArrayString::<4>::from("aé");
+    /// let mut steps = Steps::new();
+    /// assert_eq!(string.pop_counted(&mut steps), Some('é'));
+    /// assert!((1..=4).contains(&steps.looked()) && steps.moved() == 0);
+    /// ```
+    ///
+    /// <details><summary>Contract</summary>
+    ///
+    /// ```text
+    /// requires looks { steps.old.looked ≤ 2 ^ 63 }
+    /// requires moves { steps.old.moved ≤ 2 ^ 63 }
+    /// ensures edit { Makes (popping self.old.text) self.old.text (Ok result) self.new.text }
+    /// ensures looked { steps.new.looked ≤ steps.old.looked + 4 }
+    /// ensures least { IfSome result (λ _. steps.old.looked < steps.new.looked) }
+    /// ensures counted { steps.old.looked ≤ steps.new.looked }
+    /// ensures moved { steps.new.moved ≡ steps.old.moved }
+    /// ```
+    ///
+    /// [How to read a contract](crate::contracts)
+    ///
+    /// </details>
+    #[inline]
+    pub fn pop_counted(&mut self, steps: &mut Steps) -> Option<char> {
+        let (start, ch) = last_char(self.as_str(), steps)?;
+        // SAFETY: the proof of `pop_counted` in crates/arraystring_core/src/array_string/remove.rt shows the precondition of `keep`.
+        unsafe { self.keep(start as u8) };
+        Some(ch)
     }
 
     /// Removes the character that begins at the byte index `index` and returns it.
@@ -177,33 +246,6 @@ impl<const N: usize> ArrayString<N> {
         unsafe { retain_at(&mut self.array, &mut self.size, offset, size, f) };
     }
 
-    /// Removes all characters.
-    ///
-    /// # Examples
-    ///
-    /// ```
-    /// use arraystring::ArrayString;
-    ///
-    /// let mut string = ArrayString::<4>::from("abc");
-    /// string.clear();
-    /// assert!(string.is_empty());
-    /// ```
-    ///
-    /// <details><summary>Contract</summary>
-    ///
-    /// ```text
-    /// ensures { Makes clearing self.old.text (Ok result) self.new.text }
-    /// ```
-    ///
-    /// [How to read a contract](crate::contracts)
-    ///
-    /// </details>
-    #[inline]
-    pub fn clear(&mut self) {
-        // SAFETY: the proof of `clear` in crates/arraystring_core/src/array_string/remove.rt shows the precondition of `keep`.
-        unsafe { self.keep(0) };
-    }
-
     /// Splits the text at the byte index `at`, which may be the length. Keeps the part before it
     /// and returns the part from it on.
     ///
@@ -250,6 +292,33 @@ impl<const N: usize> ArrayString<N> {
         Ok(rest)
     }
 
+    /// Removes all characters.
+    ///
+    /// # Examples
+    ///
+    /// ```
+    /// use arraystring::ArrayString;
+    ///
+    /// let mut string = ArrayString::<4>::from("abc");
+    /// string.clear();
+    /// assert!(string.is_empty());
+    /// ```
+    ///
+    /// <details><summary>Contract</summary>
+    ///
+    /// ```text
+    /// ensures { Makes clearing self.old.text (Ok result) self.new.text }
+    /// ```
+    ///
+    /// [How to read a contract](crate::contracts)
+    ///
+    /// </details>
+    #[inline]
+    pub fn clear(&mut self) {
+        // SAFETY: the proof of `clear` in crates/arraystring_core/src/array_string/remove.rt shows the precondition of `keep`.
+        unsafe { self.keep(0) };
+    }
+
     /// The character that begins at a boundary before the end, and how many bytes it takes.
     ///
     /// # Safety
@@ -276,5 +345,100 @@ impl<const N: usize> ArrayString<N> {
         known!(before_end: at < usize::from(self.len()));
         // SAFETY: the proof of `char_at` in crates/arraystring_core/src/array_string/remove.rt shows the precondition of `first_char`.
         unsafe { first_char(&self.as_str()[at..]) }
+    }
+}
+
+/// The first character of a text that has one, and how many bytes it takes.
+///
+/// # Safety
+///
+/// Each clause `requires` of the contract must hold, but for those on counts, on iterators and on closures.
+///
+/// <details><summary>Contract</summary>
+///
+/// ```text
+/// requires { 0 < length text.now }
+/// ensures first { (rest : List ℕ) × (text.now ≡ utf8 result.0 ++ rest) }
+/// ensures width { result.1 ≡ width result.0 }
+/// ensures some { 0 < result.1 }
+/// ensures within { result.1 ≤ length text.now }
+/// ```
+///
+/// [How to read a contract](crate::contracts)
+///
+/// </details>
+#[inline]
+unsafe fn first_char(text: &str) -> (char, usize) {
+    let mut rest = text.chars();
+    let Some(ch) = rest.next() else {
+        unreachable!();
+    };
+    (ch, text.len() - rest.as_str().len())
+}
+
+/// Calls `f` once with each character of a text, in order, and moves those for which it returns
+/// true together. The text is the `size` bytes of the array from `offset` on, and keeps
+/// its offset; `kept` becomes the size of what is kept. Each kept character is moved on its own, and
+/// only to the left. At each call of `f` the `kept` bytes from `offset` on are those of the
+/// characters that were kept so far: they are what a closure leaves that ends the loop.
+///
+/// # Safety
+///
+/// Each clause `requires` of the contract must hold, but for those on counts, on iterators and on closures.
+///
+/// <details><summary>Contract</summary>
+///
+/// ```text
+/// requires held { offset + size ≤ N }
+/// requires small { size ≤ 255 }
+/// requires text { IsUtf8 (take size (drop offset array.old)) }
+/// requires callable { IsCallableInTurn F.pre F.step f (chars (take size (drop offset array.old))) }
+/// ensures len { length array.new ≡ N }
+/// ensures at_most { kept.new ≤ size }
+/// ensures text { IsUtf8 (take kept.new (drop offset array.new)) }
+/// ensures filtered { IsFiltered F.step f (chars (take size (drop offset array.old))) (chars (take kept.new (drop offset array.new))) }
+/// ```
+///
+/// [How to read a contract](crate::contracts)
+///
+/// </details>
+#[inline]
+unsafe fn retain_at<const N: usize, F: FnMut(char) -> bool>(
+    array: &mut [u8; N],
+    kept: &mut u8,
+    offset: usize,
+    size: usize,
+    mut f: F,
+) {
+    known!(held: offset + size <= N && offset <= offset + size);
+    // From `read` on no byte was moved.
+    *kept = 0;
+    let mut read = 0;
+    while read < size {
+        known!(proved: offset + read < N);
+        // A byte of ASCII is its character; others take the decoder.
+        let first = array[offset + read];
+        if first < 0x80 {
+            if f(first as char) {
+                let to = offset + *kept as usize;
+                // SAFETY: the proof of `retain_at` in crates/arraystring_core/src/array_string/remove.rt shows `source` and `target` of `shift`.
+                unsafe { shift(array, offset + read, to, 1, &mut Steps::new()) };
+                *kept += 1;
+            }
+            read += 1;
+        } else {
+            let all = &array[..];
+            // SAFETY: the clause `text`: what was not read yet is UTF-8, since a character begins at `read`.
+            let text = unsafe { str::from_utf8_unchecked(&all[offset + read..offset + size]) };
+            // SAFETY: the proof of `retain_at` in crates/arraystring_core/src/array_string/remove.rt shows the precondition of `first_char`.
+            let (ch, width) = unsafe { first_char(text) };
+            if f(ch) {
+                let to = offset + *kept as usize;
+                // SAFETY: the proof of `retain_at` in crates/arraystring_core/src/array_string/remove.rt shows `source` and `target` of `shift`.
+                unsafe { shift(array, offset + read, to, width, &mut Steps::new()) };
+                *kept += width as u8;
+            }
+            read += width;
+        }
     }
 }

@@ -11,7 +11,7 @@ overflow_add-self-inside g c =
     let t = c.args.self.now.text in
     let start = c.saturating_ends-from.result.0 in
     let end = c.saturating_ends-from.result.1 in
-    let part = part-where t start end (no_cause (draining t start end).tests c.in_ok-is_part.ensures) in
+    let part = part-where t start end (no_cause (draining t start end).tests c.in_ok-check_part.ensures) in
     omega (arith, opened-size g.row.N _ _ _ c.self.invariant _ c.self.view_is, c.self.invariant.0, part.order, part.within)
 
 pub new-removed-requires : goal.new-removed-requires
@@ -19,7 +19,7 @@ new-removed-requires g c =
     let t = c.args.self.now.text in
     let start = c.saturating_ends-from.result.0 in
     let end = c.saturating_ends-from.result.1 in
-    let part = part-where t start end (no_cause (draining t start end).tests c.in_ok-is_part.ensures) in
+    let part = part-where t start end (no_cause (draining t start end).tests c.in_ok-check_part.ensures) in
     (search rules, (search rules, part-held g.row.N _ _ _ c.self.invariant _ c.self.view_is start end part.order part.starts part.ends))
 
 pub take_out-requires : goal.take_out-requires
@@ -27,7 +27,7 @@ take_out-requires g c =
     let t = c.args.self.now.text in
     let start = c.saturating_ends-from.result.0 in
     let end = c.saturating_ends-from.result.1 in
-    let part = part-where t start end (no_cause (draining t start end).tests c.in_ok-is_part.ensures) in
+    let part = part-where t start end (no_cause (draining t start end).tests c.in_ok-check_part.ensures) in
     (search rules, (part.order, (part.starts, (part.ends, c.requires.moves))))
 
 pub returns-clause-edit : goal.returns-clause-edit
@@ -36,7 +36,7 @@ returns-clause-edit g c =
     let start = c.saturating_ends-from.result.0 in
     let end = c.saturating_ends-from.result.1 in
     let ends = c.saturating_ends-from.ensures in
-    let none = no_cause (draining t start end).tests c.in_ok-is_part.ensures in
+    let none = no_cause (draining t start end).tests c.in_ok-check_part.ensures in
     let part = part-where t start end none in
     let taken = part-text g.row.N _ _ _ c.self.invariant _ c.self.view_is start end part.order part.starts part.ends in
     let made = makes (draining t start end) t _ _ none (c.new-removed.ensures ∙ taken) c.take_out.ensures.text in

@@ -1,0 +1,14 @@
+use Rattle.std.proofs.Common.{◌≡◌, ℕ, ◌+◌, ◌<◌, ◌≤◌, IsCharBoundary}
+use Rattle.arraystring_base.proofs.utf8.last_boundary.Given as goal
+
+abbrev pub invariant-loop-end : goal.invariant-loop-end
+invariant-loop-end l = record {
+  at_most : l.end ≤ l.limit;
+  near : l.limit < l.end + 4;
+  nearest : (i : ℕ) → l.end < i → i ≤ l.limit → IsCharBoundary l.text i → ⊥;
+  looks : l.steps.looked + l.end ≡ l.initial.steps.looked + l.limit;
+  moves : l.steps.moved ≡ l.initial.steps.moved;
+}
+
+abbrev pub decreases-loop-end : goal.decreases-loop-end
+decreases-loop-end l = l.end

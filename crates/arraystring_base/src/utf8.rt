@@ -1,0 +1,198 @@
+//! The UTF-8 of texts and characters: boundaries, cuts, the last character of a text, and the bytes of a
+//! character. Sizes and indices count bytes of UTF-8.
+ghost use Rattle.std.specs.Prelude.{◌≡◌, ◌+◌, ◌^◌, ◌≤◌, ◌<◌, ◌↔◌, ◌++◌, ◌∷◌, [], ℕ, List, length, take, drop, chars, IsTrue, IfSome, IfNone, IsCharBoundary};
+ghost use Rattle.arraystring_base.specs.Text.{bytes, cut, utf8, width, size, boundary};
+
+use crate::steps::{Steps, look};
+use std::char;
+
+/// Returns whether `at` is a boundary of `text`, the size of one of its prefixes of whole
+/// characters. It is false past the length of the text.
+///
+/// # Examples
+///
+/// ```
+/// assert!(utils::is_boundary("aé", 1) && utils::is_boundary("aé", 3));
+/// assert!(!utils::is_boundary("aé", 2) && !utils::is_boundary("aé", 4));
+/// ```
+pub fn is_boundary(text: &str, at: usize) -> bool
+    ensures { result ≡ boundary (chars text.now) at }
+{
+    text.is_char_boundary(at)
+}
+
+/// Returns the longest prefix of whole characters of `text` that takes at most `size` bytes,
+/// borrowed from the text.
+///
+/// # Examples
+///
+/// ```
+/// assert_eq!(utils::truncate_str("aéb", 3), "aé");
+/// assert_eq!(utils::truncate_str("aéb", 2), "a"); // the index 2 is inside `é`
+/// assert_eq!(utils::truncate_str("aéb", 9), "aéb");
+/// ```
+pub fn truncate_str(text: &str, size: u8) -> &str
+    ensures { result.now ≡ bytes (cut (chars text.now) size) }
+{
+    truncate_str_counted(text, size, &mut Steps::new())
+}
+
+/// The same as `truncate_str`. It looks at no more than four bytes, and at one at least if `size`
+/// is not 0 and is below the length. It moves none.
+///
+/// # Precondition
+///
+/// The count of looks of `steps` must be at most 2^63.
+///
+/// # Examples
+///
+/// ```
+/// let mut steps = Steps::new();
+/// assert_eq!(utils::truncate_str_counted("aéb", 2, &mut steps), "a");
+/// assert!((1..=4).contains(&steps.looked()) && steps.moved() == 0);
+/// ```
+pub fn truncate_str_counted<'a>(text: &'a str, size: u8, steps: &mut Steps) -> &'a str
+    requires { steps.old.looked ≤ 2 ^ 63 }
+    ensures value { result.now ≡ bytes (cut (chars text.now) size) }
+    ensures looked { steps.new.looked ≤ steps.old.looked + 4 }
+    ensures least { 0 < size → size < length text.now → steps.old.looked < steps.new.looked }
+    ensures counted { steps.old.looked ≤ steps.new.looked }
+    ensures moved { steps.new.moved ≡ steps.old.moved }
+{
+    let limit = size as usize;
+    if text.len() <= limit {
+        return text;
+    }
+    let end = last_boundary(text, limit, steps);
+    &text[..end]
+}
+
+/// The last boundary that is not past `limit`. It looks once at each byte from `limit` back to it,
+/// but for the first byte of the text.
+fn last_boundary(text: &str, limit: usize, steps: &mut Steps) -> usize
+    requires within { limit < length text.now }
+    requires countable { steps.old.looked ≤ 2 ^ 63 }
+    ensures at_most { result ≤ limit }
+    ensures boundary { IsCharBoundary text.now result }
+    ensures nearest { (i : ℕ) → result < i → i ≤ limit → ¬ (IsCharBoundary text.now i) }
+    ensures looked { steps.new.looked ≤ steps.old.looked + 4 }
+    ensures least { 0 < limit → steps.old.looked < steps.new.looked }
+    ensures each { 0 < result → steps.new.looked + result ≡ steps.old.looked + limit + 1 }
+    ensures counted { steps.old.looked ≤ steps.new.looked }
+    ensures moved { steps.new.moved ≡ steps.old.moved }
+{
+    let all = text.as_bytes();
+    let mut end = limit;
+    // At most three bytes continue a character. The bound is for the compiler, which unrolls the loop.
+    while end > 0 && continues(look(all, end, steps)) && limit - end < 3 {
+        end -= 1;
+    }
+    end
+}
+
+/// Whether a byte continues a character that began before it.
+fn continues(byte: u8) -> bool
+    ensures { IsTrue result ↔ ((128 ≤ byte) × (byte < 192)) }
+{
+    matches!(byte, 0x80..=0xBF)
+}
+
+/// Returns the index at which the last character of `text` begins, and that character, or `None` if
+/// the text is empty. It looks at no more than four bytes, and at one at least if there is a
+/// character. It moves none.
+///
+/// # Precondition
+///
+/// The count of looks plus four must be below 2^64.
+#[tactic(auto, using(crate::proofs::LastLemmas::chars_empty))]
+pub fn last_char(text: &str, steps: &mut Steps) -> Option<(usize, char)>
+    requires { steps.old.looked + 4 < 2 ^ 64 }
+    ensures some { IfSome result (λ last. (front : List ℕ) × (chars text.now ≡ front ++ last.1 ∷ []) × (size front ≡ last.0)) }
+    ensures none { IfNone result (chars text.now ≡ []) }
+    ensures looked { steps.new.looked ≤ steps.old.looked + 4 }
+    ensures least { IfSome result (λ _. steps.old.looked < steps.new.looked) }
+    ensures counted { steps.old.looked ≤ steps.new.looked }
+    ensures moved { steps.new.moved ≡ steps.old.moved }
+{
+    if text.is_empty() {
+        return None;
+    }
+    let (start, ch) = char_before_end(text, steps);
+    Some((start, ch))
+}
+
+/// The last character of a text that has one, and where it begins. The bytes are read from the end
+/// back to the one that does not continue a character.
+fn char_before_end(text: &str, steps: &mut Steps) -> (usize, char)
+    requires some { 0 < length text.now }
+    requires countable { steps.old.looked + 4 < 2 ^ 64 }
+    ensures last { (front : List ℕ) × (chars text.now ≡ front ++ result.1 ∷ []) × (size front ≡ result.0) }
+    ensures looked { steps.new.looked ≤ steps.old.looked + 4 }
+    ensures least { steps.old.looked < steps.new.looked }
+    ensures each { steps.new.looked + result.0 ≡ steps.old.looked + length text.now }
+    ensures moved { steps.new.moved ≡ steps.old.moved }
+{
+    let all = text.as_bytes();
+    let end = all.len();
+    let last = look(all, end - 1, steps) as u32;
+    if last < 0x80 {
+        // SAFETY: a number below 0x80 is a scalar value, as `from_u32_unchecked` requires.
+        return (end - 1, unsafe { char::from_u32_unchecked(last) });
+    }
+    let second = look(all, end - 2, steps) as u32;
+    if second >= 0xC0 {
+        let code = (second - 0xC0) * 64 + (last - 0x80);
+        // SAFETY: the bytes of a `&str` are UTF-8 (the clause of `as_bytes`), so these two spell a scalar value.
+        return (end - 2, unsafe { char::from_u32_unchecked(code) });
+    }
+    let third = look(all, end - 3, steps) as u32;
+    if third >= 0xC0 {
+        let code = (third - 0xE0) * 4096 + (second - 0x80) * 64 + (last - 0x80);
+        // SAFETY: the bytes of a `&str` are UTF-8 (the clause of `as_bytes`), so these three spell a scalar value.
+        return (end - 3, unsafe { char::from_u32_unchecked(code) });
+    }
+    let fourth = look(all, end - 4, steps) as u32;
+    let front = (fourth - 0xF0) * 262_144 + (third - 0x80) * 4096;
+    let code = front + (second - 0x80) * 64 + (last - 0x80);
+    // SAFETY: the bytes of a `&str` are UTF-8 (the clause of `as_bytes`), so these four spell a scalar value.
+    (end - 4, unsafe { char::from_u32_unchecked(code) })
+}
+
+/// Writes the UTF-8 of `ch` into the array, from the offset `at` on, and returns how many bytes it
+/// takes. No other byte changes.
+///
+/// # Precondition
+///
+/// `ch` must fit into the array from there.
+#[inline(always)]
+#[tactic(auto, unfolding(crate::specs::Text::width, crate::specs::Text::utf8))]
+pub fn encode<const N: usize>(ch: char, array: &mut [u8; N], at: usize) -> usize
+    requires { at + width ch ≤ N }
+    ensures width { result ≡ width ch }
+    ensures bytes { array.new ≡ take at array.old ++ (utf8 ch ++ drop (at + width ch) array.old) }
+{
+    let code = ch as u32;
+    let all = &mut array[..];
+    if code < 0x80 {
+        all[at] = code as u8;
+        1
+    } else if code < 0x800 {
+        let first = (0xC0 + code / 64) as u8;
+        let second = (0x80 + code % 64) as u8;
+        all[at..at + 2].copy_from_slice(&[first, second]);
+        2
+    } else if code < 0x1_0000 {
+        let first = (0xE0 + code / 4096) as u8;
+        let second = (0x80 + code / 64 % 64) as u8;
+        let third = (0x80 + code % 64) as u8;
+        all[at..at + 3].copy_from_slice(&[first, second, third]);
+        3
+    } else {
+        let first = (0xF0 + code / 262_144) as u8;
+        let second = (0x80 + code / 4096 % 64) as u8;
+        let third = (0x80 + code / 64 % 64) as u8;
+        let fourth = (0x80 + code % 64) as u8;
+        all[at..at + 4].copy_from_slice(&[first, second, third, fourth]);
+        4
+    }
+}

@@ -1,0 +1,19 @@
+use Rattle.std.proofs.Common.{rules, arith}
+use Rattle.arraystring_base.proofs.TextLaws.{width-bounds}
+use Rattle.arraystring_core.proofs.AppendLemmas.{char-appended_at_start}
+use Rattle.arraystring_core.proofs.array_string.push.compact_and_append.Goals as goal
+
+pub prove-unreachable-requires : goal.prove-unreachable-requires
+prove-unreachable-requires g c =
+    let wide = width-bounds c.args.ch in
+    omega (arith, c.requires.room, wide.0, c.if-prove.true)
+
+pub returns-clause-held : goal.returns-clause-held
+returns-clause-held g c =
+    let lies = char-appended_at_start g.row.N c.args.array.now c.args.start c.args.size c.requires.held c.args.ch (search rules) c.encode.new.array c.requires.room c.move_run.new.array c.move_run.ensures c.encode.ensures.bytes in
+    (rw (← c.encode.ensures.width) at lies).held
+
+pub returns-clause-text : goal.returns-clause-text
+returns-clause-text g c =
+    let lies = char-appended_at_start g.row.N c.args.array.now c.args.start c.args.size c.requires.held c.args.ch (search rules) c.encode.new.array c.requires.room c.move_run.new.array c.move_run.ensures c.encode.ensures.bytes in
+    (rw (← c.encode.ensures.width) at lies).shown

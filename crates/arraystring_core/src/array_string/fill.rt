@@ -1,0 +1,65 @@
+//! How the array of a new string is filled.
+ghost use Rattle.std.specs.Prelude.{◌≡◌, ◌+◌, ◌<◌, ◌≤◌, ◌++◌, length, take, drop, MatchBool};
+ghost use Rattle.arraystring_base.specs.Text.{cap};
+
+use crate::ArrayString;
+use arraystring_base::utils::write_over;
+
+/// Writes `given` at the start of a new array. In a large one it is written by one call whatever its
+/// length, and the compiler then makes fewer copies of the array on its way out.
+#[inline(always)]
+pub(super) fn fill<const N: usize>(array: &mut [u8; N], given: &[u8])
+    requires { length given.now ≤ N }
+    ensures { array.new ≡ take 0 array.old ++ (given.now ++ drop (0 + length given.now) array.old) }
+{
+    if N > 64 {
+        write_by_call(array, 0, given);
+    } else {
+        write_over(array, 0, given);
+    }
+}
+
+/// The same if `given` is not larger than the capacity, and else nothing. Returns whether it is
+/// refused, and how many bytes were written. It has no branch of its own: where branches join, the
+/// compiler copies the array once more.
+#[inline(always)]
+pub(super) fn try_fill<const N: usize>(array: &mut [u8; N], given: &[u8]) -> (bool, u8)
+    ensures len { length array.new ≡ N }
+    ensures refused { MatchBool result.0
+        ((cap N < length given.now) × (result.1 ≡ 0) × (array.new ≡ array.old))
+        ((length given.now ≤ cap N) × (result.1 ≡ length given.now) × (array.new ≡ given.now ++ drop (length given.now) array.old)) }
+{
+    if N <= 64 {
+        return try_fill_small(array, given);
+    }
+    let refused = given.len() > ArrayString::<N>::capacity() as usize;
+    let size = if refused { 0 } else { given.len() };
+    write_by_call(array, 0, &given[..size]);
+    (refused, size as u8)
+}
+
+/// The same for an array of at most 64 bytes.
+#[inline(never)]
+fn try_fill_small<const N: usize>(array: &mut [u8; N], given: &[u8]) -> (bool, u8)
+    requires { N ≤ 64 }
+    ensures len { length array.new ≡ N }
+    ensures refused { MatchBool result.0
+        ((cap N < length given.now) × (result.1 ≡ 0) × (array.new ≡ array.old))
+        ((length given.now ≤ cap N) × (result.1 ≡ length given.now) × (array.new ≡ given.now ++ drop (length given.now) array.old)) }
+{
+    if given.len() > N {
+        return (true, 0);
+    }
+    write_over(array, 0, given);
+    (false, given.len() as u8)
+}
+
+/// Writes `given` over the bytes from `at` on, as `write_over` does, by one call whatever its length.
+#[inline(always)]
+fn write_by_call<const N: usize>(array: &mut [u8; N], at: usize, given: &[u8])
+    requires { at + length given.now ≤ N }
+    ensures { array.new ≡ take at array.old ++ (given.now ++ drop (at + length given.now) array.old) }
+{
+    let all = &mut array[..];
+    all[at..at + given.len()].copy_from_slice(given);
+}

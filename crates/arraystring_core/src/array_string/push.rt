@@ -1,0 +1,341 @@
+//! What is appended: characters, texts, and what an iterator gives.
+ghost use Rattle.std.specs.Prelude.{◌≡◌, ◌+◌, ◌-◌, ◌<◌, ◌≤◌, ◌↔◌, IfSome, Ok, [], ◌∷◌, ◌++◌, IsTrue, chars, ℕ, List, MatchOption, MatchResult};
+ghost use Rattle.arraystring_base.specs.Text.{size, width, cap, cut};
+ghost use Rattle.arraystring_core.specs.Edits.{Makes, from_out_of_bounds, addition, addition_of_cut};
+ghost use Rattle.std.specs.Borrow.{Bor};
+ghost use Rattle.std.specs.Iterator.{IsFiniteIterable};
+ghost use Rattle.arraystring_core.specs.Stored.{stored, IsStored};
+ghost use Rattle.arraystring_core.specs.Taken.{Takes, Gives, joined, joined_pieces, piece_text};
+
+use crate::ArrayString;
+use crate::laws::text_fits;
+use arraystring_base::error::OutOfBounds;
+use arraystring_base::utils::{Steps, encode, move_run, truncate_str, write_over};
+
+impl<const N: usize> ArrayString<N> {
+    /// Appends `ch`.
+    ///
+    /// # Errors
+    ///
+    /// Returns `Err(OutOfBounds)` if `ch` does not fit. The text is then unchanged.
+    ///
+    /// # Examples
+    ///
+    /// ```
+    /// let mut string = ArrayString::<4>::from("ab");
+    /// assert_eq!(string.try_push('c'), Ok(()));
+    /// assert_eq!(string.try_push('é'), Err(OutOfBounds)); // one byte is left, and `é` takes two
+    /// assert_eq!(string.as_str(), "abc");
+    /// ```
+    #[inline(always)]
+    pub fn try_push(&mut self, ch: char) -> Result<(), OutOfBounds>
+        ensures { Makes (addition self.old.text (ch ∷ []) (cap N)) self.old.text (from_out_of_bounds result) self.new.text }
+    {
+        let end = self.start as usize + self.size as usize;
+        if Self::has_room(end, ch) {
+            self.push_unchecked(ch);
+            return Ok(());
+        }
+        self.try_push_near_end(ch)
+    }
+
+    /// Appends `ch`.
+    ///
+    /// # Precondition
+    ///
+    /// `ch` must fit.
+    #[inline(always)]
+    pub fn push_unchecked(&mut self, ch: char)
+        requires { size self.old.text + width ch ≤ cap N }
+        ensures { self.new.text ≡ self.old.text ++ ch ∷ [] }
+    {
+        let end = self.start as usize + self.size as usize;
+        if !Self::has_room(end, ch) {
+            return self.compact_and_push(ch);
+        }
+        let len = encode(ch, &mut self.array, end);
+        self.size = (self.size as usize + len) as u8;
+    }
+
+    /// Appends `string`.
+    ///
+    /// # Errors
+    ///
+    /// Returns `Err(OutOfBounds)` if not all of `string` fits. The text is then unchanged.
+    ///
+    /// # Examples
+    ///
+    /// ```
+    /// let mut string = ArrayString::<4>::from("ab");
+    /// assert_eq!(string.try_push_str("c"), Ok(()));
+    /// assert_eq!(string.try_push_str("de"), Err(OutOfBounds));
+    /// assert_eq!(string.as_str(), "abc");
+    /// ```
+    #[inline]
+    pub fn try_push_str(&mut self, string: &str) -> Result<(), OutOfBounds>
+        ensures { Makes (addition self.old.text (chars string.now) (cap N)) self.old.text (from_out_of_bounds result) self.new.text }
+    {
+        // Room after the text is tested first: if there is some, it is the only test.
+        let size = self.len() as usize;
+        let capacity = Self::capacity() as usize;
+        if self.start as usize + size + string.len() > capacity {
+            if size + string.len() > capacity {
+                return Err(OutOfBounds);
+            }
+            self.compact_and_push_str(string);
+        } else {
+            self.push_str_unchecked(string);
+        }
+        Ok(())
+    }
+
+    /// Appends the longest prefix of whole characters of `string` that fits.
+    ///
+    /// # Examples
+    ///
+    /// ```
+    /// let mut string = ArrayString::<4>::from("abc");
+    /// string.push_str("dé"); // one byte is left, and `é` takes two
+    /// assert_eq!(string.as_str(), "abcd");
+    /// ```
+    pub fn push_str(&mut self, string: &str)
+        ensures { Makes (addition_of_cut self.old.text (chars string.now) (cap N)) self.old.text (Ok result) self.new.text }
+    {
+        let room = Self::capacity() - self.len();
+        self.push_str_unchecked(truncate_str(string, room));
+    }
+
+    /// Appends `string`.
+    ///
+    /// # Precondition
+    ///
+    /// All of `string` must fit.
+    #[inline]
+    pub fn push_str_unchecked(&mut self, string: &str)
+        requires { size self.old.text + size (chars string.now) ≤ cap N }
+        ensures { self.new.text ≡ self.old.text ++ chars string.now }
+    {
+        let end = self.start as usize + self.size as usize;
+        if end + string.len() > Self::capacity() as usize {
+            return self.compact_and_push_str(string);
+        }
+        self.size = (self.size as usize + string.len()) as u8;
+        write_over(&mut self.array, end, string.as_bytes());
+    }
+
+    /// Appends the longest prefix of the characters that fits.
+    ///
+    /// # Precondition
+    ///
+    /// See the module `array_string` for iterators.
+    ///
+    /// # Examples
+    ///
+    /// ```
+    /// let mut string = ArrayString::<4>::from("a");
+    /// string.extend_chars('b'..='z');
+    /// assert_eq!(string.as_str(), "abcd");
+    /// ```
+    pub fn extend_chars<I: IntoIterator<Item = char> + Drop>(&mut self, characters: I)
+        requires { IsFiniteIterable I.into_iter_gives I.IntoIter.can_next I.IntoIter.remaining characters }
+        ensures taken { (taken : List ℕ) × Takes I.into_iter_gives I.IntoIter.next_gives (λ cs. cs) characters (cap N - size self.old.text) taken
+            × Makes (addition_of_cut self.old.text taken (cap N)) self.old.text (Ok result) self.new.text }
+        ensures whole { (all : List ℕ) → Gives I.into_iter_gives I.IntoIter.next_gives (λ c. c) characters all
+            → Makes (addition_of_cut self.old.text all (cap N)) self.old.text (Ok result) self.new.text }
+    {
+        let _ = self.add_chars(characters);
+    }
+
+    /// Appends the longest prefix of whole characters of the joined pieces that fits.
+    ///
+    /// # Precondition
+    ///
+    /// See the module `array_string` for iterators.
+    ///
+    /// # Examples
+    ///
+    /// ```
+    /// let mut string = ArrayString::<8>::from("one");
+    /// string.extend_strs([" two", " three"]);
+    /// assert_eq!(string.as_str(), "one two ");
+    /// ```
+    pub fn extend_strs<'a, I: IntoIterator<Item = &'a str> + Drop>(&mut self, pieces: I)
+        requires { IsFiniteIterable I.into_iter_gives I.IntoIter.can_next I.IntoIter.remaining pieces }
+        ensures taken { (taken : List (Bor (List ℕ))) × Takes I.into_iter_gives I.IntoIter.next_gives joined_pieces pieces (cap N - size self.old.text) taken
+            × Makes (addition_of_cut self.old.text (joined_pieces taken) (cap N)) self.old.text (Ok result) self.new.text }
+        ensures whole { (all : List (List ℕ)) → Gives I.into_iter_gives I.IntoIter.next_gives piece_text pieces all
+            → Makes (addition_of_cut self.old.text (joined all) (cap N)) self.old.text (Ok result) self.new.text }
+    {
+        let _ = self.add_strs(pieces);
+    }
+
+    /// Appends the characters before the first that does not fit. Refuses if there is such a one.
+    pub(super) fn add_chars<I: IntoIterator<Item = char> + Drop>(
+        &mut self,
+        characters: I,
+    ) -> Result<(), OutOfBounds>
+        requires { IsFiniteIterable I.into_iter_gives I.IntoIter.can_next I.IntoIter.remaining characters }
+        ensures { (taken : List ℕ) × Takes I.into_iter_gives I.IntoIter.next_gives (λ cs. cs) characters (cap N - size self.old.text) taken
+            × MatchResult result (λ _. size taken ≤ cap N - size self.old.text) (λ _. cap N - size self.old.text < size taken)
+            × (self.new.text ≡ self.old.text ++ cut taken (cap N - size self.old.text)) }
+    {
+        Self::append_chars(&mut self.array, &mut self.start, &mut self.size, characters)
+    }
+
+    /// Appends the pieces before the first that does not fit, and of that one what fits. Refuses
+    /// if there is such a one.
+    pub(super) fn add_strs<'a, I: IntoIterator<Item = &'a str> + Drop>(
+        &mut self,
+        pieces: I,
+    ) -> Result<(), OutOfBounds>
+        requires { IsFiniteIterable I.into_iter_gives I.IntoIter.can_next I.IntoIter.remaining pieces }
+        ensures { (taken : List (Bor (List ℕ))) × Takes I.into_iter_gives I.IntoIter.next_gives joined_pieces pieces (cap N - size self.old.text) taken
+            × MatchResult result (λ _. size (joined_pieces taken) ≤ cap N - size self.old.text) (λ _. cap N - size self.old.text < size (joined_pieces taken))
+            × (self.new.text ≡ self.old.text ++ cut (joined_pieces taken) (cap N - size self.old.text)) }
+    {
+        text_fits(self);
+        for piece in pieces {
+            if let Err(refusal) = self.try_push_str(piece) {
+                self.push_str(piece);
+                return Err(refusal);
+            }
+        }
+        Ok(())
+    }
+
+    /// Appends the characters before the first that does not fit to a text of the array, the `len` bytes
+    /// from `start` on. Refuses if there is such a one. The loop knows where the text ends, and does not
+    /// read it again; `len` is right whenever the iterator is called.
+    #[inline(always)]
+    pub(super) fn append_chars<I: IntoIterator<Item = char> + Drop>(
+        array: &mut [u8; N],
+        start: &mut u8,
+        len: &mut u8,
+        characters: I,
+    ) -> Result<(), OutOfBounds>
+        requires held { IsStored N array.old start.old len.old }
+        requires ends { IsFiniteIterable I.into_iter_gives I.IntoIter.can_next I.IntoIter.remaining characters }
+        ensures held { IsStored N array.new start.new len.new }
+        ensures taken { let t = (stored array.old start.old len.old).text in
+            (taken : List ℕ) × Takes I.into_iter_gives I.IntoIter.next_gives (λ cs. cs) characters (cap N - size t) taken
+            × MatchResult result (λ _. size taken ≤ cap N - size t) (λ _. cap N - size t < size taken)
+            × ((stored array.new start.new len.new).text ≡ t ++ cut taken (cap N - size t)) }
+    {
+        let mut end = *start as usize + *len as usize;
+        for ch in characters {
+            match Self::append_char(array, start, len, end, ch) {
+                Some(next) => {
+                    end = next;
+                }
+                None => return Err(OutOfBounds),
+            }
+        }
+        Ok(())
+    }
+
+    /// Appends `ch` to a text of the array that ends at `end`, and returns where it ends then. Returns
+    /// `None` if it does not fit.
+    #[inline(always)]
+    fn append_char(
+        array: &mut [u8; N],
+        start: &mut u8,
+        len: &mut u8,
+        end: usize,
+        ch: char,
+    ) -> Option<usize>
+        requires held { IsStored N array.old start.old len.old }
+        requires end { end ≡ start.old + len.old }
+        ensures held { IsStored N array.new start.new len.new }
+        ensures end { IfSome result (λ next. next ≡ start.new + len.new) }
+        ensures text { let t = (stored array.old start.old len.old).text in let new = (stored array.new start.new len.new).text in
+            MatchOption result ((cap N < size t + size (ch ∷ [])) × (new ≡ t)) (λ _. (size t + size (ch ∷ []) ≤ cap N) × (new ≡ t ++ ch ∷ [])) }
+    {
+        if !Self::has_room(end, ch) {
+            let held = end - *start as usize;
+            if !Self::has_room(held, ch) {
+                return None;
+            }
+            let held = compact_and_append(array, *start as usize, held, ch);
+            *start = 0;
+            *len = held as u8;
+            return Some(held);
+        }
+        let next = end + encode(ch, array, end);
+        *len = (next - *start as usize) as u8;
+        Some(next)
+    }
+}
+
+/// Moves a text to the start of the array, appends `ch`, and returns the size that it has then.
+#[cold]
+#[inline(never)]
+fn compact_and_append<const N: usize>(
+    array: &mut [u8; N],
+    start: usize,
+    size: usize,
+    ch: char,
+) -> usize
+    requires held { IsStored N array.old start size }
+    requires room { size + width ch ≤ cap N }
+    ensures size { result ≡ size + width ch }
+    ensures held { IsStored N array.new 0 result }
+    ensures text { (stored array.new 0 result).text ≡ (stored array.old start size).text ++ ch ∷ [] }
+{
+    move_run(array, start, 0, size);
+    prove!(size < N);
+    size + encode(ch, array, size)
+}
+
+impl<const N: usize> ArrayString<N> {
+    /// Whether there is room for `ch` after `len` bytes. ASCII has a test of its own, which the
+    /// compiler joins with that of `encode`. The width of others is not tested if four more fit.
+    #[inline(always)]
+    fn has_room(len: usize, ch: char) -> bool
+        requires { len ≤ 255 }
+        ensures { IsTrue result ↔ (len + width ch ≤ cap N) }
+    {
+        let capacity = Self::capacity() as usize;
+        if (ch as u32) < 0x80 {
+            return len < capacity;
+        }
+        len + 4 <= capacity || len + ch.len_utf8() <= capacity
+    }
+
+    /// `try_push` if there is no room after the text. A refusal makes no call.
+    #[inline(always)]
+    fn try_push_near_end(&mut self, ch: char) -> Result<(), OutOfBounds>
+        ensures { Makes (addition self.old.text (ch ∷ []) (cap N)) self.old.text (from_out_of_bounds result) self.new.text }
+    {
+        if !Self::has_room(self.size as usize, ch) {
+            return Err(OutOfBounds);
+        }
+        self.compact_and_push(ch);
+        Ok(())
+    }
+
+    /// Adds `ch` at the end of a text that has to move to the start of the array for it.
+    #[cold]
+    #[inline(never)]
+    fn compact_and_push(&mut self, ch: char)
+        requires { size self.old.text + width ch ≤ cap N }
+        ensures { self.new.text ≡ self.old.text ++ ch ∷ [] }
+    {
+        let (start, size) = (self.start as usize, self.size as usize);
+        self.start = 0;
+        move_run(&mut self.array, start, 0, size);
+        prove!(size < N);
+        let len = encode(ch, &mut self.array, size);
+        self.size = (size + len) as u8;
+    }
+
+    /// Adds `string` at the end of a text that has to move to the start of the array for it.
+    #[cold]
+    #[inline(never)]
+    fn compact_and_push_str(&mut self, string: &str)
+        requires { size self.old.text + size (chars string.now) ≤ cap N }
+        ensures { self.new.text ≡ self.old.text ++ chars string.now }
+    {
+        let len = self.len() as usize;
+        self.compact_and_splice(len, len, string, &mut Steps::new());
+    }
+}

@@ -1,0 +1,6 @@
+//! What std does too, by words and by blocks of bytes: whether texts are equal, how they are ordered,
+//! and whether bytes are UTF-8.
+
+pub(crate) mod equal;
+pub(crate) mod order;
+pub(crate) mod well_formed;

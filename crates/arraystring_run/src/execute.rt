@@ -1,0 +1,247 @@
+//! One command, made on a string.
+ghost use Rattle.std.specs.Prelude.{◌≡◌, ◌∷◌, [], ◌&&◌, chars, is_err, reverse};
+ghost use Rattle.arraystring.specs.Text.{cap};
+ghost use Rattle.arraystring.specs.Edits.{from_out_of_bounds, from_utf8_error, with_text, insertion, insertion_of_cut, replacement, addition_of_cut, part_in};
+ghost use Rattle.arraystring.specs.Drained.{with_left};
+ghost use Rattle.arraystring_run.specs.Runs.{said, said_of, char_or_none, text_or_none, Done, Char, Text, done, edit, tight, adds_less, lacks_room, is_made, is_out_of_bounds, without};
+
+use crate::{Command, Reply};
+use arraystring::error::{Error, OutOfBounds, Utf8};
+use arraystring::laws::{left_fits, text_fits};
+use arraystring::{ArrayString, Drain};
+
+/// Makes one command, and says whether it is tight: refused because its result does not fit, or
+/// adding less than all it is given.
+pub(crate) fn execute<const N: usize>(
+    text: &mut ArrayString<N>,
+    command: Command<'_>,
+) -> (Reply<N>, bool)
+    ensures reply { said result.0 ≡ (edit command.entry text.old.text (cap N)).reply }
+    ensures text { text.new.text ≡ (edit command.entry text.old.text (cap N)).text }
+    ensures tight { result.1 ≡ tight command.entry text.old.text (cap N) }
+{
+    match command {
+        Command::TryPush(ch) => added(text.try_push(ch)),
+        Command::TryPushStr(given) => added(text.try_push_str(given)),
+        Command::PushStr(given) => push_cut(text, given),
+        Command::Pop => (popped(text.pop()), false),
+        Command::Truncate(size) => (truncated(text.truncate(size)), false),
+        Command::Trim => {
+            text.trim();
+            (Reply::Done, false)
+        }
+        Command::Remove(index) => (removed(text.remove(index)), false),
+        Command::RetainNot(unwanted) => {
+            retain_not(text, unwanted);
+            (Reply::Done, false)
+        }
+        Command::TryInsert(index, ch) => insert_char(text, index, ch),
+        Command::TryInsertStr(index, given) => insert_all(text, index, given),
+        Command::InsertStr(index, given) => insert_cut(text, index, given),
+        Command::SplitOff(at) => (split(text.split_off(at)), false),
+        Command::Clear => {
+            text.clear();
+            (Reply::Done, false)
+        }
+        Command::Drain { start, end } => (drained(text.drain(start..end)), false),
+        Command::DrainThrough { start, last } => (drained(text.drain(start..=last)), false),
+        Command::DrainBack { start, end } => (drained_back(text.drain(start..end)), false),
+        Command::ReplaceRange { start, end, given } => replace(text, start, end, given),
+        Command::Upper => {
+            text.make_ascii_uppercase();
+            (Reply::Done, false)
+        }
+        Command::Lower => {
+            text.make_ascii_lowercase();
+            (Reply::Done, false)
+        }
+        Command::Get { start, end } => (part(text, start, end), false),
+        Command::Len => (Reply::Number(text.len()), false),
+        Command::Capacity => (Reply::Number(ArrayString::<N>::capacity()), false),
+        Command::AsStr => (Reply::Text(*text), false),
+    }
+}
+
+/// The reply to an addition. One that is refused is tight, since it is refused only if it does not
+/// fit.
+fn added<const N: usize>(outcome: Result<(), OutOfBounds>) -> (Reply<N>, bool)
+    ensures reply { said result.0 ≡ said_of (λ _. Done) (from_out_of_bounds outcome) }
+    ensures tight { result.1 ≡ is_err outcome }
+{
+    match outcome {
+        Ok(()) => (Reply::Done, false),
+        Err(OutOfBounds) => (Reply::Refused(Error::OutOfBounds), true),
+    }
+}
+
+/// Adds what fits of a text.
+fn push_cut<const N: usize>(text: &mut ArrayString<N>, given: &str) -> (Reply<N>, bool)
+    ensures reply { said result.0 ≡ (done (addition_of_cut text.old.text (chars given.now) (cap N)) text.old.text).reply }
+    ensures text { text.new.text ≡ (done (addition_of_cut text.old.text (chars given.now) (cap N)) text.old.text).text }
+    ensures tight { result.1 ≡ adds_less text.old.text (chars given.now) (cap N) }
+{
+    let is_tight = adds_less(text, given);
+    text.push_str(given);
+    (Reply::Done, is_tight)
+}
+
+/// Whether less than all of `given` would be added to the text.
+fn adds_less<const N: usize>(text: &ArrayString<N>, given: &str) -> bool
+    ensures { result ≡ adds_less text.now.text (chars given.now) (cap N) }
+{
+    given.len() > (ArrayString::<N>::capacity() - text.len()) as usize
+}
+
+/// The reply to `pop`.
+fn popped<const N: usize>(outcome: Option<char>) -> Reply<N>
+    ensures { said result ≡ char_or_none outcome }
+{
+    match outcome {
+        Some(ch) => Reply::Char(ch),
+        None => Reply::NoChar,
+    }
+}
+
+/// The reply to `truncate`.
+fn truncated<const N: usize>(outcome: Result<(), Utf8>) -> Reply<N>
+    ensures { said result ≡ said_of (λ _. Done) (from_utf8_error outcome) }
+{
+    match outcome {
+        Ok(()) => Reply::Done,
+        Err(Utf8) => Reply::Refused(Error::Utf8),
+    }
+}
+
+/// The reply to `remove`.
+fn removed<const N: usize>(outcome: Result<char, Error>) -> Reply<N>
+    ensures { said result ≡ said_of Char outcome }
+{
+    match outcome {
+        Ok(ch) => Reply::Char(ch),
+        Err(error) => Reply::Refused(error),
+    }
+}
+
+/// Drops each character that equals `unwanted`.
+fn retain_not<const N: usize>(text: &mut ArrayString<N>, unwanted: char)
+    ensures { text.new.text ≡ without unwanted text.old.text }
+{
+    text.retain(|ch| ch != unwanted);
+}
+
+/// Inserts a character.
+fn insert_char<const N: usize>(text: &mut ArrayString<N>, index: u8, ch: char) -> (Reply<N>, bool)
+    ensures reply { said result.0 ≡ (done (insertion text.old.text index (ch ∷ []) (cap N)) text.old.text).reply }
+    ensures text { text.new.text ≡ (done (insertion text.old.text index (ch ∷ []) (cap N)) text.old.text).text }
+    ensures tight { result.1 ≡ lacks_room (insertion text.old.text index (ch ∷ []) (cap N)) }
+{
+    let is_within = index <= text.len();
+    placed(text.try_insert(index, ch), is_within)
+}
+
+/// Inserts all of a text.
+fn insert_all<const N: usize>(text: &mut ArrayString<N>, index: u8, given: &str) -> (Reply<N>, bool)
+    ensures reply { said result.0 ≡ (done (insertion text.old.text index (chars given.now) (cap N)) text.old.text).reply }
+    ensures text { text.new.text ≡ (done (insertion text.old.text index (chars given.now) (cap N)) text.old.text).text }
+    ensures tight { result.1 ≡ lacks_room (insertion text.old.text index (chars given.now) (cap N)) }
+{
+    let is_within = index <= text.len();
+    placed(text.try_insert_str(index, given), is_within)
+}
+
+/// Inserts what fits of a text.
+fn insert_cut<const N: usize>(text: &mut ArrayString<N>, index: u8, given: &str) -> (Reply<N>, bool)
+    ensures reply { said result.0 ≡ (done (insertion_of_cut text.old.text index (chars given.now) (cap N)) text.old.text).reply }
+    ensures text { text.new.text ≡ (done (insertion_of_cut text.old.text index (chars given.now) (cap N)) text.old.text).text }
+    ensures tight { result.1 ≡ is_made (insertion_of_cut text.old.text index (chars given.now) (cap N)) && adds_less text.old.text (chars given.now) (cap N) }
+{
+    let is_less = adds_less(text, given);
+    match text.insert_str(index, given) {
+        Ok(()) => (Reply::Done, is_less),
+        Err(error) => (Reply::Refused(error), false),
+    }
+}
+
+/// Replaces a part by a text.
+fn replace<const N: usize>(
+    text: &mut ArrayString<N>,
+    start: u8,
+    end: u8,
+    given: &str,
+) -> (Reply<N>, bool)
+    ensures reply { said result.0 ≡ (done (replacement text.old.text start end (chars given.now) (cap N)) text.old.text).reply }
+    ensures text { text.new.text ≡ (done (replacement text.old.text start end (chars given.now) (cap N)) text.old.text).text }
+    ensures tight { result.1 ≡ lacks_room (replacement text.old.text start end (chars given.now) (cap N)) }
+{
+    let is_within = start <= end && end <= text.len();
+    placed(text.replace_range(start..end, given), is_within)
+}
+
+/// The reply to what is put at an index. If that is within the text, `OutOfBounds` says that it
+/// does not fit.
+fn placed<const N: usize>(outcome: Result<(), Error>, is_within: bool) -> (Reply<N>, bool)
+    ensures reply { said result.0 ≡ said_of (λ _. Done) outcome }
+    ensures tight { result.1 ≡ (is_within && is_out_of_bounds outcome) }
+{
+    match outcome {
+        Ok(()) => (Reply::Done, false),
+        Err(Error::OutOfBounds) => (Reply::Refused(Error::OutOfBounds), is_within),
+        Err(error) => (Reply::Refused(error), false),
+    }
+}
+
+/// The reply to `split_off`.
+fn split<const N: usize>(outcome: Result<ArrayString<N>, Error>) -> Reply<N>
+    ensures { said result ≡ said_of Text (with_text outcome.entry) }
+{
+    match outcome {
+        Ok(text) => Reply::Text(text),
+        Err(error) => Reply::Refused(error),
+    }
+}
+
+/// The reply to `drain`, with the characters in order.
+fn drained<const N: usize>(outcome: Result<Drain<N>, Error>) -> Reply<N>
+    ensures { said result ≡ said_of Text (with_left outcome.entry) }
+{
+    match outcome {
+        Ok(removed) => {
+            let left = removed.as_str();
+            Reply::Text(ArrayString::from_str_unchecked(left))
+        }
+        Err(error) => Reply::Refused(error),
+    }
+}
+
+/// The reply to `drain`, with the characters from the last to the first.
+fn drained_back<const N: usize>(outcome: Result<Drain<N>, Error>) -> Reply<N>
+    ensures { said result ≡ said_of (λ left. Text (reverse left)) (with_left outcome.entry) }
+{
+    match outcome {
+        Ok(removed) => Reply::Text(walked_back(removed)),
+        Err(error) => Reply::Refused(error),
+    }
+}
+
+/// The characters that are left, from the last to the first.
+fn walked_back<const N: usize>(mut removed: Drain<N>) -> ArrayString<N>
+    ensures { result.text ≡ reverse removed.entry.left }
+{
+    left_fits(&removed);
+    let mut text = ArrayString::new();
+    while let Some(ch) = removed.next_back() {
+        text.push_unchecked(ch);
+    }
+    text
+}
+
+/// The part from `start` to `end`.
+fn part<const N: usize>(text: &ArrayString<N>, start: u8, end: u8) -> Reply<N>
+    ensures { said result ≡ text_or_none (part_in text.now.text start end) }
+{
+    text_fits(text);
+    match text.get(start..end) {
+        Some(found) => Reply::Text(ArrayString::from_str_unchecked(found)),
+        None => Reply::NoText,
+    }
+}

@@ -1,0 +1,116 @@
+// Made from crates/arraystring_core/src/array_string/fill.rt by rust/erase. A change goes there.
+//! How the array of a new string is filled.
+
+use crate::arraystring_base::utils::write_over;
+use crate::arraystring_core::ArrayString;
+
+/// Writes `given` at the start of a new array. In a large one it is written by one call whatever its
+/// length, and the compiler then makes fewer copies of the array on its way out.
+///
+/// # Safety
+///
+/// Each clause `requires` of the contract must hold, but for those on counts, on iterators and on closures.
+///
+/// <details><summary>Contract</summary>
+///
+/// ```text
+/// requires { length given.now ≤ N }
+/// ensures { array.new ≡ take 0 array.old ++ (given.now ++ drop (0 + length given.now) array.old) }
+/// ```
+///
+/// [How to read a contract](crate::contracts)
+///
+/// </details>
+#[inline(always)]
+pub(super) unsafe fn fill<const N: usize>(array: &mut [u8; N], given: &[u8]) {
+    known!(precondition: given.len() <= N);
+    if N > 64 {
+        // SAFETY: the proof of `fill` in crates/arraystring_core/src/array_string/fill.rt shows the precondition of `write_by_call`.
+        unsafe { write_by_call(array, 0, given) };
+    } else {
+        // SAFETY: the proof of `fill` in crates/arraystring_core/src/array_string/fill.rt shows the precondition of `write_over`.
+        unsafe { write_over(array, 0, given) };
+    }
+}
+
+/// The same if `given` is not larger than the capacity, and else nothing. Returns whether it is
+/// refused, and how many bytes were written. It has no branch of its own: where branches join, the
+/// compiler copies the array once more.
+///
+/// <details><summary>Contract</summary>
+///
+/// ```text
+/// ensures len { length array.new ≡ N }
+/// ensures refused { MatchBool result.0
+///     ((cap N < length given.now) × (result.1 ≡ 0) × (array.new ≡ array.old))
+///     ((length given.now ≤ cap N) × (result.1 ≡ length given.now) × (array.new ≡ given.now ++ drop (length given.now) array.old)) }
+/// ```
+///
+/// [How to read a contract](crate::contracts)
+///
+/// </details>
+#[inline(always)]
+pub(super) fn try_fill<const N: usize>(array: &mut [u8; N], given: &[u8]) -> (bool, u8) {
+    if N <= 64 {
+        // SAFETY: the proof of `try_fill` in crates/arraystring_core/src/array_string/fill.rt shows the precondition of `try_fill_small`.
+        return unsafe { try_fill_small(array, given) };
+    }
+    let refused = given.len() > ArrayString::<N>::capacity() as usize;
+    let size = if refused { 0 } else { given.len() };
+    // SAFETY: the proof of `try_fill` in crates/arraystring_core/src/array_string/fill.rt shows the precondition of `write_by_call`.
+    unsafe { write_by_call(array, 0, &given[..size]) };
+    (refused, size as u8)
+}
+
+/// The same for an array of at most 64 bytes.
+///
+/// # Safety
+///
+/// Each clause `requires` of the contract must hold, but for those on counts, on iterators and on closures.
+///
+/// <details><summary>Contract</summary>
+///
+/// ```text
+/// requires { N ≤ 64 }
+/// ensures len { length array.new ≡ N }
+/// ensures refused { MatchBool result.0
+///     ((cap N < length given.now) × (result.1 ≡ 0) × (array.new ≡ array.old))
+///     ((length given.now ≤ cap N) × (result.1 ≡ length given.now) × (array.new ≡ given.now ++ drop (length given.now) array.old)) }
+/// ```
+///
+/// [How to read a contract](crate::contracts)
+///
+/// </details>
+#[inline(never)]
+unsafe fn try_fill_small<const N: usize>(array: &mut [u8; N], given: &[u8]) -> (bool, u8) {
+    known!(precondition: N <= 64);
+    if given.len() > N {
+        return (true, 0);
+    }
+    // SAFETY: the proof of `try_fill_small` in crates/arraystring_core/src/array_string/fill.rt shows the precondition of `write_over`.
+    unsafe { write_over(array, 0, given) };
+    (false, given.len() as u8)
+}
+
+/// Writes `given` over the bytes from `at` on, as `write_over` does, by one call whatever its length.
+///
+/// # Safety
+///
+/// Each clause `requires` of the contract must hold, but for those on counts, on iterators and on closures.
+///
+/// <details><summary>Contract</summary>
+///
+/// ```text
+/// requires { at + length given.now ≤ N }
+/// ensures { array.new ≡ take at array.old ++ (given.now ++ drop (at + length given.now) array.old) }
+/// ```
+///
+/// [How to read a contract](crate::contracts)
+///
+/// </details>
+#[inline(always)]
+unsafe fn write_by_call<const N: usize>(array: &mut [u8; N], at: usize, given: &[u8]) {
+    known!(precondition: at + given.len() <= N && at <= at + given.len());
+    let all = &mut array[..];
+    all[at..at + given.len()].copy_from_slice(given);
+}

@@ -1,0 +1,536 @@
+// Made from crates/arraystring_core/src/array_string/push.rt by rust/erase. A change goes there.
+//! What is appended: characters, texts, and what an iterator gives.
+
+use crate::arraystring_base::error::OutOfBounds;
+use crate::arraystring_base::utils::{Steps, encode, move_run, truncate_str, write_over};
+use crate::arraystring_core::ArrayString;
+
+impl<const N: usize> ArrayString<N> {
+    /// Appends `ch`.
+    ///
+    /// # Errors
+    ///
+    /// Returns [`Err(OutOfBounds)`](crate::error::OutOfBounds) if `ch` does not fit. The text is then unchanged.
+    ///
+    /// # Examples
+    ///
+    /// ```
+    /// use arraystring::ArrayString;
+    /// use arraystring::error::OutOfBounds;
+    ///
+    /// let mut string = ArrayString::<4>::from("ab");
+    /// assert_eq!(string.try_push('c'), Ok(()));
+    /// assert_eq!(string.try_push('é'), Err(OutOfBounds)); // one byte is left, and `é` takes two
+    /// assert_eq!(string.as_str(), "abc");
+    /// ```
+    ///
+    /// <details><summary>Contract</summary>
+    ///
+    /// ```text
+    /// ensures { Makes (addition self.old.text (ch ∷ []) (cap N)) self.old.text (from_out_of_bounds result) self.new.text }
+    /// ```
+    ///
+    /// [How to read a contract](crate::contracts)
+    ///
+    /// </details>
+    #[inline(always)]
+    pub fn try_push(&mut self, ch: char) -> Result<(), OutOfBounds> {
+        let end = self.start as usize + self.size as usize;
+        // SAFETY: the proof of `try_push` in crates/arraystring_core/src/array_string/push.rt shows the precondition of `has_room`.
+        if unsafe { Self::has_room(end, ch) } {
+            // SAFETY: the proof of `try_push` in crates/arraystring_core/src/array_string/push.rt shows the precondition of `push_unchecked`.
+            unsafe { self.push_unchecked(ch) };
+            return Ok(());
+        }
+        self.try_push_near_end(ch)
+    }
+
+    /// Appends `ch`.
+    ///
+    /// # Safety
+    ///
+    /// The text after the call must fit into the capacity.
+    ///
+    /// # Examples
+    ///
+    /// ```
+    /// use arraystring::ArrayString;
+    ///
+    /// let mut string = ArrayString::<4>::from("abc");
+    /// // SAFETY: there is room for one more byte.
+    /// unsafe { string.push_unchecked('d') };
+    /// assert_eq!(string, "abcd");
+    /// ```
+    ///
+    /// <details><summary>Contract</summary>
+    ///
+    /// ```text
+    /// requires { size self.old.text + width ch ≤ cap N }
+    /// ensures { self.new.text ≡ self.old.text ++ ch ∷ [] }
+    /// ```
+    ///
+    /// [How to read a contract](crate::contracts)
+    ///
+    /// </details>
+    #[inline(always)]
+    pub unsafe fn push_unchecked(&mut self, ch: char) {
+        let end = self.start as usize + self.size as usize;
+        // SAFETY: the proof of `push_unchecked` in crates/arraystring_core/src/array_string/push.rt shows the precondition of `has_room`.
+        if !unsafe { Self::has_room(end, ch) } {
+            // SAFETY: the proof of `push_unchecked` in crates/arraystring_core/src/array_string/push.rt shows the precondition of `compact_and_push`.
+            return unsafe { self.compact_and_push(ch) };
+        }
+        // SAFETY: the proof of `push_unchecked` in crates/arraystring_core/src/array_string/push.rt shows the precondition of `encode`.
+        let len = unsafe { encode(ch, &mut self.array, end) };
+        self.size = (self.size as usize + len) as u8;
+    }
+
+    /// Appends `string`.
+    ///
+    /// # Errors
+    ///
+    /// Returns [`Err(OutOfBounds)`](crate::error::OutOfBounds) if not all of `string` fits. The text is then unchanged.
+    ///
+    /// # Examples
+    ///
+    /// ```
+    /// use arraystring::ArrayString;
+    /// use arraystring::error::OutOfBounds;
+    ///
+    /// let mut string = ArrayString::<4>::from("ab");
+    /// assert_eq!(string.try_push_str("c"), Ok(()));
+    /// assert_eq!(string.try_push_str("de"), Err(OutOfBounds));
+    /// assert_eq!(string.as_str(), "abc");
+    /// ```
+    ///
+    /// <details><summary>Contract</summary>
+    ///
+    /// ```text
+    /// ensures { Makes (addition self.old.text (chars string.now) (cap N)) self.old.text (from_out_of_bounds result) self.new.text }
+    /// ```
+    ///
+    /// [How to read a contract](crate::contracts)
+    ///
+    /// </details>
+    #[inline]
+    pub fn try_push_str<S: AsRef<str>>(&mut self, string: S) -> Result<(), OutOfBounds> {
+        let string = string.as_ref();
+        // Room after the text is tested first: if there is some, it is the only test.
+        let size = self.len() as usize;
+        let capacity = Self::capacity() as usize;
+        if self.start as usize + size + string.len() > capacity {
+            if size + string.len() > capacity {
+                return Err(OutOfBounds);
+            }
+            // SAFETY: the proof of `try_push_str` in crates/arraystring_core/src/array_string/push.rt shows the precondition of `compact_and_push_str`.
+            unsafe { self.compact_and_push_str(string) };
+        } else {
+            // SAFETY: the proof of `try_push_str` in crates/arraystring_core/src/array_string/push.rt shows the precondition of `push_str_unchecked`.
+            unsafe { self.push_str_unchecked(string) };
+        }
+        Ok(())
+    }
+
+    /// Appends the longest prefix of whole characters of `string` that fits.
+    ///
+    /// # Examples
+    ///
+    /// ```
+    /// use arraystring::ArrayString;
+    ///
+    /// let mut string = ArrayString::<4>::from("abc");
+    /// string.push_str("dé"); // one byte is left, and `é` takes two
+    /// assert_eq!(string.as_str(), "abcd");
+    /// ```
+    ///
+    /// <details><summary>Contract</summary>
+    ///
+    /// ```text
+    /// ensures { Makes (addition_of_cut self.old.text (chars string.now) (cap N)) self.old.text (Ok result) self.new.text }
+    /// ```
+    ///
+    /// [How to read a contract](crate::contracts)
+    ///
+    /// </details>
+    #[inline]
+    pub fn push_str<S: AsRef<str>>(&mut self, string: S) {
+        let string = string.as_ref();
+        let room = Self::capacity() - self.len();
+        // SAFETY: the proof of `push_str` in crates/arraystring_core/src/array_string/push.rt shows the precondition of `push_str_unchecked`.
+        unsafe { self.push_str_unchecked(truncate_str(string, room)) };
+    }
+
+    /// Appends `string`.
+    ///
+    /// # Safety
+    ///
+    /// The text after the call must fit into the capacity.
+    ///
+    /// # Examples
+    ///
+    /// ```
+    /// use arraystring::ArrayString;
+    ///
+    /// let mut string = ArrayString::<4>::from("ab");
+    /// // SAFETY: there is room for two more bytes, and `é` takes two.
+    /// unsafe { string.push_str_unchecked("é") };
+    /// assert_eq!(string, "abé");
+    /// ```
+    ///
+    /// <details><summary>Contract</summary>
+    ///
+    /// ```text
+    /// requires { size self.old.text + size (chars string.now) ≤ cap N }
+    /// ensures { self.new.text ≡ self.old.text ++ chars string.now }
+    /// ```
+    ///
+    /// [How to read a contract](crate::contracts)
+    ///
+    /// </details>
+    #[inline]
+    pub unsafe fn push_str_unchecked<S: AsRef<str>>(&mut self, string: S) {
+        let string = string.as_ref();
+        let end = self.start as usize + self.size as usize;
+        if end + string.len() > Self::capacity() as usize {
+            // SAFETY: the proof of `push_str_unchecked` in crates/arraystring_core/src/array_string/push.rt shows the precondition of `compact_and_push_str`.
+            return unsafe { self.compact_and_push_str(string) };
+        }
+        self.size = (self.size as usize + string.len()) as u8;
+        // SAFETY: the proof of `push_str_unchecked` in crates/arraystring_core/src/array_string/push.rt shows the precondition of `write_over`.
+        unsafe { write_over(&mut self.array, end, string.as_bytes()) };
+    }
+
+    /// Appends the longest prefix of the characters that fits.
+    ///
+    /// # In Rust
+    ///
+    /// An iterator that never ends, or that panics, is allowed. The call stops at the first item that does not fit, so
+    /// only empty pieces without an end keep it. What was taken before a panic is a text.
+    ///
+    /// # Examples
+    ///
+    /// ```
+    /// use arraystring::ArrayString;
+    ///
+    /// let mut string = ArrayString::<4>::from("a");
+    /// string.extend_chars('b'..='z');
+    /// assert_eq!(string.as_str(), "abcd");
+    /// ```
+    ///
+    /// <details><summary>Contract</summary>
+    ///
+    /// ```text
+    /// requires { IsFiniteIterable I.into_iter_gives I.IntoIter.can_next I.IntoIter.remaining characters }
+    /// ensures taken { (taken : List ℕ) × Takes I.into_iter_gives I.IntoIter.next_gives (λ cs. cs) characters (cap N - size self.old.text) taken
+    ///     × Makes (addition_of_cut self.old.text taken (cap N)) self.old.text (Ok result) self.new.text }
+    /// ensures whole { (all : List ℕ) → Gives I.into_iter_gives I.IntoIter.next_gives (λ c. c) characters all
+    ///     → Makes (addition_of_cut self.old.text all (cap N)) self.old.text (Ok result) self.new.text }
+    /// ```
+    ///
+    /// [How to read a contract](crate::contracts)
+    ///
+    /// </details>
+    #[inline]
+    pub fn extend_chars<I: IntoIterator<Item = char>>(&mut self, characters: I) {
+        let _ = self.add_chars(characters);
+    }
+
+    /// Appends the longest prefix of whole characters of the joined pieces that fits.
+    ///
+    /// # In Rust
+    ///
+    /// An iterator that never ends, or that panics, is allowed. The call stops at the first item that does not fit, so
+    /// only empty pieces without an end keep it. What was taken before a panic is a text.
+    ///
+    /// # Examples
+    ///
+    /// ```
+    /// use arraystring::ArrayString;
+    ///
+    /// let mut string = ArrayString::<8>::from("one");
+    /// string.extend_strs([" two", " three"]);
+    /// assert_eq!(string.as_str(), "one two ");
+    /// ```
+    ///
+    /// <details><summary>Contract</summary>
+    ///
+    /// ```text
+    /// requires { IsFiniteIterable I.into_iter_gives I.IntoIter.can_next I.IntoIter.remaining pieces }
+    /// ensures taken { (taken : List (Bor (List ℕ))) × Takes I.into_iter_gives I.IntoIter.next_gives joined_pieces pieces (cap N - size self.old.text) taken
+    ///     × Makes (addition_of_cut self.old.text (joined_pieces taken) (cap N)) self.old.text (Ok result) self.new.text }
+    /// ensures whole { (all : List (List ℕ)) → Gives I.into_iter_gives I.IntoIter.next_gives piece_text pieces all
+    ///     → Makes (addition_of_cut self.old.text (joined all) (cap N)) self.old.text (Ok result) self.new.text }
+    /// ```
+    ///
+    /// [How to read a contract](crate::contracts)
+    ///
+    /// </details>
+    #[inline]
+    pub fn extend_strs<U: AsRef<str>, I: IntoIterator<Item = U>>(&mut self, pieces: I) {
+        let _ = self.add_strs(pieces);
+    }
+
+    /// Appends the characters before the first that does not fit. Refuses if there is such a one.
+    ///
+    /// <details><summary>Contract</summary>
+    ///
+    /// ```text
+    /// requires { IsFiniteIterable I.into_iter_gives I.IntoIter.can_next I.IntoIter.remaining characters }
+    /// ensures { (taken : List ℕ) × Takes I.into_iter_gives I.IntoIter.next_gives (λ cs. cs) characters (cap N - size self.old.text) taken
+    ///     × MatchResult result (λ _. size taken ≤ cap N - size self.old.text) (λ _. cap N - size self.old.text < size taken)
+    ///     × (self.new.text ≡ self.old.text ++ cut taken (cap N - size self.old.text)) }
+    /// ```
+    ///
+    /// [How to read a contract](crate::contracts)
+    ///
+    /// </details>
+    #[inline]
+    pub(super) fn add_chars<I: IntoIterator<Item = char>>(&mut self, characters: I) -> Result<(), OutOfBounds> {
+        // SAFETY: the proof of `add_chars` in crates/arraystring_core/src/array_string/push.rt shows `held` of `append_chars`.
+        unsafe { Self::append_chars(&mut self.array, &mut self.start, &mut self.size, characters) }
+    }
+
+    /// Appends the pieces before the first that does not fit, and of that one what fits. Refuses
+    /// if there is such a one.
+    ///
+    /// <details><summary>Contract</summary>
+    ///
+    /// ```text
+    /// requires { IsFiniteIterable I.into_iter_gives I.IntoIter.can_next I.IntoIter.remaining pieces }
+    /// ensures { (taken : List (Bor (List ℕ))) × Takes I.into_iter_gives I.IntoIter.next_gives joined_pieces pieces (cap N - size self.old.text) taken
+    ///     × MatchResult result (λ _. size (joined_pieces taken) ≤ cap N - size self.old.text) (λ _. cap N - size self.old.text < size (joined_pieces taken))
+    ///     × (self.new.text ≡ self.old.text ++ cut (joined_pieces taken) (cap N - size self.old.text)) }
+    /// ```
+    ///
+    /// [How to read a contract](crate::contracts)
+    ///
+    /// </details>
+    #[inline]
+    pub(super) fn add_strs<U: AsRef<str>, I: IntoIterator<Item = U>>(&mut self, pieces: I) -> Result<(), OutOfBounds> {
+        for piece in pieces {
+            let piece = piece.as_ref();
+            if let Err(refusal) = self.try_push_str(piece) {
+                self.push_str(piece);
+                return Err(refusal);
+            }
+        }
+        Ok(())
+    }
+
+    /// Appends the characters before the first that does not fit to a text of the array, the `len` bytes
+    /// from `start` on. Refuses if there is such a one. The loop knows where the text ends, and does not
+    /// read it again; `len` is right whenever the iterator is called.
+    ///
+    /// # Safety
+    ///
+    /// Each clause `requires` of the contract must hold, but for those on counts, on iterators and on closures.
+    ///
+    /// <details><summary>Contract</summary>
+    ///
+    /// ```text
+    /// requires held { IsStored N array.old start.old len.old }
+    /// requires ends { IsFiniteIterable I.into_iter_gives I.IntoIter.can_next I.IntoIter.remaining characters }
+    /// ensures held { IsStored N array.new start.new len.new }
+    /// ensures taken { let t = (stored array.old start.old len.old).text in
+    ///     (taken : List ℕ) × Takes I.into_iter_gives I.IntoIter.next_gives (λ cs. cs) characters (cap N - size t) taken
+    ///     × MatchResult result (λ _. size taken ≤ cap N - size t) (λ _. cap N - size t < size taken)
+    ///     × ((stored array.new start.new len.new).text ≡ t ++ cut taken (cap N - size t)) }
+    /// ```
+    ///
+    /// [How to read a contract](crate::contracts)
+    ///
+    /// </details>
+    #[inline(always)]
+    pub(super) unsafe fn append_chars<I: IntoIterator<Item = char>>(
+        array: &mut [u8; N],
+        start: &mut u8,
+        len: &mut u8,
+        characters: I,
+    ) -> Result<(), OutOfBounds> {
+        let mut end = *start as usize + *len as usize;
+        for ch in characters {
+            // SAFETY: the proof of `append_chars` in crates/arraystring_core/src/array_string/push.rt shows `held` and `end` of `append_char`.
+            match unsafe { Self::append_char(array, start, len, end, ch) } {
+                Some(next) => {
+                    end = next;
+                }
+                None => return Err(OutOfBounds),
+            }
+        }
+        Ok(())
+    }
+
+    /// Appends `ch` to a text of the array that ends at `end`, and returns where it ends then. Returns
+    /// `None` if it does not fit.
+    ///
+    /// # Safety
+    ///
+    /// Each clause `requires` of the contract must hold, but for those on counts, on iterators and on closures.
+    ///
+    /// <details><summary>Contract</summary>
+    ///
+    /// ```text
+    /// requires held { IsStored N array.old start.old len.old }
+    /// requires end { end ≡ start.old + len.old }
+    /// ensures held { IsStored N array.new start.new len.new }
+    /// ensures end { IfSome result (λ next. next ≡ start.new + len.new) }
+    /// ensures text { let t = (stored array.old start.old len.old).text in let new = (stored array.new start.new len.new).text in
+    ///     MatchOption result ((cap N < size t + size (ch ∷ [])) × (new ≡ t)) (λ _. (size t + size (ch ∷ []) ≤ cap N) × (new ≡ t ++ ch ∷ [])) }
+    /// ```
+    ///
+    /// [How to read a contract](crate::contracts)
+    ///
+    /// </details>
+    #[inline(always)]
+    unsafe fn append_char(array: &mut [u8; N], start: &mut u8, len: &mut u8, end: usize, ch: char) -> Option<usize> {
+        // SAFETY: the proof of `append_char` in crates/arraystring_core/src/array_string/push.rt shows the precondition of `has_room`.
+        if !unsafe { Self::has_room(end, ch) } {
+            let held = end - *start as usize;
+            // SAFETY: the proof of `append_char` in crates/arraystring_core/src/array_string/push.rt shows the precondition of `has_room`.
+            if !unsafe { Self::has_room(held, ch) } {
+                return None;
+            }
+            // SAFETY: the proof of `append_char` in crates/arraystring_core/src/array_string/push.rt shows `held` and `room` of `compact_and_append`.
+            let held = unsafe { compact_and_append(array, *start as usize, held, ch) };
+            *start = 0;
+            *len = held as u8;
+            return Some(held);
+        }
+        // SAFETY: the proof of `append_char` in crates/arraystring_core/src/array_string/push.rt shows the precondition of `encode`.
+        let next = end + unsafe { encode(ch, array, end) };
+        *len = (next - *start as usize) as u8;
+        Some(next)
+    }
+}
+
+/// Moves a text to the start of the array, appends `ch`, and returns the size that it has then.
+///
+/// # Safety
+///
+/// Each clause `requires` of the contract must hold, but for those on counts, on iterators and on closures.
+///
+/// <details><summary>Contract</summary>
+///
+/// ```text
+/// requires held { IsStored N array.old start size }
+/// requires room { size + width ch ≤ cap N }
+/// ensures size { result ≡ size + width ch }
+/// ensures held { IsStored N array.new 0 result }
+/// ensures text { (stored array.new 0 result).text ≡ (stored array.old start size).text ++ ch ∷ [] }
+/// ```
+///
+/// [How to read a contract](crate::contracts)
+///
+/// </details>
+#[cold]
+#[inline(never)]
+unsafe fn compact_and_append<const N: usize>(array: &mut [u8; N], start: usize, size: usize, ch: char) -> usize {
+    // SAFETY: the proof of `compact_and_append` in crates/arraystring_core/src/array_string/push.rt shows `source` and `target` of `move_run`.
+    unsafe { move_run(array, start, 0, size) };
+    known!(proved: size < N);
+    // SAFETY: the proof of `compact_and_append` in crates/arraystring_core/src/array_string/push.rt shows the precondition of `encode`.
+    size + unsafe { encode(ch, array, size) }
+}
+
+impl<const N: usize> ArrayString<N> {
+    /// Whether there is room for `ch` after `len` bytes. ASCII has a test of its own, which the
+    /// compiler joins with that of `encode`. The width of others is not tested if four more fit.
+    ///
+    /// # Safety
+    ///
+    /// Each clause `requires` of the contract must hold, but for those on counts, on iterators and on closures.
+    ///
+    /// <details><summary>Contract</summary>
+    ///
+    /// ```text
+    /// requires { len ≤ 255 }
+    /// ensures { IsTrue result ↔ (len + width ch ≤ cap N) }
+    /// ```
+    ///
+    /// [How to read a contract](crate::contracts)
+    ///
+    /// </details>
+    #[inline(always)]
+    unsafe fn has_room(len: usize, ch: char) -> bool {
+        let capacity = Self::capacity() as usize;
+        if (ch as u32) < 0x80 {
+            return len < capacity;
+        }
+        len + 4 <= capacity || len + ch.len_utf8() <= capacity
+    }
+
+    /// `try_push` if there is no room after the text. A refusal makes no call.
+    ///
+    /// <details><summary>Contract</summary>
+    ///
+    /// ```text
+    /// ensures { Makes (addition self.old.text (ch ∷ []) (cap N)) self.old.text (from_out_of_bounds result) self.new.text }
+    /// ```
+    ///
+    /// [How to read a contract](crate::contracts)
+    ///
+    /// </details>
+    #[inline(always)]
+    fn try_push_near_end(&mut self, ch: char) -> Result<(), OutOfBounds> {
+        // SAFETY: the proof of `try_push_near_end` in crates/arraystring_core/src/array_string/push.rt shows the precondition of `has_room`.
+        if !unsafe { Self::has_room(self.size as usize, ch) } {
+            return Err(OutOfBounds);
+        }
+        // SAFETY: the proof of `try_push_near_end` in crates/arraystring_core/src/array_string/push.rt shows the precondition of `compact_and_push`.
+        unsafe { self.compact_and_push(ch) };
+        Ok(())
+    }
+
+    /// Adds `ch` at the end of a text that has to move to the start of the array for it.
+    ///
+    /// # Safety
+    ///
+    /// Each clause `requires` of the contract must hold, but for those on counts, on iterators and on closures.
+    ///
+    /// <details><summary>Contract</summary>
+    ///
+    /// ```text
+    /// requires { size self.old.text + width ch ≤ cap N }
+    /// ensures { self.new.text ≡ self.old.text ++ ch ∷ [] }
+    /// ```
+    ///
+    /// [How to read a contract](crate::contracts)
+    ///
+    /// </details>
+    #[cold]
+    #[inline(never)]
+    unsafe fn compact_and_push(&mut self, ch: char) {
+        let (start, size) = (self.start as usize, self.size as usize);
+        self.start = 0;
+        // SAFETY: the proof of `compact_and_push` in crates/arraystring_core/src/array_string/push.rt shows `source` and `target` of `move_run`.
+        unsafe { move_run(&mut self.array, start, 0, size) };
+        known!(proved: size < N);
+        // SAFETY: the proof of `compact_and_push` in crates/arraystring_core/src/array_string/push.rt shows the precondition of `encode`.
+        let len = unsafe { encode(ch, &mut self.array, size) };
+        self.size = (size + len) as u8;
+    }
+
+    /// Adds `string` at the end of a text that has to move to the start of the array for it.
+    ///
+    /// # Safety
+    ///
+    /// Each clause `requires` of the contract must hold, but for those on counts, on iterators and on closures.
+    ///
+    /// <details><summary>Contract</summary>
+    ///
+    /// ```text
+    /// requires { size self.old.text + size (chars string.now) ≤ cap N }
+    /// ensures { self.new.text ≡ self.old.text ++ chars string.now }
+    /// ```
+    ///
+    /// [How to read a contract](crate::contracts)
+    ///
+    /// </details>
+    #[cold]
+    #[inline(never)]
+    unsafe fn compact_and_push_str(&mut self, string: &str) {
+        let len = self.len() as usize;
+        // SAFETY: the proof of `compact_and_push_str` in crates/arraystring_core/src/array_string/push.rt shows `order`, `start`, `end` and `room` of `compact_and_splice`.
+        unsafe { self.compact_and_splice(len, len, string, &mut Steps::new()) };
+    }
+}

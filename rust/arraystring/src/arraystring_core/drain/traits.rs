@@ -1,0 +1,316 @@
+// Made from crates/arraystring_core/src/drain/traits.rt by rust/erase. A change goes there.
+//! The traits of a drain: its iterators, and how what is left is printed, compared and hashed.
+
+use crate::arraystring_base::utils::{Steps, last_char};
+use crate::arraystring_core::Drain;
+use crate::arraystring_core::fast::order::order;
+use core::cmp::Ordering;
+use core::fmt;
+use core::hash::{Hash, Hasher};
+use core::iter::FusedIterator;
+
+/// `Drain("bc")` if `bc` is left.
+///
+/// # Examples
+///
+/// ```
+/// use arraystring::{ArrayString, Drain};
+///
+/// let mut drained = ArrayString::<4>::from("abc").drain(..).unwrap();
+/// drained.next();
+/// assert_eq!(format!("{drained:?}"), r#"Drain("bc")"#);
+/// ```
+impl<const N: usize> fmt::Debug for Drain<N> {
+    #[inline]
+    fn fmt(&self, f: &mut fmt::Formatter<'_>) -> fmt::Result {
+        f.debug_tuple("Drain").field(&self.as_str()).finish()
+    }
+}
+
+/// An empty drain: nothing is left.
+///
+/// # Examples
+///
+/// ```
+/// use arraystring::Drain;
+///
+/// assert_eq!(Drain::<4>::default().as_str(), "");
+/// ```
+///
+/// <details><summary>Contract</summary>
+///
+/// ```text
+/// is_default = { λ d. d.left ≡ [] };
+/// ```
+///
+/// [How to read a contract](crate::contracts)
+///
+/// </details>
+impl<const N: usize> Default for Drain<N> {
+    #[inline]
+    fn default() -> Self {
+        // SAFETY: the proof of `default` in crates/arraystring_core/src/drain/traits.rt shows the precondition of `new`.
+        unsafe { Drain::new([0; N], 0, 0) }
+    }
+}
+
+/// The characters that are left, from the back.
+///
+/// # Examples
+///
+/// ```
+/// use arraystring::ArrayString;
+///
+/// let drained = ArrayString::<4>::from("aéb").drain(1..).unwrap();
+/// assert!(drained.rev().eq(['b', 'é']));
+/// ```
+///
+/// <details><summary>Contract</summary>
+///
+/// ```text
+/// next_back_gives = { YieldsLast (λ d. d.left) };
+/// ```
+///
+/// [How to read a contract](crate::contracts)
+///
+/// </details>
+impl<const N: usize> DoubleEndedIterator for Drain<N> {
+    /// Returns the last character that is left. Returns `None` if none is left, and at each call
+    /// after that.
+    #[inline(always)]
+    fn next_back(&mut self) -> Option<char> {
+        known!(invariant: self.start as usize + self.size as usize <= crate::ArrayString::<N>::capacity() as usize);
+        if self.size == self.front {
+            return None;
+        }
+        known!(proved: self.front < self.size);
+        let last = self.array[self.start as usize + self.size as usize - 1];
+        if last < 0x80 {
+            self.size -= 1;
+            return Some(last as char);
+        }
+        let (kept, ch) = last_char(self.as_str(), &mut Steps::new())?;
+        self.size = self.front + kept as u8;
+        Some(ch)
+    }
+}
+
+/// Each drain is equal to itself, and so to a copy of it.
+///
+/// # Examples
+///
+/// ```
+/// use arraystring::ArrayString;
+///
+/// let drained = ArrayString::<4>::from("ab").drain(..).unwrap();
+/// let mut copy = drained;
+/// assert_eq!(copy, drained);
+/// copy.next();
+/// assert_ne!(copy, drained);
+/// ```
+///
+/// <details><summary>Contract</summary>
+///
+/// ```text
+/// laws = { on_equiv (λ s. s.left) nat_list_eq_equiv };
+/// ```
+///
+/// [How to read a contract](crate::contracts)
+///
+/// </details>
+impl<const N: usize> Eq for Drain<N> {}
+
+/// Once nothing is left, `next` and `next_back` return `None` ever after.
+///
+/// # Examples
+///
+/// ```
+/// use arraystring::ArrayString;
+///
+/// let mut drained = ArrayString::<4>::from("a").drain(..).unwrap();
+/// assert_eq!((drained.next(), drained.next(), drained.next()), (Some('a'), None, None));
+/// ```
+impl<const N: usize> FusedIterator for Drain<N> {}
+
+/// Hashes as the `&str` of what is left does.
+///
+/// # Examples
+///
+/// ```
+/// use arraystring::ArrayString;
+/// use std::collections::HashSet;
+///
+/// let drained = ["a", "b", "a"].map(|text| ArrayString::<4>::from(text).drain(..).unwrap());
+/// assert_eq!(HashSet::from(drained).len(), 2);
+/// ```
+///
+/// <details><summary>Contract</summary>
+///
+/// ```text
+/// hash_input = { λ s. fed.str (bytes s.left) };
+/// respects_eq = { (fed.on_Alike (λ s. s.left) (fed.same_Alike (λ t. fed.str (bytes t)) bytes_decides)).fed };
+/// ```
+///
+/// [How to read a contract](crate::contracts)
+///
+/// </details>
+impl<const N: usize> Hash for Drain<N> {
+    #[inline]
+    fn hash<H: Hasher>(&self, state: &mut H) {
+        self.as_str().hash(state);
+    }
+}
+
+/// The characters that are left, from the front.
+///
+/// # Examples
+///
+/// ```
+/// use arraystring::ArrayString;
+///
+/// let drained = ArrayString::<4>::from("aéb").drain(1..).unwrap();
+/// assert!(drained.eq(['é', 'b']));
+/// ```
+///
+/// <details><summary>Contract</summary>
+///
+/// ```text
+/// next_gives = { YieldsFirst (λ d. d.left) };
+/// remaining = { item_count (λ d. d.left) };
+/// ```
+///
+/// [How to read a contract](crate::contracts)
+///
+/// </details>
+impl<const N: usize> Iterator for Drain<N> {
+    type Item = char;
+
+    /// Returns the first character that is left. Returns `None` if none is left, and at each call
+    /// after that.
+    #[inline(always)]
+    fn next(&mut self) -> Option<char> {
+        known!(invariant: self.start as usize + self.size as usize <= crate::ArrayString::<N>::capacity() as usize);
+        if self.front == self.size {
+            return None;
+        }
+        known!(proved: self.front < self.size);
+        // A byte of ASCII is its character; others take the decoder.
+        let first = self.array[self.start as usize + self.front as usize];
+        if first < 0x80 {
+            self.front += 1;
+            return Some(first as char);
+        }
+        let mut left = self.as_str().chars();
+        let ch = left.next()?;
+        self.front = self.size - left.as_str().len() as u8;
+        Some(ch)
+    }
+
+    /// The bytes that are left bound the characters, which take one to four each.
+    #[inline]
+    fn size_hint(&self) -> (usize, Option<usize>) {
+        let len = self.as_str().len();
+        (len.div_ceil(4), Some(len))
+    }
+}
+
+/// Drains are ordered by the characters that are left.
+///
+/// # Examples
+///
+/// ```
+/// use arraystring::ArrayString;
+///
+/// let [first, second] = ["é", "z"].map(|text| ArrayString::<4>::from(text).drain(..).unwrap());
+/// assert!(first > second);
+/// ```
+///
+/// <details><summary>Contract</summary>
+///
+/// ```text
+/// cmp = { λ s t. slice_cmp nat_cmp s.left t.left };
+/// total = { on_total (λ s. s.left) nat_list_cmp_total };
+/// matches_partial_cmp = { λ s t. refl };
+/// matches_eq = { λ s t. texts_ties s.left t.left };
+/// ```
+///
+/// [How to read a contract](crate::contracts)
+///
+/// </details>
+impl<const N: usize> Ord for Drain<N> {
+    /// Compares what is left lexicographically, by the scalar values of the characters. The order
+    /// of the bytes of UTF-8 is the same.
+    ///
+    /// <details><summary>Contract</summary>
+    ///
+    /// ```text
+    /// ensures order { result ≡ slice_cmp nat_cmp self.now.left other.now.left }
+    /// ensures of_bytes { result ≡ slice_cmp nat_cmp (bytes self.now.left) (bytes other.now.left) }
+    /// ensures says { MatchOrdering result (IsBefore self.now.left other.now.left) (self.now.left ≡ other.now.left) (IsBefore other.now.left self.now.left) }
+    /// ```
+    ///
+    /// [How to read a contract](crate::contracts)
+    ///
+    /// </details>
+    #[inline(always)]
+    fn cmp(&self, other: &Self) -> Ordering {
+        order::<N>(self.as_str(), other.as_str())
+    }
+}
+
+/// Two drains are equal if and only if the same characters are left.
+///
+/// # Examples
+///
+/// ```
+/// use arraystring::ArrayString;
+///
+/// let mut drained = ArrayString::<4>::from("ab").drain(..).unwrap();
+/// drained.next();
+/// assert_eq!(Ok(drained), ArrayString::from("b").drain(..));
+/// ```
+///
+/// <details><summary>Contract</summary>
+///
+/// ```text
+/// eq = { λ s t. pointwise nat_eq s.left t.left };
+/// laws = { on_per (λ s. s.left) (partial_equiv_from_equiv nat_list_eq_equiv) };
+/// ```
+///
+/// [How to read a contract](crate::contracts)
+///
+/// </details>
+impl<const N: usize> PartialEq for Drain<N> {
+    #[inline]
+    fn eq(&self, other: &Self) -> bool {
+        self.as_str() == other.as_str()
+    }
+}
+
+/// Always `Some` of what `cmp` returns.
+///
+/// # Examples
+///
+/// ```
+/// use arraystring::ArrayString;
+///
+/// let [first, second] = ["ab", "b"].map(|text| ArrayString::<4>::from(text).drain(..).unwrap());
+/// assert!(first < second);
+/// ```
+///
+/// <details><summary>Contract</summary>
+///
+/// ```text
+/// partial_cmp = { λ s t. Some (slice_cmp nat_cmp s.left t.left) };
+/// laws = { on_po (λ s. s.left) texts_po };
+/// ```
+///
+/// [How to read a contract](crate::contracts)
+///
+/// </details>
+impl<const N: usize> PartialOrd for Drain<N> {
+    #[inline(always)]
+    fn partial_cmp(&self, other: &Self) -> Option<Ordering> {
+        Some(self.cmp(other))
+    }
+}

@@ -1,0 +1,18 @@
+// Made from crates/arraystring_core/src/fast/equal.rt by rust/erase. A change goes there.
+//! Whether two texts are equal, which std tells here.
+
+/// Whether the texts of two strings are equal.
+///
+/// <details><summary>Contract</summary>
+///
+/// ```text
+/// ensures { result ≡ pointwise nat_eq text.now other.now }
+/// ```
+///
+/// [How to read a contract](crate::contracts)
+///
+/// </details>
+#[inline(always)]
+pub(crate) fn equal<const N: usize>(text: &str, other: &str) -> bool {
+    text == other
+}

@@ -1,0 +1,20 @@
+// Made from crates/arraystring_core/src/fast/order.rt by rust/erase. A change goes there.
+//! The order of two texts, which std tells here.
+
+use core::cmp::Ordering;
+
+/// How the texts are ordered by their bytes.
+///
+/// <details><summary>Contract</summary>
+///
+/// ```text
+/// ensures { result ≡ slice_cmp nat_cmp text.now other.now }
+/// ```
+///
+/// [How to read a contract](crate::contracts)
+///
+/// </details>
+#[inline(always)]
+pub(crate) fn order<const N: usize>(text: &str, other: &str) -> Ordering {
+    text.cmp(other)
+}
