@@ -137,8 +137,9 @@ fn move_ends<const N: usize, const K: usize>(
     ensures { array.new ≡ take to array.old ++ (take len (drop from array.old) ++ drop (to + len) array.old) }
 {
     let rest = len - K;
-    let first = bytes_at::<N, K>(array, from);
-    let last = bytes_at::<N, K>(array, from + rest);
+    let all = &array[..];
+    let first = bytes_of::<K>(all, from);
+    let last = bytes_of::<K>(all, from + rest);
     put_bytes(array, to, first);
     put_bytes(array, to + rest, last);
 }
@@ -158,10 +159,11 @@ fn move_pairs<const N: usize, const K: usize>(
     ensures { array.new ≡ take to array.old ++ (take len (drop from array.old) ++ drop (to + len) array.old) }
 {
     let rest = len - (K + K);
-    let front = bytes_at::<N, K>(array, from);
-    let after_front = bytes_at::<N, K>(array, from + K);
-    let before_end = bytes_at::<N, K>(array, from + rest);
-    let end = bytes_at::<N, K>(array, from + rest + K);
+    let all = &array[..];
+    let front = bytes_of::<K>(all, from);
+    let after_front = bytes_of::<K>(all, from + K);
+    let before_end = bytes_of::<K>(all, from + rest);
+    let end = bytes_of::<K>(all, from + rest + K);
     put_pair(array, to, front, after_front);
     put_pair(array, to + rest, before_end, end);
 }
@@ -245,16 +247,6 @@ fn copy_ends<const N: usize, const K: usize>(array: &mut [u8; N], at: usize, giv
     let last = bytes_of::<K>(given, rest);
     put_bytes(array, at, first);
     put_bytes(array, at + rest, last);
-}
-
-/// The `K` bytes from `at` on.
-#[inline(always)]
-fn bytes_at<const N: usize, const K: usize>(array: &[u8; N], at: usize) -> Simd<u8, K>
-    requires { at + K ≤ N }
-    ensures { result ≡ take K (drop at array.now) }
-{
-    let all = &array[..];
-    bytes_of(all, at)
 }
 
 /// The `K` bytes of `given` from `at` on.

@@ -229,10 +229,11 @@ unsafe fn move_any_run<const N: usize>(array: &mut [u8; N], from: usize, to: usi
 unsafe fn move_ends<const N: usize, const K: usize>(array: &mut [u8; N], from: usize, to: usize, len: usize) {
     known!(target: to + len <= N && to <= to + len);
     let rest = len - K;
-    // SAFETY: the proof of `move_ends` in crates/arraystring_base/src/moves.rt shows the precondition of `bytes_at`.
-    let first = unsafe { bytes_at::<N, K>(array, from) };
-    // SAFETY: the proof of `move_ends` in crates/arraystring_base/src/moves.rt shows the precondition of `bytes_at`.
-    let last = unsafe { bytes_at::<N, K>(array, from + rest) };
+    let all = &array[..];
+    // SAFETY: the proof of `move_ends` in crates/arraystring_base/src/moves.rt shows the precondition of `bytes_of`.
+    let first = unsafe { bytes_of::<K>(all, from) };
+    // SAFETY: the proof of `move_ends` in crates/arraystring_base/src/moves.rt shows the precondition of `bytes_of`.
+    let last = unsafe { bytes_of::<K>(all, from + rest) };
     // SAFETY: the proof of `move_ends` in crates/arraystring_base/src/moves.rt shows the precondition of `put_bytes`.
     unsafe { put_bytes(array, to, first) };
     // SAFETY: the proof of `move_ends` in crates/arraystring_base/src/moves.rt shows the precondition of `put_bytes`.
@@ -262,14 +263,15 @@ unsafe fn move_ends<const N: usize, const K: usize>(array: &mut [u8; N], from: u
 unsafe fn move_pairs<const N: usize, const K: usize>(array: &mut [u8; N], from: usize, to: usize, len: usize) {
     known!(source: from + len <= N && from <= from + len);
     let rest = len - (K + K);
-    // SAFETY: the proof of `move_pairs` in crates/arraystring_base/src/moves.rt shows the precondition of `bytes_at`.
-    let front = unsafe { bytes_at::<N, K>(array, from) };
-    // SAFETY: the proof of `move_pairs` in crates/arraystring_base/src/moves.rt shows the precondition of `bytes_at`.
-    let after_front = unsafe { bytes_at::<N, K>(array, from + K) };
-    // SAFETY: the proof of `move_pairs` in crates/arraystring_base/src/moves.rt shows the precondition of `bytes_at`.
-    let before_end = unsafe { bytes_at::<N, K>(array, from + rest) };
-    // SAFETY: the proof of `move_pairs` in crates/arraystring_base/src/moves.rt shows the precondition of `bytes_at`.
-    let end = unsafe { bytes_at::<N, K>(array, from + rest + K) };
+    let all = &array[..];
+    // SAFETY: the proof of `move_pairs` in crates/arraystring_base/src/moves.rt shows the precondition of `bytes_of`.
+    let front = unsafe { bytes_of::<K>(all, from) };
+    // SAFETY: the proof of `move_pairs` in crates/arraystring_base/src/moves.rt shows the precondition of `bytes_of`.
+    let after_front = unsafe { bytes_of::<K>(all, from + K) };
+    // SAFETY: the proof of `move_pairs` in crates/arraystring_base/src/moves.rt shows the precondition of `bytes_of`.
+    let before_end = unsafe { bytes_of::<K>(all, from + rest) };
+    // SAFETY: the proof of `move_pairs` in crates/arraystring_base/src/moves.rt shows the precondition of `bytes_of`.
+    let end = unsafe { bytes_of::<K>(all, from + rest + K) };
     // SAFETY: the proof of `move_pairs` in crates/arraystring_base/src/moves.rt shows the precondition of `put_pair`.
     unsafe { put_pair(array, to, front, after_front) };
     // SAFETY: the proof of `move_pairs` in crates/arraystring_base/src/moves.rt shows the precondition of `put_pair`.
@@ -427,29 +429,6 @@ unsafe fn copy_ends<const N: usize, const K: usize>(array: &mut [u8; N], at: usi
     unsafe { put_bytes(array, at, first) };
     // SAFETY: the proof of `copy_ends` in crates/arraystring_base/src/moves.rt shows the precondition of `put_bytes`.
     unsafe { put_bytes(array, at + rest, last) };
-}
-
-/// The `K` bytes from `at` on.
-///
-/// # Safety
-///
-/// Each clause `requires` of the contract must hold, but for those on counts, on iterators and on closures.
-///
-/// <details><summary>Contract</summary>
-///
-/// ```text
-/// requires { at + K ≤ N }
-/// ensures { result ≡ take K (drop at array.now) }
-/// ```
-///
-/// [How to read a contract](crate::contracts)
-///
-/// </details>
-#[inline(always)]
-unsafe fn bytes_at<const N: usize, const K: usize>(array: &[u8; N], at: usize) -> Simd<u8, K> {
-    let all = &array[..];
-    // SAFETY: the proof of `bytes_at` in crates/arraystring_base/src/moves.rt shows the precondition of `bytes_of`.
-    unsafe { bytes_of(all, at) }
 }
 
 /// The `K` bytes of `given` from `at` on.

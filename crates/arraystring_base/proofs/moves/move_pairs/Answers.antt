@@ -8,11 +8,11 @@ returns g c =
     let old = c.args.array.now in
     let from = c.args.from in
     let rest = c.args.len - (k + k) in
-    let front = c.bytes_at-front.result in
-    let after_front = c.bytes_at-after_front.result in
-    let before_end = c.bytes_at-before_end.result in
-    let end = c.bytes_at-end.result in
+    let front = c.bytes_of-front.result in
+    let after_front = c.bytes_of-after_front.result in
+    let before_end = c.bytes_of-before_end.result in
+    let end = c.bytes_of-end.result in
     moved-by-ends old old c.put_pair.new.array c.put_pair-2.new.array (front ++ after_front) (before_end ++ end) from c.args.to (k + k)
     c.args.len (omega arith) (omega arith) c.requires.least c.requires.most
-    (read-as-one old front after_front from k c.bytes_at-front.ensures c.bytes_at-after_front.ensures)
-    (read-as-one old before_end end (from + rest) k c.bytes_at-before_end.ensures c.bytes_at-end.ensures) c.put_pair.ensures c.put_pair-2.ensures
+    (read-as-one old front after_front from k c.bytes_of-front.ensures c.bytes_of-after_front.ensures)
+    (read-as-one old before_end end (from + rest) k c.bytes_of-before_end.ensures c.bytes_of-end.ensures) c.put_pair.ensures c.put_pair-2.ensures
