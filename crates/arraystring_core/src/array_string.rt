@@ -10,7 +10,6 @@
 ghost use Rattle.std.specs.Prelude.{◌≡◌, ◌≤◌, ◌↔◌, [], IsTrue, length};
 ghost use Rattle.arraystring_base.specs.Text.{size, bytes, cap, boundary, IsText};
 
-use arraystring_base::utils::is_boundary;
 use std::marker::Model;
 use std::str;
 
@@ -189,9 +188,9 @@ impl<const N: usize> ArrayString<N> {
     }
 
     /// Whether a character begins at `at`, or the text ends there.
-    fn is_boundary(&self, at: usize) -> bool
+    pub(crate) fn is_boundary(&self, at: usize) -> bool
         ensures { result ≡ boundary self.now.text at }
     {
-        is_boundary(self.as_str(), at)
+        self.as_str().is_char_boundary(at)
     }
 }

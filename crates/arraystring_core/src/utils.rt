@@ -4,7 +4,6 @@ ghost use Rattle.arraystring_base.specs.Text.{boundary};
 
 use crate::array_string::ArrayString;
 use arraystring_base::error::Utf8;
-use arraystring_base::utils::is_boundary;
 
 /// Tests that `idx` is a boundary of `s`, the size of one of its prefixes of whole characters.
 ///
@@ -23,7 +22,7 @@ use arraystring_base::utils::is_boundary;
 pub fn is_char_boundary<const N: usize>(s: &ArrayString<N>, idx: u8) -> Result<(), Utf8>
     ensures { IsOk result ↔ IsTrue (boundary s.now.text idx) }
 {
-    if is_boundary(s.as_str(), idx as usize) {
+    if s.is_boundary(idx as usize) {
         Ok(())
     } else {
         Err(Utf8)

@@ -9,7 +9,6 @@
 //! hold. All calls but the unchecked ones stop at the first item that does not fit: their
 //! contracts say that no item after it matters, and a test shows that they take none.
 
-use crate::arraystring_base::utils::is_boundary;
 use core::str;
 
 mod empty {
@@ -201,8 +200,8 @@ mod views {
         ///
         /// </details>
         #[inline]
-        fn is_boundary(&self, at: usize) -> bool {
-            is_boundary(self.as_str(), at)
+        pub(crate) fn is_boundary(&self, at: usize) -> bool {
+            self.as_str().is_char_boundary(at)
         }
     }
 }

@@ -2,7 +2,6 @@
 //! Boundaries of an `ArrayString`. Indices count bytes of UTF-8.
 
 use crate::arraystring_base::error::Utf8;
-use crate::arraystring_base::utils::is_boundary;
 use crate::arraystring_core::array_string::ArrayString;
 
 /// Tests that `idx` is a boundary of `s`, the size of one of its prefixes of whole characters.
@@ -34,5 +33,5 @@ use crate::arraystring_core::array_string::ArrayString;
 /// </details>
 #[inline]
 pub fn is_char_boundary<const N: usize>(s: &ArrayString<N>, idx: u8) -> Result<(), Utf8> {
-    if is_boundary(s.as_str(), idx as usize) { Ok(()) } else { Err(Utf8) }
+    if s.is_boundary(idx as usize) { Ok(()) } else { Err(Utf8) }
 }
