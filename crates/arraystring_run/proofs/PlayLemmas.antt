@@ -1,33 +1,10 @@
 -- What a program did, by what came of its script.
-use Rattle.std.proofs.Common.{◌≡◌, ◌≢◌, ℕ, List, ◌++◌, refl, sym, ◌∙◌, eqb, arith, Bool, true, false, if◌then◌else◌, is_ok, is_err, nat_eq, Option, Some, None, IfSome, Result, Ok, Err, IfErr, OnOk, codes, inl, inr}
+use Rattle.std.proofs.Common.{◌≡◌, ◌≢◌, ℕ, List, ◌++◌, refl, sym, ◌∙◌, eqb, arith, true, false, if◌then◌else◌, is_ok, is_err, Option, Some, None, IfSome, Result, Ok, Err, IfErr, OnOk, inl, inr}
 use Rattle.std.proofs.lemmas.Bool.{eqb-false}
 use Rattle.std.specs.Borrow.{Bor}
-use Rattle.std.specs.Cmp.Lexicographic.{pointwise, bytes_decides}
 use Rattle.arraystring_run.specs.Script.{lines, IsBadAt, IfBadLine, IsPlayed, IsPartPlayed, IsServed, AppendsPrefix, capacity_named, status_of, report_of, usage_line}
 use Rattle.arraystring_run.specs.declared.player.PlayFault.{PlayFault}
 use Rattle.arraystring_run.specs.declared.player.PlayFault.TheVariants.{BadLine, Memory, Read, Write}
-
--- words are tested by their bytes
-differ : (v w : List ℕ) → (v ≡ w → ⊥) → pointwise nat_eq v w ≡ false
-differ v w ne = go (pointwise nat_eq v w) (λ e. ne ((bytes_decides v w).0 e))
-  where
-    go : (b : Bool) → (b ≡ true → ⊥) → b ≡ false
-    go true wrong = absurd (wrong refl)
-    go false wrong = refl
-
-module _ (word : Bor (List ℕ)) where
-  pub small-named : word.now ≡ codes "small" → capacity_named (Some word) ≡ Some 23
-  small-named is = rw is refl
-
-  pub cache-named : word.now ≡ codes "cache" → capacity_named (Some word) ≡ Some 63
-  cache-named is = rw is refl
-
-  pub max-named : word.now ≡ codes "max" → capacity_named (Some word) ≡ Some 255
-  max-named is = rw is refl
-
-  pub none-named : (word.now ≡ codes "small" → ⊥) → (word.now ≡ codes "cache" → ⊥) → (word.now ≡ codes "max" → ⊥)
-      → capacity_named (Some word) ≡ None
-  none-named small cache max = rw (differ word.now (codes "small") small, differ word.now (codes "cache") cache, differ word.now (codes "max") max) refl
 
 -- a list that was extended, and not refused
 pub extended : {A E : Type 0} (r : Result A E) (new old more : List ℕ) → new ≡ (if is_ok r then old ++ more else old) → false ≡ is_err r → new ≡ old ++ more

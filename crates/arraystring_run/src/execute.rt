@@ -1,5 +1,5 @@
-//! One command, made on a string.
-ghost use Rattle.std.specs.Prelude.{◌≡◌, ◌∷◌, [], ◌&&◌, chars, is_err, reverse};
+//! One command, executed on a string.
+ghost use Rattle.std.specs.Prelude.{◌≡◌, ◌∷◌, [], ◌&&◌, chars, false, is_err, reverse};
 ghost use Rattle.arraystring.specs.Text.{cap};
 ghost use Rattle.arraystring.specs.Edits.{from_out_of_bounds, from_utf8_error, with_text, insertion, insertion_of_cut, replacement, addition_of_cut, part_in};
 ghost use Rattle.arraystring.specs.Drained.{with_left};
@@ -10,8 +10,8 @@ use arraystring::error::{Error, OutOfBounds, Utf8};
 use arraystring::laws::{left_fits, text_fits};
 use arraystring::{ArrayString, Drain};
 
-/// Makes one command, and says whether it is tight: refused because its result does not fit, or
-/// adding less than all it is given.
+/// Executes one command. Returns the reply, and whether the command is tight: refused because its
+/// result does not fit, or adding less than all it is given.
 pub(crate) fn execute<const N: usize>(
     text: &mut ArrayString<N>,
     command: Command<'_>,
@@ -24,42 +24,50 @@ pub(crate) fn execute<const N: usize>(
         Command::TryPush(ch) => added(text.try_push(ch)),
         Command::TryPushStr(given) => added(text.try_push_str(given)),
         Command::PushStr(given) => push_cut(text, given),
-        Command::Pop => (popped(text.pop()), false),
-        Command::Truncate(size) => (truncated(text.truncate(size)), false),
+        Command::Pop => not_tight(popped(text.pop())),
+        Command::Truncate(size) => not_tight(truncated(text.truncate(size))),
         Command::Trim => {
             text.trim();
-            (Reply::Done, false)
+            not_tight(Reply::Done)
         }
-        Command::Remove(index) => (removed(text.remove(index)), false),
+        Command::Remove(index) => not_tight(removed(text.remove(index))),
         Command::RetainNot(unwanted) => {
             retain_not(text, unwanted);
-            (Reply::Done, false)
+            not_tight(Reply::Done)
         }
         Command::TryInsert(index, ch) => insert_char(text, index, ch),
         Command::TryInsertStr(index, given) => insert_all(text, index, given),
         Command::InsertStr(index, given) => insert_cut(text, index, given),
-        Command::SplitOff(at) => (split(text.split_off(at)), false),
+        Command::SplitOff(at) => not_tight(split(text.split_off(at))),
         Command::Clear => {
             text.clear();
-            (Reply::Done, false)
+            not_tight(Reply::Done)
         }
-        Command::Drain { start, end } => (drained(text.drain(start..end)), false),
-        Command::DrainThrough { start, last } => (drained(text.drain(start..=last)), false),
-        Command::DrainBack { start, end } => (drained_back(text.drain(start..end)), false),
+        Command::Drain { start, end } => not_tight(drained(text.drain(start..end))),
+        Command::DrainThrough { start, last } => not_tight(drained(text.drain(start..=last))),
+        Command::DrainBack { start, end } => not_tight(drained_back(text.drain(start..end))),
         Command::ReplaceRange { start, end, given } => replace(text, start, end, given),
         Command::Upper => {
             text.make_ascii_uppercase();
-            (Reply::Done, false)
+            not_tight(Reply::Done)
         }
         Command::Lower => {
             text.make_ascii_lowercase();
-            (Reply::Done, false)
+            not_tight(Reply::Done)
         }
-        Command::Get { start, end } => (part(text, start, end), false),
-        Command::Len => (Reply::Number(text.len()), false),
-        Command::Capacity => (Reply::Number(ArrayString::<N>::capacity()), false),
-        Command::AsStr => (Reply::Text(*text), false),
+        Command::Get { start, end } => not_tight(part(text, start, end)),
+        Command::Len => not_tight(Reply::Number(text.len())),
+        Command::Capacity => not_tight(Reply::Number(ArrayString::<N>::capacity())),
+        Command::AsStr => not_tight(Reply::Text(*text)),
     }
+}
+
+/// The reply to a command that is not tight.
+fn not_tight<const N: usize>(reply: Reply<N>) -> (Reply<N>, bool)
+    ensures reply { result.0 ≡ reply.entry }
+    ensures tight { result.1 ≡ false }
+{
+    (reply, false)
 }
 
 /// The reply to an addition. One that is refused is tight, since it is refused only if it does not
@@ -69,7 +77,7 @@ fn added<const N: usize>(outcome: Result<(), OutOfBounds>) -> (Reply<N>, bool)
     ensures tight { result.1 ≡ is_err outcome }
 {
     match outcome {
-        Ok(()) => (Reply::Done, false),
+        Ok(()) => not_tight(Reply::Done),
         Err(OutOfBounds) => (Reply::Refused(Error::OutOfBounds), true),
     }
 }
@@ -158,7 +166,7 @@ fn insert_cut<const N: usize>(text: &mut ArrayString<N>, index: u8, given: &str)
     let is_less = adds_less(text, given);
     match text.insert_str(index, given) {
         Ok(()) => (Reply::Done, is_less),
-        Err(error) => (Reply::Refused(error), false),
+        Err(error) => not_tight(Reply::Refused(error)),
     }
 }
 
@@ -184,9 +192,9 @@ fn placed<const N: usize>(outcome: Result<(), Error>, is_within: bool) -> (Reply
     ensures tight { result.1 ≡ (is_within && is_out_of_bounds outcome) }
 {
     match outcome {
-        Ok(()) => (Reply::Done, false),
+        Ok(()) => not_tight(Reply::Done),
         Err(Error::OutOfBounds) => (Reply::Refused(Error::OutOfBounds), is_within),
-        Err(error) => (Reply::Refused(error), false),
+        Err(error) => not_tight(Reply::Refused(error)),
     }
 }
 

@@ -2,7 +2,7 @@
 ghost use Rattle.std.specs.Prelude.{◌≡◌, ◌≤◌, [], ◌∷◌, ◌++◌, ℕ, List, length, IfSome, IfNone};
 ghost use Rattle.arraystring.specs.Text.{utf8, IsScalarValue};
 ghost use Rattle.arraystring_run.specs.Grammar.{word as word_of, arguments, Number, IsLineOf, IsNumber, IsNumberBefore, IsOneWord, space};
-ghost use Rattle.arraystring_run.specs.declared.commands.Command.{Command as Edit};
+ghost use Rattle.arraystring_run.specs.declared.commands.Command.{Command};
 
 use crate::Command;
 use crate::find::find_byte;
@@ -13,7 +13,7 @@ use std::str;
 /// word or number, or more or less than its word takes.
 pub fn command(line: &[u8]) -> Option<Command<'_>>
     ensures some { IfSome result (λ c. IsLineOf line.now c) }
-    ensures none { IfNone result ((c : Edit) → IsLineOf line.now c → ⊥) }
+    ensures none { IfNone result ((c : Command) → IsLineOf line.now c → ⊥) }
 {
     command_of_text(str::from_utf8(line).ok()?)
 }
@@ -21,7 +21,7 @@ pub fn command(line: &[u8]) -> Option<Command<'_>>
 /// The same of a line that is known to be UTF-8.
 pub(crate) fn command_of_text(text: &str) -> Option<Command<'_>>
     ensures some { IfSome result (λ c. IsLineOf text.now c) }
-    ensures none { IfNone result ((c : Edit) → IsLineOf text.now c → ⊥) }
+    ensures none { IfNone result ((c : Command) → IsLineOf text.now c → ⊥) }
 {
     match split_at_space(text) {
         Some((word, rest)) => command_given(word, rest),
@@ -45,7 +45,7 @@ fn split_at_space(text: &str) -> Option<(&str, &str)>
 fn command_alone(word: &str) -> Option<Command<'static>>
     requires { IsOneWord word.now }
     ensures some { IfSome result (λ c. IsLineOf word.now c) }
-    ensures none { IfNone result ((c : Edit) → IsLineOf word.now c → ⊥) }
+    ensures none { IfNone result ((c : Command) → IsLineOf word.now c → ⊥) }
 {
     match word {
         "pop" => Some(Command::Pop),
@@ -64,7 +64,7 @@ fn command_alone(word: &str) -> Option<Command<'static>>
 fn command_given<'a>(word: &str, rest: &'a str) -> Option<Command<'a>>
     requires { IsOneWord word.now }
     ensures some { IfSome result (λ c. IsLineOf (word.now ++ space ∷ rest.now) c) }
-    ensures none { IfNone result ((c : Edit) → IsLineOf (word.now ++ space ∷ rest.now) c → ⊥) }
+    ensures none { IfNone result ((c : Command) → IsLineOf (word.now ++ space ∷ rest.now) c → ⊥) }
 {
     match word {
         "try_push" => Some(Command::TryPush(only_char(rest)?)),
@@ -82,7 +82,7 @@ fn command_given<'a>(word: &str, rest: &'a str) -> Option<Command<'a>>
 fn command_given_more<'a>(word: &str, rest: &'a str) -> Option<Command<'a>>
     requires { IsOneWord word.now }
     ensures some { IfSome result (λ c. IsLineOf (word.now ++ space ∷ rest.now) c) }
-    ensures none { IfNone result ((c : Edit) → 2 ≤ length (arguments c) → IsLineOf (word.now ++ space ∷ rest.now) c → ⊥) }
+    ensures none { IfNone result ((c : Command) → 2 ≤ length (arguments c) → IsLineOf (word.now ++ space ∷ rest.now) c → ⊥) }
 {
     let (start, rest) = number_before(rest)?;
     match word {
@@ -100,7 +100,7 @@ fn command_given_more<'a>(word: &str, rest: &'a str) -> Option<Command<'a>>
 /// The command of a word that takes the ends of a range and no more.
 fn command_of_range(word: &str, start: u8, end: u8) -> Option<Command<'static>>
     ensures some { IfSome result (λ c. (word.now ≡ word_of c) × (arguments c ≡ Number start ∷ Number end ∷ [])) }
-    ensures none { IfNone result ((c : Edit) (m n : ℕ) → word.now ≡ word_of c → arguments c ≡ Number m ∷ Number n ∷ [] → ⊥) }
+    ensures none { IfNone result ((c : Command) (m n : ℕ) → word.now ≡ word_of c → arguments c ≡ Number m ∷ Number n ∷ [] → ⊥) }
 {
     match word {
         "drain" => Some(Command::Drain { start, end }),

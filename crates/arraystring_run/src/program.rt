@@ -1,6 +1,6 @@
 //! What a program's `main` calls: a script is played at the capacity of the word that it was given, with
 //! or without a buffer before the output.
-ghost use Rattle.std.specs.Prelude.{◌≡◌, ◌≢◌, is_some, ℕ, ⊤, List, [], None, Result, vec_capacity};
+ghost use Rattle.std.specs.Prelude.{◌≡◌, ◌≢◌, is_some, Some, ℕ, ⊤, List, [], None, Result, vec_capacity};
 ghost use Rattle.arraystring_run.specs.Script.{IsServed, AppendsPrefix, capacity_named, status_of, report_of};
 ghost use Rattle.std.specs.Io.KnownBytes.{append_known};
 ghost use Rattle.std.specs.declared.env.FillError.{FillError as Fault};
@@ -18,7 +18,30 @@ use std::io::{Read, Write};
 pub fn names_capacity(word: Option<&str>) -> bool
     ensures { result ≡ is_some (capacity_named word.entry) }
 {
-    matches!(word, Some("small" | "cache" | "max"))
+    capacity_of(word).is_some()
+}
+
+/// A capacity that a word names.
+#[derive(Clone, Copy)]
+enum Capacity {
+    Small,
+    Cache,
+    Max,
+}
+
+/// The capacity that a word names.
+fn capacity_of(word: Option<&str>) -> Option<Capacity>
+    ensures small { result ≡ Some Capacity.Small → capacity_named word.entry ≡ Some 23 }
+    ensures cache { result ≡ Some Capacity.Cache → capacity_named word.entry ≡ Some 63 }
+    ensures max { result ≡ Some Capacity.Max → capacity_named word.entry ≡ Some 255 }
+    ensures none { result ≡ None → capacity_named word.entry ≡ None }
+{
+    match word {
+        Some("small") => Some(Capacity::Small),
+        Some("cache") => Some(Capacity::Cache),
+        Some("max") => Some(Capacity::Max),
+        _ => None,
+    }
 }
 
 /// The program: plays a script at the capacity of a word, `small` (23), `cache` (63) or `max`
@@ -37,11 +60,11 @@ pub fn serve<I: Read, O: Write, E: Write>(
     ensures { IsServed word.entry (I.remaining input.old) (O.contents output.old) (O.contents output.new) (E.contents errors.old) (E.contents errors.new)
         (input.new ≡ input.old) (output.new ≡ output.old) (errors.new ≡ errors.old) result }
 {
-    match word {
-        Some("small") => report(play::<23, I, O>(alloc, input, output), errors),
-        Some("cache") => report(play::<63, I, O>(alloc, input, output), errors),
-        Some("max") => report(play::<255, I, O>(alloc, input, output), errors),
-        _ => {
+    match capacity_of(word) {
+        Some(Capacity::Small) => report(play::<23, I, O>(alloc, input, output), errors),
+        Some(Capacity::Cache) => report(play::<63, I, O>(alloc, input, output), errors),
+        Some(Capacity::Max) => report(play::<255, I, O>(alloc, input, output), errors),
+        None => {
             let _ = put(errors, "usage: arraystring_run small or cache or max\n");
             2
         }

@@ -3,7 +3,7 @@ ghost use Rattle.std.specs.Prelude.{◌≡◌, ◌≢◌, ◌≤◌, length, IfS
 ghost use Rattle.std.specs.Str.{IsCharBoundary};
 ghost use Rattle.arraystring_run.specs.Grammar.{IsLineOf};
 ghost use Rattle.arraystring_run.specs.Script.{lines, AreLinesOf, IsBadAt, IfBadLine};
-ghost use Rattle.arraystring_run.specs.declared.commands.Command.{Command as Edit};
+ghost use Rattle.arraystring_run.specs.declared.commands.Command.{Command};
 
 use crate::Command;
 use crate::find::find_byte;
@@ -49,7 +49,7 @@ fn command_between<'a>(
     requires within { end ≤ length script.now }
     requires text { IfSome text (λ t. (t.now ≡ script.now) × IsCharBoundary t.now start × IsCharBoundary t.now end) }
     ensures some { IfSome result (λ c. IsLineOf (slice_range script.now start end) c) }
-    ensures none { IfNone result ((c : Edit) → IsLineOf (slice_range script.now start end) c → ⊥) }
+    ensures none { IfNone result ((c : Command) → IsLineOf (slice_range script.now start end) c → ⊥) }
 {
     let line = match text {
         Some(text) => &text[start..end],

@@ -1,33 +1,26 @@
-use Rattle.std.proofs.Common.{◌≡◌, ap, ◌∙◌, refl, None}
-use Rattle.arraystring_run.specs.Script.{capacity_named}
-use Rattle.arraystring_run.proofs.PlayLemmas.{small-named, cache-named, max-named, none-named, served, not-served}
-use Rattle.arraystring_run.proofs.program.serve.Goals.{in_default-via-in-Some+in_default, in_default-via-in_default}
+use Rattle.std.proofs.Common.{◌∙◌, ap, refl, Some}
+use Rattle.arraystring_run.proofs.PlayLemmas.{served, not-served}
 use Rattle.arraystring_run.proofs.program.serve.Goals as goal
 
-pub returns-in-Some-small : goal.returns-in-Some-small
-returns-in-Some-small g c =
-    let arm = c.in-Some-small in let play = c.play.ensures in let report = c.report.ensures in
-    served _ _ _ _ _ _ _ _ _ 23 _ c.play.result (ap capacity_named arm.is ∙ small-named arm.field-0 (rw arm.is at arm.is-small))
+pub returns-in-Some-Small : goal.returns-in-Some-Small
+returns-in-Some-Small g c =
+    let play = c.play.ensures in let report = c.report.ensures in
+    served _ _ _ _ _ _ _ _ _ 23 _ c.play.result (c.capacity_of.ensures.small (c.in-Some-Small.is ∙ ap Some c.in-Some-Small.field-0-is))
     play.played play.bad_line play.unwritten play.part_played report.status report.line report.quiet
 
-pub returns-in-Some-cache : goal.returns-in-Some-cache
-returns-in-Some-cache g c =
-    let arm = c.in-Some-cache in let play = c.play-in-Some-cache.ensures in let report = c.report-in-Some-cache.ensures in
-    served _ _ _ _ _ _ _ _ _ 63 _ c.play-in-Some-cache.result (ap capacity_named arm.is ∙ cache-named arm.field-0 (rw arm.is at arm.is-cache))
+pub returns-in-Some-Cache : goal.returns-in-Some-Cache
+returns-in-Some-Cache g c =
+    let play = c.play-in-Some-Cache.ensures in let report = c.report-in-Some-Cache.ensures in
+    served _ _ _ _ _ _ _ _ _ 63 _ c.play-in-Some-Cache.result (c.capacity_of.ensures.cache (c.in-Some-Cache.is ∙ ap Some c.in-Some-Cache.field-0-is))
     play.played play.bad_line play.unwritten play.part_played report.status report.line report.quiet
 
-pub returns-in-Some-max : goal.returns-in-Some-max
-returns-in-Some-max g c =
-    let arm = c.in-Some-max in let play = c.play-in-Some-max.ensures in let report = c.report-in-Some-max.ensures in
-    served _ _ _ _ _ _ _ _ _ 255 _ c.play-in-Some-max.result (ap capacity_named arm.is ∙ max-named arm.field-0 (rw arm.is at arm.is-max))
+pub returns-in-Some-Max : goal.returns-in-Some-Max
+returns-in-Some-Max g c =
+    let play = c.play-in-Some-Max.ensures in let report = c.report-in-Some-Max.ensures in
+    served _ _ _ _ _ _ _ _ _ 255 _ c.play-in-Some-Max.result (c.capacity_of.ensures.max (c.in-Some-Max.is ∙ ap Some c.in-Some-Max.field-0-is))
     play.played play.bad_line play.unwritten play.part_played report.status report.line report.quiet
 
-pub returns-in_default : goal.returns-in_default
-returns-in_default g c =
-    let named : capacity_named c.args.word ≡ None = elim c.in_default.branch [
-      | in_default-via-in-Some+in_default w ↦
-          let arm = w.in_default in
-          ap capacity_named arm.is ∙ none-named arm.field-0 (rw arm.is at arm.not-small) (rw arm.is at arm.not-cache) (rw arm.is at arm.not-max)
-      | in_default-via-in_default w ↦ ap capacity_named w.in_default.is
-    ] in
-    not-served _ _ _ _ _ _ _ _ _ named (refl {a = c.args.input.now}) (refl {a = c.args.output.now}) c.put.ensures.part
+pub returns-in-None : goal.returns-in-None
+returns-in-None g c =
+    not-served _ _ _ _ _ _ _ _ _ (c.capacity_of.ensures.none c.in-None.is) (refl {a = c.args.input.now}) (refl {a = c.args.output.now})
+    c.put.ensures.part
