@@ -3,6 +3,7 @@ ghost use Rattle.std.specs.Prelude.{◌≡◌, ◌+◌, ◌≤◌, ◌++◌, [],
 ghost use Rattle.std.specs.Io.{WritesAtMost};
 ghost use Rattle.std.specs.Io.KnownBytes.{Keeps, WriteAppends, append_known};
 
+use crate::printing::write_once;
 use std::io;
 use std::io::{ErrorKind, Write};
 
@@ -26,15 +27,8 @@ impl<O: Write> Buffered<O> {
             if self.waiting.is_empty() {
                 return Ok(());
             }
-            match self.output.write(&self.waiting) {
-                Ok(0) => return Err(ErrorKind::WriteZero.into()),
-                Ok(count) => drop_front(&mut self.waiting, count),
-                Err(error) => {
-                    if error.kind() != ErrorKind::Interrupted {
-                        return Err(error);
-                    }
-                }
-            }
+            let count = write_once(&mut self.output, &self.waiting)?;
+            drop_front(&mut self.waiting, count);
         }
         Err(ErrorKind::Other.into())
     }

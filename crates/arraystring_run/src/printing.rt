@@ -1,7 +1,8 @@
 //! The lines that are printed of a run. Nothing here is given an allocator, so nothing takes
 //! memory. If a write fails, what was written is a prefix of what was to be.
 ghost use Rattle.std.specs.Prelude.{◌≡◌, ◌++◌, ℕ, List, map, IfSome, IfOk, OnOk, OnErr};
-ghost use Rattle.std.specs.Io.KnownBytes.{Appends, Keeps};
+ghost use Rattle.std.specs.Io.{WritesAtMost};
+ghost use Rattle.std.specs.Io.KnownBytes.{Appends, Keeps, WriteAppends};
 ghost use Rattle.arraystring_run.specs.Runs.{said};
 ghost use Rattle.arraystring_run.specs.Script.{ended, printed, all_printed, AppendsPrefix};
 
@@ -101,8 +102,7 @@ fn put_rest<O: Write>(output: &mut O, bytes: &[u8]) -> io::Result<()>
     Err(io::ErrorKind::Other.into())
 }
 
-/// Writes once, if there are bytes, and returns those that are left. An interrupted write leaves
-/// all of them.
+/// Writes once, if there are bytes, and returns those that are left.
 #[inline(always)]
 fn put_some<'a, O: Write>(output: &mut O, bytes: &'a [u8]) -> io::Result<&'a [u8]>
     ensures some { IfOk result (λ rest. (done : List ℕ) × (bytes.now ≡ done ++ rest.now) × Appends (O.contents output.old) (O.contents output.new) done) }
@@ -111,14 +111,25 @@ fn put_some<'a, O: Write>(output: &mut O, bytes: &'a [u8]) -> io::Result<&'a [u8
     if bytes.is_empty() {
         return Ok(bytes);
     }
+    let count = write_once(output, bytes)?;
+    Ok(&bytes[count..])
+}
+
+/// Writes bytes, of which there are some, by one call, and returns how many were taken. An
+/// interrupted write takes none. A writer that takes none has failed.
+#[inline(always)]
+pub(crate) fn write_once<O: Write>(output: &mut O, bytes: &[u8]) -> io::Result<usize>
+    ensures bound { WritesAtMost result bytes.now }
+    ensures bytes { WriteAppends (O.contents output.old) (O.contents output.new) result bytes.now }
+{
     match output.write(bytes) {
         Ok(0) => Err(io::ErrorKind::WriteZero.into()),
-        Ok(count) => Ok(&bytes[count..]),
+        Ok(count) => Ok(count),
         Err(error) => {
             if error.kind() != io::ErrorKind::Interrupted {
                 return Err(error);
             }
-            Ok(bytes)
+            Ok(0)
         }
     }
 }
