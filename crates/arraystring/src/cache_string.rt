@@ -111,7 +111,7 @@ impl CacheString {
     ///
     /// # Precondition
     ///
-    /// See the module `array_string` for iterators.
+    /// See `ArrayString`, under Iterators.
     ///
     /// # Examples
     ///
@@ -136,7 +136,7 @@ impl CacheString {
     ///
     /// # Precondition
     ///
-    /// See the module `array_string` for iterators.
+    /// See `ArrayString`, under Iterators.
     ///
     /// # Examples
     ///
@@ -158,7 +158,7 @@ impl CacheString {
     ///
     /// # Precondition
     ///
-    /// All of the pieces must fit. See the module `array_string` for iterators.
+    /// All of the pieces must fit. See `ArrayString`, under Iterators.
     pub fn from_iterator_unchecked<'a, I: IntoIterator<Item = &'a str> + Drop>(pieces: I) -> Self
         requires ends { IsFiniteIterable I.into_iter_gives I.IntoIter.can_next I.IntoIter.remaining pieces }
         requires fits { Fits I.into_iter_gives I.IntoIter.next_gives joined_pieces pieces 63 }
@@ -178,7 +178,7 @@ impl CacheString {
     ///
     /// # Precondition
     ///
-    /// See the module `array_string` for iterators.
+    /// See `ArrayString`, under Iterators.
     ///
     /// # Examples
     ///
@@ -203,7 +203,7 @@ impl CacheString {
     ///
     /// # Precondition
     ///
-    /// See the module `array_string` for iterators.
+    /// See `ArrayString`, under Iterators.
     ///
     /// # Examples
     ///
@@ -225,7 +225,7 @@ impl CacheString {
     ///
     /// # Precondition
     ///
-    /// All of the characters must fit. See the module `array_string` for iterators.
+    /// All of the characters must fit. See `ArrayString`, under Iterators.
     pub fn from_chars_unchecked<I: IntoIterator<Item = char> + Drop>(characters: I) -> Self
         requires ends { IsFiniteIterable I.into_iter_gives I.IntoIter.can_next I.IntoIter.remaining characters }
         requires fits { Fits I.into_iter_gives I.IntoIter.next_gives (λ cs. cs) characters 63 }

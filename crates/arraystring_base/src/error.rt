@@ -35,7 +35,7 @@ pub enum Error {
 }
 
 impl Error {
-    /// The name of the case.
+    /// The name of the variant.
     fn name(&self) -> &'static str
         ensures { result.now ≡ error_name self.now }
     {
@@ -94,7 +94,7 @@ impl fmt::Display for Error {
 /// ```
 impl StdError for Error {}
 
-/// The case of its name.
+/// The variant of the same name.
 ///
 /// # Examples
 ///
@@ -113,7 +113,7 @@ impl From<OutOfBounds> for Error {
     }
 }
 
-/// The case of its name.
+/// The variant of the same name.
 ///
 /// # Examples
 ///
@@ -128,7 +128,7 @@ impl From<Utf16> for Error {
     }
 }
 
-/// The case of its name.
+/// The variant of the same name.
 ///
 /// # Examples
 ///

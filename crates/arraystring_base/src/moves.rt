@@ -1,15 +1,15 @@
 //! How a run of bytes is moved inside an array: as its first `K` and its last `K` bytes, which may
-//! overlap, and both are read before the first is written. So does `memmove` with a short run. A
-//! byte that both have is written twice, to one offset: it moves once. They are read as vectors,
-//! since those stay in registers; arrays of bytes would be put on the stack.
+//! overlap, and both are read before the first is written. `memmove` moves short runs in this way
+//! too. A byte that both have is written twice, to one offset, and counts as one move. They are read
+//! as vectors, since those stay in registers; arrays of bytes would be put on the stack.
 ghost use Rattle.std.specs.Prelude.{◌≡◌, ◌+◌, ◌-◌, ◌^◌, ◌==◌, if◌then◌else◌, ◌≤◌, ◌<◌, ◌++◌, length, take, drop};
 
 use crate::steps::Steps;
 use std::simd::Simd;
 
 /// Moves `len` bytes of the array from the offset `from` to the offset `to`; the two runs may
-/// overlap. Each byte counts as one move, also if it is written twice on the way (see `moves`), and
-/// none counts if `from` is `to`. No byte outside the target changes.
+/// overlap. Each byte counts as one move, also if it is written twice on the way, and none counts if
+/// `from` is `to`. No byte outside the target changes.
 ///
 /// # Precondition
 ///

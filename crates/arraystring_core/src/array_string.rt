@@ -1,12 +1,6 @@
 //! `ArrayString`: the type, and the calls that read all of it. The modules below have its other calls,
 //! `traits` its impls of traits, and `in_place` the private calls that put bytes into its array or take
 //! them out.
-//!
-//! # Iterators
-//!
-//! An iterator that is passed in must end, and until it does the precondition of its `next` must
-//! hold. All calls but the unchecked ones stop at the first item that does not fit: their
-//! contracts say that no item after it matters, and a test shows that they take none.
 ghost use Rattle.std.specs.Prelude.{◌≡◌, ◌≤◌, ◌↔◌, [], IsTrue, length};
 ghost use Rattle.arraystring_base.specs.Text.{size, bytes, cap, boundary, IsText};
 
@@ -52,8 +46,11 @@ mod utf16;
 /// ```
 #[derive(Clone, Copy)]
 pub struct ArrayString<const N: usize> {
+    /// The bytes of the text from its offset on. The others have no meaning.
     array: [u8; N],
+    /// The offset at which the text begins.
     start: u8,
+    /// The size of the text.
     size: u8,
 }
 

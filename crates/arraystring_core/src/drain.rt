@@ -24,12 +24,14 @@ mod traits;
 /// ```
 #[derive(Clone, Copy)]
 pub struct Drain<const N: usize> {
-    // The index at which what is left begins, and the offset and the size of the removed text
-    // without what was given from the back. They lie before the array, so that a read of it is known
-    // to be no read of them.
+    // The numbers lie before the array: so the compiler knows that no read of a byte of it reads them.
+    /// The index in the removed text at which what is left begins.
     front: u8,
+    /// The offset of the removed text.
     start: u8,
+    /// The size of the removed text, without what was given from the back.
     size: u8,
+    /// The array of the string, as it was before the removal.
     array: [u8; N],
 }
 

@@ -48,7 +48,7 @@ pub enum ValueError {
 }
 
 impl ValueError {
-    /// The name of the case.
+    /// The name of the variant.
     fn name(&self) -> &'static str
         ensures { result.now ≡ value_error_name self.now }
     {
@@ -72,7 +72,7 @@ impl fmt::Display for ValueError {
 
 impl Error for ValueError {}
 
-/// The case of its name.
+/// The variant of the same name.
 impl From<NotText> for ValueError {
     ghost from_gives = { λ _ error. error ≡ cases.NotText };
 
@@ -81,7 +81,7 @@ impl From<NotText> for ValueError {
     }
 }
 
-/// The case of its name.
+/// The variant of the same name.
 impl From<OutOfBounds> for ValueError {
     ghost from_gives = { λ _ error. error ≡ cases.OutOfBounds };
 

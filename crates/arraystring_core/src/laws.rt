@@ -115,9 +115,9 @@ pub fn replaced_back()
         (replacement (replacement t start end given n).after start (start + size given) (part t start end) n).after ≡ t }
 {}
 
-/// A walk from both ends in any mix gives each character at most once: what came from the front,
-/// then what is left, then what came from the back in reversed order, joined, are the characters
-/// that were walked. Each step, from either end, takes one while one is left. So after as many steps
+/// An iterator that is asked at both ends in any mix gives each character at most once: what came
+/// from the front, then what is left, then what came from the back in reversed order, joined, are
+/// all its characters. Each step, at either end, takes one while one is left. So after as many steps
 /// as there are characters nothing is left, and a step then gives nothing.
 pub fn walks()
     ensures whole { (ends : List End) (t : List ℕ) → (walked ends t).fronts ++ ((walked ends t).left ++ reverse (walked ends t).backs) ≡ t }

@@ -31,7 +31,7 @@ const CHUNK: usize = 8192;
 /// program names.
 const LARGEST: usize = usize::MAX / 4;
 
-/// Plays a script from the empty text: reads it to its end, judges each line, makes the commands,
+/// Plays a script from the empty text: reads it to its end, judges each line, executes the commands,
 /// and writes a line for each reply and one for the last text.
 ///
 /// Nothing is written before the whole script was read and accepted and the run was made, and no
@@ -66,7 +66,7 @@ pub fn play<const N: usize, I: Read, O: Write>(
     play_commands::<N, O>(alloc, &commands, output)
 }
 
-/// Makes the run of commands from the empty text, and writes its lines.
+/// Executes the commands on the empty text, and writes the lines of the run.
 fn play_commands<const N: usize, O: Write>(
     alloc: Global,
     commands: &[Command<'_>],

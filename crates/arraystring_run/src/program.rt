@@ -44,8 +44,8 @@ fn capacity_of(word: Option<&str>) -> Option<Capacity>
     }
 }
 
-/// The program: plays a script at the capacity of a word, `small` (23), `cache` (63) or `max`
-/// (255), and returns its exit status. The word is judged before anything is read.
+/// Plays a script at the capacity of a word, `small` (23), `cache` (63) or `max` (255), and returns
+/// the exit status of the program. The word is judged before anything is read.
 ///
 /// If the status is not 0, one line on `errors` says why: 2 for another word, or none, and for a
 /// bad line; 3 if memory ran out; 4 for a read or a write that failed. A fault of `errors` changes

@@ -21,7 +21,7 @@ pub struct Outcome<const N: usize> {
     pub first_tight: Option<usize>,
 }
 
-/// Makes each command in turn, each on the text that the one before left.
+/// Executes the commands in order, each on the text that the one before left.
 ///
 /// Memory is taken for the list of replies alone, before the first command. An empty list of
 /// commands takes none.
@@ -56,8 +56,8 @@ pub fn run<const N: usize>(
     })
 }
 
-/// Makes each command in turn, and adds its reply to a list that has room for all replies and is
-/// not moved.
+/// Executes the commands in order, and adds each reply to a list that has room for all of them and
+/// is not moved.
 fn fill<const N: usize>(
     text: &mut ArrayString<N>,
     commands: &[Command<'_>],
@@ -80,7 +80,7 @@ fn fill<const N: usize>(
     first_tight
 }
 
-/// Makes the same commands on two strings, as `run` does on each.
+/// Executes the same commands on two strings, as `run` does on each.
 ///
 /// Memory is taken for the two lists of replies alone, before the first command. An empty list of
 /// commands takes none.

@@ -419,9 +419,9 @@
 //!
 //! # `walks`
 //!
-//! A walk from both ends in any mix gives each character at most once: what came from the front,
-//! then what is left, then what came from the back in reversed order, joined, are the characters
-//! that were walked. Each step, from either end, takes one while one is left. So after as many steps
+//! An iterator that is asked at both ends in any mix gives each character at most once: what came
+//! from the front, then what is left, then what came from the back in reversed order, joined, are
+//! all its characters. Each step, at either end, takes one while one is left. So after as many steps
 //! as there are characters nothing is left, and a step then gives nothing.
 //!
 //! <details><summary>Contract</summary>

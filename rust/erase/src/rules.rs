@@ -759,7 +759,7 @@ pub const REPLACED: &[Replaced] = &[
         file: "arraystring_base/src/utf16.rt",
         from: "pub struct Units<'a> {",
         to: "#[derive(Clone, Debug)]\npub struct Units<'a> {",
-        why: "a walk is cloned and printed in Rust, as each of std's is",
+        why: "an iterator is cloned and printed in Rust, as each of std's is",
     },
     Replaced {
         file: "arraystring_base/src/utf8.rt",

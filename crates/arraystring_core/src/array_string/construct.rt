@@ -86,7 +86,7 @@ impl<const N: usize> ArrayString<N> {
     ///
     /// # Precondition
     ///
-    /// See the module `array_string` for iterators.
+    /// See `ArrayString`, under Iterators.
     ///
     /// # Examples
     ///
@@ -114,7 +114,7 @@ impl<const N: usize> ArrayString<N> {
     ///
     /// # Precondition
     ///
-    /// See the module `array_string` for iterators.
+    /// See `ArrayString`, under Iterators.
     ///
     /// # Examples
     ///
@@ -138,7 +138,7 @@ impl<const N: usize> ArrayString<N> {
     ///
     /// # Precondition
     ///
-    /// All of the pieces must fit. See the module `array_string` for iterators.
+    /// All of the pieces must fit. See `ArrayString`, under Iterators.
     pub fn from_iterator_unchecked<'a, I: IntoIterator<Item = &'a str> + Drop>(pieces: I) -> Self
         requires ends { IsFiniteIterable I.into_iter_gives I.IntoIter.can_next I.IntoIter.remaining pieces }
         requires fits { Fits I.into_iter_gives I.IntoIter.next_gives joined_pieces pieces (cap N) }
@@ -162,7 +162,7 @@ impl<const N: usize> ArrayString<N> {
     ///
     /// # Precondition
     ///
-    /// See the module `array_string` for iterators.
+    /// See `ArrayString`, under Iterators.
     ///
     /// # Examples
     ///
@@ -190,7 +190,7 @@ impl<const N: usize> ArrayString<N> {
     ///
     /// # Precondition
     ///
-    /// See the module `array_string` for iterators.
+    /// See `ArrayString`, under Iterators.
     ///
     /// # Examples
     ///
@@ -215,7 +215,7 @@ impl<const N: usize> ArrayString<N> {
     ///
     /// # Precondition
     ///
-    /// All of the characters must fit. See the module `array_string` for iterators.
+    /// All of the characters must fit. See `ArrayString`, under Iterators.
     pub fn from_chars_unchecked<I: IntoIterator<Item = char> + Drop>(characters: I) -> Self
         requires ends { IsFiniteIterable I.into_iter_gives I.IntoIter.can_next I.IntoIter.remaining characters }
         requires fits { Fits I.into_iter_gives I.IntoIter.next_gives (λ cs. cs) characters (cap N) }

@@ -127,7 +127,7 @@ impl<const N: usize> ArrayString<N> {
     ///
     /// # Precondition
     ///
-    /// See the module `array_string` for iterators.
+    /// See `ArrayString`, under Iterators.
     ///
     /// # Examples
     ///
@@ -150,7 +150,7 @@ impl<const N: usize> ArrayString<N> {
     ///
     /// # Precondition
     ///
-    /// See the module `array_string` for iterators.
+    /// See `ArrayString`, under Iterators.
     ///
     /// # Examples
     ///

@@ -296,7 +296,7 @@ impl<const N: usize> ArrayString<N> {
         &self.as_str()[start..end]
     }
 
-    /// Whether the bytes from `start` to `end` can be taken out, and else why not.
+    /// Refuses the bytes from `start` to `end` where `drain` has to.
     fn check_part(&self, start: u8, end: u8) -> Result<(), Error>
         ensures { result ≡ ok_unless (first_cause (draining self.now.text start end).tests) tt }
     {
@@ -332,7 +332,7 @@ impl<const N: usize> ArrayString<N> {
         Ok(())
     }
 
-    /// Whether the bytes from `start` to `end` can be replaced by `with`, and else why not.
+    /// Refuses to replace the bytes from `start` to `end` by `with` where `replace_range` has to.
     #[inline(always)]
     fn check_replacement(&self, start: u8, end: u8, with: &str) -> Result<(), Error>
         ensures { result ≡ ok_unless (first_cause (replacement self.now.text start end (chars with.now) (cap N)).tests) tt }

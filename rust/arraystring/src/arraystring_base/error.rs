@@ -32,7 +32,7 @@ pub enum Error {
 }
 
 impl Error {
-    /// The name of the case.
+    /// The name of the variant.
     ///
     /// <details><summary>Contract</summary>
     ///
@@ -125,7 +125,7 @@ impl fmt::Display for Error {
 /// ```
 impl StdError for Error {}
 
-/// The case of its name.
+/// The variant of the same name.
 ///
 /// # Examples
 ///
@@ -155,7 +155,7 @@ impl From<OutOfBounds> for Error {
     }
 }
 
-/// The case of its name.
+/// The variant of the same name.
 ///
 /// # Examples
 ///
@@ -182,7 +182,7 @@ impl From<Utf16> for Error {
     }
 }
 
-/// The case of its name.
+/// The variant of the same name.
 ///
 /// # Examples
 ///

@@ -23,7 +23,7 @@ pub enum Unit16 {
     Lone(u16),
 }
 
-/// A walk over the one reading of some units, item by item. It takes no memory.
+/// An iterator over the one reading of some units. It takes no memory.
 ///
 /// Contracts see it as the list of the items that are left.
 ///
@@ -42,7 +42,7 @@ pub struct Units<'a> {
 }
 
 impl<'a> Units<'a> {
-    /// Returns the walk over the reading of `units`, from its first item on.
+    /// Returns an iterator over the reading of `units`.
     ///
     /// # Examples
     ///

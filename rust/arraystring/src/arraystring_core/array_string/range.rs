@@ -361,7 +361,7 @@ impl<const N: usize> ArrayString<N> {
         unsafe { self.lowercase_between(start, end) };
     }
 
-    /// Whether the bytes from `start` to `end` can be taken out, and else why not.
+    /// Refuses the bytes from `start` to `end` where `drain` has to.
     ///
     /// <details><summary>Contract</summary>
     ///
@@ -410,7 +410,7 @@ impl<const N: usize> ArrayString<N> {
         Ok(())
     }
 
-    /// Whether the bytes from `start` to `end` can be replaced by `with`, and else why not.
+    /// Refuses to replace the bytes from `start` to `end` by `with` where `replace_range` has to.
     ///
     /// <details><summary>Contract</summary>
     ///
