@@ -5,7 +5,7 @@ use Rattle.arraystring_base.specs.Text.{size, front, back, boundary}
 use Rattle.arraystring_base.proofs.TextLaws.{size-append}
 use Rattle.arraystring_base.proofs.BoundaryLaws.{front-size, front-is, back-is, back-size, boundary-is}
 use Rattle.arraystring_core.specs.Edits.{first_cause, part, replacement}
-use Rattle.arraystring_core.proofs.DrainLemmas.{IsAllowed, allowed-where}
+use Rattle.arraystring_core.proofs.CauseLemmas.{IsAllowed, allowed-where}
 use Rattle.arraystring_core.proofs.EditLaws.{inside-not}
 use Rattle.arraystring_core.proofs.PartLaws.{part-joined, part-size}
 

@@ -1,152 +1,16 @@
 -- A character comes off the front, or off the back, of what is left.
-use Rattle.std.proofs.Common.{◌≡◌, ◌≢◌, ℕ, ◌+◌, ◌-◌, ◌/◌, ◌%◌, ◌<◌, ◌≤◌, Option, Some, None, Ok, List, [], ◌∷◌, ◌++◌, refl, sym, ap, subst, ◌∙◌, arith, true, inl, inr, length, length-append, append_assoc, get_or, chars, take, drop, IsUtf8}
-use Rattle.std.proofs.lemmas.Bool.{cases_lt, lt-ltb, le-ltb, ltb-false}
+use Rattle.std.proofs.Common.{◌≡◌, ◌≢◌, ℕ, ◌+◌, ◌-◌, ◌<◌, ◌≤◌, List, [], ◌∷◌, ◌++◌, refl, sym, ap, subst, ◌∙◌, arith, true, length, append_assoc, get_or, chars, take, drop, IsUtf8}
 use Rattle.std.proofs.lemmas.Str.{chars_past_char}
 use Rattle.std.specs.Char.{encode_utf8}
-use Rattle.std.proofs.lemmas.List.{append-nil, get_or-append-add, get_or-take, get_or-drop}
-use Rattle.arraystring_base.specs.Text.{width, size, cap, utf8, bytes, front, back, boundary}
-use Rattle.arraystring_base.proofs.TextLaws.{size-is, size-append, size-borrowed, bytes-append, chars-bytes, empty-size}
-use Rattle.arraystring_base.proofs.BoundaryLaws.{front-back, front-is, back-is, front-size, back-size, boundary-is, boundary-within, boundary-in_front, bytes-back, next-char}
-use Rattle.arraystring_core.specs.Stored.{Stored, stored, IsStored}
+use Rattle.std.proofs.lemmas.List.{get_or-take, get_or-drop}
+use Rattle.arraystring_base.specs.Text.{width, size, cap, bytes, front, back, boundary}
+use Rattle.arraystring_base.proofs.TextLaws.{size-is, size-append, size-borrowed, chars-bytes, empty-size}
+use Rattle.arraystring_base.proofs.BoundaryLaws.{front-back, front-is, back-is, front-size, back-size, boundary-is, boundary-within, bytes-back, next-char}
+use Rattle.arraystring_core.specs.Stored.{stored, IsStored}
 use Rattle.arraystring_core.specs.GhostProofs.{stored-utf8, stored-size, stored-bytes}
 use Rattle.arraystring_core.specs.Drained.{IsDrained}
-use Rattle.arraystring_core.specs.Edits.{Cause, Test, first_cause, ok_unless, part, draining, replacement}
-use Rattle.arraystring_core.proofs.EditLaws.{none-holds, inside-failed}
 use Rattle.arraystring_core.proofs.SpanLemmas.{dropped as dropped_part, kept as kept_part}
-
--- a text that is not empty ends with a character
-pub last-split : (c : ℕ) (cs : List ℕ) → (xs : List ℕ) × (x : ℕ) × (c ∷ cs ≡ xs ++ x ∷ [])
-last-split c [] = ([], c, refl)
-last-split c (d ∷ ds) = let rest = last-split d ds in (c ∷ rest.0, rest.1, ap (λ l. c ∷ l) rest.2)
-
-ends-with : (t : List ℕ) → t ≢ [] → (xs : List ℕ) × (x : ℕ) × (t ≡ xs ++ x ∷ [])
-ends-with [] some = absurd (some refl)
-ends-with (c ∷ cs) some = last-split c cs
-
-pub pushed-length : (t xs : List ℕ) (x : ℕ) → t ≡ xs ++ x ∷ [] → length t ≡ length xs + 1
-pushed-length t xs x is = ap length is ∙ length-append xs (x ∷ [])
-
--- a character below 128 is its byte, and all bytes of another are above
-low-byte : (c : ℕ) → c < 128 → (utf8 c ≡ c ∷ []) × (width c ≡ 1)
-unfolding utf8 width
-low-byte c lt = rw (lt-ltb c 128 lt) (refl, refl)
-
-high-bytes : (c : ℕ) → 128 ≤ c → (a : ℕ) × (m : List ℕ) × (z : ℕ) × (utf8 c ≡ a ∷ (m ++ z ∷ [])) × (128 ≤ a) × (128 ≤ z)
-unfolding utf8
-high-bytes c past =
-    elim (cases_lt c 2048) [
-      | inl two ↦
-          (192 + c / 64, [], 128 + c % 64, rw (le-ltb c 128 past, lt-ltb c 2048 two) refl, omega arith, omega arith)
-      | inr more ↦ elim (cases_lt c 65536) [
-        | inl three ↦
-            (224 + c / 4096, (128 + c / 64 % 64) ∷ [], 128 + c % 64, rw (le-ltb c 128 past, le-ltb c 2048 more, lt-ltb c 65536 three) refl, omega arith, omega arith)
-        | inr four ↦
-            (240 + c / 262144, (128 + c / 4096 % 64) ∷ (128 + c / 64 % 64) ∷ [], 128 + c % 64, rw (le-ltb c 128 past, le-ltb c 2048 more, le-ltb c 65536 four) refl, omega arith, omega arith)
-      ]
-    ]
-
-last-byte : (bs xs : List ℕ) (z : ℕ) → bs ≡ xs ++ z ∷ [] → get_or bs (length bs - 1) 0 ≡ z
-last-byte bs xs z is =
-    let offset : length bs - 1 ≡ length xs + 0 = omega (arith, ap length is, length-append xs (z ∷ [])) in
-    ap (λ i. get_or bs i 0) offset ∙ ap (λ l. get_or l (length xs + 0) 0) is ∙ get_or-append-add xs (z ∷ []) 0 0
-
--- a text whose first byte is below 128 begins with it, and one whose last byte is ends with it
-first-low : (t : List ℕ) (b : ℕ) → t ≢ [] → get_or (bytes t) 0 0 ≡ b → b < 128 → (rest : List ℕ) × (t ≡ b ∷ rest) × (width b ≡ 1)
-first-low [] b some e lt = absurd (some refl)
-first-low (c ∷ cs) b some e lt =
-    elim (cases_lt c 128) [
-      | inl low ↦
-          let is = low-byte c low in
-          let same : c ≡ b = sym (ap (λ l. get_or (l ++ bytes cs) 0 0) is.0) ∙ e in
-          (cs, ap (λ x. x ∷ cs) same, ap width (sym same) ∙ is.1)
-      | inr past ↦
-          let high = high-bytes c past in
-          let same : high.0 ≡ b = sym (ap (λ l. get_or (l ++ bytes cs) 0 0) high.3) ∙ e in
-          absurd (omega (arith, same, high.4))
-    ]
-
-last-low : (t : List ℕ) (b : ℕ) → t ≢ [] → get_or (bytes t) (length (bytes t) - 1) 0 ≡ b → b < 128 → (rest : List ℕ) × (t ≡ rest ++ b ∷ []) × (width b ≡ 1)
-last-low t b some e lt =
-    let parts = ends-with t some in
-    let before = parts.0 in
-    let c = parts.1 in
-    let shown : bytes t ≡ bytes before ++ utf8 c = ap bytes parts.2 ∙ bytes-append before (c ∷ []) ∙ ap (λ l. bytes before ++ l) (append-nil (utf8 c)) in
-    elim (cases_lt c 128) [
-      | inl low ↦
-          let is = low-byte c low in
-          let same : c ≡ b = sym (last-byte (bytes t) (bytes before) c (shown ∙ ap (λ l. bytes before ++ l) is.0)) ∙ e in
-          (before, parts.2 ∙ ap (λ x. before ++ x ∷ []) same, ap width (sym same) ∙ is.1)
-      | inr past ↦
-          let high = high-bytes c past in
-          let whole = shown ∙ ap (λ l. bytes before ++ l) high.3 ∙ sym (append_assoc (bytes before) (high.0 ∷ high.1) (high.2 ∷ [])) in
-          let same : high.2 ≡ b = sym (last-byte (bytes t) (bytes before ++ high.0 ∷ high.1) high.2 whole) ∙ e in
-          absurd (omega (arith, same, high.5))
-    ]
-
--- what is known if no test of a removal holds
-pub record IsPart (t : List ℕ) (start end : ℕ) : Type 0 where
-  pub order : start ≤ end
-  pub within : end ≤ size t
-  pub starts : boundary t start ≡ true
-  pub ends : boundary t end ≡ true
-
-pub no_cause : (tests : List Test) → Ok (tt {0}) ≡ ok_unless (first_cause tests) (tt {0}) → first_cause tests ≡ None
-no_cause tests is = go (first_cause tests) is
-  where
-    go : (found : Option Cause) → Ok (tt {0}) ≡ ok_unless found (tt {0}) → found ≡ None
-    go None is = refl
-    go (Some cause) is = absurd (cc)
-
-pub part-where : (t : List ℕ) (start end : ℕ) → first_cause (draining t start end).tests ≡ None → IsPart t start end
-part-where t start end e =
-    let none = none-holds (draining t start end).tests e in
-    let le : start ≤ end = ltb-false end start none.0 in
-    let reached : end ≤ size t = ltb-false (size t) end none.1.0 in
-    record {
-      order = le;
-      within = reached;
-      starts = inside-failed t start (omega arith) none.1.1.0;
-      ends = inside-failed t end reached none.1.1.1.0;
-    }
-
--- what is known if a replacement has no cause
-pub record IsAllowed (t : List ℕ) (start end : ℕ) (given : List ℕ) (n : ℕ) : Type 0 where
-  pub order : start ≤ end
-  pub within : end ≤ size t
-  pub room : size t - (end - start) + size given ≤ n
-  pub starts : boundary t start ≡ true
-  pub ends : boundary t end ≡ true
-
-pub allowed-where : (t given : List ℕ) (start end n : ℕ) → first_cause (replacement t start end given n).tests ≡ None
-    → IsAllowed t start end given n
-allowed-where t given start end n e =
-    let none = none-holds (replacement t start end given n).tests e in
-    let le : start ≤ end = ltb-false end start none.0 in
-    let reached : end ≤ size t = ltb-false (size t) end none.1.0 in
-    record {
-      order = le;
-      within = reached;
-      room = ltb-false n (size t - (end - start) + size given) none.1.1.0;
-      starts = inside-failed t start (omega arith) none.1.1.1.0;
-      ends = inside-failed t end reached none.1.1.1.1.0;
-    }
-
--- the part between two boundaries of a stored text, where it is in the array
-module _ (array_size : ℕ) (array : List ℕ) (p n : ℕ) (is : IsStored array_size array p n) (v : Stored) (e : stored array p n ≡ v)
-    (start end : ℕ) (order : start ≤ end) (b : boundary v.text start ≡ true) (d : boundary v.text end ≡ true) where
-  kept : IsStored array_size array p end
-  kept = (kept_part array_size array p n is v e end d).held
-
-  starts : boundary (stored array p end).text start ≡ true
-  starts = rw (kept_part array_size array p n is v e end d).shown (boundary-in_front v.text start end order b)
-
-  pub part-held : IsStored array_size array (p + start) (end - start)
-  part-held = (dropped_part array_size array p end kept (stored array p end) refl start starts).held
-
-  pub part-text : (stored array (p + start) (end - start)).text ≡ part v.text start end
-  part-text =
-      (dropped_part array_size array p end kept (stored array p end) refl start starts).shown
-      ∙ ap (λ t. back t start) (kept_part array_size array p n is v e end d).shown
+use Rattle.arraystring_core.proofs.EndLemmas.{first-low, last-low}
 
 module _ (array_size : ℕ) (array : List ℕ) (p n i : ℕ) (held : IsStored array_size array p n) (is : IsDrained array_size (stored array p n) i) where
   abbrev removed : List ℕ

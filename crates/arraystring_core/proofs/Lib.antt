@@ -12,6 +12,9 @@ mod TakenLemmas
 mod AsciiLemmas
 mod TrimLemmas
 mod RetainLemmas
+mod EndLemmas
+mod CauseLemmas
+mod PartLemmas
 mod DrainLemmas
 mod BackLemmas
 mod WalkedLemmas

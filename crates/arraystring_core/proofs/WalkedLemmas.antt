@@ -5,7 +5,7 @@ use Rattle.arraystring_base.specs.Text.{size}
 use Rattle.arraystring_base.proofs.TextLaws.{size-append}
 use Rattle.arraystring_core.proofs.EditLaws.{last_of-push, all_but_last-push}
 use Rattle.arraystring_core.specs.Drained.{End, Front, Back, Walked, from_front, from_back, walked}
-use Rattle.arraystring_core.proofs.DrainLemmas.{last-split}
+use Rattle.arraystring_core.proofs.EndLemmas.{last-split}
 
 -- if nothing is left nothing is given
 pub walked-none : (ends : List End) → walked ends [] ≡ walked [] []

@@ -2,7 +2,8 @@ use Rattle.std.proofs.Common.{◌∙◌, ap, arith, rules}
 use Rattle.arraystring_core.specs.RangeEnds.{saturated_end}
 use Rattle.arraystring_core.specs.Edits.{draining}
 use Rattle.arraystring_core.proofs.StoredLaws.{opened-size}
-use Rattle.arraystring_core.proofs.DrainLemmas.{no_cause, part-where, part-held, part-text}
+use Rattle.arraystring_core.proofs.CauseLemmas.{no_cause, part-where}
+use Rattle.arraystring_core.proofs.PartLemmas.{part-held, part-text}
 use Rattle.arraystring_core.proofs.EditLaws.{makes}
 use Rattle.arraystring_core.proofs.array_string.ArrayString.drain.Goals as goal
 

@@ -1,7 +1,7 @@
 use Rattle.std.proofs.Common.{chars, refl, rules}
 use Rattle.arraystring_base.specs.Text.{cap}
 use Rattle.arraystring_core.specs.Edits.{replacement}
-use Rattle.arraystring_core.proofs.DrainLemmas.{allowed-where, no_cause}
+use Rattle.arraystring_core.proofs.CauseLemmas.{allowed-where, no_cause}
 use Rattle.arraystring_core.proofs.EditLaws.{makes}
 use Rattle.arraystring_core.proofs.array_string.ArrayString.replace_between.Goals as goal
 

@@ -2,7 +2,8 @@ use Rattle.std.proofs.Common.{◌<◌, ◌≤◌, ◌≡◌, [], ◌∷◌, ◌+
 use Rattle.arraystring_base.specs.Text.{back}
 use Rattle.arraystring_base.proofs.TextLaws.{chars-bytes}
 use Rattle.arraystring_core.specs.Stored.{stored}
-use Rattle.arraystring_core.proofs.DrainLemmas.{given-within, none-left, pushed-length, last-held, last-given, last-rest, back-within, back-held, back-given, back-rest}
+use Rattle.arraystring_core.proofs.DrainLemmas.{given-within, none-left, last-held, last-given, last-rest, back-within, back-held, back-given, back-rest}
+use Rattle.arraystring_core.proofs.EndLemmas.{pushed-length}
 use Rattle.arraystring_core.proofs.drain.traits.DrainDoubleEndedIterator.next_back.Goals as goal
 
 pub returns-then-self-clause-steps : goal.returns-then-self-clause-steps
