@@ -17,7 +17,7 @@ use literals::{Table, tables};
 use rows::{column, rows};
 
 /// Where the tables are.
-const FOLDER: &str = "../../crates/arraystring_tests/src";
+const FOLDER: &str = "../../crates/arraystring_tests/src/tests";
 
 /// How many rows of each shape there are at least.
 const LEAST: &[(&str, usize)] =

@@ -1,7 +1,7 @@
 use Rattle.std.proofs.Common.{rules, refl, ◌+◌, ◌≤◌, arith, chars}
 use Rattle.arraystring.specs.Text.{cap, size}
 use Rattle.arraystring.proofs.TextLaws.{size-borrowed}
-use Rattle.arraystring_tests.proofs.calls.put_str.Goals as goal
+use Rattle.arraystring_tests.proofs.tests.calls.put_str.Goals as goal
 
 pub push_str_unchecked-requires : goal.push_str_unchecked-requires
 push_str_unchecked-requires g c =

@@ -3,7 +3,7 @@ use Rattle.std.proofs.iter.TextItems.{spells}
 use Rattle.arraystring.specs.Text.{cap, IsWellFormed}
 use Rattle.arraystring.proofs.TextLaws.{size-borrowed, utf8-well_formed}
 use Rattle.arraystring.proofs.TakenLaws.{text-gives, chars-fit}
-use Rattle.arraystring_tests.proofs.construct.of_text.Goals as goal
+use Rattle.arraystring_tests.proofs.tests.construct.of_text.Goals as goal
 
 pub from_chars_unchecked-requires : goal.from_chars_unchecked-requires
 from_chars_unchecked-requires g c =

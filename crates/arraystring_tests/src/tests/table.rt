@@ -23,18 +23,6 @@ pub(crate) fn string<const N: usize>(text: &str) -> ArrayString<N>
     string
 }
 
-/// Which of some names a call has, from 0; past them all if it is none of them.
-pub(crate) fn order_of(call: &str, names: &str) -> usize {
-    let mut order: usize = 0;
-    for name in names.split(' ') {
-        if name == call {
-            return order;
-        }
-        order = order.saturating_add(1);
-    }
-    order
-}
-
 /// The number in a column.
 pub(crate) fn number(rt: &impl Abort, row: &str, at: usize) -> u8 {
     column(row, at).parse().expect(rt, "a number in the column")

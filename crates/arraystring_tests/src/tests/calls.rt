@@ -17,7 +17,7 @@
 //! `walked` is an inclusive range that was iterated to its end. `slice` has no row with `..=`.
 ghost use Rattle.std.specs.Prelude.{◌≤◌};
 
-use super::table::{agree, character, hash_of, number, order_of, returned, string};
+use super::table::{agree, character, hash_of, number, returned, string};
 use arraystring::utils::{Steps, is_char_boundary};
 use arraystring::{ArrayString, MaxString};
 use std::fmt::Write;
@@ -94,8 +94,7 @@ pub(crate) fn check_row<R: Abort + AllocGlobal, const N: usize>(
 }
 
 /// The calls that return nothing, and the numbers of a string. Like each function below, it makes
-/// the call of a row, asserts what it returns, and returns whether it has such a call. The arms are in
-/// the order of the names: a number costs a proof less than a name does.
+/// the call of a row, asserts what it returns, and returns whether it has such a call.
 fn quiet<R: Abort + AllocGlobal, const N: usize>(
     rt: &R,
     text: &mut ArrayString<N>,
@@ -103,26 +102,21 @@ fn quiet<R: Abort + AllocGlobal, const N: usize>(
     row: &str,
 ) -> bool {
     let given = column(row, 3);
-    let order = order_of(
-        call,
-        "push_str extend_chars extend_strs trim trim_spaces clear retain_without \
-        make_ascii_uppercase make_ascii_lowercase add len capacity",
-    );
-    match order {
-        0 => text.push_str(given),
-        1 => text.extend_chars(given.chars()),
-        2 => text.extend_strs(given.split(',')),
-        3 => text.trim(),
-        4 => text.trim_spaces(),
-        5 => text.clear(),
-        6 => {
+    match call {
+        "push_str" => text.push_str(given),
+        "extend_chars" => text.extend_chars(given.chars()),
+        "extend_strs" => text.extend_strs(given.split(',')),
+        "trim" => text.trim(),
+        "trim_spaces" => text.trim_spaces(),
+        "clear" => text.clear(),
+        "retain_without" => {
             let _ = retained(text, "", given);
         }
-        7 => text.make_ascii_uppercase(),
-        8 => text.make_ascii_lowercase(),
-        9 => *text = *text + given,
-        10 => agree(rt, row, text.len(), number(rt, row, 6)),
-        11 => agree(rt, row, ArrayString::<N>::capacity(), number(rt, row, 6)),
+        "make_ascii_uppercase" => text.make_ascii_uppercase(),
+        "make_ascii_lowercase" => text.make_ascii_lowercase(),
+        "add" => *text = *text + given,
+        "len" => agree(rt, row, text.len(), number(rt, row, 6)),
+        "capacity" => agree(rt, row, ArrayString::<N>::capacity(), number(rt, row, 6)),
         _ => return false,
     }
     returned(rt, row, ());
@@ -137,23 +131,19 @@ fn at_the_end<R: Abort + AllocGlobal, const N: usize>(
     row: &str,
 ) -> bool {
     let given = column(row, 3);
-    match order_of(
-        call,
-        "try_push try_push_str write_str pop push_unchecked push_str_unchecked clone as_bytes \
-        retain_in_turn",
-    ) {
-        0 => returned(rt, row, text.try_push(character(rt, row, 3))),
-        1 => returned(rt, row, text.try_push_str(given)),
-        2 => returned(rt, row, text.write_str(given)),
-        3 => returned(rt, row, text.pop()),
-        4 => returned(rt, row, put(text, None, character(rt, row, 3))),
-        5 => returned(rt, row, put_str(text, None, given)),
-        6 => {
+    match call {
+        "try_push" => returned(rt, row, text.try_push(character(rt, row, 3))),
+        "try_push_str" => returned(rt, row, text.try_push_str(given)),
+        "write_str" => returned(rt, row, text.write_str(given)),
+        "pop" => returned(rt, row, text.pop()),
+        "push_unchecked" => returned(rt, row, put(text, None, character(rt, row, 3))),
+        "push_str_unchecked" => returned(rt, row, put_str(text, None, given)),
+        "clone" => {
             let copy: Result<_, _> = text.clone();
             returned(rt, row, copy);
         }
-        7 => returned(rt, row, text.as_bytes()),
-        8 => returned(rt, row, retained(text, given, "")),
+        "as_bytes" => returned(rt, row, text.as_bytes()),
+        "retain_in_turn" => returned(rt, row, retained(text, given, "")),
         _ => return false,
     }
     true
@@ -182,15 +172,15 @@ fn compared<R: Abort + AllocGlobal, const N: usize>(
     requires { N ≤ 300 }
 {
     let other = &ArrayString::<N>::from(column(row, 3));
-    match order_of(call, "cmp hash") {
-        0 => {
+    match call {
+        "cmp" => {
             let order = text.cmp(other);
             agree(rt, row, text.partial_cmp(other), Some(order));
             agree(rt, row, *text == *other, order.is_eq());
             agree(rt, row, *text != *other, order.is_ne());
             returned(rt, row, order);
         }
-        1 => {
+        "hash" => {
             let hash = hash_of(text);
             agree(rt, row, hash, hash_of(other));
             agree(rt, row, hash, hash_of(&other.as_str()));
@@ -249,30 +239,27 @@ fn counted<R: Abort + AllocGlobal, const N: usize>(
     row: &str,
 ) -> bool {
     let given = column(row, 3);
-    let order = order_of(
-        call,
-        "pop_counted trim_counted remove_counted try_insert_str_counted",
-    );
-    if order > 3 {
+    if !call.ends_with("_counted") {
         return false;
     }
     let mut steps = Steps::new();
     let mut moved = number(rt, row, 6) as u64;
-    match order {
-        0 => {
+    match call {
+        "pop_counted" => {
             returned(rt, row, text.pop_counted(&mut steps));
             agree(rt, row, steps.looked(), moved);
             moved = 0;
         }
-        1 => returned(rt, row, text.trim_counted(&mut steps)),
-        2 => {
+        "trim_counted" => returned(rt, row, text.trim_counted(&mut steps)),
+        "remove_counted" => {
             let result = text.remove_counted(number(rt, row, 2), &mut steps);
             returned(rt, row, result);
         }
-        _ => {
+        "try_insert_str_counted" => {
             let result = text.try_insert_str_counted(number(rt, row, 2), given, &mut steps);
             returned(rt, row, result);
         }
+        _ => return false,
     }
     agree(rt, row, steps.moved(), moved);
     true
@@ -291,20 +278,16 @@ fn at_index<R: Abort + AllocGlobal, const N: usize>(
         return false;
     };
     let given = column(row, 3);
-    match order_of(
-        call,
-        "try_insert insert_str try_insert_str remove truncate split_off is_char_boundary \
-        insert_unchecked insert_str_unchecked",
-    ) {
-        0 => returned(rt, row, text.try_insert(index, character(rt, row, 3))),
-        1 => returned(rt, row, text.insert_str(index, given)),
-        2 => returned(rt, row, text.try_insert_str(index, given)),
-        3 => returned(rt, row, text.remove(index)),
-        4 => returned(rt, row, text.truncate(index)),
-        5 => returned(rt, row, text.split_off(index)),
-        6 => returned(rt, row, is_char_boundary(text, index)),
-        7 => returned(rt, row, put(text, Some(index), character(rt, row, 3))),
-        8 => returned(rt, row, put_str(text, Some(index), given)),
+    match call {
+        "try_insert" => returned(rt, row, text.try_insert(index, character(rt, row, 3))),
+        "insert_str" => returned(rt, row, text.insert_str(index, given)),
+        "try_insert_str" => returned(rt, row, text.try_insert_str(index, given)),
+        "remove" => returned(rt, row, text.remove(index)),
+        "truncate" => returned(rt, row, text.truncate(index)),
+        "split_off" => returned(rt, row, text.split_off(index)),
+        "is_char_boundary" => returned(rt, row, is_char_boundary(text, index)),
+        "insert_unchecked" => returned(rt, row, put(text, Some(index), character(rt, row, 3))),
+        "insert_str_unchecked" => returned(rt, row, put_str(text, Some(index), given)),
         _ => return false,
     }
     true
@@ -325,16 +308,12 @@ fn in_range<R: Abort + AllocGlobal, const N: usize>(
         return of_range(rt, text, call, row, walked());
     }
     let (start, end) = given.split_once("..").expect(rt, "a range in the column");
-    let order = order_of(
-        call,
-        "slice make_ascii_uppercase_in make_ascii_lowercase_in",
-    );
     if sign == '~' || sign == '(' || sign == '[' {
         let (first, last) = (bound(rt, start), bound(rt, end));
         if sign == '~' {
             return of_range(rt, text, call, row, Opaque { first, last });
         }
-        if order != 0 {
+        if call != "slice" {
             return of_range(rt, text, call, row, (first, last));
         }
         match text.get((first, last)) {
@@ -343,19 +322,21 @@ fn in_range<R: Abort + AllocGlobal, const N: usize>(
         }
         return true;
     }
-    if order > 2 {
-        return in_rust_range(rt, text, call, row, start, end);
+    match call {
+        "slice" | "make_ascii_uppercase_in" | "make_ascii_lowercase_in" => {
+            part(rt, text, call, row, start, end);
+            true
+        }
+        _ => in_rust_range(rt, text, call, row, start, end),
     }
-    part(rt, text, order, row, start, end);
-    true
 }
 
-/// The calls that want a part of the text, on a range of Rust: for 0 `slice`, and for 1 and 2 those
-/// that turn letters to upper case and to lower case. They are made if `get` finds a part.
+/// The calls that want a part of the text, on a range of Rust: `slice`, and those that turn letters
+/// to upper case and to lower case. They are made if `get` finds a part.
 fn part<R: Abort + AllocGlobal, const N: usize>(
     rt: &R,
     text: &mut ArrayString<N>,
-    order: usize,
+    call: &str,
     row: &str,
     start: &str,
     end: &str,
@@ -367,16 +348,16 @@ fn part<R: Abort + AllocGlobal, const N: usize>(
         }
     } else if end.starts_with('=') {
         if text.get(first..=last).is_some() {
-            match order {
-                1 => text.make_ascii_uppercase_in(first..=last),
+            match call {
+                "make_ascii_uppercase_in" => text.make_ascii_uppercase_in(first..=last),
                 _ => text.make_ascii_lowercase_in(first..=last),
             }
             return returned(rt, row, ());
         }
     } else if text.get(first..last).is_some() {
-        match order {
-            0 => return returned(rt, row, Some(text.slice(first..last))),
-            1 => text.make_ascii_uppercase_in(first..last),
+        match call {
+            "slice" => return returned(rt, row, Some(text.slice(first..last))),
+            "make_ascii_uppercase_in" => text.make_ascii_uppercase_in(first..last),
             _ => text.make_ascii_lowercase_in(first..last),
         }
         return returned(rt, row, ());
@@ -418,22 +399,18 @@ fn of_range<R: Abort + AllocGlobal, B: RangeBounds<u8> + Drop, const N: usize>(
 {
     let mut steps = Steps::new();
     let given = column(row, 3);
-    let order = order_of(
-        call,
-        "get drain replace_range drain_counted replace_range_counted",
-    );
-    match order {
-        0 => returned(rt, row, text.get(range)),
-        1 => returned(rt, row, text.drain(range)),
-        2 => returned(rt, row, text.replace_range(range, given)),
-        3 => returned(rt, row, text.drain_counted(range, &mut steps)),
-        4 => {
+    match call {
+        "get" => returned(rt, row, text.get(range)),
+        "drain" => returned(rt, row, text.drain(range)),
+        "replace_range" => returned(rt, row, text.replace_range(range, given)),
+        "drain_counted" => returned(rt, row, text.drain_counted(range, &mut steps)),
+        "replace_range_counted" => {
             let result = text.replace_range_counted(range, given, &mut steps);
             returned(rt, row, result);
         }
         _ => return false,
     }
-    if order > 2 {
+    if call.ends_with("_counted") {
         agree(rt, row, steps.moved(), number(rt, row, 6) as u64);
     }
     true

@@ -3,7 +3,7 @@ use Rattle.std.proofs.iter.Yields.{copies, fronts}
 use Rattle.arraystring.specs.Text.{cap}
 use Rattle.arraystring.specs.Taken.{piece_text}
 use Rattle.arraystring.proofs.TakenLaws.{slice-gives, pieces-fit}
-use Rattle.arraystring_tests.proofs.construct.of_pieces.Goals as goal
+use Rattle.arraystring_tests.proofs.tests.construct.of_pieces.Goals as goal
 
 pub from_iterator_unchecked-made-requires : goal.from_iterator_unchecked-made-requires
 from_iterator_unchecked-made-requires g c κs =

@@ -1,7 +1,7 @@
 use Rattle.std.proofs.Common.{rules, refl, ◌≡◌, ◌+◌, ◌≤◌, sym, ◌∙◌, arith}
 use Rattle.arraystring.specs.Text.{cap, size, width}
 use Rattle.arraystring.proofs.TextLaws.{width-is}
-use Rattle.arraystring_tests.proofs.calls.put.Goals as goal
+use Rattle.arraystring_tests.proofs.tests.calls.put.Goals as goal
 
 pub push_unchecked-requires : goal.push_unchecked-requires
 push_unchecked-requires g c =
