@@ -1,4 +1,4 @@
-use Rattle.std.proofs.Common.{◌≤◌, List, length, take, drop, subst, sym}
+use Rattle.std.proofs.Common.{ℕ, ◌≤◌, List, length, take, subst, sym}
 use Rattle.std.specs.Io.KnownBytes.{Keeps, Appends, append_known}
 use Rattle.arraystring_run.proofs.BufferLemmas.{keeps-on, keeps-sent, keeps-waiting, none-waits}
 use Rattle.arraystring_run.proofs.buffered.Buffered.send.Goals as goal
