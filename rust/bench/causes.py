@@ -3,18 +3,15 @@ crate, whose calls it counts then. A change says where the instructions are. It 
 """
 from collections import namedtuple
 
-# `rows` are titles of the bench's table, `says` is what is blamed, and `changed` is the change in words. An edit is a file of
-# the crate's sources, the text that is there, and what takes its place. Vectors need what stable Rust does not have. A setting is
+# `rows` are titles of the bench's table, `says` is what is blamed, and `changed` is the change in words. An edit is a text that
+# stands in one file of the crate's sources, and what takes its place. Vectors need what stable Rust does not have. A setting is
 # one of drive.rs.
 Cause = namedtuple("Cause", "rows says changed edits with_vectors settings", defaults=[[], False, []])
 
-CORE = "arraystring_core"
-STRING, EDIT, INSERT = f"{CORE}/array_string.rs", f"{CORE}/array_string/edit.rs", f"{CORE}/array_string/insert.rs"
-CONSTRUCT = f"{CORE}/array_string/construct.rs"
 NO_BYTES = "unsafe { core::mem::MaybeUninit::<[u8; N]>::uninit().assume_init() }"
 WITH_VECTORS = [
-    ("lib.rs", "#![no_std]", "#![no_std]\n#![feature(portable_simd)]"),
-    ("arraystring_base/moves.rs", "use crate::by_hand::simd::Simd;", "use core::simd::Simd;"),
+    ("#![no_std]", "#![no_std]\n#![feature(portable_simd)]"),
+    ("use crate::by_hand::simd::Simd;", "use core::simd::Simd;"),
 ]
 REMOVALS = ["`remove` in the middle"]
 QUEUE = ["`remove(0)`, `try_push`, full"]
@@ -43,7 +40,7 @@ CAUSES = [
         NEW,
         "`new` clears the array, as the proof has it.",
         "it leaves the array as it is",
-        [(STRING, "array: [0; N], start: 0", f"array: {NO_BYTES}, start: 0")],
+        [("array: [0; N], start: 0", f"array: {NO_BYTES}, start: 0")],
     ),
     Cause(
         ["`try_from_str`"],
@@ -51,7 +48,6 @@ CAUSES = [
         "a refusal returns at once",
         [
             (
-                CONSTRUCT,
                 "        let mut array = [0; N];\n        let (refused",
                 "        if string.len() > Self::capacity() as usize {\n            return Err(OutOfBounds);\n        }\n"
                 "        let mut array = [0; N];\n        let (refused",
@@ -64,51 +60,51 @@ CAUSES = [
         "the clearing the compiler copies otherwise, which costs more.",
         "it leaves the array as it is",
         [
-            (CONSTRUCT, "let mut array = [0; N];\n        let (refused", "let mut array = core::mem::MaybeUninit::<[u8; N]>::uninit();\n        let (refused"),
-            (CONSTRUCT, "try_fill(&mut array,", "try_fill(unsafe { &mut *array.as_mut_ptr() },"),
-            (CONSTRUCT, "Ok(ArrayString { array, start: 0, size })", "Ok(ArrayString { array: unsafe { array.assume_init() }, start: 0, size })"),
+            ("let mut array = [0; N];\n        let (refused", "let mut array = core::mem::MaybeUninit::<[u8; N]>::uninit();\n        let (refused"),
+            ("try_fill(&mut array,", "try_fill(unsafe { &mut *array.as_mut_ptr() },"),
+            ("Ok(ArrayString { array, start: 0, size })", "Ok(ArrayString { array: unsafe { array.assume_init() }, start: 0, size })"),
         ],
     ),
     Cause(
         UTF8,
         "std tests UTF-8. Its test of what is not ASCII takes nearly all, and of ASCII it takes bytes one by one behind the words.",
         "the bytes are taken as UTF-8",
-        [(f"{CORE}/well_formed.rs", "    let (blocks,", "    return Ok(unsafe { str::from_utf8_unchecked(given) });\n    let (blocks,")],
+        [("    let (blocks,", "    return Ok(unsafe { str::from_utf8_unchecked(given) });\n    let (blocks,")],
     ),
     Cause(
         CHARACTERS,
         "The width of a character is told twice, each time by branches.",
         "it is told once",
         [
-            (INSERT, "        if self.len() as usize + ch.len_utf8() > Self::", "        let len = ch.len_utf8();\n        if self.len() as usize + len > Self::"),
-            (INSERT, "unsafe { self.insert_unchecked(index, ch) };\n        Ok(())", "unsafe { self.put_wide(index as usize, ch, len) };\n        Ok(())"),
-            (EDIT, "fn put_char(&mut self, at: usize, ch: char) {", "fn put_char(&mut self, at: usize, ch: char) {\n        unsafe { self.put_wide(at, ch, ch.len_utf8()) }\n    }\n\n    #[inline(always)]\n    pub(super) unsafe fn put_wide(&mut self, at: usize, ch: char, len: usize) {"),
-            (EDIT, "        let len = ch.len_utf8();\n        if text.offset + text.size + len", "        if text.offset + text.size + len"),
+            ("        if self.len() as usize + ch.len_utf8() > Self::", "        let len = ch.len_utf8();\n        if self.len() as usize + len > Self::"),
+            ("unsafe { self.insert_unchecked(index, ch) };\n        Ok(())", "unsafe { self.put_wide(index as usize, ch, len) };\n        Ok(())"),
+            ("fn put_char(&mut self, at: usize, ch: char) {", "fn put_char(&mut self, at: usize, ch: char) {\n        unsafe { self.put_wide(at, ch, ch.len_utf8()) }\n    }\n\n    #[inline(always)]\n    pub(super) unsafe fn put_wide(&mut self, at: usize, ch: char, len: usize) {"),
+            ("        let len = ch.len_utf8();\n        if text.offset + text.size + len", "        if text.offset + text.size + len"),
         ],
     ),
     Cause(
         [*REMOVALS, *DRAINS],
         "A removal at the front has a path of its own, on which nothing moves.",
         "it has none",
-        [(EDIT, "        if start == 0 {\n            // SAFETY: the proof of `take_out`", "        if start == usize::MAX {\n            // SAFETY: the proof of `take_out`")],
+        [("        if start == 0 {\n            // SAFETY: the proof of `take_out`", "        if start == usize::MAX {\n            // SAFETY: the proof of `take_out`")],
     ),
     Cause(
         [*REMOVALS, *TEXTS],
         "What stays in its place is not moved, and no move is counted.",
         "a run is moved without that test",
-        [("arraystring_base/utils.rs", "    if from != to {\n", "    if from <= usize::MAX {\n")],
+        [("    if from != to {\n", "    if from <= usize::MAX {\n")],
     ),
     Cause(
         QUEUE,
         "Without room behind the text a push is a call, which moves the text to the start of the array.",
         "it is inlined",
-        [(EDIT, "    #[cold]\n    #[inline(never)]\n    pub(super) unsafe fn compact_and_push(", "    #[inline(always)]\n    pub(super) unsafe fn compact_and_push(")],
+        [("    #[cold]\n    #[inline(never)]\n    unsafe fn compact_and_push(", "    #[inline(always)]\n    unsafe fn compact_and_push(")],
     ),
     Cause(
         ["`trim`"],
         "std finds in tables whether what is not ASCII is white space.",
         "only ASCII is white space",
-        [(f"{CORE}/array_string/trim.rs", "    ch.is_whitespace()\n", "    matches!(ch, '\\t'..='\\r' | ' ')\n")],
+        [("    ch.is_whitespace()\n", "    matches!(ch, '\\t'..='\\r' | ' ')\n")],
     ),
     Cause(
         RETAIN,
@@ -116,7 +112,6 @@ CAUSES = [
         "its width is told by its first byte, and its bytes are joined",
         [
             (
-                f"{CORE}/decode.rs",
                 "    let mut rest = text.chars();\n    let Some(ch) = rest.next() else {\n        unreachable!();\n    };\n    (ch, text.len() - rest.as_str().len())\n",
                 """    let at = |index: usize| unsafe { *text.as_bytes().get_unchecked(index) as u32 };
     let first = at(0);
@@ -136,8 +131,8 @@ CAUSES = [
         "The size of what is kept is in its place whenever the closure is called, which may panic.",
         "it is written at the end",
         [
-            (f"{CORE}/retain.rs", "    *kept = 0;\n", "    let out = kept;\n    let kept = &mut 0;\n"),
-            (f"{CORE}/retain.rs", "            read += width;\n        }\n    }\n", "            read += width;\n        }\n    }\n    *out = *kept;\n"),
+            ("    *kept = 0;\n", "    let out = kept;\n    let kept = &mut 0;\n"),
+            ("            read += width;\n        }\n    }\n", "            read += width;\n        }\n    }\n    *out = *kept;\n"),
         ],
     ),
     Cause(
@@ -146,7 +141,6 @@ CAUSES = [
         "it is tested once",
         [
             (
-                STRING,
                 "            unsafe { self.push_unchecked(ch) };\n            return Ok(());",
                 "            let len = unsafe { encode(ch, &mut self.array, end) };\n            self.size = (self.size as usize + len) as u8;\n            return Ok(());",
             )
@@ -162,12 +156,12 @@ CAUSES = [
         ["`cmp` of equal texts", "`<`, the last character differs"],
         "std orders by a call of `memcmp`, also a short text.",
         "two texts of 16 bytes are ordered as two numbers",
-        [(f"{CORE}/order.rs", "text.cmp(other)", by_word("u128::from_be_bytes(one).cmp(&u128::from_be_bytes(two))", "text.cmp(other)"))],
+        [("text.cmp(other)", by_word("u128::from_be_bytes(one).cmp(&u128::from_be_bytes(two))", "text.cmp(other)"))],
     ),
     Cause(
         ["`==` of equal texts"],
         "std compares by a call of `memcmp`, also a short text.",
         "two texts of 16 bytes are compared as two numbers",
-        [(f"{CORE}/equal.rs", "text == other", by_word("u128::from_le_bytes(one) == u128::from_le_bytes(two)", "text == other"))],
+        [("text == other", by_word("u128::from_le_bytes(one) == u128::from_le_bytes(two)", "text == other"))],
     ),
 ]

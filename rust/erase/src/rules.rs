@@ -768,12 +768,6 @@ pub const REPLACED: &[Replaced] = &[
         why: "bodies look by hand",
     },
     Replaced {
-        file: "arraystring_base/src/utils.rt",
-        from: "pub use crate::moves::{move_run, shift, write_over};",
-        to: "pub use crate::moves::{shift, write_over};",
-        why: "no body outside of `moves` calls the other",
-    },
-    Replaced {
         file: "arraystring/src/lib.rt",
         from: "//! Its tests are in `crates/arraystring_tests`.",
         to: "//! Its tests are in `tests`, beside `src`.",
