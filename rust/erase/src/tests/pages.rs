@@ -105,13 +105,15 @@ const FILE: &str = "\
 pub struct ArrayString<const N: usize>;
 
 mod ascii;
-mod compare;
 mod construct;
-mod edit;
-mod extend;
+mod fill;
+mod gap;
+mod in_place;
 mod insert;
+mod push;
 mod range;
 mod remove;
+mod traits;
 mod trim;
 mod utf16;
 
@@ -126,10 +128,8 @@ impl<const N: usize> ArrayString<N> {
         f()
     }
 
-    /// Pops.
-    pub fn pop_counted(&mut self)
-        requires { steps.old.looked ≤ 2 ^ 63 }
-    {
+    /// Asks.
+    fn is_boundary(&self) -> bool {
         g()
     }
 }
@@ -143,14 +143,14 @@ fn the_calls_of_a_file_stand_in_modules_in_the_order_of_the_reference() {
     let path = "arraystring_core/src/array_string.rt";
     let made = made_as(path, FILE).unwrap();
     let at = |part: &str| made.find(part).unwrap_or_else(|| panic!("{part}\n--- is not in:\n{made}"));
-    let parts = ["struct ArrayString", "fn new()", "mod construct;", "mod utf16;", "fn as_bytes(", "mod room;"];
-    let parts = [&parts[..], &["fn pop_counted(", "mod extend;", "mod edit;", "impl<const N: usize> Default"]].concat();
+    let parts = ["struct ArrayString", "fn new()", "mod construct;", "mod utf16;", "fn as_bytes(", "fn is_boundary("];
+    let parts = [&parts[..], &["mod room;", "mod push;", "mod gap;", "impl<const N: usize> Default"]].concat();
     assert!(parts.is_sorted_by_key(|part| at(part)), "{made}");
-    assert_eq!(made.matches("impl<const N: usize> ArrayString<N> {\n").count(), 3);
+    assert_eq!(made.matches("impl<const N: usize> ArrayString<N> {\n").count(), 2);
     for (from, to, why) in [
         ("mod utf16;\n", "", "`mod utf16;` is not there"),
         ("mod utf16;\n", "mod utf16;\nmod other;\n", "`mod other;` has no place in it"),
-        ("fn as_bytes(", "fn as_str(", "`as_bytes` is not there"),
+        ("fn is_boundary(", "fn is_end(", "`is_boundary` is not there"),
     ] {
         let fault = made_as(path, &FILE.replace(from, to)).unwrap_err();
         assert_eq!(fault, format!("the order of `{path}`: {why}"));
