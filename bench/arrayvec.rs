@@ -5,7 +5,7 @@ use arrayvec::ArrayString;
 use crate::peers::Peer;
 
 impl<const N: usize> Peer for ArrayString<N> {
-    const HAS: &'static [u8] = crate::CALLS_OF_ARRAYVEC;
+    const HAS: &'static [u8] = crate::cases::CALLS_OF_ARRAYVEC;
 
     fn new() -> Self {
         Self::new()

@@ -12,7 +12,7 @@ use crate::edges::EDGES;
 use crate::peers::{self, Peer};
 use crate::short;
 use crate::string::Limited;
-use crate::{Linked, linked};
+use crate::port::{Linked, linked};
 
 const STRINGS: usize = 64;
 const NO_CALL: u8 = 255;

@@ -1,0 +1,170 @@
+"""Counts the instructions of calls by callgrind, for both benches: that of the proved build, and that of the Rust crate."""
+import os
+import re
+import subprocess
+from pathlib import Path
+
+BENCH = Path(__file__).resolve().parent
+ROOT = BENCH.parent
+CAPACITIES = [23, 63, 255]
+TEXTS = ["ascii", "mixed"]
+TIMES = 50
+CPU = "x86-64-v2"
+RUSTC = ["rustc", "-O", "-C", "codegen-units=1", "-C", f"target-cpu={CPU}"]
+# (what callgrind prints names the sides)
+NAMED = ["-C", "symbol-mangling-version=v0"]
+ARRAYVEC = sorted(Path("/usr/share/cargo/registry").glob("arrayvec-*/src/lib.rs"))[-1:]
+# The rows of the first table: a title, a call, and where it is made.
+ROWS = [
+    ("`new` and `try_push_str`", "new_try_push_str", "middle"),
+    ("`try_from_str`", "try_from_str", "middle"),
+    ("`from_str_truncate`", "from_str_truncate", "middle"),
+    ("`new` and ten `try_push_str`", "ten_pushes", "middle"),
+    ("`from_chars`", "from_chars", "middle"),
+    ("`try_from_utf8`", "try_from_utf8", "middle"),
+    ("`from_utf8` of too much", "from_utf8", "middle"),
+    ("`from_utf16`", "from_utf16", "middle"),
+    ("`from_utf16_lossy`", "from_utf16_lossy", "middle"),
+    ("`clone`", "clone", "middle"),
+    ("`as_str`", "as_str", "middle"),
+    ("`len`", "len", "middle"),
+    ("`try_push_str`", "try_push_str", "middle"),
+    ("`try_push`", "try_push", "middle"),
+    ("`push_str` of too much", "push_str_cut", "middle"),
+    ("`try_insert` at the front", "try_insert", "front"),
+    ("`try_insert` in the middle", "try_insert", "middle"),
+    ("`try_insert_str` at the front", "try_insert_str", "front"),
+    ("`try_insert_str` in the middle", "try_insert_str", "middle"),
+    ("`replace_range` in the middle", "replace_range", "middle"),
+    ("`pop`", "pop", "middle"),
+    ("`remove` at the front", "remove", "front"),
+    ("`remove` in the middle", "remove", "middle"),
+    ("`remove(0)`, `try_push`, full", "queue", "middle"),
+    ("`truncate`", "truncate", "middle"),
+    ("`trim`", "trim", "middle"),
+    ("`retain`, one in ten dropped", "retain", "middle"),
+    ("`retain`, one in four dropped", "retain_fourth", "middle"),
+    ("`split_off`", "split_off", "middle"),
+    ("`drain` at the front, walked", "drain", "front"),
+    ("`drain` in the middle, walked", "drain", "middle"),
+    ("`drain`, walked from the back", "drain_back", "middle"),
+    ("`cmp` of equal texts", "cmp", "middle"),
+    ("`<`, the last character differs", "less", "middle"),
+    ("`==` of equal texts", "eq", "middle"),
+    ("`Hash`", "hash", "middle"),
+]
+LOOKUPS = ["found", "missed"]
+
+
+def written(*command):
+    return subprocess.run(list(map(str, command)), stdout=subprocess.PIPE, text=True, check=True).stdout
+
+
+def version(words):
+    return written(*words).splitlines()[0]
+
+
+def under(tool, out, log, command, given=subprocess.DEVNULL):
+    """What a tool of valgrind writes of a run."""
+    subprocess.run(
+        ["valgrind", f"--tool={tool}", f"--{tool}-out-file={out}", *command], check=True, stdin=given,
+        stdout=subprocess.DEVNULL, stderr=log.open("w"), env=dict(os.environ, LD_BIND_NOW="1"),
+    )
+    return out.read_text()
+
+
+def rust_library(source, name, edition, folder):
+    """Builds a library of Rust, and returns the words by which a program is built with it."""
+    out = folder / f"lib{name}.rlib"
+    words = [f"--edition={edition}", "--crate-type=rlib", f"--crate-name={name}", "--cap-lints=allow", source, "-o", out]
+    subprocess.run([*RUSTC, *words], check=True)
+    return ["--extern", f"{name}={out}"]
+
+
+def arrayvec(folder):
+    """The same of the Rust crate arrayvec, if it is installed."""
+    return [word for source in ARRAYVEC for word in ["--cfg", "has_arrayvec", *rust_library(source, "arrayvec", 2018, folder)]]
+
+
+def build_drive(out, words, place=0):
+    """The program that makes the calls, with its code behind so many bytes."""
+    command = [*RUSTC, "--edition=2024", *NAMED, *words, BENCH / "drive.rs", "-o", out]
+    subprocess.run(command, check=True, env=dict(os.environ, PLACE=str(place)))
+    return out
+
+
+def is_more(counted, best):
+    return counted > best * 1.1 + 3
+
+
+def table(title, columns, rows):
+    print(f"\n|{title}|" + "|".join(columns) + "|")
+    print("|---|" + "---|" * len(columns))
+    for name, cells in rows:
+        print(f"|{name}|" + "|".join(cells) + "|")
+
+
+class Sides:
+    """The sides of a bench, of which the first is compared with the others. `marks` has for each what a line of callgrind has
+    that names one of its functions. Others may have a mark too, and none in the tables."""
+
+    def __init__(self, names, marks):
+        self.names, self.marks = names, marks
+
+    def of(self, line):
+        """Whose function a line of callgrind names."""
+        return next(side for side, mark in self.marks.items() if mark in line)
+
+    def count(self, drive, folder, capacity, text, place):
+        """The instructions of one call, all that it calls included, by side and name."""
+        command = ["--compress-strings=no", "--compress-pos=no", drive, str(capacity), text, place, str(TIMES)]
+        return self.counted(under("callgrind", folder / "callgrind.out", folder / "valgrind.log", command))
+
+    def counted(self, told):
+        """The same, of what callgrind wrote."""
+        counts = {}
+        callee, calls = None, 0
+        for line in told.splitlines():
+            if line.startswith("cfn="):
+                callee = re.match(r"cfn=(?:\w+::)+counted_(\w+)", line)
+            elif line.startswith("calls="):
+                calls = int(line[6:].split()[0])
+            elif calls:
+                if callee:
+                    side, name = self.of(callee.string), callee[1]
+                    before = counts.get((side, name), (0, 0))
+                    counts[side, name] = before[0] + calls, before[1] + int(line.split()[-1])
+                callee, calls = None, 0
+        return {key: round(total / calls) for key, (calls, total) in counts.items()}
+
+    def count_titled(self, drive, folder, capacity, mode):
+        """The instructions of each edge, of each short text or of a lookup, by side and title."""
+        out = folder / f"{mode}.out"
+        for part in folder.glob(f"{out.name}*"):
+            part.unlink()
+        words = [drive, str(capacity), "ascii", mode]
+        titles = written(*words, "1").splitlines()
+        command = ["--compress-strings=no", "--compress-pos=no", "--dump-before=*::next_edge*", *words, str(TIMES)]
+        under("callgrind", out, folder / "valgrind.log", command)
+        # (the first part is what comes before the first edge, and the last one has no number)
+        parts = [*(folder / f"{out.name}.{number}" for number in range(2, len(titles) + 1)), out]
+        return {
+            (side, title): count
+            for title, part in zip(titles, parts)
+            for (side, name), count in self.counted(part.read_text()).items()
+            # (the port's texts get behind an offset by it)
+            if name != "remove"
+        }
+
+    def is_behind(self, counted, name):
+        """Whether the first side takes more than the best of the others, a tenth and three instructions."""
+        first, *others = self.names
+        peers = [counted[side, name] for side in others if (side, name) in counted]
+        return (first, name) in counted and is_more(counted[first, name], min(peers))
+
+    def cell(self, counted, name):
+        """The counts of all sides, that of the first marked where it is behind."""
+        if (self.names[0], name) not in counted:
+            return "–"
+        first, *others = [str(counted.get((side, name), "–")) for side in self.names]
+        return "/".join([f"**{first}**" if self.is_behind(counted, name) else first, *others])
