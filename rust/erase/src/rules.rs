@@ -225,7 +225,7 @@ pub const FATES: &[(&str, Fate)] = &[
             &[
                 "let mut array = *b\"a__d\";",
                 "// SAFETY: `é` takes two bytes, and there are three from offset 1 on.",
-                "let len = unsafe { utf8::encode('é', &mut array, 1) };",
+                "let len = unsafe { utils::encode('é', &mut array, 1) };",
                 "assert_eq!((len, &array), (2, b\"a\\xC3\\xA9d\"));",
             ],
         ),
@@ -239,7 +239,7 @@ pub const FATES: &[(&str, Fate)] = &[
             &[
                 "let (mut array, mut steps) = (*b\"abcd\", Steps::new());",
                 "// SAFETY: the bytes 0..3 and 1..4 lie in the array.",
-                "unsafe { moves::shift(&mut array, 0, 1, 3, &mut steps) };",
+                "unsafe { utils::shift(&mut array, 0, 1, 3, &mut steps) };",
                 "assert_eq!((&array, steps.moved()), (b\"aabc\", 3));",
             ],
         ),
@@ -304,7 +304,7 @@ pub const LINKS: &[(&str, &str)] = &[
     ("Steps", "crate::utils::Steps"),
     ("is_char_boundary", "crate::utils::is_char_boundary"),
     ("look", "crate::utils::look"),
-    ("shift", "crate::moves::shift"),
+    ("shift", "crate::utils::shift"),
     ("truncate_str", "crate::utils::truncate_str"),
 ];
 

@@ -18,11 +18,12 @@ use crate::by_hand::simd::Simd;
 /// # Examples
 ///
 /// ```
+/// use arraystring::utils;
 /// use arraystring::utils::Steps;
 ///
 /// let (mut array, mut steps) = (*b"abcd", Steps::new());
 /// // SAFETY: the bytes 0..3 and 1..4 lie in the array.
-/// unsafe { moves::shift(&mut array, 0, 1, 3, &mut steps) };
+/// unsafe { utils::shift(&mut array, 0, 1, 3, &mut steps) };
 /// assert_eq!((&array, steps.moved()), (b"aabc", 3));
 /// ```
 ///

@@ -1,7 +1,7 @@
 // Made from crates/arraystring_base/src/steps.rt by rust/erase. A change goes there.
 //! Counting what a call does to bytes.
 
-/// Counts of looks and of moves. A look is one call of [`look`](crate::utils::look), and a move is one byte that [`shift`](crate::moves::shift)
+/// Counts of looks and of moves. A look is one call of [`look`](crate::utils::look), and a move is one byte that [`shift`](crate::utils::shift)
 /// takes to another offset. What calls read otherwise is not counted.
 ///
 /// # Examples

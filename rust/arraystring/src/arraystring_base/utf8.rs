@@ -254,10 +254,11 @@ unsafe fn char_before_end(text: &str, steps: &mut Steps) -> (usize, char) {
 /// # Examples
 ///
 /// ```
+/// use arraystring::utils;
 ///
 /// let mut array = *b"a__d";
 /// // SAFETY: `é` takes two bytes, and there are three from offset 1 on.
-/// let len = unsafe { utf8::encode('é', &mut array, 1) };
+/// let len = unsafe { utils::encode('é', &mut array, 1) };
 /// assert_eq!((len, &array), (2, b"a\xC3\xA9d"));
 /// ```
 ///
