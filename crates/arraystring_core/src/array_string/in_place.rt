@@ -23,10 +23,7 @@ impl<const N: usize> ArrayString<N> {
         ensures counted { steps.old.moved ≤ steps.new.moved }
         ensures looked { steps.new.looked ≡ steps.old.looked }
     {
-        let text = Span {
-            offset: self.start as usize,
-            size: self.size as usize,
-        };
+        let text = Span::new(self.start, self.size);
         let len = given.len();
         let tail = text.size - end;
         if text.offset + (start + (len + tail)) > Self::capacity() as usize {
@@ -58,10 +55,7 @@ impl<const N: usize> ArrayString<N> {
         ensures counted { steps.old.moved ≤ steps.new.moved }
         ensures looked { steps.new.looked ≡ steps.old.looked }
     {
-        let text = Span {
-            offset: self.start as usize,
-            size: self.size as usize,
-        };
+        let text = Span::new(self.start, self.size);
         let len = given.len();
         self.start = 0;
         self.size = (start + (len + (text.size - end))) as u8;
@@ -76,10 +70,7 @@ impl<const N: usize> ArrayString<N> {
         requires room { size self.old.text + width ch ≤ cap N }
         ensures { self.new.text ≡ front self.old.text at ++ (ch ∷ back self.old.text at) }
     {
-        let text = Span {
-            offset: self.start as usize,
-            size: self.size as usize,
-        };
+        let text = Span::new(self.start, self.size);
         let len = ch.len_utf8();
         if text.offset + text.size + len > Self::capacity() as usize {
             return self.compact_and_insert(at, ch);
@@ -98,10 +89,7 @@ impl<const N: usize> ArrayString<N> {
         requires room { size self.old.text + width ch ≤ cap N }
         ensures { self.new.text ≡ front self.old.text at ++ (ch ∷ back self.old.text at) }
     {
-        let text = Span {
-            offset: self.start as usize,
-            size: self.size as usize,
-        };
+        let text = Span::new(self.start, self.size);
         let len = ch.len_utf8();
         self.start = 0;
         self.size = (at + (len + (text.size - at))) as u8;

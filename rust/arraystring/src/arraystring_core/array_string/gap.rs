@@ -10,6 +10,25 @@ pub(crate) struct Span {
     pub(crate) size: usize,
 }
 
+impl Span {
+    /// The `size` bytes from `start` on, as a string has them.
+    ///
+    /// <details><summary>Contract</summary>
+    ///
+    /// ```text
+    /// ensures offset { result.offset ≡ start }
+    /// ensures size { result.size ≡ size }
+    /// ```
+    ///
+    /// [How to read a contract](crate::contracts)
+    ///
+    /// </details>
+    #[inline(always)]
+    pub(super) fn new(start: u8, size: u8) -> Span {
+        Span { offset: start as usize, size: size as usize }
+    }
+}
+
 /// Opens a gap of `len` bytes instead of the bytes from `start` to `end` of a text. There must be
 /// room after the text: it keeps its offset, and only the bytes after the gap move.
 ///

@@ -34,7 +34,7 @@ impl<const N: usize> ArrayString<N> {
     /// </details>
     #[inline(always)]
     pub(super) unsafe fn splice(&mut self, start: usize, end: usize, given: &str, steps: &mut Steps) {
-        let text = Span { offset: self.start as usize, size: self.size as usize };
+        let text = Span::new(self.start, self.size);
         let len = given.len();
         let tail = text.size - end;
         if text.offset + (start + (len + tail)) > Self::capacity() as usize {
@@ -75,7 +75,7 @@ impl<const N: usize> ArrayString<N> {
     #[cold]
     #[inline(never)]
     pub(super) unsafe fn compact_and_splice(&mut self, start: usize, end: usize, given: &str, steps: &mut Steps) {
-        let text = Span { offset: self.start as usize, size: self.size as usize };
+        let text = Span::new(self.start, self.size);
         let len = given.len();
         self.start = 0;
         self.size = (start + (len + (text.size - end))) as u8;
@@ -104,7 +104,7 @@ impl<const N: usize> ArrayString<N> {
     /// </details>
     #[inline(always)]
     pub(super) unsafe fn put_char(&mut self, at: usize, ch: char) {
-        let text = Span { offset: self.start as usize, size: self.size as usize };
+        let text = Span::new(self.start, self.size);
         let len = ch.len_utf8();
         if text.offset + text.size + len > Self::capacity() as usize {
             // SAFETY: the proof of `put_char` in crates/arraystring_core/src/array_string/in_place.rt shows `boundary` and `room` of `compact_and_insert`.
@@ -139,7 +139,7 @@ impl<const N: usize> ArrayString<N> {
     #[inline(never)]
     pub(super) unsafe fn compact_and_insert(&mut self, at: usize, ch: char) {
         known!(invariant: self.start as usize + self.size as usize <= crate::ArrayString::<N>::capacity() as usize);
-        let text = Span { offset: self.start as usize, size: self.size as usize };
+        let text = Span::new(self.start, self.size);
         let len = ch.len_utf8();
         self.start = 0;
         self.size = (at + (len + (text.size - at))) as u8;

@@ -15,23 +15,23 @@ compact_and_open_gap-requires g c =
     let long = opened-size g.row.N _ _ _ c.self.invariant _ c.self.view_is in
     let within : c.args.at ≤ c.self.inside.size = omega (arith, long, boundary-within c.args.self.now.text c.args.at c.requires.boundary) in
     let room : c.args.at + (c.len_utf8-len.result + (c.self.inside.size - c.args.at)) ≤ cap g.row.N = omega (arith, long, within, wide, c.requires.room) in
-    (search rules, (omega arith, (within, (c.self.invariant.0, (room, omega arith)))))
+    rw (c.new-text.ensures.offset, c.new-text.ensures.size) (search rules, (omega arith, (within, (c.self.invariant.0, (room, omega arith)))))
 
 pub overflow_sub-self : goal.overflow_sub-self
 overflow_sub-self g c =
-    omega (arith, opened-size g.row.N _ _ _ c.self.invariant _ c.self.view_is, boundary-within c.args.self.now.text c.args.at c.requires.boundary)
+    omega (arith, c.new-text.ensures.size, opened-size g.row.N _ _ _ c.self.invariant _ c.self.view_is, boundary-within c.args.self.now.text c.args.at c.requires.boundary)
 
 pub overflow_add-self-2 : goal.overflow_add-self-2
 overflow_add-self-2 g c =
     let wide : c.len_utf8-len.result ≡ width c.args.ch = c.len_utf8-len.ensures.value ∙ sym (width-is c.args.ch) in
     let long = opened-size g.row.N _ _ _ c.self.invariant _ c.self.view_is in
-    omega (arith, long, boundary-within c.args.self.now.text c.args.at c.requires.boundary, wide, c.requires.room)
+    omega (arith, c.new-text.ensures.size, long, boundary-within c.args.self.now.text c.args.at c.requires.boundary, wide, c.requires.room)
 
 pub overflow_cast-self : goal.overflow_cast-self
 overflow_cast-self g c =
     let wide : c.len_utf8-len.result ≡ width c.args.ch = c.len_utf8-len.ensures.value ∙ sym (width-is c.args.ch) in
     let long = opened-size g.row.N _ _ _ c.self.invariant _ c.self.view_is in
-    omega (arith, long, boundary-within c.args.self.now.text c.args.at c.requires.boundary, wide, c.requires.room)
+    omega (arith, c.new-text.ensures.size, long, boundary-within c.args.self.now.text c.args.at c.requires.boundary, wide, c.requires.room)
 
 pub encode-requires : goal.encode-requires
 encode-requires g c =
@@ -41,7 +41,7 @@ encode-requires g c =
 
 -- what is then in the array
 written : (g : given.Over) (c : goal.After-encode g)
-    → Lies g.row.N c.encode.new.array 0 (c.args.at + (c.len_utf8-len.result + (c.self.inside.size - c.args.at)))
+    → Lies g.row.N c.encode.new.array 0 (c.args.at + (c.len_utf8-len.result + (c.new-text.result.size - c.args.at)))
     (front c.args.self.now.text c.args.at ++ (chars (utf8 c.args.ch) ++ back c.args.self.now.text c.args.at))
 written g c =
     let t = c.args.self.now.text in
@@ -51,8 +51,9 @@ written g c =
     let wide : c.len_utf8-len.result ≡ length (utf8 ch) = c.len_utf8-len.ensures.value ∙ sym (width-is ch) ∙ sym (length-utf8 ch) in
     let u : IsUtf8 (utf8 ch) = rw (utf8-is ch) (IsUtf8-encode ch (search rules)) in
     let fits : size t - (at - at) + length (utf8 ch) ≤ cap g.row.N = omega (arith, c.requires.room, length-utf8 ch) in
-    rw wide (moved_to_start g.row.N _ _ _ c.self.invariant _ c.self.view_is at at (utf8 ch) (omega arith) c.requires.boundary c.requires.boundary fits u
-    gap.new.array c.encode.new.array gap.ensures.len gap.ensures.front (rw wide at gap.ensures.tail) (rw (← length-utf8 ch) at c.encode.ensures.bytes))
+    rw (wide, c.new-text.ensures.size) (moved_to_start g.row.N _ _ _ c.self.invariant _ c.self.view_is at at (utf8 ch) (omega arith) c.requires.boundary c.requires.boundary fits u
+    gap.new.array c.encode.new.array gap.ensures.len (rw c.new-text.ensures.offset at gap.ensures.front)
+    (rw (wide, c.new-text.ensures.offset, c.new-text.ensures.size) at gap.ensures.tail) (rw (← length-utf8 ch) at c.encode.ensures.bytes))
 
 pub invariant_of-self : goal.invariant_of-self
 invariant_of-self g c = (written g c).held

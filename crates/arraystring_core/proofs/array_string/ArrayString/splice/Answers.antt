@@ -11,28 +11,29 @@ open_gap-requires g c =
     let long = size-borrowed c.utf8.given in
     let fits : size c.args.self.now.text - (c.args.end - c.args.start) + length c.args.given.now ≤ cap g.row.N = omega (arith, c.requires.room, long) in
     let within = replaced-within g.row.N _ _ _ c.self.invariant _ c.self.view_is _ _ c.args.given.now c.requires.order c.requires.start c.requires.end fits in
-    let room : c.self.inside.start + (c.args.start + (length c.args.given.now + (c.self.inside.size - c.args.end))) ≤ cap g.row.N = omega arith in
-    (search rules, (c.requires.order, (within, (c.self.invariant.0, (room, c.requires.countable)))))
+    let room : c.self.inside.start + (c.args.start + (length c.args.given.now + (c.self.inside.size - c.args.end))) ≤ cap g.row.N = rw (← c.new-text.ensures.offset, ← c.new-text.ensures.size) (omega arith) in
+    rw (c.new-text.ensures.offset, c.new-text.ensures.size) (search rules, (c.requires.order, (within, (c.self.invariant.0, (room, c.requires.countable)))))
 
 pub overflow_sub-tail : goal.overflow_sub-tail
 overflow_sub-tail g c =
     let long = size-borrowed c.utf8.given in
     let fits : size c.args.self.now.text - (c.args.end - c.args.start) + length c.args.given.now ≤ cap g.row.N = omega (arith, c.requires.room, long) in
-    replaced-within g.row.N _ _ _ c.self.invariant _ c.self.view_is _ _ c.args.given.now c.requires.order c.requires.start c.requires.end fits
+    rw c.new-text.ensures.size
+    (replaced-within g.row.N _ _ _ c.self.invariant _ c.self.view_is _ _ c.args.given.now c.requires.order c.requires.start c.requires.end fits)
 
 pub overflow_add-start : goal.overflow_add-start
 overflow_add-start g c =
     let long = size-borrowed c.utf8.given in
     let fits : size c.args.self.now.text - (c.args.end - c.args.start) + length c.args.given.now ≤ cap g.row.N = omega (arith, c.requires.room, long) in
     let room = replaced-room g.row.N _ _ _ c.self.invariant _ c.self.view_is _ _ c.args.given.now c.requires.order c.requires.start c.requires.end fits in
-    omega (arith, room)
+    omega (arith, room, c.new-text.ensures.offset, c.new-text.ensures.size)
 
 pub overflow_add-text : goal.overflow_add-text
 overflow_add-text g c =
     let long = size-borrowed c.utf8.given in
     let fits : size c.args.self.now.text - (c.args.end - c.args.start) + length c.args.given.now ≤ cap g.row.N = omega (arith, c.requires.room, long) in
     let room = replaced-room g.row.N _ _ _ c.self.invariant _ c.self.view_is _ _ c.args.given.now c.requires.order c.requires.start c.requires.end fits in
-    omega (arith, room)
+    omega (arith, room, c.new-text.ensures.offset, c.new-text.ensures.size)
 
 pub returns-then-text-start-clause-tail_alone : goal.returns-then-text-start-clause-tail_alone
 returns-then-text-start-clause-tail_alone g c small =
@@ -43,16 +44,18 @@ returns-then-text-start-clause-tail_alone g c small =
 
 -- what is then in the array
 written : (g : given.Over) (c : goal.After-write_over g)
-    → Lies g.row.N c.write_over.new.array c.self.inside.start (c.args.start + (length c.args.given.now + (c.self.inside.size - c.args.end)))
+    → Lies g.row.N c.write_over.new.array c.self.inside.start (c.args.start + (length c.args.given.now + (c.new-text.result.size - c.args.end)))
     (front c.args.self.now.text c.args.start ++ (chars c.args.given.now ++ back c.args.self.now.text c.args.end))
 written g c =
     let s = c.self.inside in
     let given = c.args.given.now in
     let gap = c.open_gap in
     let fits : size c.args.self.now.text - (c.args.end - c.args.start) + length given ≤ cap g.row.N = omega (arith, c.requires.room, size-borrowed c.utf8.given) in
-    let held : s.start + (c.args.start + (length given + (s.size - c.args.end))) ≤ cap g.row.N = omega arith in
-    filled g.row.N _ _ _ c.self.invariant _ c.self.view_is _ _ given c.requires.order c.requires.start c.requires.end fits c.utf8.given
-    gap.new.array c.write_over.new.array s.start gap.ensures.len held gap.ensures.front gap.ensures.tail (rw c.as_bytes.ensures.value at c.write_over.ensures)
+    let held : s.start + (c.args.start + (length given + (s.size - c.args.end))) ≤ cap g.row.N = rw (← c.new-text.ensures.offset, ← c.new-text.ensures.size) (omega arith) in
+    rw c.new-text.ensures.size (filled g.row.N _ _ _ c.self.invariant _ c.self.view_is _ _ given c.requires.order c.requires.start c.requires.end fits c.utf8.given
+    gap.new.array c.write_over.new.array s.start gap.ensures.len held (rw c.new-text.ensures.offset at gap.ensures.front)
+    (rw (c.new-text.ensures.offset, c.new-text.ensures.size) at gap.ensures.tail)
+    (rw (c.new-text.ensures.offset, c.as_bytes.ensures.value) at c.write_over.ensures))
 
 pub invariant_of-self : goal.invariant_of-self
 invariant_of-self g c = (written g c).held
@@ -61,13 +64,13 @@ pub returns-clause-text : goal.returns-clause-text
 returns-clause-text g c = (written g c).shown
 
 pub returns-clause-tail_alone : goal.returns-clause-tail_alone
-returns-clause-tail_alone g c = rw (opened-size g.row.N _ _ _ c.self.invariant _ c.self.view_is) (λ _. c.open_gap.ensures.most)
+returns-clause-tail_alone g c = rw (opened-size g.row.N _ _ _ c.self.invariant _ c.self.view_is) (λ _. rw c.new-text.ensures.size at c.open_gap.ensures.most)
 
 pub returns-clause-most : goal.returns-clause-most
 returns-clause-most g c =
-    rw (opened-size g.row.N _ _ _ c.self.invariant _ c.self.view_is) (omega (arith, c.open_gap.ensures.most))
+    rw (opened-size g.row.N _ _ _ c.self.invariant _ c.self.view_is) (omega (arith, c.open_gap.ensures.most, c.new-text.ensures.size))
 
 pub returns-clause-least : goal.returns-clause-least
 returns-clause-least g c =
     rw (opened-size g.row.N _ _ _ c.self.invariant _ c.self.view_is, size-borrowed c.utf8.given)
-    (λ is_not. let more = c.open_gap.ensures.least is_not in omega (arith, more))
+    (λ is_not. let more = c.open_gap.ensures.least is_not in omega (arith, more, c.new-text.ensures.size))
