@@ -2,7 +2,7 @@
 use Rattle.std.proofs.Common.{◌≡◌, ℕ, ◌+◌, ◌-◌, List, take, drop, refl, subst, sym, ap, ◌∙◌, arith, chars}
 use Rattle.arraystring_base.specs.Text.{size, bytes, IsText}
 use Rattle.arraystring_base.proofs.TextLaws.{text-chars, chars-bytes, bytes-utf8}
-use Rattle.arraystring_core.specs.Stored.{Stored, stored, IsStored}
+use Rattle.arraystring_core.specs.Stored.{Stored, stored, IsStored, start_of}
 use Rattle.arraystring_core.specs.GhostProofs as ghost_proof
 
 module _ (array_size : ℕ) (array : List ℕ) (start n : ℕ) (is : IsStored array_size array start n) where
@@ -16,6 +16,9 @@ module _ (array_size : ℕ) (array : List ℕ) (start n : ℕ) (is : IsStored ar
 
   pub opened-size : (v : Stored) → stored array start n ≡ v → size v.text ≡ n
   opened-size v e = ap (λ s. size s.text) (sym e) ∙ ghost_proof.stored-size array_size array start n is
+
+  pub opened-end : (v : Stored) → stored array start n ≡ v → start_of v + size v.text ≡ start + n
+  opened-end v e = ap (λ s. start_of s + size s.text) (sym e) ∙ ap (λ k. start + k) (ghost_proof.stored-size array_size array start n is)
 
   pub opened-text : (v : Stored) → stored array start n ≡ v → IsText v.text
   opened-text v e = subst (λ (s : Stored). IsText s.text) e (text-chars (ghost_proof.stored-utf8 array_size array start n is))

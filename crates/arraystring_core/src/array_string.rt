@@ -1,8 +1,9 @@
 //! `ArrayString`: the type, and the calls that read all of it. The modules below have its other calls,
 //! `traits` its impls of traits, and `in_place` the private calls that put bytes into its array or take
 //! them out.
-ghost use Rattle.std.specs.Prelude.{◌≡◌, ◌≤◌, ◌↔◌, [], IsTrue, length};
+ghost use Rattle.std.specs.Prelude.{◌≡◌, ◌+◌, ◌≤◌, ◌↔◌, [], IsTrue, length};
 ghost use Rattle.arraystring_base.specs.Text.{size, bytes, cap, boundary, IsText};
+ghost use Rattle.arraystring_core.specs.Stored.{start_of};
 
 use std::marker::Model;
 use std::str;
@@ -189,5 +190,14 @@ impl<const N: usize> ArrayString<N> {
         ensures { result ≡ boundary self.now.text at }
     {
         self.as_str().is_char_boundary(at)
+    }
+
+    /// The offset at which the text ends.
+    #[inline(always)]
+    pub(crate) fn end(&self) -> usize
+        ensures value { result ≡ start_of self.now + size self.now.text }
+        ensures within { result ≤ cap N }
+    {
+        self.start as usize + self.size as usize
     }
 }

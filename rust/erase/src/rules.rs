@@ -342,7 +342,7 @@ pub const ORDER: &[Order] = &[Order {
         Calls("empty", "new"),
         Module("construct"),
         Module("utf16"),
-        Calls("views", "is_boundary"),
+        Calls("views", "end"),
         ByHand("room", "../by_hand/room.rs"),
         Module("push"),
         Module("insert"),

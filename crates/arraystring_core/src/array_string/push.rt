@@ -31,7 +31,7 @@ impl<const N: usize> ArrayString<N> {
     pub fn try_push(&mut self, ch: char) -> Result<(), OutOfBounds>
         ensures { Makes (addition self.old.text (ch ∷ []) (cap N)) self.old.text (from_out_of_bounds result) self.new.text }
     {
-        let end = self.start as usize + self.size as usize;
+        let end = self.end();
         if Self::has_room(end, ch) {
             self.push_unchecked(ch);
             return Ok(());
@@ -49,7 +49,7 @@ impl<const N: usize> ArrayString<N> {
         requires { size self.old.text + width ch ≤ cap N }
         ensures { self.new.text ≡ self.old.text ++ ch ∷ [] }
     {
-        let end = self.start as usize + self.size as usize;
+        let end = self.end();
         if !Self::has_room(end, ch) {
             return self.compact_and_push(ch);
         }
@@ -115,7 +115,7 @@ impl<const N: usize> ArrayString<N> {
         requires { size self.old.text + size (chars string.now) ≤ cap N }
         ensures { self.new.text ≡ self.old.text ++ chars string.now }
     {
-        let end = self.start as usize + self.size as usize;
+        let end = self.end();
         if end + string.len() > Self::capacity() as usize {
             return self.compact_and_push_str(string);
         }

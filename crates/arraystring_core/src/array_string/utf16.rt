@@ -103,7 +103,7 @@ impl<const N: usize> ArrayString<N> {
         ensures text { self.new.text ≡ self.old.text ++ take result units.now }
         ensures ascii { (i : ℕ) → i < result → slice_index units.now i < 0x80 }
     {
-        let end = self.start as usize + self.size as usize;
+        let end = self.end();
         let run = write_ascii(&mut self.array, end, units);
         self.size = (self.size as usize + run) as u8;
         run

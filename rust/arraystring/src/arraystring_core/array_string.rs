@@ -197,6 +197,23 @@ mod views {
         pub(crate) fn is_boundary(&self, at: usize) -> bool {
             self.as_str().is_char_boundary(at)
         }
+
+        /// The offset at which the text ends.
+        ///
+        /// <details><summary>Contract</summary>
+        ///
+        /// ```text
+        /// ensures value { result ≡ start_of self.now + size self.now.text }
+        /// ensures within { result ≤ cap N }
+        /// ```
+        ///
+        /// [How to read a contract](crate::contracts)
+        ///
+        /// </details>
+        #[inline(always)]
+        pub(crate) fn end(&self) -> usize {
+            self.start as usize + self.size as usize
+        }
     }
 }
 #[path = "../by_hand/room.rs"]

@@ -35,7 +35,7 @@ impl<const N: usize> ArrayString<N> {
     /// </details>
     #[inline(always)]
     pub fn try_push(&mut self, ch: char) -> Result<(), OutOfBounds> {
-        let end = self.start as usize + self.size as usize;
+        let end = self.end();
         // SAFETY: the proof of `try_push` in crates/arraystring_core/src/array_string/push.rt shows the precondition of `has_room`.
         if unsafe { Self::has_room(end, ch) } {
             // SAFETY: the proof of `try_push` in crates/arraystring_core/src/array_string/push.rt shows the precondition of `push_unchecked`.
@@ -74,7 +74,7 @@ impl<const N: usize> ArrayString<N> {
     /// </details>
     #[inline(always)]
     pub unsafe fn push_unchecked(&mut self, ch: char) {
-        let end = self.start as usize + self.size as usize;
+        let end = self.end();
         // SAFETY: the proof of `push_unchecked` in crates/arraystring_core/src/array_string/push.rt shows the precondition of `has_room`.
         if !unsafe { Self::has_room(end, ch) } {
             // SAFETY: the proof of `push_unchecked` in crates/arraystring_core/src/array_string/push.rt shows the precondition of `compact_and_push`.
@@ -190,7 +190,7 @@ impl<const N: usize> ArrayString<N> {
     #[inline]
     pub unsafe fn push_str_unchecked<S: AsRef<str>>(&mut self, string: S) {
         let string = string.as_ref();
-        let end = self.start as usize + self.size as usize;
+        let end = self.end();
         if end + string.len() > Self::capacity() as usize {
             // SAFETY: the proof of `push_str_unchecked` in crates/arraystring_core/src/array_string/push.rt shows the precondition of `compact_and_push_str`.
             return unsafe { self.compact_and_push_str(string) };

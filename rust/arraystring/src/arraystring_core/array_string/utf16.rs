@@ -144,7 +144,7 @@ impl<const N: usize> ArrayString<N> {
     /// </details>
     #[inline(always)]
     fn push_ascii_units(&mut self, units: &[u16]) -> usize {
-        let end = self.start as usize + self.size as usize;
+        let end = self.end();
         // SAFETY: the proof of `push_ascii_units` in crates/arraystring_core/src/array_string/utf16.rt shows the precondition of `write_ascii`.
         let run = unsafe { write_ascii(&mut self.array, end, units) };
         self.size = (self.size as usize + run) as u8;
