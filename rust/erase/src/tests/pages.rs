@@ -128,8 +128,8 @@ impl<const N: usize> ArrayString<N> {
         f()
     }
 
-    /// Asks.
-    fn is_boundary(&self) -> bool {
+    /// Ends.
+    fn end(&self) -> usize {
         g()
     }
 }
@@ -143,14 +143,14 @@ fn the_calls_of_a_file_stand_in_modules_in_the_order_of_the_reference() {
     let path = "arraystring_core/src/array_string.rt";
     let made = made_as(path, FILE).unwrap();
     let at = |part: &str| made.find(part).unwrap_or_else(|| panic!("{part}\n--- is not in:\n{made}"));
-    let parts = ["struct ArrayString", "fn new()", "mod construct;", "mod utf16;", "fn as_bytes(", "fn is_boundary("];
+    let parts = ["struct ArrayString", "fn new()", "mod construct;", "mod utf16;", "fn as_bytes(", "fn end("];
     let parts = [&parts[..], &["mod room;", "mod push;", "mod gap;", "impl<const N: usize> Default"]].concat();
     assert!(parts.is_sorted_by_key(|part| at(part)), "{made}");
     assert_eq!(made.matches("impl<const N: usize> ArrayString<N> {\n").count(), 2);
     for (from, to, why) in [
         ("mod utf16;\n", "", "`mod utf16;` is not there"),
         ("mod utf16;\n", "mod utf16;\nmod other;\n", "`mod other;` has no place in it"),
-        ("fn is_boundary(", "fn is_end(", "`is_boundary` is not there"),
+        ("fn end(", "fn last(", "`end` is not there"),
     ] {
         let fault = made_as(path, &FILE.replace(from, to)).unwrap_err();
         assert_eq!(fault, format!("the order of `{path}`: {why}"));
