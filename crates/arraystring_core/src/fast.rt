@@ -3,4 +3,5 @@
 
 pub(crate) mod equal;
 pub(crate) mod order;
+mod told;
 pub(crate) mod well_formed;

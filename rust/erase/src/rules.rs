@@ -45,6 +45,7 @@ pub struct Tested {
 
 /// What is left out of the Rust crate: modules, laws about them, and what no other body calls here.
 pub const LEFT_OUT: &[LeftOut] = &[
+    LeftOut { name: "told", why: "std tells the order" },
     LeftOut { name: "integration", why: "it stands on `serde_json`, and the Rust crate has no dependency" },
     LeftOut { name: "between", why: "`get` asks std for the part, and `slice` has the index itself" },
     LeftOut { name: "json_reads_back", why: "a law about JSON texts" },
@@ -754,6 +755,8 @@ pub struct Replaced {
     pub why: &'static str,
 }
 
+const ONE_ORDER: &str = "std tells both orders";
+
 pub const REPLACED: &[Replaced] = &[
     Replaced {
         file: "arraystring_base/src/utf16.rt",
@@ -790,5 +793,29 @@ pub const REPLACED: &[Replaced] = &[
         from: "self.between(start, end)",
         to: "&self.as_str()[start..end]",
         why: "no precondition bounds the range of `slice`, which panics as the index of `str` does",
+    },
+    Replaced {
+        file: "arraystring_core/src/array_string/traits.rt",
+        from: "use crate::fast::order::{order, order_for_less};",
+        to: "use crate::fast::order::order;",
+        why: ONE_ORDER,
+    },
+    Replaced {
+        file: "arraystring_core/src/array_string/traits.rt",
+        from: "Some(order_for_less::<N>(self.as_str(), other_text))",
+        to: "Some(order::<N>(self.as_str(), other_text))",
+        why: ONE_ORDER,
+    },
+    Replaced {
+        file: "arraystring_core/src/drain/traits.rt",
+        from: "use crate::fast::order::{order, order_for_less};",
+        to: "use crate::fast::order::order;",
+        why: ONE_ORDER,
+    },
+    Replaced {
+        file: "arraystring_core/src/drain/traits.rt",
+        from: "Some(order_for_less::<N>(self.as_str(), other_text))",
+        to: "Some(order::<N>(self.as_str(), other_text))",
+        why: ONE_ORDER,
     },
 ];

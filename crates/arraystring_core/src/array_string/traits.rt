@@ -10,7 +10,7 @@ ghost use Rattle.std.specs.Ordering.{nat_cmp, MatchOrdering};
 
 use crate::ArrayString;
 use crate::fast::equal::equal;
-use crate::fast::order::order;
+use crate::fast::order::{order, order_for_less};
 use arraystring_base::error::OutOfBounds;
 use std::cmp::Ordering;
 use std::fmt;
@@ -228,7 +228,8 @@ impl<const N: usize> PartialOrd for ArrayString<N> {
 
     #[inline(always)]
     fn partial_cmp(&self, other: &Self) -> Option<Ordering> {
-        Some(self.cmp(other))
+        let other_text = other.as_str();
+        Some(order_for_less::<N>(self.as_str(), other_text))
     }
 }
 

@@ -8,7 +8,7 @@ ghost use Rattle.std.specs.Hash as fed;
 ghost use Rattle.std.specs.Ordering.{nat_cmp, MatchOrdering};
 
 use crate::Drain;
-use crate::fast::order::order;
+use crate::fast::order::{order, order_for_less};
 use arraystring_base::utils::{Steps, last_char};
 use std::cmp::Ordering;
 use std::fmt;
@@ -219,6 +219,7 @@ impl<const N: usize> PartialOrd for Drain<N> {
 
     #[inline(always)]
     fn partial_cmp(&self, other: &Self) -> Option<Ordering> {
-        Some(self.cmp(other))
+        let other_text = other.as_str();
+        Some(order_for_less::<N>(self.as_str(), other_text))
     }
 }

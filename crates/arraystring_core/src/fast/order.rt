@@ -7,6 +7,7 @@ ghost use Rattle.std.specs.Ordering.{nat_cmp};
 ghost use lib.Lanes.{zip2};
 
 use crate::fast::equal::equal_block;
+use crate::fast::told::Tells;
 use std::cmp::Ordering;
 use std::simd::{Simd, u8x16};
 
@@ -15,9 +16,25 @@ use std::simd::{Simd, u8x16};
 pub(crate) fn order<const N: usize>(text: &str, other: &str) -> Ordering
     ensures { result ≡ slice_cmp nat_cmp text.now other.now }
 {
-    let (a, b) = (text.as_bytes(), other.as_bytes());
+    told_order::<Ordering, N>(text.as_bytes(), other.as_bytes())
+}
+
+/// The same by two numbers, which are compared once at the end. `<` asks nothing but this comparison.
+#[inline(always)]
+pub(crate) fn order_for_less<const N: usize>(text: &str, other: &str) -> Ordering
+    ensures { result ≡ slice_cmp nat_cmp text.now other.now }
+{
+    let (one, next) = told_order::<(u64, u64), N>(text.as_bytes(), other.as_bytes());
+    one.cmp(&next)
+}
+
+/// How two texts of at most `N` bytes are ordered.
+#[inline(always)]
+fn told_order<T: Tells, const N: usize>(a: &[u8], b: &[u8]) -> T
+    ensures { T.order result ≡ slice_cmp nat_cmp a.now b.now }
+{
     let common = a.len().min(b.len());
-    match order_without_loop::<N>(a, b, common) {
+    match order_without_loop::<T, N>(a, b, common) {
         Some(order) => order,
         None => order_by_groups(common, a, b),
     }
@@ -25,9 +42,9 @@ pub(crate) fn order<const N: usize>(text: &str, other: &str) -> Ordering
 
 /// The order, but for sizes that are left to a loop. The shorter text has `common` bytes.
 #[inline(always)]
-fn order_without_loop<const N: usize>(a: &[u8], b: &[u8], common: usize) -> Option<Ordering>
+fn order_without_loop<T: Tells, const N: usize>(a: &[u8], b: &[u8], common: usize) -> Option<T>
     requires lesser { common ≡ min (length a.now) (length b.now) }
-    ensures some { IfSome result (λ order. order ≡ slice_cmp nat_cmp a.now b.now) }
+    ensures some { IfSome result (λ told. T.order told ≡ slice_cmp nat_cmp a.now b.now) }
     ensures many { IfNone result (64 ≤ common) }
     ensures same { IfNone result (take 16 a.now ≡ take 16 b.now) }
 {
@@ -38,7 +55,7 @@ fn order_without_loop<const N: usize>(a: &[u8], b: &[u8], common: usize) -> Opti
     if common < 16 {
         return Some(order_of_few(a, b, common));
     }
-    if let Some(order) = block_order::<16>(a, b, 0) {
+    if let Some(order) = block_order::<T, 16>(a, b, 0) {
         return Some(order);
     }
     order_by_three(a, b, common)
@@ -46,25 +63,10 @@ fn order_without_loop<const N: usize>(a: &[u8], b: &[u8], common: usize) -> Opti
 
 /// The same for texts of which one has fewer than 16 bytes.
 #[inline(always)]
-fn order_of_few(a: &[u8], b: &[u8], common: usize) -> Ordering
+fn order_of_few<T: Tells>(a: &[u8], b: &[u8], common: usize) -> T
     requires few { common < 16 }
     requires lesser { common ≡ min (length a.now) (length b.now) }
-    ensures { result ≡ slice_cmp nat_cmp a.now b.now }
-{
-    match few_order(a, b, common) {
-        Some(order) => order,
-        None => order_of_lengths(a, b),
-    }
-}
-
-/// The order, if the first `common` bytes settle it, of which there are at most 16.
-#[inline(always)]
-fn few_order(a: &[u8], b: &[u8], common: usize) -> Option<Ordering>
-    requires few { common ≤ 16 }
-    requires one { common ≤ length a.now }
-    requires other { common ≤ length b.now }
-    ensures some { IfSome result (λ order. order ≡ slice_cmp nat_cmp a.now b.now) }
-    ensures none { IfNone result (take common a.now ≡ take common b.now) }
+    ensures { T.order result ≡ slice_cmp nat_cmp a.now b.now }
 {
     if common < 4 {
         return order_by_bytes(a, b, common);
@@ -77,16 +79,17 @@ fn few_order(a: &[u8], b: &[u8], common: usize) -> Option<Ordering>
 
 /// The same of 8 to 16 bytes.
 #[inline(always)]
-fn order_by_words(a: &[u8], b: &[u8], common: usize) -> Option<Ordering>
+fn order_by_words<T: Tells>(a: &[u8], b: &[u8], common: usize) -> T
     requires least { 8 ≤ common }
     requires most { common ≤ 16 }
-    requires one { common ≤ length a.now }
-    requires other { common ≤ length b.now }
-    ensures some { IfSome result (λ order. order ≡ slice_cmp nat_cmp a.now b.now) }
-    ensures none { IfNone result (take common a.now ≡ take common b.now) }
+    requires lesser { common ≡ min (length a.now) (length b.now) }
+    ensures { T.order result ≡ slice_cmp nat_cmp a.now b.now }
 {
     let (one, other) = deciding_words(a, b, common);
-    order_of_numbers(one, other)
+    if one != other {
+        return T::of_different(one, other);
+    }
+    order_of_lengths(a, b)
 }
 
 /// The numbers of the first eight bytes of both, or else, if these are equal, of the last eight.
@@ -108,16 +111,17 @@ fn deciding_words(a: &[u8], b: &[u8], common: usize) -> (u64, u64)
 
 /// The same of 4 to 8 bytes.
 #[inline(always)]
-fn order_by_halves(a: &[u8], b: &[u8], common: usize) -> Option<Ordering>
+fn order_by_halves<T: Tells>(a: &[u8], b: &[u8], common: usize) -> T
     requires least { 4 ≤ common }
     requires most { common ≤ 8 }
-    requires one { common ≤ length a.now }
-    requires other { common ≤ length b.now }
-    ensures some { IfSome result (λ order. order ≡ slice_cmp nat_cmp a.now b.now) }
-    ensures none { IfNone result (take common a.now ≡ take common b.now) }
+    requires lesser { common ≡ min (length a.now) (length b.now) }
+    ensures { T.order result ≡ slice_cmp nat_cmp a.now b.now }
 {
     let (one, other) = deciding_halves(a, b, common);
-    order_of_numbers(one, other)
+    if one != other {
+        return T::of_different(one, other);
+    }
+    order_of_lengths(a, b)
 }
 
 /// The numbers of the first four bytes of both, or else, if these are equal, of the last four.
@@ -139,20 +143,18 @@ fn deciding_halves(a: &[u8], b: &[u8], common: usize) -> (u64, u64)
 
 /// The same of few bytes, one after the other.
 #[inline(always)]
-fn order_by_bytes(a: &[u8], b: &[u8], common: usize) -> Option<Ordering>
-    requires one { common ≤ length a.now }
-    requires other { common ≤ length b.now }
-    ensures some { IfSome result (λ order. order ≡ slice_cmp nat_cmp a.now b.now) }
-    ensures none { IfNone result (take common a.now ≡ take common b.now) }
+fn order_by_bytes<T: Tells>(a: &[u8], b: &[u8], common: usize) -> T
+    requires lesser { common ≡ min (length a.now) (length b.now) }
+    ensures { T.order result ≡ slice_cmp nat_cmp a.now b.now }
 {
     let mut at = 0;
     while at < common {
-        if let Some(order) = order_of_numbers(a[at] as u64, b[at] as u64) {
-            return Some(order);
+        if a[at] != b[at] {
+            return order_at(a, b, at);
         }
         at += 1;
     }
-    None
+    order_of_lengths(a, b)
 }
 
 /// The number of which the 8 bytes from `at` on are the digits.
@@ -179,40 +181,22 @@ fn half_word(bytes: &[u8], at: usize) -> u64
     u32::from_be_bytes(*digits) as u64
 }
 
-/// The order of two numbers that differ.
-#[inline(always)]
-fn order_of_numbers(one: u64, other: u64) -> Option<Ordering>
-    ensures some { IfSome result (λ order. (order ≡ nat_cmp one other) × (one ≢ other)) }
-    ensures none { IfNone result (one ≡ other) }
-{
-    if one == other {
-        return None;
-    }
-    if one < other {
-        return Some(Ordering::Less);
-    }
-    Some(Ordering::Greater)
-}
-
 /// The order of two texts of which one begins the other.
 #[inline(always)]
-fn order_of_lengths(a: &[u8], b: &[u8]) -> Ordering
-    ensures { result ≡ nat_cmp (length a.now) (length b.now) }
+fn order_of_lengths<T: Tells>(a: &[u8], b: &[u8]) -> T
+    ensures { T.order result ≡ nat_cmp (length a.now) (length b.now) }
 {
-    if a.len() == b.len() {
-        return Ordering::Equal;
-    }
-    a.len().cmp(&b.len())
+    T::of(a.len() as u64, b.len() as u64)
 }
 
 /// The order, but for more than 64 bytes. The first 16 are equal; others are compared one block after the
 /// other.
 #[inline(always)]
-fn order_by_three(a: &[u8], b: &[u8], common: usize) -> Option<Ordering>
+fn order_by_three<T: Tells>(a: &[u8], b: &[u8], common: usize) -> Option<T>
     requires least { 16 ≤ common }
     requires lesser { common ≡ min (length a.now) (length b.now) }
     requires before { take 16 a.now ≡ take 16 b.now }
-    ensures some { IfSome result (λ order. order ≡ slice_cmp nat_cmp a.now b.now) }
+    ensures some { IfSome result (λ told. T.order told ≡ slice_cmp nat_cmp a.now b.now) }
     ensures many { IfNone result (64 ≤ common) }
 {
     if common > 32 {
@@ -220,11 +204,11 @@ fn order_by_three(a: &[u8], b: &[u8], common: usize) -> Option<Ordering>
             if common > 64 {
                 return None;
             }
-            if let Some(order) = block_order::<16>(a, b, 16) {
+            if let Some(order) = block_order::<T, 16>(a, b, 16) {
                 return Some(order);
             }
         }
-        if let Some(order) = block_order::<16>(a, b, common - 32) {
+        if let Some(order) = block_order::<T, 16>(a, b, common - 32) {
             return Some(order);
         }
     }
@@ -233,13 +217,13 @@ fn order_by_three(a: &[u8], b: &[u8], common: usize) -> Option<Ordering>
 
 /// How two texts are ordered of which the bytes before the last 16 are equal.
 #[inline(always)]
-fn order_of_last(a: &[u8], b: &[u8], common: usize) -> Ordering
+fn order_of_last<T: Tells>(a: &[u8], b: &[u8], common: usize) -> T
     requires least { 16 ≤ common }
     requires lesser { common ≡ min (length a.now) (length b.now) }
     requires before { take (common - 16) a.now ≡ take (common - 16) b.now }
-    ensures { result ≡ slice_cmp nat_cmp a.now b.now }
+    ensures { T.order result ≡ slice_cmp nat_cmp a.now b.now }
 {
-    match block_order::<16>(a, b, common - 16) {
+    match block_order::<T, 16>(a, b, common - 16) {
         Some(order) => order,
         None => order_of_lengths(a, b),
     }
@@ -248,14 +232,14 @@ fn order_of_last(a: &[u8], b: &[u8], common: usize) -> Ordering
 /// The order, but for texts of which the first 16 bytes are equal, and of those between them and the last
 /// 16 some differ. What differs is gathered in one vector.
 #[inline(always)]
-fn order_by_thirteen(a: &[u8], b: &[u8], common: usize) -> Option<Ordering>
+fn order_by_thirteen<T: Tells>(a: &[u8], b: &[u8], common: usize) -> Option<T>
     requires least { 129 ≤ common }
     requires most { common ≤ 208 }
     requires lesser { common ≡ min (length a.now) (length b.now) }
-    ensures some { IfSome result (λ order. order ≡ slice_cmp nat_cmp a.now b.now) }
+    ensures some { IfSome result (λ told. T.order told ≡ slice_cmp nat_cmp a.now b.now) }
     ensures same { IfNone result (take 16 a.now ≡ take 16 b.now) }
 {
-    if let Some(order) = block_order::<16>(a, b, 0) {
+    if let Some(order) = block_order::<T, 16>(a, b, 0) {
         return Some(order);
     }
     let between = apart_between(a, b, common);
@@ -272,13 +256,13 @@ fn order_by_thirteen(a: &[u8], b: &[u8], common: usize) -> Option<Ordering>
 /// How two texts are ordered that differ in the 16 bytes from `at` on, and in none before. The vector
 /// tells where.
 #[inline(always)]
-fn order_of_apart(a: &[u8], b: &[u8], at: usize, apart: u8x16) -> Ordering
+fn order_of_apart<T: Tells>(a: &[u8], b: &[u8], at: usize, apart: u8x16) -> T
     requires one { at + 16 ≤ length a.now }
     requires other { at + 16 ≤ length b.now }
     requires before { take at a.now ≡ take at b.now }
     requires tells { apart ≡ zip2 bit_xor (take 16 (drop at a.now)) (take 16 (drop at b.now)) }
     requires some { apart ≢ replicate 16 0 }
-    ensures { result ≡ slice_cmp nat_cmp a.now b.now }
+    ensures { T.order result ≡ slice_cmp nat_cmp a.now b.now }
 {
     let mask = apart.simd_ne(u8x16::splat(0)).to_bitmask();
     order_at(a, b, at + mask.trailing_zeros() as usize)
@@ -346,11 +330,11 @@ fn is_zero(lanes: u8x16) -> bool
 /// How two texts are ordered of which the first 16 bytes are equal, if both have 64. The size comes first,
 /// so that no register has to be moved.
 #[inline(never)]
-fn order_by_groups(common: usize, a: &[u8], b: &[u8]) -> Ordering
+fn order_by_groups<T: Tells>(common: usize, a: &[u8], b: &[u8]) -> T
     requires least { 64 ≤ common }
     requires lesser { common ≡ min (length a.now) (length b.now) }
     requires before { take 16 a.now ≡ take 16 b.now }
-    ensures { result ≡ slice_cmp nat_cmp a.now b.now }
+    ensures { T.order result ≡ slice_cmp nat_cmp a.now b.now }
 {
     let last = common - 64;
     let mut at = 16;
@@ -368,11 +352,11 @@ fn order_by_groups(common: usize, a: &[u8], b: &[u8]) -> Ordering
 
 /// The order, if the 64 bytes from `at` on settle it. Those before `at` are equal.
 #[inline(always)]
-fn group_order(a: &[u8], b: &[u8], at: usize) -> Option<Ordering>
+fn group_order<T: Tells>(a: &[u8], b: &[u8], at: usize) -> Option<T>
     requires one { at + 64 ≤ length a.now }
     requires other { at + 64 ≤ length b.now }
     requires before { take at a.now ≡ take at b.now }
-    ensures some { IfSome result (λ order. order ≡ slice_cmp nat_cmp a.now b.now) }
+    ensures some { IfSome result (λ told. T.order told ≡ slice_cmp nat_cmp a.now b.now) }
     ensures none { IfNone result (take (at + 64) a.now ≡ take (at + 64) b.now) }
 {
     if equal_block::<64>(&a[at..at + 64], &b[at..at + 64]) {
@@ -383,14 +367,14 @@ fn group_order(a: &[u8], b: &[u8], at: usize) -> Option<Ordering>
 
 /// How two texts are ordered that differ in the 64 bytes from `at` on, and in none before.
 #[inline(never)]
-fn order_in_group(a: &[u8], b: &[u8], at: usize) -> Ordering
+fn order_in_group<T: Tells>(a: &[u8], b: &[u8], at: usize) -> T
     requires one { at + 64 ≤ length a.now }
     requires other { at + 64 ≤ length b.now }
     requires before { take at a.now ≡ take at b.now }
     requires apart { take (at + 64) a.now ≢ take (at + 64) b.now }
-    ensures { result ≡ slice_cmp nat_cmp a.now b.now }
+    ensures { T.order result ≡ slice_cmp nat_cmp a.now b.now }
 {
-    match block_order::<64>(a, b, at) {
+    match block_order::<T, 64>(a, b, at) {
         Some(order) => order,
         None => unreachable!(),
     }
@@ -398,12 +382,12 @@ fn order_in_group(a: &[u8], b: &[u8], at: usize) -> Ordering
 
 /// The order, if the `K` bytes from `at` on settle it. Those before `at` are equal.
 #[inline(always)]
-fn block_order<const K: usize>(a: &[u8], b: &[u8], at: usize) -> Option<Ordering>
+fn block_order<T: Tells, const K: usize>(a: &[u8], b: &[u8], at: usize) -> Option<T>
     requires lanes { K ≤ 64 }
     requires one { at + K ≤ length a.now }
     requires other { at + K ≤ length b.now }
     requires before { take at a.now ≡ take at b.now }
-    ensures some { IfSome result (λ order. order ≡ slice_cmp nat_cmp a.now b.now) }
+    ensures some { IfSome result (λ told. T.order told ≡ slice_cmp nat_cmp a.now b.now) }
     ensures none { IfNone result (take (at + K) a.now ≡ take (at + K) b.now) }
 {
     let (one, other) = (&a[at..at + K], &b[at..at + K]);
@@ -417,15 +401,12 @@ fn block_order<const K: usize>(a: &[u8], b: &[u8], at: usize) -> Option<Ordering
 
 /// How two texts are ordered that differ at `at`, and not before.
 #[inline(always)]
-fn order_at(a: &[u8], b: &[u8], at: usize) -> Ordering
+fn order_at<T: Tells>(a: &[u8], b: &[u8], at: usize) -> T
     requires one { at < length a.now }
     requires other { at < length b.now }
     requires before { take at a.now ≡ take at b.now }
     requires apart { slice_index_or a.now at 0 ≢ slice_index_or b.now at 0 }
-    ensures { result ≡ slice_cmp nat_cmp a.now b.now }
+    ensures { T.order result ≡ slice_cmp nat_cmp a.now b.now }
 {
-    if a[at] < b[at] {
-        return Ordering::Less;
-    }
-    Ordering::Greater
+    T::of_different(a[at] as u64, b[at] as u64)
 }

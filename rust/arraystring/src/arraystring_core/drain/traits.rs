@@ -311,6 +311,7 @@ impl<const N: usize> PartialEq for Drain<N> {
 impl<const N: usize> PartialOrd for Drain<N> {
     #[inline(always)]
     fn partial_cmp(&self, other: &Self) -> Option<Ordering> {
-        Some(self.cmp(other))
+        let other_text = other.as_str();
+        Some(order::<N>(self.as_str(), other_text))
     }
 }
