@@ -226,13 +226,13 @@ fn drained_back<const N: usize>(outcome: Result<Drain<N>, Error>) -> Reply<N>
     ensures { said result ≡ said_of (λ left. Text (reverse left)) (with_left outcome.entry) }
 {
     match outcome {
-        Ok(removed) => Reply::Text(walked_back(removed)),
+        Ok(removed) => Reply::Text(reversed(removed)),
         Err(error) => Reply::Refused(error),
     }
 }
 
 /// The characters that are left, from the last to the first.
-fn walked_back<const N: usize>(mut removed: Drain<N>) -> ArrayString<N>
+fn reversed<const N: usize>(mut removed: Drain<N>) -> ArrayString<N>
     ensures { result.text ≡ reverse removed.entry.left }
 {
     left_fits(&removed);

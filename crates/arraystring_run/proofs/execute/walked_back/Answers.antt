@@ -2,7 +2,7 @@ use Rattle.std.proofs.Common.{◌≡◌, ◌++◌, ◌∷◌, [], ◌∙◌, ap,
 use Rattle.arraystring.specs.Text.{size}
 use Rattle.arraystring.proofs.TextLaws.{size-append}
 use Rattle.arraystring_run.proofs.RunLemmas.{one-back}
-use Rattle.arraystring_run.proofs.execute.walked_back.Goals as goal
+use Rattle.arraystring_run.proofs.execute.reversed.Goals as goal
 
 pub push_unchecked-requires : goal.push_unchecked-requires
 push_unchecked-requires g c =
@@ -17,7 +17,7 @@ loop-ch-preserved g c =
     let left : c.loop-ch.removed.left ≡ rest ++ c.in-Some.ch ∷ [] = c.in-Some.ensures.steps in
     let pushed = c.push_unchecked.ensures in
     record {
-      walked = ap (λ l. l ++ reverse rest) pushed
-          ∙ one-back text c.loop-ch.removed.left rest (reverse c.args.removed.left) c.in-Some.ch left c.loop-ch.invariant.walked;
+      reversed = ap (λ l. l ++ reverse rest) pushed
+          ∙ one-back text c.loop-ch.removed.left rest (reverse c.args.removed.left) c.in-Some.ch left c.loop-ch.invariant.reversed;
       fits = omega (arith, c.loop-ch.invariant.fits, ap size left, size-append rest (c.in-Some.ch ∷ []), ap size pushed, size-append text (c.in-Some.ch ∷ []));
     }

@@ -1,10 +1,10 @@
 use Rattle.std.proofs.Common.{◌≡◌, ◌≤◌, ◌+◌, ◌++◌, length, reverse}
 use Rattle.arraystring.specs.Text.{size, cap}
-use Rattle.arraystring_run.proofs.execute.walked_back.Given as goal
+use Rattle.arraystring_run.proofs.execute.reversed.Given as goal
 
 abbrev pub invariant-loop-ch : goal.invariant-loop-ch
 invariant-loop-ch g l = record {
-  walked : l.text.text ++ reverse l.removed.left ≡ reverse l.fn.removed.left;
+  reversed : l.text.text ++ reverse l.removed.left ≡ reverse l.fn.removed.left;
   fits : size l.text.text + size l.removed.left ≤ cap g.row.N;
 }
 
