@@ -1,4 +1,4 @@
--- What a walk over a directory gives: each run of `next` what was left in order, each of `next_back` in reverse.
+-- What an iterator over a directory gives: each run of `next` what was left in order, each of `next_back` in reverse.
 use Rattle.std.specs.Prelude.{◌≡◌, ℕ, true, List, map}
 use Rattle.std.specs.Iterator.{YieldsFirstBy, YieldsLastBy}
 use Rattle.std.specs.Iterator.Runs.{EveryRun, ItemsMapTo, ItemsMapToReversed}

@@ -1,4 +1,4 @@
-//! Walks over a directory, from both ends.
+//! Iterators over a directory, from both ends.
 ghost use Rattle.std.specs.Prelude.{◌≡◌, ⊤, Some, IfSome, length};
 ghost use Rattle.std.specs.Iterator.{YieldsFirstBy, YieldsLastBy, UpTo, at_most, item_count};
 ghost use Rattle.std.specs.Iterator.SizeHint.{IsWithinCount};
@@ -30,7 +30,7 @@ impl<'a> Model for Names<'a> {
 
 /// As many of the same are left in the clone. It takes no memory and is never refused.
 impl<'a> Clone for Names<'a> {
-    ghost is_clone = { λ walk clone. clone ≡ walk };
+    ghost is_clone = { λ names clone. clone ≡ names };
 
     ghost is_infallible = { λ _. ⊤ };
 
@@ -41,7 +41,7 @@ impl<'a> Clone for Names<'a> {
     }
 }
 
-/// A walk over the usernames that are left.
+/// An iterator over the usernames that are left.
 impl<'a> Iterator for Names<'a> {
     type Item = &'a ArrayString<20>;
 
@@ -109,7 +109,7 @@ impl<'a> Model for Users<'a> {
 
 /// As many of the same are left in the clone. It takes no memory and is never refused.
 impl<'a> Clone for Users<'a> {
-    ghost is_clone = { λ walk clone. clone ≡ walk };
+    ghost is_clone = { λ users clone. clone ≡ users };
 
     ghost is_infallible = { λ _. ⊤ };
 
@@ -120,7 +120,7 @@ impl<'a> Clone for Users<'a> {
     }
 }
 
-/// A walk over the users that are left.
+/// An iterator over the users that are left.
 impl<'a> Iterator for Users<'a> {
     type Item = &'a User;
 

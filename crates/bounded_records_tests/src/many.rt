@@ -1,4 +1,4 @@
-//! Thousands of users: each is put in, found, walked over, changed and taken out, in three orders.
+//! Thousands of users: each is put in, found, iterated over, changed and taken out, in three orders.
 use super::users::{agree, finds};
 use arraystring::ArrayString;
 use bounded_records::{Directory, Names, User, Users};
@@ -25,14 +25,14 @@ fn at_turn(turn: u16, factor: u32) -> User {
     numbered((factor.wrapping_mul(turn as u32) % USERS as u32) as u16)
 }
 
-/// So many are left of both walks.
+/// So many are left of both iterators.
 fn has_left(rt: &impl Abort, names: &Names, users: &Users, left: usize) {
     agree(rt, (names.len(), users.len()), (left, left));
     agree(rt, names.size_hint(), (left, Some(left)));
     agree(rt, users.size_hint(), (left, Some(left)));
 }
 
-/// The users are those below `USERS`. Of each `turns` steps of a walk the last is from the back.
+/// The users are those below `USERS`. Of each `turns` steps of an iterator the last is from the back.
 fn check_walks(rt: &impl Abort, directory: &Directory, turns: u16) {
     let (mut names, mut users) = (directory.names(), directory.users());
     let (mut front, mut back) = (0u16, USERS);
@@ -94,7 +94,7 @@ fn empty(rt: &impl Abort, users: &mut Directory, factor: u32) {
     agree(rt, users.is_empty(), true);
 }
 
-/// The users are put in by one order, walked over, and taken out by another.
+/// The users are put in by one order, iterated over, and taken out by another.
 fn are_kept(rt: &(impl Abort + AllocGlobal), order: u32, other: u32) {
     let mut users = Directory::new(rt.alloc());
     fill(rt, &mut users, order);

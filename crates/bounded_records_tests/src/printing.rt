@@ -1,4 +1,4 @@
-//! How a directory and its walks are printed for debugging: as std prints its own set and its own list
+//! How a directory and its iterators are printed for debugging: as std prints its own set and its own list
 //! of the same users, whose forms are derived.
 use super::users::{agree, user};
 use bounded_records::Directory;
@@ -84,7 +84,7 @@ fn a_directory_is_printed_as_a_set(rt: HostRuntime) {
 
 /// From the first step to the last, by either end.
 #[test]
-fn a_walk_is_printed_as_the_list_of_those_left(rt: HostRuntime) {
+fn an_iterator_is_printed_as_the_list_of_those_left(rt: HostRuntime) {
     let directory = of_first(&rt, &TEXTS);
     for front in 0..=TEXTS.len() {
         for back in front..=TEXTS.len() {

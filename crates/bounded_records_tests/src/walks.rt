@@ -1,4 +1,4 @@
-//! Walks from both ends over directories of each size up to 60, and what is printed for debugging.
+//! Iterators from both ends of directories of each size up to 60, and what is printed for debugging.
 ghost use Rattle.std.specs.Prelude.{◌≤◌};
 
 use super::users::{agree, ranked};
@@ -15,7 +15,7 @@ fn of_ranks(rt: &(impl Abort + AllocGlobal), count: u16) -> Directory {
     users
 }
 
-/// Both walks have these ranks left, by their lengths, and by a clone that is walked to its end.
+/// Both iterators have these ranks left, by their lengths, and by a clone that is read to its end.
 fn has_left(rt: &impl Abort, names: &Names, users: &Users, front: u16, back: u16) {
     let left = back.saturating_sub(front) as usize;
     agree(rt, names.len(), left);
@@ -37,7 +37,7 @@ fn has_left(rt: &impl Abort, names: &Names, users: &Users, front: u16, back: u16
     }
 }
 
-/// Walks by the ends that the bits of `ends` say, over and over.
+/// Iterates by the ends that the bits of `ends` say, over and over.
 fn walk(rt: &impl Abort, directory: &Directory, count: u16, ends: u32)
     requires { count ≤ 60 }
 {
@@ -78,7 +78,7 @@ fn each_user_comes_once_from_either_end(rt: HostRuntime) {
     }
 }
 
-/// A directory is printed as the set of its users, and a walk as the list of those that are left.
+/// A directory is printed as the set of its users, and an iterator as the list of those that are left.
 #[test]
 fn each_is_printed_for_debugging(rt: HostRuntime) {
     let mut users = Directory::new(rt.alloc());

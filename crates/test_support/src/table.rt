@@ -1,5 +1,5 @@
 //! Tables of cases: a line of a text is a case, and `|` is between its columns. However many lines a
-//! table has, the test that walks over it is proved once.
+//! table has, the test that iterates over it is proved once.
 use std::str::Lines;
 
 /// 256 letters, one more than fit into any string.

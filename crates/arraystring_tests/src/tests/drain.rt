@@ -1,4 +1,4 @@
-//! Walks over what was taken out, and what is left of it, on values worked out by hand.
+//! Iterators over what was taken out, and what is left of it, on values worked out by hand.
 ghost use Rattle.std.specs.Prelude.{◌≤◌};
 
 use super::printing::{debugs, debugs_as, derived};
@@ -84,7 +84,7 @@ fn steps_from_both_ends(rt: HostRuntime) {
     agree(&rt, "what is left of the copy", copy.as_str(), "A🤔");
 }
 
-/// Walks all of a text by one choice of ends: the back if the choice has a bit. What is left is
+/// Iterates over all of a text by one choice of ends: the back if the choice has a bit. What is left is
 /// printed after each step.
 fn walk_by(rt: &(impl Abort + AllocGlobal), text: &str, choice: u32) {
     let mut drain = string::<23>(text).drain(..).unwrap_or_default();
@@ -105,7 +105,7 @@ fn walk_by(rt: &(impl Abort + AllocGlobal), text: &str, choice: u32) {
     agree(rt, text, drain.next_back(), None);
 }
 
-/// Walks over texts in so many ways. The columns are how many, and the text.
+/// Iterates over texts in so many ways. The columns are how many, and the text.
 fn check_walks(rt: &(impl Abort + AllocGlobal), table: &str) {
     for row in rows(table) {
         for choice in 0..number(rt, row, 0) {

@@ -52,15 +52,15 @@ fn check_row<const N: usize>(rt: &impl Abort, units: &[u16], row: &str)
 fn check_units(rt: &impl Abort, table: &str) {
     for row in rows(table) {
         let (units, count) = units_of(rt, column(row, 0));
-        let mut walk = Units::new(units.get(..count).unwrap_or_default());
+        let mut items = Units::new(units.get(..count).unwrap_or_default());
         for word in column(row, 1).split_whitespace() {
             let wanted = match word.parse::<char>() {
                 Ok(ch) => Unit16::Char(ch),
                 Err(_) => Unit16::Lone(u16::from_str_radix(word, 16).unwrap_or_default()),
             };
-            agree(rt, row, walk.next(), Some(wanted));
+            agree(rt, row, items.next(), Some(wanted));
         }
-        agree(rt, row, (walk.next(), walk.next()), (None, None));
+        agree(rt, row, (items.next(), items.next()), (None, None));
     }
 }
 
