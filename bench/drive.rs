@@ -32,26 +32,28 @@ use peers::Peer;
 // Moves the code of all sides by so many bytes. (The linker drops a section that nothing names, unless it is retained.)
 global_asm!(".section .text.place, \"axR\", @progbits", concat!(".skip ", env!("PLACE")), ".text");
 
-/// What each side that has the call answers.
-fn answers<const N: usize>(call: u8, case: &Case) -> Vec<u64> {
-    let mut answers = port::answers::<N>(call, case);
+/// Adds what each side that has the call answers.
+fn answer<const N: usize>(call: u8, case: &Case, answers: &mut Vec<u64>) {
+    port::answer::<N>(call, case, answers);
     answers.push(peers::answer::<string::Limited<N>>(call, case));
     #[cfg(has_arrayvec)]
     if <::arrayvec::ArrayString<N> as Peer>::HAS.contains(&call) {
         answers.push(peers::answer::<::arrayvec::ArrayString<N>>(call, case));
     }
-    answers
 }
 
 fn make(capacity: usize, call: u8, case: &Case, times: u32) {
+    // (one for all, since what is allocated between two calls changes what `String` takes)
+    let mut answers = Vec::with_capacity(8);
     for _ in 0..times {
-        let answers = match capacity {
-            2 => answers::<2>(call, case),
-            23 => answers::<23>(call, case),
-            63 => answers::<63>(call, case),
-            255 => answers::<255>(call, case),
+        answers.clear();
+        match capacity {
+            2 => answer::<2>(call, case, &mut answers),
+            23 => answer::<23>(call, case, &mut answers),
+            63 => answer::<63>(call, case, &mut answers),
+            255 => answer::<255>(call, case, &mut answers),
             _ => panic!("no calls at this capacity"),
-        };
+        }
         assert!(answers.iter().all(|answer| *answer == answers[0]), "call {call} of {}: {answers:?}", case.held);
     }
 }

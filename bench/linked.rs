@@ -82,14 +82,13 @@ fn port(capacity: usize) -> Linked {
     at(capacity, &[(2, port_2 as Linked), (23, port_23), (63, port_63), (255, port_255)])
 }
 
-/// What the port answers, and the kit's arrayvec if it has the call.
-pub fn answers<const N: usize>(call: u8, case: &Case) -> Vec<u64> {
-    let mut answers = vec![linked(port(N), call, case)];
+/// Adds what the port answers, and the kit's arrayvec if it has the call.
+pub fn answer<const N: usize>(call: u8, case: &Case, answers: &mut Vec<u64>) {
+    answers.push(linked(port(N), call, case));
     if CALLS_OF_ARRAYVEC.contains(&call) {
         let kit = at(N, &[(2, kit_2 as Linked), (23, kit_23), (63, kit_63), (255, kit_255)]);
         answers.push(linked(kit, call, case));
     }
-    answers
 }
 
 /// What the port, the kit's arrayvec and the kit's `String` find in the kit's map.

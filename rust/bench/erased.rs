@@ -10,9 +10,9 @@ use crate::peers::{self, Peer};
 /// The calls that are made beside the plain ones: none.
 pub fn make_more(_: usize, _: &str, _: bool, _: u32) {}
 
-/// What the port answers.
-pub fn answers<const N: usize>(call: u8, case: &Case) -> Vec<u64> {
-    vec![peers::answer::<ArrayString<N>>(call, case)]
+/// Adds what the port answers.
+pub fn answer<const N: usize>(call: u8, case: &Case, answers: &mut Vec<u64>) {
+    answers.push(peers::answer::<ArrayString<N>>(call, case));
 }
 
 /// What the port finds in std's map.
