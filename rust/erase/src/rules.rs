@@ -513,9 +513,12 @@ pub struct Body {
     pub why: &'static str,
 }
 
+const ONE_ORDER: &str = "std tells both orders";
 const BY_SPLIT: &str = "stable Rust has no index of a slice in a constant";
 
 pub const BODIES: &[Body] = &[
+    Body { call: "ArrayString::partial_cmp", lines: &["Some(self.cmp(other))"], why: ONE_ORDER },
+    Body { call: "Drain::partial_cmp", lines: &["Some(self.cmp(other))"], why: ONE_ORDER },
     Body {
         call: "ArrayString::get",
         lines: &["let (start, end) = plain_ends(range, self.len());", "self.as_str().get(start..end)"],
@@ -755,8 +758,6 @@ pub struct Replaced {
     pub why: &'static str,
 }
 
-const ONE_ORDER: &str = "std tells both orders";
-
 pub const REPLACED: &[Replaced] = &[
     Replaced {
         file: "arraystring_base/src/utf16.rt",
@@ -801,21 +802,9 @@ pub const REPLACED: &[Replaced] = &[
         why: ONE_ORDER,
     },
     Replaced {
-        file: "arraystring_core/src/array_string/traits.rt",
-        from: "Some(order_for_less::<N>(self.as_str(), other_text))",
-        to: "Some(order::<N>(self.as_str(), other_text))",
-        why: ONE_ORDER,
-    },
-    Replaced {
         file: "arraystring_core/src/drain/traits.rt",
         from: "use crate::fast::order::{order, order_for_less};",
         to: "use crate::fast::order::order;",
-        why: ONE_ORDER,
-    },
-    Replaced {
-        file: "arraystring_core/src/drain/traits.rt",
-        from: "Some(order_for_less::<N>(self.as_str(), other_text))",
-        to: "Some(order::<N>(self.as_str(), other_text))",
         why: ONE_ORDER,
     },
 ];

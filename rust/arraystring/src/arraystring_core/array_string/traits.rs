@@ -329,8 +329,7 @@ impl<const N: usize> PartialEq for ArrayString<N> {
 impl<const N: usize> PartialOrd for ArrayString<N> {
     #[inline(always)]
     fn partial_cmp(&self, other: &Self) -> Option<Ordering> {
-        let other_text = other.as_str();
-        Some(order::<N>(self.as_str(), other_text))
+        Some(self.cmp(other))
     }
 }
 

@@ -311,7 +311,6 @@ impl<const N: usize> PartialEq for Drain<N> {
 impl<const N: usize> PartialOrd for Drain<N> {
     #[inline(always)]
     fn partial_cmp(&self, other: &Self) -> Option<Ordering> {
-        let other_text = other.as_str();
-        Some(order::<N>(self.as_str(), other_text))
+        Some(self.cmp(other))
     }
 }
