@@ -8,7 +8,7 @@ use crate::{ArrayString, CacheString};
 /// Implements what both types of strings have with a `String`.
 macro_rules! owned {
     ($(($($generics:tt)*) $string:ty),*) => {$(
-        /// Whether the `String` has the same text.
+        /// Whether the `String` has the same text. With the feature `alloc`.
         ///
         /// ```
         /// use arraystring::{ArrayString, CacheString};
@@ -22,7 +22,7 @@ macro_rules! owned {
             }
         }
 
-        /// Whether the string has the same text.
+        /// Whether the string has the same text. With the feature `alloc`.
         ///
         /// ```
         /// use arraystring::{ArrayString, CacheString};
@@ -36,7 +36,7 @@ macro_rules! owned {
             }
         }
 
-        /// A copy of the text.
+        /// A copy of the text. With the feature `alloc`.
         ///
         /// ```
         /// use arraystring::{ArrayString, CacheString};
@@ -51,7 +51,7 @@ macro_rules! owned {
             }
         }
 
-        /// As [`from_iterator`](Self::from_iterator): what does not fit is cut off.
+        /// As [`from_iterator`](Self::from_iterator): what does not fit is cut off. With the feature `alloc`.
         ///
         /// ```
         /// use arraystring::{ArrayString, CacheString};
@@ -66,7 +66,7 @@ macro_rules! owned {
             }
         }
 
-        /// As [`extend_strs`](ArrayString::extend_strs): it adds what fits.
+        /// As [`extend_strs`](ArrayString::extend_strs): it adds what fits. With the feature `alloc`.
         ///
         /// ```
         /// use arraystring::{ArrayString, CacheString};
