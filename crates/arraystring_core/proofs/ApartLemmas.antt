@@ -1,12 +1,11 @@
 -- Vectors of which a lane is zero if and only if the bytes that it stands for are equal.
-use Rattle.std.proofs.Common.{◌≡◌, ℕ, ◌+◌, ◌-◌, ◌≤◌, ◌++◌, Bool, true, false, not, eqb, eqb-true, List, [], ◌∷◌, suc, zero, length, take, drop, replicate, bit_or, bit_xor, take-take, length-take-le, length-drop, drop-drop, refl, sym, ap, ◌∙◌, arith, ◌↔◌}
+use Rattle.std.proofs.Common.{◌≡◌, ℕ, ◌+◌, ◌-◌, ◌≤◌, ◌++◌, Bool, true, false, eqb, eqb-true, List, [], ◌∷◌, suc, zero, length, take, drop, replicate, bit_or, bit_xor, take-take, length-take-le, length-drop, drop-drop, refl, sym, ap, ◌∙◌, arith, ◌↔◌}
 use Rattle.std.proofs.Math.Seq.{take-add}
 use Rattle.std.proofs.lemmas.Bool.{eq-eqb, both_ways}
 use Rattle.std.proofs.lemmas.Nat.{le_or_l, le_or_r}
 use Rattle.std.proofs.lemmas.Simd.{length-zip2}
 use lib.Bits.{xor_add_and, and_le_l, and_le_r, and_self}
 use lib.Lanes.{zip2, fold_l}
-use Rattle.arraystring_core.proofs.EqualLemmas.{apart}
 
 xor_same : (x y : ℕ) → bit_xor x y ≡ 0 → x ≡ y
 xor_same x y none = omega (arith, none, xor_add_and x y, and_le_l x y, and_le_r x y)
@@ -25,15 +24,15 @@ xor_eqb x y = go (eqb x y) refl (eqb (bit_xor x y) 0) refl
         absurd (both_ways _ f (eq-eqb _ _ (ap (bit_xor x) (sym same) ∙ xor_self x)))
     go false e true f = absurd (both_ways _ e (eq-eqb x y (xor_same x y (eqb-true _ _ f))))
 
--- where the lanes are apart from zero, the bytes are apart
-pub xor_apart : (n : ℕ) (xs ys : List ℕ) → length xs ≡ n → length ys ≡ n → zip2 apart (zip2 bit_xor xs ys) (replicate n 0) ≡ zip2 apart xs ys
-xor_apart zero [] ys one other = refl
-xor_apart zero (x ∷ xs) ys one other = absurd (omega arith)
-xor_apart (suc n) [] ys one other = absurd (omega arith)
-xor_apart (suc n) (x ∷ xs) [] one other = absurd (omega arith)
-xor_apart (suc n) (x ∷ xs) (y ∷ ys) one other =
-    ap (λ t. not t ∷ zip2 apart (zip2 bit_xor xs ys) (replicate n 0)) (xor_eqb x y)
-    ∙ ap (λ l. apart x y ∷ l) (xor_apart n xs ys (omega arith) (omega arith))
+-- where the lanes are zero, the bytes are equal
+pub xor_lanes : (n : ℕ) (xs ys : List ℕ) → length xs ≡ n → length ys ≡ n → zip2 eqb (zip2 bit_xor xs ys) (replicate n 0) ≡ zip2 eqb xs ys
+xor_lanes zero [] ys one other = refl
+xor_lanes zero (x ∷ xs) ys one other = absurd (omega arith)
+xor_lanes (suc n) [] ys one other = absurd (omega arith)
+xor_lanes (suc n) (x ∷ xs) [] one other = absurd (omega arith)
+xor_lanes (suc n) (x ∷ xs) (y ∷ ys) one other =
+    ap (λ t. t ∷ zip2 eqb (zip2 bit_xor xs ys) (replicate n 0)) (xor_eqb x y)
+    ∙ ap (λ l. eqb x y ∷ l) (xor_lanes n xs ys (omega arith) (omega arith))
 
 pub xor_none : (n : ℕ) (xs ys : List ℕ) → length xs ≡ n → length ys ≡ n → zip2 bit_xor xs ys ≡ replicate n 0 → xs ≡ ys
 xor_none n [] [] one other none = refl

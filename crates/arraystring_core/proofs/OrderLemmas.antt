@@ -3,16 +3,16 @@ use Rattle.std.proofs.Common.{◌≡◌, ◌≢◌, ℕ, min, Less, Equal, Great
 use Rattle.std.proofs.Math.Seq.{take-add}
 use Rattle.std.proofs.lemmas.Bool.{eq-eqb, cases_lt, both_ways}
 use Rattle.std.proofs.lemmas.List.{get_or-take, get_or-drop, drop-take}
-use Rattle.std.proofs.lemmas.Simd.{tops_compared, mask_l-mod, bit_mask_l, length-zip2}
-use Rattle.std.proofs.lemmas.Nat.Bits.{bit_at-trailing_zeros}
+use Rattle.std.proofs.lemmas.Simd.{tops_compared, mask_l-lt, mask_l-mod, bit_mask_l, length-zip2}
+use Rattle.std.proofs.lemmas.Nat.Bits.{bit_at-trailing_zeros, bit_at-trailing_ones}
 use Rattle.std.proofs.lemmas.Cmp.{nat_cmp_total, tied_itself}
 use Rattle.std.specs.Cmp.{nat_cmp_is}
 use Rattle.std.specs.Cmp.Lexicographic.{slice_cmp}
-use Rattle.std.specs.Int.{trailing_zeros}
+use Rattle.std.specs.Int.{trailing_zeros, trailing_ones}
 use Rattle.std.specs.Ordering.{nat_cmp}
 use Rattle.std.specs.Simd.Lanes.{zip2, mask_l}
 use lib.Lanes.{top}
-use Rattle.arraystring_core.proofs.ApartLemmas.{xor_apart, xor_equal, block_read, block_long}
+use Rattle.arraystring_core.proofs.ApartLemmas.{xor_lanes, xor_equal, block_long}
 use Rattle.arraystring_core.proofs.EqualLemmas.{apart, none_apart}
 
 -- the first elements that differ decide
@@ -96,6 +96,31 @@ first_bit xs ys m long is some small =
     first_apart xs ys i long (one-is (get_or lanes i false) (sym (bit i) ∙ lowest.1))
     (λ j lt. none-is (get_or lanes j false) (sym (bit j) ∙ lowest.2 j lt))
 
+-- the first lane that is not the same
+first_other : (xs ys : List ℕ) (i : ℕ) → length xs ≡ length ys → xs ≢ ys → get_or (zip2 eqb xs ys) i false ≡ false
+    → ((j : ℕ) → j < i → get_or (zip2 eqb xs ys) j false ≡ true)
+    → (i < length xs) × (take i xs ≡ take i ys) × (get_or xs i 0 ≢ get_or ys i 0)
+first_other [] [] i long differ clear before = absurd (differ refl)
+first_other [] (y ∷ ys) i long differ clear before = absurd (omega arith)
+first_other (x ∷ xs) [] i long differ clear before = absurd (omega arith)
+first_other (x ∷ xs) (y ∷ ys) zero long differ clear before = (omega arith, refl, λ e. absurd (both_ways (eqb x y) clear (eq-eqb x y e)))
+first_other (x ∷ xs) (y ∷ ys) (suc i) long differ clear before =
+    let same : x ≡ y = eqb-true x y (before 0 (omega arith)) in
+    let rest = first_other xs ys i (omega arith) (λ e. differ (ap (λ l. x ∷ l) e ∙ ap (λ z. z ∷ ys) same)) clear (λ j lt. before (suc j) (omega arith)) in
+    (omega (arith, rest.0), ap (λ l. x ∷ l) rest.1 ∙ ap (λ z. z ∷ take i ys) same, rest.2)
+
+-- the lowest bit that a mask of equal lanes has not
+first_clear : (xs ys : List ℕ) (m : ℕ) → length xs ≡ length ys → xs ≢ ys → m ≡ mask_l (zip2 eqb xs ys) → m + 1 < 2 ^ 64
+    → (trailing_ones w64 m < length xs) × (take (trailing_ones w64 m) xs ≡ take (trailing_ones w64 m) ys)
+    × (get_or xs (trailing_ones w64 m) 0 ≢ get_or ys (trailing_ones w64 m) 0)
+first_clear xs ys m long differ is small =
+    let lowest = bit_at-trailing_ones w64 m small in
+    let i = trailing_ones w64 m in
+    let lanes = zip2 eqb xs ys in
+    let bit : (j : ℕ) → m / 2 ^ j % 2 ≡ cond (get_or lanes j false) 1 0 = λ j. ap (λ n. n / 2 ^ j % 2) is ∙ bit_mask_l lanes j in
+    first_other xs ys i long differ (none-is (get_or lanes i false) (sym (bit i) ∙ lowest.1))
+    (λ j lt. one-is (get_or lanes j false) (sym (bit j) ∙ lowest.2 j lt))
+
 pub shorter_same : (n m : ℕ) (a b : List ℕ) → n ≤ m → take m a ≡ take m b → take n a ≡ take n b
 shorter_same n m a b le same = sym (take-take n m a le) ∙ ap (take n) same ∙ take-take n m b le
 
@@ -176,44 +201,63 @@ module _ (K : ℕ) (few : K ≤ 64) (a b : List ℕ) (at : ℕ) (in_a : at + K �
         take-add at first a ∙ ap (λ l. l ++ take first (drop at a)) before
         ∙ ap (λ l. take at b ++ l) (sym (taken a) ∙ found.1 ∙ taken b) ∙ sym (take-add at first b)
 
-  -- the same, told by a vector of which a lane is zero where the bytes are equal
-  module _ (vector : List ℕ) (is : vector ≡ zip2 bit_xor (take K (drop at a)) (take K (drop at b))) (some : vector ≢ replicate K 0) where
-    abbrev told : ℕ
-    told = mask_l (map (top 7) (zip2 (λ x y. cond (apart x y) 255 0) vector (replicate K 0))) % 2 ^ 64
+-- 16 bytes of both lists from `at` on, told by a vector of which a lane is zero where they are equal
+module _ (a b : List ℕ) (at : ℕ) (in_a : at + 16 ≤ length a) (in_b : at + 16 ≤ length b) (before : take at a ≡ take at b)
+    (vector : List ℕ) (is : vector ≡ zip2 bit_xor (take 16 (drop at a)) (take 16 (drop at b))) (some : vector ≢ replicate 16 0) where
+  abbrev told : ℕ
+  told = mask_l (map (top 7) (zip2 (λ x y. cond (eqb x y) 255 0) vector (replicate 16 0))) % 2 ^ 64
 
-    lanes-are : zip2 apart vector (replicate K 0) ≡ zip2 apart (take K (block a)) (take K (block b))
-    lanes-are =
-        ap (λ l. zip2 apart l (replicate K 0)) is
-        ∙ xor_apart K (take K (drop at a)) (take K (drop at b)) (block_long K at a in_a) (block_long K at b in_b)
-        ∙ sym (ap (λ l. zip2 apart l (take K (block b))) (block_read K at a) ∙ ap (zip2 apart (take K (drop at a))) (block_read K at b))
+  abbrev bytes : List ℕ → List ℕ
+  bytes l = take 16 (drop at l)
 
-    told-is : told ≡ mask
-    told-is =
-        ap (λ lanes. mask_l lanes % 2 ^ 64)
-        (tops_compared w8 apart vector (replicate K 0) ∙ lanes-are ∙ sym (tops_compared w8 apart (take K (block a)) (take K (block b))))
+  abbrev place : ℕ
+  place = trailing_ones w64 told
 
-    some-set : 0 < mask
-    some-set =
-        elim (cases_lt 0 mask) [
-          | inl set ↦ set
-          | inr none ↦
-              let zero_mask : mask ≡ 0 = omega (arith, none) in
-              let same : take K (drop at a) ≡ take K (drop at b) =
-              sym (block-is a) ∙ none_apart (block a) (block b) long (sym mask-is ∙ zero_mask) ∙ block-is b in
-              absurd (some (is ∙ ap (λ l. zip2 bit_xor l (take K (drop at b))) same ∙ xor_equal K (take K (drop at b)) (block_long K at b in_b)))
-        ]
+  bytes-long : length (bytes a) ≡ length (bytes b)
+  bytes-long = block_long 16 at a in_a ∙ sym (block_long 16 at b in_b)
 
-    pub told-in_a : at + trailing_zeros w64 told < length a
-    told-in_a = rw told-is (first-in_a some-set)
+  lanes-are : zip2 eqb vector (replicate 16 0) ≡ zip2 eqb (bytes a) (bytes b)
+  lanes-are = ap (λ l. zip2 eqb l (replicate 16 0)) is ∙ xor_lanes 16 (bytes a) (bytes b) (block_long 16 at a in_a) (block_long 16 at b in_b)
 
-    pub told-in_b : at + trailing_zeros w64 told < length b
-    told-in_b = rw told-is (first-in_b some-set)
+  lanes-long : length (zip2 eqb (bytes a) (bytes b)) ≡ 16
+  lanes-long = length-zip2 eqb (bytes a) (bytes b) bytes-long ∙ block_long 16 at a in_a
 
-    pub told_same : take (at + trailing_zeros w64 told) a ≡ take (at + trailing_zeros w64 told) b
-    told_same = rw told-is (first_same some-set)
+  told-is : told ≡ mask_l (zip2 eqb (bytes a) (bytes b))
+  told-is =
+      ap (λ lanes. mask_l lanes % 2 ^ 64) (tops_compared w8 eqb vector (replicate 16 0) ∙ lanes-are)
+      ∙ mask_l-mod (zip2 eqb (bytes a) (bytes b)) 64 (omega (arith, lanes-long))
 
-    pub told_apart : get_or a (at + trailing_zeros w64 told) 0 ≢ get_or b (at + trailing_zeros w64 told) 0
-    told_apart = rw told-is (apart_there some-set)
+  narrow : told < 2 ^ 16
+  narrow = omega (arith, told-is, mask_l-lt (zip2 eqb (bytes a) (bytes b)), ap (λ n. 2 ^ n) lanes-long)
+
+  bytes-differ : bytes a ≢ bytes b
+  bytes-differ e = some (is ∙ ap (λ l. zip2 bit_xor l (bytes b)) e ∙ xor_equal 16 (bytes b) (block_long 16 at b in_b))
+
+  other : (place < length (bytes a)) × (take place (bytes a) ≡ take place (bytes b)) × (get_or (bytes a) place 0 ≢ get_or (bytes b) place 0)
+  other = first_clear (bytes a) (bytes b) told bytes-long bytes-differ told-is (omega (arith, narrow))
+
+  place-within : place < 16
+  place-within = omega (arith, other.0, block_long 16 at a in_a)
+
+  front-is : (l : List ℕ) → take place (bytes l) ≡ take place (drop at l)
+  front-is l = take-take place 16 (drop at l) (omega (arith, place-within))
+
+  byte-is : (l : List ℕ) → get_or (bytes l) place 0 ≡ get_or l (at + place) 0
+  byte-is l = get_or-take 16 (drop at l) place 0 place-within ∙ get_or-drop at l place 0
+
+  pub told-in_a : at + place < length a
+  told-in_a = omega (arith, place-within)
+
+  pub told-in_b : at + place < length b
+  told-in_b = omega (arith, place-within)
+
+  pub told_same : take (at + place) a ≡ take (at + place) b
+  told_same =
+      take-add at place a ∙ ap (λ l. l ++ take place (drop at a)) before
+      ∙ ap (λ l. take at b ++ l) (sym (front-is a) ∙ other.1 ∙ front-is b) ∙ sym (take-add at place b)
+
+  pub told_apart : get_or a (at + place) 0 ≢ get_or b (at + place) 0
+  told_apart e = other.2 (byte-is a ∙ e ∙ sym (byte-is b))
 
 -- one list begins the other
 pub prefix_decides : (a b : List ℕ) (n : ℕ) → n ≡ min (length a) (length b) → take n a ≡ take n b

@@ -48,12 +48,14 @@ fn order_without_loop<T: Tells, const N: usize>(a: &[u8], b: &[u8], common: usiz
     ensures many { IfNone result (64 ≤ common) }
     ensures same { IfNone result (take 16 a.now ≡ take 16 b.now) }
 {
-    // One test finds 129 to 208 bytes.
-    if N > 128 && common.wrapping_sub(129) < 80 {
-        return order_by_thirteen(a, b, common);
-    }
     if common < 16 {
         return Some(order_of_few(a, b, common));
+    }
+    // One test finds 129 to 200 bytes.
+    if N > 128 && common.wrapping_sub(129) < 72 {
+        if let Some(order) = order_by_twelve(a, b, common) {
+            return Some(order);
+        }
     }
     if let Some(order) = block_order::<T, 16>(a, b, 0) {
         return Some(order);
@@ -229,18 +231,18 @@ fn order_of_last<T: Tells>(a: &[u8], b: &[u8], common: usize) -> T
     }
 }
 
-/// The order, but for texts of which the first 16 bytes are equal, and of those between them and the last
-/// 16 some differ. What differs is gathered in one vector.
+/// The order of 129 to 200 bytes, but for texts of which the first eight are equal, and of those between
+/// them and the last 16 some differ. What differs is gathered in one vector.
 #[inline(always)]
-fn order_by_thirteen<T: Tells>(a: &[u8], b: &[u8], common: usize) -> Option<T>
+fn order_by_twelve<T: Tells>(a: &[u8], b: &[u8], common: usize) -> Option<T>
     requires least { 129 ≤ common }
-    requires most { common ≤ 208 }
+    requires most { common ≤ 200 }
     requires lesser { common ≡ min (length a.now) (length b.now) }
-    ensures some { IfSome result (λ told. T.order told ≡ slice_cmp nat_cmp a.now b.now) }
-    ensures same { IfNone result (take 16 a.now ≡ take 16 b.now) }
+    ensures { IfSome result (λ told. T.order told ≡ slice_cmp nat_cmp a.now b.now) }
 {
-    if let Some(order) = block_order::<T, 16>(a, b, 0) {
-        return Some(order);
+    let (one, other) = (word(a, 0), word(b, 0));
+    if one != other {
+        return Some(T::of_different(one, other));
     }
     let between = apart_between(a, b, common);
     let all = between | apart(a, b, common - 16);
@@ -264,22 +266,22 @@ fn order_of_apart<T: Tells>(a: &[u8], b: &[u8], at: usize, apart: u8x16) -> T
     requires some { apart ≢ replicate 16 0 }
     ensures { T.order result ≡ slice_cmp nat_cmp a.now b.now }
 {
-    let mask = apart.simd_ne(u8x16::splat(0)).to_bitmask();
-    order_at(a, b, at + mask.trailing_zeros() as usize)
+    let same = apart.simd_eq(u8x16::splat(0)).to_bitmask();
+    order_at(a, b, at + same.trailing_ones() as usize)
 }
 
-/// Not zero where the first 16 bytes and the last 16 of 129 to 208 have bytes between them that differ.
+/// Not zero where the first 8 bytes and the last 16 of 129 to 200 have bytes between them that differ.
 #[inline(always)]
 fn apart_between(a: &[u8], b: &[u8], common: usize) -> u8x16
     requires least { 129 ≤ common }
-    requires most { common ≤ 208 }
+    requires most { common ≤ 200 }
     requires one { common ≤ length a.now }
     requires other { common ≤ length b.now }
-    requires before { take 16 a.now ≡ take 16 b.now }
+    requires before { take 8 a.now ≡ take 8 b.now }
     ensures long { length result ≡ 16 }
     ensures same { result ≡ replicate 16 0 → take (common - 16) a.now ≡ take (common - 16) b.now }
 {
-    let first = apart_in_four(a, b, 16) | apart_in_four(a, b, common - 128);
+    let first = apart_in_four(a, b, 8) | apart_in_four(a, b, common - 128);
     let last = apart_in_two(a, b, common - 64) | apart(a, b, common - 32);
     first | last
 }
