@@ -79,7 +79,7 @@ fn order_of_few<T: Tells>(a: &[u8], b: &[u8], common: usize) -> T
     order_by_words(a, b, common)
 }
 
-/// The same of 8 to 16 bytes.
+/// The same of 8 to 16 bytes: the first eight decide, or else the last eight.
 #[inline(always)]
 fn order_by_words<T: Tells>(a: &[u8], b: &[u8], common: usize) -> T
     requires least { 8 ≤ common }
@@ -87,31 +87,18 @@ fn order_by_words<T: Tells>(a: &[u8], b: &[u8], common: usize) -> T
     requires lesser { common ≡ min (length a.now) (length b.now) }
     ensures { T.order result ≡ slice_cmp nat_cmp a.now b.now }
 {
-    let (one, other) = deciding_words(a, b, common);
+    let (one, other) = (word(a, 0), word(b, 0));
     if one != other {
         return T::of_different(one, other);
+    }
+    let (one_last, other_last) = (word(a, common - 8), word(b, common - 8));
+    if one_last != other_last {
+        return T::of_different(one_last, other_last);
     }
     order_of_lengths(a, b)
 }
 
-/// The numbers of the first eight bytes of both, or else, if these are equal, of the last eight.
-#[inline(always)]
-fn deciding_words(a: &[u8], b: &[u8], common: usize) -> (u64, u64)
-    requires least { 8 ≤ common }
-    requires most { common ≤ 16 }
-    requires one { common ≤ length a.now }
-    requires other { common ≤ length b.now }
-    ensures apart { result.0 ≢ result.1 → nat_cmp result.0 result.1 ≡ slice_cmp nat_cmp a.now b.now }
-    ensures same { result.0 ≡ result.1 → take common a.now ≡ take common b.now }
-{
-    let (one, other) = (word(a, 0), word(b, 0));
-    if one != other {
-        return (one, other);
-    }
-    (word(a, common - 8), word(b, common - 8))
-}
-
-/// The same of 4 to 8 bytes.
+/// The same of 4 to 8 bytes: the first four decide, or else the last four.
 #[inline(always)]
 fn order_by_halves<T: Tells>(a: &[u8], b: &[u8], common: usize) -> T
     requires least { 4 ≤ common }
@@ -119,28 +106,15 @@ fn order_by_halves<T: Tells>(a: &[u8], b: &[u8], common: usize) -> T
     requires lesser { common ≡ min (length a.now) (length b.now) }
     ensures { T.order result ≡ slice_cmp nat_cmp a.now b.now }
 {
-    let (one, other) = deciding_halves(a, b, common);
+    let (one, other) = (half_word(a, 0), half_word(b, 0));
     if one != other {
         return T::of_different(one, other);
     }
-    order_of_lengths(a, b)
-}
-
-/// The numbers of the first four bytes of both, or else, if these are equal, of the last four.
-#[inline(always)]
-fn deciding_halves(a: &[u8], b: &[u8], common: usize) -> (u64, u64)
-    requires least { 4 ≤ common }
-    requires most { common ≤ 8 }
-    requires one { common ≤ length a.now }
-    requires other { common ≤ length b.now }
-    ensures apart { result.0 ≢ result.1 → nat_cmp result.0 result.1 ≡ slice_cmp nat_cmp a.now b.now }
-    ensures same { result.0 ≡ result.1 → take common a.now ≡ take common b.now }
-{
-    let (one, other) = (half_word(a, 0), half_word(b, 0));
-    if one != other {
-        return (one, other);
+    let (one_last, other_last) = (half_word(a, common - 4), half_word(b, common - 4));
+    if one_last != other_last {
+        return T::of_different(one_last, other_last);
     }
-    (half_word(a, common - 4), half_word(b, common - 4))
+    order_of_lengths(a, b)
 }
 
 /// The same of few bytes, one after the other.
