@@ -41,10 +41,13 @@ fn equal_few(a: &[u8], b: &[u8]) -> bool
         }
         return equal_by_two::<4>(a, b);
     }
+    if a.is_empty() {
+        return true;
+    }
     if a.len() >= 2 {
         return equal_by_two::<2>(a, b);
     }
-    a.is_empty() || a[0] == b[0]
+    a[0] == b[0]
 }
 
 /// The same for 16 to 256 bytes.
