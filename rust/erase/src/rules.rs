@@ -454,16 +454,9 @@ pub const KNOWN: &[(&str, &str)] = &[
     ("moves::write_any_run", ""),
     ("moves::bytes_of", ""),
     ("moves::put_bytes", ""),
-    ("utf8::last_boundary", "within"),
-    ("fill::try_fill_small", ""),
-    ("fill::fill", ""),
-    ("fill::write_by_call", ""),
     ("remove::retain_at", "held"),
     ("ascii::uppercase_bytes", "within"),
     ("ascii::lowercase_bytes", "within"),
-    ("ArrayString::char_at", "boundary"),
-    ("ArrayString::char_at", "before_end"),
-    ("utf16::write_ascii", ""),
 ];
 
 /// What is known once more in the middle of a body, where the compiler knows which branch was taken.
@@ -586,7 +579,6 @@ pub const INVARIANTS: &[&str] = &[
     "ArrayString::as_str",
     "ArrayString::as_bytes",
     "ArrayString::compact_and_insert",
-    "ArrayString::take_out",
     "Drain::as_str",
     "Drain::next",
     "Drain::next_back",

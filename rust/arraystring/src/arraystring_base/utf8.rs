@@ -130,7 +130,6 @@ pub fn truncate_str_counted<'a>(text: &'a str, size: u8, steps: &mut Steps) -> &
 /// </details>
 #[inline]
 unsafe fn last_boundary(text: &str, limit: usize, steps: &mut Steps) -> usize {
-    known!(within: limit < text.len());
     let all = text.as_bytes();
     let mut end = limit;
     // At most three bytes continue a character. The bound is for the compiler, which unrolls the loop.

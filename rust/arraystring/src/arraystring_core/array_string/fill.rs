@@ -23,7 +23,6 @@ use crate::arraystring_core::ArrayString;
 /// </details>
 #[inline(always)]
 pub(super) unsafe fn fill<const N: usize>(array: &mut [u8; N], given: &[u8]) {
-    known!(precondition: given.len() <= N);
     if N > 64 {
         // SAFETY: the proof of `fill` in crates/arraystring_core/src/array_string/fill.rt shows the precondition of `write_by_call`.
         unsafe { write_by_call(array, 0, given) };
@@ -83,7 +82,6 @@ pub(super) fn try_fill<const N: usize>(array: &mut [u8; N], given: &[u8]) -> (bo
 /// </details>
 #[inline(never)]
 unsafe fn try_fill_small<const N: usize>(array: &mut [u8; N], given: &[u8]) -> (bool, u8) {
-    known!(precondition: N <= 64);
     if given.len() > N {
         return (true, 0);
     }
@@ -110,7 +108,6 @@ unsafe fn try_fill_small<const N: usize>(array: &mut [u8; N], given: &[u8]) -> (
 /// </details>
 #[inline(always)]
 unsafe fn write_by_call<const N: usize>(array: &mut [u8; N], at: usize, given: &[u8]) {
-    known!(precondition: at + given.len() <= N && at <= at + given.len());
     let all = &mut array[..];
     all[at..at + given.len()].copy_from_slice(given);
 }

@@ -176,7 +176,6 @@ impl<const N: usize> ArrayString<N> {
     /// </details>
     #[inline]
     pub(super) unsafe fn take_out(&mut self, start: usize, end: usize, steps: &mut Steps) {
-        known!(invariant: self.start as usize + self.size as usize <= crate::ArrayString::<N>::capacity() as usize);
         if start == 0 {
             // SAFETY: the proof of `take_out` in crates/arraystring_core/src/array_string/in_place.rt shows the precondition of `drop_front`.
             return unsafe { self.drop_front(end) };

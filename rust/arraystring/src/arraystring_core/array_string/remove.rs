@@ -341,8 +341,6 @@ impl<const N: usize> ArrayString<N> {
     /// </details>
     #[inline]
     unsafe fn char_at(&self, at: usize) -> (char, usize) {
-        known!(boundary: self.as_str().is_char_boundary(at));
-        known!(before_end: at < usize::from(self.len()));
         // SAFETY: the proof of `char_at` in crates/arraystring_core/src/array_string/remove.rt shows the precondition of `first_char`.
         unsafe { first_char(&self.as_str()[at..]) }
     }

@@ -174,7 +174,6 @@ impl<const N: usize> ArrayString<N> {
 /// </details>
 #[inline(always)]
 unsafe fn write_ascii<const N: usize>(array: &mut [u8; N], at: usize, units: &[u16]) -> usize {
-    known!(precondition: at <= crate::ArrayString::<N>::capacity() as usize);
     let most = units.len().min(ArrayString::<N>::capacity() as usize - at);
     let mut run = 0;
     while run < most && units[run] < 0x80 {
