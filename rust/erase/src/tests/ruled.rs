@@ -120,7 +120,7 @@ fn what_a_callee_ensures_is_known_behind_the_call() {
         "/// # In Rust\n///\n/// A count that would pass 2^64 - 1 stays there.\n",
         "\npub fn truncate_str_counted<'a>(",
         "shows `within` of `last_boundary`.\n    let end = unsafe { last_boundary(text, size) };\n",
-        "    known!(within: usize::from(size) <= 3);\n    size as usize\n",
+        "unsafe fn last_boundary(text: &str, size: u8) -> usize {\n    size as usize\n",
     ];
     has("arraystring_base/src/sample/utf8.rt", &cut(says), &parts);
     let why = |text: &str| made_with("arraystring_base/src/sample/utf8.rt", text, true).err();
