@@ -136,17 +136,6 @@ CAUSES = [
         ],
     ),
     Cause(
-        ["`from_utf16_lossy`"],
-        "Behind a lone surrogate each unit is pushed by itself, and its room is tested twice.",
-        "it is tested once",
-        [
-            (
-                "            unsafe { self.push_unchecked(ch) };\n            return Ok(());",
-                "            let len = unsafe { encode(ch, &mut self.array, end) };\n            self.size = (self.size as usize + len) as u8;\n            return Ok(());",
-            )
-        ],
-    ),
-    Cause(
         DRAINS,
         "A drain has an index for each end, and reads the array by them.",
         "its text is walked by the pointers of `chars`",
