@@ -81,12 +81,12 @@ module _ (f : ℕ → ℕ) (is : IsAsciiChange f) where
   changed-chars t s = chars-bytes (changed-utf8 t s) (sym (bytes-change t))
 
 -- the bytes from start to end of the text that stands from p on are changed
-module _ (f : ℕ → ℕ) (is : IsAsciiChange f) (array_size : ℕ) (array : List ℕ) (p n : ℕ) (held : IsStored array_size array p n) (v : Stored)
+module _ {f : ℕ → ℕ} (is : IsAsciiChange f) {array_size : ℕ} {array : List ℕ} {p n : ℕ} (held : IsStored array_size array p n) {v : Stored}
     (e : stored array p n ≡ v) (start end : ℕ) (order : start ≤ end) (b : boundary v.text start ≡ true) (d : boundary v.text end ≡ true)
     (after : List ℕ)
     (written : after ≡ take (p + start) array ++ (map f (take (p + end - (p + start)) (drop (p + start) array)) ++ drop (p + end) array)) where
   reached : end ≤ n
-  reached = omega (arith, opened-size array_size array p n held v e, boundary-within v.text end d)
+  reached = omega (arith, opened-size held e, boundary-within v.text end d)
 
   abbrev given : List ℕ
   given = map f (take (p + end - (p + start)) (drop (p + start) array))
@@ -98,11 +98,11 @@ module _ (f : ℕ → ℕ) (is : IsAsciiChange f) (array_size : ℕ) (array : Li
       ap (λ k. take k (drop (p + start) array)) wide ∙ ap (take (end - start)) (sym (drop-drop start p array))
       ∙ sym (drop-take start (end - start) (drop p array)) ∙ ap (λ k. drop start (take k (drop p array))) whole
       ∙ ap (drop start) (sym (take-take end n (drop p array) reached))
-      ∙ ap (λ l. drop start (take end l)) (sym (opened-bytes array_size array p n held v e))
+      ∙ ap (λ l. drop start (take end l)) (sym (opened-bytes held e))
       ∙ bytes-part v.text start end order b d
 
   part-text : IsText (part v.text start end)
-  part-text = back-text (front v.text end) start (front-text v.text end (opened-text array_size array p n held v e))
+  part-text = back-text (front v.text end) start (front-text v.text end (opened-text held e))
 
   given-utf8 : IsUtf8 given
   given-utf8 = rw part-stored (changed-utf8 f is (part v.text start end) part-text)
@@ -115,14 +115,14 @@ module _ (f : ℕ → ℕ) (is : IsAsciiChange f) (array_size : ℕ) (array : Li
   given-length : length given ≡ end - start
   given-length =
       length-map (take (p + end - (p + start)) (drop (p + start) array)) f
-      ∙ length-take-le (p + end - (p + start)) (drop (p + start) array) (omega (arith, length-drop (p + start) array, reached, held.0, held.1))
+      ∙ length-take-le (p + end - (p + start)) (drop (p + start) array) (omega (arith, length-drop (p + start) array, reached, held.within, held.length))
       ∙ sum-less
     where
       sum-less : p + end - (p + start) ≡ end - start
       sum-less = omega arith
 
   room : size v.text - (end - start) + length given ≤ cap array_size
-  room = omega (arith, given-length, opened-size array_size array p n held v e, reached, held.0)
+  room = omega (arith, given-length, opened-size held e, reached, held.within)
 
   behind : p + start + length given ≡ p + end
   behind = omega (arith, given-length)
@@ -131,7 +131,7 @@ module _ (f : ℕ → ℕ) (is : IsAsciiChange f) (array_size : ℕ) (array : Li
   over = written ∙ ap (λ k. take (p + start) array ++ (given ++ drop k array)) (sym behind)
 
   within : p + start + length given ≤ length array
-  within = omega (arith, behind, reached, held.0, held.1)
+  within = omega (arith, behind, reached, held.within, held.length)
 
   visible : take (start + (length given + (n - end))) (drop p after) ≡ take start (drop p array) ++ (given ++ take (n - end) (drop end (drop p array)))
   visible =
@@ -143,18 +143,18 @@ module _ (f : ℕ → ℕ) (is : IsAsciiChange f) (array_size : ℕ) (array : Li
   whole-length = omega (arith, given-length, reached)
 
   after-length : length after ≡ array_size
-  after-length = written-length array after given (p + start) within over ∙ held.1
+  after-length = written-length array after given (p + start) within over ∙ held.length
 
   fits : p + (start + (length given + (n - end))) ≤ cap array_size
-  fits = omega (arith, whole-length, held.0)
+  fits = omega (arith, whole-length, held.within)
 
   pub changed-stored : IsStored array_size after p n
   changed-stored =
       subst (λ k. IsStored array_size after p k) whole-length
-      ((replaced array_size array p n held v e start end given order b d room given-utf8 after p after-length fits visible).held)
+      ((replaced held e start end given order b d room given-utf8 after p after-length fits visible).held)
 
   pub changed-text : chars (take n (drop p after)) ≡ front v.text start ++ (map f (part v.text start end) ++ back v.text end)
   changed-text =
       ap (λ k. chars (take k (drop p after))) (sym whole-length)
-      ∙ (replaced array_size array p n held v e start end given order b d room given-utf8 after p after-length fits visible).shown
+      ∙ (replaced held e start end given order b d room given-utf8 after p after-length fits visible).shown
       ∙ ap (λ l. front v.text start ++ (l ++ back v.text end)) given-chars

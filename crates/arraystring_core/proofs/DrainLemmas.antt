@@ -12,7 +12,7 @@ use Rattle.arraystring_core.specs.Drained.{IsDrained}
 use Rattle.arraystring_core.proofs.SpanLemmas.{dropped as dropped_part, kept as kept_part}
 use Rattle.arraystring_core.proofs.EndLemmas.{first-low, last-low}
 
-module _ (array_size : ℕ) (array : List ℕ) (p n i : ℕ) (held : IsStored array_size array p n) (is : IsDrained array_size (stored array p n) i) where
+module _ {array_size : ℕ} {array : List ℕ} {p n i : ℕ} (held : IsStored array_size array p n) (is : IsDrained array_size (stored array p n) i) where
   abbrev removed : List ℕ
   removed = (stored array p n).text
 
@@ -20,7 +20,7 @@ module _ (array_size : ℕ) (array : List ℕ) (p n i : ℕ) (held : IsStored ar
   left = back removed i
 
   removed-size : size removed ≡ n
-  removed-size = stored-size array_size array p n held
+  removed-size = stored-size held
 
   pub given-within : i ≤ n
   given-within = omega (arith, boundary-within removed i is.at, removed-size)
@@ -29,10 +29,10 @@ module _ (array_size : ℕ) (array : List ℕ) (p n i : ℕ) (held : IsStored ar
   left-size = back-size removed i is.at ∙ ap (λ k. k - i) removed-size
 
   left-bytes : bytes left ≡ drop i (take n (drop p array))
-  left-bytes = sym (bytes-back removed i is.at) ∙ ap (drop i) (stored-bytes array_size array p n held)
+  left-bytes = sym (bytes-back removed i is.at) ∙ ap (drop i) (stored-bytes held)
 
   borrowed-stored : IsStored array_size array (p + i) (n - i)
-  borrowed-stored = (dropped_part array_size array p n held (stored array p n) refl i is.at).held
+  borrowed-stored = (dropped_part held refl i is.at).held
 
   -- its bytes are those of the array from f to e
   module _ (f e : ℕ) (from : f ≡ p + i) (to : e ≡ p + n) where
@@ -40,16 +40,16 @@ module _ (array_size : ℕ) (array : List ℕ) (p n i : ℕ) (held : IsStored ar
     long = omega (arith, from, to, given-within)
 
     pub borrowed-utf8 : IsUtf8 (take (e - f) (drop f array))
-    borrowed-utf8 = rw (long, from) (stored-utf8 array_size array (p + i) (n - i) borrowed-stored)
+    borrowed-utf8 = rw (long, from) (stored-utf8 borrowed-stored)
 
     pub borrowed-bytes : take (e - f) (drop f array) ≡ bytes left
     borrowed-bytes =
         ap (λ k. take k (drop f array)) long ∙ ap (λ k. take (n - i) (drop k array)) from
-        ∙ sym (stored-bytes array_size array (p + i) (n - i) borrowed-stored)
-        ∙ ap bytes (dropped_part array_size array p n held (stored array p n) refl i is.at).shown
+        ∙ sym (stored-bytes borrowed-stored)
+        ∙ ap bytes (dropped_part held refl i is.at).shown
 
   pub left-fits : size left ≤ cap array_size
-  left-fits = omega (arith, left-size, held.0)
+  left-fits = omega (arith, left-size, held.within)
 
   pub none-left : n ≤ i → left ≡ []
   none-left past = empty-size (omega (arith, left-size))
@@ -121,14 +121,14 @@ module _ (array_size : ℕ) (array : List ℕ) (p n i : ℕ) (held : IsStored ar
 
     kept-text : (stored array p (i + size rest)).text ≡ before ++ rest
     kept-text =
-        (kept_part array_size array p n held (stored array p n) refl (i + size rest) last-starts).shown
+        (kept_part held refl (i + size rest) last-starts).shown
         ∙ ap (λ t. front t (i + size rest)) parts ∙ front-is (before ++ rest) (c ∷ []) (i + size rest) shorter
 
     pub back-within : i + size rest ≤ n
     back-within = omega (arith, boundary-within removed (i + size rest) last-starts, removed-size)
 
     pub back-held : IsStored array_size array p (i + size rest)
-    back-held = (kept_part array_size array p n held (stored array p n) refl (i + size rest) last-starts).held
+    back-held = (kept_part held refl (i + size rest) last-starts).held
 
     pub back-given : IsDrained array_size (stored array p (i + size rest)) i
     back-given = record {

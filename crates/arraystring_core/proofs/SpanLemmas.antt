@@ -54,14 +54,14 @@ module _ (t xs : List ℕ) (n : ℕ) (is : bytes t ≡ take n xs) (u : IsUtf8 (t
       chars-bytes restored-utf8 (new-bytes ∙ sym joined)
 
 -- the same of the value that a contract sees
-module _ (array_size : ℕ) (array : List ℕ) (p n : ℕ) (is : IsStored array_size array p n) (v : Stored) (e : stored array p n ≡ v)
+module _ {array_size : ℕ} {array : List ℕ} {p n : ℕ} (is : IsStored array_size array p n) {v : Stored} (e : stored array p n ≡ v)
     (start end : ℕ) (given : List ℕ) (order : start ≤ end) (b : boundary v.text start ≡ true) (d : boundary v.text end ≡ true)
     (room : size v.text - (end - start) + length given ≤ cap array_size) where
   pub replaced-within : end ≤ n
-  replaced-within = omega (arith, opened-size array_size array p n is v e, boundary-within v.text end d)
+  replaced-within = omega (arith, opened-size is e, boundary-within v.text end d)
 
   pub replaced-room : start + (length given + (n - end)) ≤ cap array_size
-  replaced-room = omega (arith, opened-size array_size array p n is v e, boundary-within v.text end d)
+  replaced-room = omega (arith, opened-size is e, boundary-within v.text end d)
 
   -- q is the offset of the text afterwards
   module _ (u : IsUtf8 given) (after : List ℕ) (q : ℕ) (long : length after ≡ array_size)
@@ -70,10 +70,10 @@ module _ (array_size : ℕ) (array : List ℕ) (p n : ℕ) (is : IsStored array_
     pub replaced : Lies array_size after q (start + (length given + (n - end))) (front v.text start ++ (chars given ++ back v.text end))
     replaced =
         let low : start ≤ n = omega (arith, replaced-within) in
-        let old = opened-bytes array_size array p n is v e in
-        let old_utf8 = stored-utf8 array_size array p n is in
+        let old = opened-bytes is e in
+        let old_utf8 = stored-utf8 is in
         record {
-          held = (held, long, ∣ restored-utf8 v.text (drop p array) n old old_utf8 given u start end low replaced-within b d _ written ∣₁);
+          held = record { within = held; length = long; utf8 = ∣ restored-utf8 v.text (drop p array) n old old_utf8 given u start end low replaced-within b d _ written ∣₁ };
           shown = replaced-text v.text (drop p array) n old old_utf8 given u start end low replaced-within b d _ written;
         }
 
@@ -113,20 +113,20 @@ module _ (array_size : ℕ) (array : List ℕ) (p n : ℕ) (is : IsStored array_
     moved_to_start = filled u gapped after 0 long from-zero moved tail-at written-at
 
 -- `given` was written after the text
-module _ (array_size : ℕ) (array : List ℕ) (p n : ℕ) (is : IsStored array_size array p n) (v : Stored) (e : stored array p n ≡ v)
+module _ {array_size : ℕ} {array : List ℕ} {p n : ℕ} (is : IsStored array_size array p n) {v : Stored} (e : stored array p n ≡ v)
     (given : List ℕ) (u : IsUtf8 given) (room : p + n + length given ≤ cap array_size) (after : List ℕ)
     (written : after ≡ take (p + n) array ++ (given ++ drop (p + n + length given) array)) where
   appended-end : boundary v.text n ≡ true
-  appended-end = ap (boundary v.text) (sym (opened-size array_size array p n is v e)) ∙ boundary-end v.text
+  appended-end = ap (boundary v.text) (sym (opened-size is e)) ∙ boundary-end v.text
 
   appended-fits : size v.text - (n - n) + length given ≤ cap array_size
-  appended-fits = omega (arith, opened-size array_size array p n is v e, room)
+  appended-fits = omega (arith, opened-size is e, room)
 
   appended-size : n + (length given + (n - n)) ≡ n + length given
   appended-size = omega arith
 
   appended-within : p + n + length given ≤ length array
-  appended-within = omega (arith, room, is.1)
+  appended-within = omega (arith, room, is.length)
 
   appended-parts : take (n + (length given + (n - n))) (drop p after) ≡ take n (drop p array) ++ (given ++ take (n - n) (drop n (drop p array)))
   appended-parts =
@@ -136,61 +136,61 @@ module _ (array_size : ℕ) (array : List ℕ) (p n : ℕ) (is : IsStored array_
   appended-lies : Lies array_size after p (n + (length given + (n - n))) (front v.text n ++ (chars given ++ back v.text n))
   appended-lies =
       let held : p + (n + (length given + (n - n))) ≤ cap array_size = omega (arith, room) in
-      let long = written-length array after given (p + n) appended-within written ∙ is.1 in
-      replaced array_size array p n is v e n n given (omega arith) appended-end appended-end appended-fits u after p long held appended-parts
+      let long = written-length array after given (p + n) appended-within written ∙ is.length in
+      replaced is e n n given (omega arith) appended-end appended-end appended-fits u after p long held appended-parts
 
   pub appended : Lies array_size after p (n + length given) (v.text ++ chars given)
   appended = record {
     held = rw (← appended-size) appended-lies.held;
     shown =
         ap (λ m. chars (take m (drop p after))) (sym appended-size) ∙ appended-lies.shown
-        ∙ ap (λ m. front v.text m ++ (chars given ++ back v.text m)) (sym (opened-size array_size array p n is v e))
+        ∙ ap (λ m. front v.text m ++ (chars given ++ back v.text m)) (sym (opened-size is e))
         ∙ ap (λ l. l ++ (chars given ++ back v.text (size v.text))) (front-end v.text)
         ∙ ap (λ l. v.text ++ (chars given ++ l)) (back-end v.text) ∙ ap (λ l. v.text ++ l) (append-nil (chars given));
   }
 
 -- the text was moved to offset 0, and `given` was written after it
-module _ (array_size : ℕ) (array : List ℕ) (p n : ℕ) (is : IsStored array_size array p n) (v : Stored) (e : stored array p n ≡ v)
+module _ {array_size : ℕ} {array : List ℕ} {p n : ℕ} (is : IsStored array_size array p n) {v : Stored} (e : stored array p n ≡ v)
     (given : List ℕ) (u : IsUtf8 given) (room : n + length given ≤ cap array_size) (compact after : List ℕ)
     (moved : compact ≡ take 0 array ++ (take n (drop p array) ++ drop (0 + n) array))
     (written : after ≡ take n compact ++ (given ++ drop (n + length given) compact)) where
   compact-source : p + n ≤ length array
-  compact-source = omega (arith, is.0, is.1)
+  compact-source = omega (arith, is.within, is.length)
 
   compact-target : 0 + n ≤ length array
-  compact-target = omega (arith, is.0, is.1)
+  compact-target = omega (arith, is.within, is.length)
 
   compact-bytes : take n (drop 0 compact) ≡ take n (drop p array)
   compact-bytes = shift-moved array compact p 0 n compact-source compact-target moved
 
   compact-stored : IsStored array_size compact 0 n
-  compact-stored = (
-    omega (arith, is.0),
-    shift-length array compact p 0 n compact-source compact-target moved ∙ is.1,
-    ∣ rw compact-bytes (stored-utf8 array_size array p n is) ∣₁,
-  )
+  compact-stored = record {
+    within = omega (arith, is.within);
+    length = shift-length array compact p 0 n compact-source compact-target moved ∙ is.length;
+    utf8 = ∣ rw compact-bytes (stored-utf8 is) ∣₁;
+  }
 
   pub appended_at_start : Lies array_size after 0 (n + length given) (v.text ++ chars given)
   appended_at_start =
       let text : (stored compact 0 n).text ≡ v.text = ap chars compact-bytes ∙ ap (λ w. w.text) e in
       rw text at
-      (appended array_size compact 0 n compact-stored (stored compact 0 n) refl given u (omega (arith, room)) after (written-from-zero compact after given n written))
+      (appended compact-stored refl given u (omega (arith, room)) after (written-from-zero compact after given n written))
 
 -- the bytes from the boundary `end` on were moved to the boundary `start`
-module _ (array_size : ℕ) (array : List ℕ) (p n : ℕ) (is : IsStored array_size array p n) (v : Stored) (e : stored array p n ≡ v)
+module _ {array_size : ℕ} {array : List ℕ} {p n : ℕ} (is : IsStored array_size array p n) {v : Stored} (e : stored array p n ≡ v)
     (start end : ℕ) (order : start ≤ end) (b : boundary v.text start ≡ true) (d : boundary v.text end ≡ true) (after : List ℕ)
     (moved : after ≡ take (p + start) array ++ (take (n - end) (drop (p + end) array) ++ drop (p + start + (n - end)) array)) where
   closed-within : end ≤ n
-  closed-within = omega (arith, opened-size array_size array p n is v e, boundary-within v.text end d)
+  closed-within = omega (arith, opened-size is e, boundary-within v.text end d)
 
   closed-source : p + end + (n - end) ≤ length array
-  closed-source = omega (arith, closed-within, is.0, is.1)
+  closed-source = omega (arith, closed-within, is.within, is.length)
 
   closed-target : p + start + (n - end) ≤ length array
-  closed-target = omega (arith, closed-within, is.0, is.1)
+  closed-target = omega (arith, closed-within, is.within, is.length)
 
   closed-fits : size v.text - (end - start) + length {A = ℕ} [] ≤ cap array_size
-  closed-fits = omega (arith, opened-size array_size array p n is v e, is.0)
+  closed-fits = omega (arith, opened-size is e, is.within)
 
   closed-size : start + (length {A = ℕ} [] + (n - end)) ≡ start + (n - end)
   closed-size = omega arith
@@ -205,13 +205,13 @@ module _ (array_size : ℕ) (array : List ℕ) (p n : ℕ) (is : IsStored array_
       ∙ ap (λ l. take start (drop p array) ++ take (n - end) l) (sym (drop-drop end p array))
 
   closed-long : length after ≡ array_size
-  closed-long = shift-length array after (p + end) (p + start) (n - end) closed-source closed-target moved ∙ is.1
+  closed-long = shift-length array after (p + end) (p + start) (n - end) closed-source closed-target moved ∙ is.length
 
   closed-held : p + (start + (length {A = ℕ} [] + (n - end))) ≤ cap array_size
-  closed-held = omega (arith, closed-within, is.0)
+  closed-held = omega (arith, closed-within, is.within)
 
   closed-lies : Lies array_size after p (start + (length {A = ℕ} [] + (n - end))) (front v.text start ++ (chars [] ++ back v.text end))
-  closed-lies = replaced array_size array p n is v e start end [] order b d closed-fits IsUtf8-nil after p closed-long closed-held closed-parts
+  closed-lies = replaced is e start end [] order b d closed-fits IsUtf8-nil after p closed-long closed-held closed-parts
 
   pub closed : Lies array_size after p (start + (n - end)) (front v.text start ++ back v.text end)
   closed = record {
@@ -222,19 +222,19 @@ module _ (array_size : ℕ) (array : List ℕ) (p n : ℕ) (is : IsStored array_
   }
 
 -- the part before the boundary m is dropped
-module _ (array_size : ℕ) (array : List ℕ) (p n : ℕ) (is : IsStored array_size array p n) (v : Stored) (e : stored array p n ≡ v)
+module _ {array_size : ℕ} {array : List ℕ} {p n : ℕ} (is : IsStored array_size array p n) {v : Stored} (e : stored array p n ≡ v)
     (m : ℕ) (b : boundary v.text m ≡ true) where
   pub dropped-within : m ≤ n
-  dropped-within = omega (arith, opened-size array_size array p n is v e, boundary-within v.text m b)
+  dropped-within = omega (arith, opened-size is e, boundary-within v.text m b)
 
   whole-utf8 : IsUtf8 (bytes v.text)
-  whole-utf8 = rw (opened-bytes array_size array p n is v e) (stored-utf8 array_size array p n is)
+  whole-utf8 = rw (opened-bytes is e) (stored-utf8 is)
 
   dropped-bytes : take (n - m) (drop (p + m) array) ≡ bytes (back v.text m)
   dropped-bytes =
       let whole : m + (n - m) ≡ n = omega (arith, dropped-within) in
       ap (take (n - m)) (sym (drop-drop m p array)) ∙ sym (drop-take m (n - m) (drop p array))
-      ∙ ap (λ k. drop m (take k (drop p array))) whole ∙ ap (drop m) (sym (opened-bytes array_size array p n is v e)) ∙ bytes-back v.text m b
+      ∙ ap (λ k. drop m (take k (drop p array))) whole ∙ ap (drop m) (sym (opened-bytes is e)) ∙ bytes-back v.text m b
 
   dropped-utf8 : IsUtf8 (take (n - m) (drop (p + m) array))
   dropped-utf8 =
@@ -242,27 +242,27 @@ module _ (array_size : ℕ) (array : List ℕ) (p n : ℕ) (is : IsStored array_
 
   pub dropped : Lies array_size array (p + m) (n - m) (back v.text m)
   dropped = record {
-    held = (omega (arith, is.0, dropped-within), is.1, ∣ dropped-utf8 ∣₁);
+    held = record { within = omega (arith, is.within, dropped-within); length = is.length; utf8 = ∣ dropped-utf8 ∣₁ };
     shown = chars-bytes dropped-utf8 dropped-bytes;
   }
 
 -- the part before the boundary m is kept
-module _ (array_size : ℕ) (array : List ℕ) (p n : ℕ) (is : IsStored array_size array p n) (v : Stored) (e : stored array p n ≡ v)
+module _ {array_size : ℕ} {array : List ℕ} {p n : ℕ} (is : IsStored array_size array p n) {v : Stored} (e : stored array p n ≡ v)
     (m : ℕ) (b : boundary v.text m ≡ true) where
   kept-within : m ≤ n
-  kept-within = omega (arith, opened-size array_size array p n is v e, boundary-within v.text m b)
+  kept-within = omega (arith, opened-size is e, boundary-within v.text m b)
 
   kept-bytes : take m (drop p array) ≡ bytes (front v.text m)
   kept-bytes =
-      sym (take-take m n (drop p array) kept-within) ∙ ap (take m) (sym (opened-bytes array_size array p n is v e)) ∙ bytes-front v.text m b
+      sym (take-take m n (drop p array) kept-within) ∙ ap (take m) (sym (opened-bytes is e)) ∙ bytes-front v.text m b
 
   kept-utf8 : IsUtf8 (take m (drop p array))
   kept-utf8 =
-      let u : IsUtf8 (bytes v.text) = rw (opened-bytes array_size array p n is v e) (stored-utf8 array_size array p n is) in
+      let u : IsUtf8 (bytes v.text) = rw (opened-bytes is e) (stored-utf8 is) in
       rw (kept-bytes, ← bytes-front v.text m b) (IsUtf8-take (bytes v.text) m u (boundary-to_bytes v.text (bytes v.text) m u refl b))
 
   pub kept : Lies array_size array p m (front v.text m)
   kept = record {
-    held = (omega (arith, is.0, kept-within), is.1, ∣ kept-utf8 ∣₁);
+    held = record { within = omega (arith, is.within, kept-within); length = is.length; utf8 = ∣ kept-utf8 ∣₁ };
     shown = chars-bytes kept-utf8 kept-bytes;
   }

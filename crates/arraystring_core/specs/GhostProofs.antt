@@ -9,9 +9,9 @@ use Rattle.arraystring_core.specs.Stored.{Stored, stored, IsStored, array_of}
 use Rattle.arraystring_core.specs.Drained.{drained, IsDrained, removed_of}
 
 -- the text, and the array, of a string
-module _ (array_size : ℕ) (array : List ℕ) (start n : ℕ) (is : IsStored array_size array start n) where
+module _ {array_size : ℕ} {array : List ℕ} {start n : ℕ} (is : IsStored array_size array start n) where
   pub stored-utf8 : IsUtf8 (take n (drop start array))
-  stored-utf8 = IsUtf8-had _ is.2
+  stored-utf8 = IsUtf8-had _ is.utf8
 
   pub stored-bytes : bytes (stored array start n).text ≡ take n (drop start array)
   stored-bytes = bytes-chars stored-utf8
@@ -19,13 +19,13 @@ module _ (array_size : ℕ) (array : List ℕ) (start n : ℕ) (is : IsStored ar
   pub stored-size : size (stored array start n).text ≡ n
   stored-size =
       size-is (stored array start n).text ∙ ap length stored-bytes
-      ∙ length-take-le n (drop start array) (omega (arith, is.0, is.1, length-drop start array))
+      ∙ length-take-le n (drop start array) (omega (arith, is.within, is.length, length-drop start array))
 
   pub stored-all : array_of (stored array start n) ≡ array
   stored-all =
       let front = take start array in
       let back = drop n (drop start array) in
-      let long : length front ≡ start = length-take-le start array (omega (arith, is.0, is.1)) in
+      let long : length front ≡ start = length-take-le start array (omega (arith, is.within, is.length)) in
       ap (λ f. f ++ (bytes (stored array start n).text ++ drop start (front ++ back))) (take_at front back start long)
       ∙ ap (λ d. front ++ (bytes (stored array start n).text ++ d)) (drop_at front back start long)
       ∙ ap (λ b. front ++ (b ++ back)) stored-bytes
@@ -45,7 +45,7 @@ module _ (array_size : ℕ) (removed : Stored) (i : ℕ) (is : IsDrained array_s
 -- and where it lies: the n bytes of the array from `start` on
 module _ (array_size : ℕ) (array : List ℕ) (start n i : ℕ) (held : IsStored array_size array start n) (is : IsDrained array_size (stored array start n) i) where
   pub drained-array : array_of (removed_of (drained (stored array start n) i)) ≡ array
-  drained-array = ap array_of (drained-removed array_size (stored array start n) i is) ∙ stored-all array_size array start n held
+  drained-array = ap array_of (drained-removed array_size (stored array start n) i is) ∙ stored-all held
 
   pub drained-size : size (removed_of (drained (stored array start n) i)).text ≡ n
-  drained-size = ap (λ r. size r.text) (drained-removed array_size (stored array start n) i is) ∙ stored-size array_size array start n held
+  drained-size = ap (λ r. size r.text) (drained-removed array_size (stored array start n) i is) ∙ stored-size held

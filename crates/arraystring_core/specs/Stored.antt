@@ -15,8 +15,10 @@ stored array start n = record {
 }
 
 -- an array of `array_size` bytes, of which the n from `start` on are UTF-8 and end within the capacity
-abbrev pub IsStored : ℕ → List ℕ → ℕ → ℕ → Type 0
-IsStored array_size array start n = (start + n ≤ cap array_size) × (length array ≡ array_size) × ∥ IsUtf8 (take n (drop start array)) ∥₁
+pub record IsStored (array_size : ℕ) (array : List ℕ) (start n : ℕ) : Type 0 where
+  pub within : start + n ≤ cap array_size
+  pub length : length array ≡ array_size
+  pub utf8 : ∥ IsUtf8 (take n (drop start array)) ∥₁
 
 -- the start and the array, given back
 abbrev pub start_of : Stored → ℕ

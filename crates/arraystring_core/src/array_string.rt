@@ -69,9 +69,9 @@ impl<const N: usize> Model for ArrayString<N> {
     ghost inverse = { λ v. record { array = array_of v; start = start_of v; size = text_size v.text } };
 
     ghost inverse_ok = { λ s h i. record {
-      array = stored-all N s.array s.start s.size h i;
+      array = stored-all h i;
       start = s.start;
-      size = stored-size N s.array s.start s.size h i;
+      size = stored-size h i;
     } };
 }
 

@@ -32,9 +32,8 @@ fn read_all(crates: &Path, mut tally: Tally) -> Result<(Made, Tally), String> {
     let mut made = Made::new();
     for (file, name) in DEFINITIONS {
         let text = read(&crates.join(file))?;
-        let is_definition = |line: &&str| line.starts_with(&format!("{name} ")) && line.contains(" = ");
-        let line = text.lines().find(is_definition);
-        tally.contracts.define(name, line.ok_or(format!("crates/{file}: the definition of `{name}` is not there"))?);
+        let record = text.split("\n\n").find_map(|part| Some(&part[part.find(&format!("pub record {name} "))?..]));
+        tally.contracts.define(name, record.ok_or(format!("crates/{file}: the record `{name}` is not there"))?);
     }
     for krate in CRATES {
         let mut left = sources(&crates.join(krate).join("src"))?;

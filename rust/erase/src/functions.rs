@@ -266,7 +266,7 @@ impl<'a> File<'a, '_> {
         given.is_some_and(|given| arguments.iter().all(|argument| given.contains(argument)))
     }
 
-    /// The test of the first clause of the invariant of a function's type, once the type was read.
+    /// The test of the first field of the invariant of a function's type, once the type was read.
     fn invariant(&self, function: &Function) -> Result<Option<String>, Fault> {
         let Function { call, head, .. } = function;
         let owner = call.split("::").next().unwrap_or_default();

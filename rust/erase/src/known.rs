@@ -22,15 +22,18 @@ pub fn test_of(clause: &str, names: &Names) -> Result<String, String> {
     }
 }
 
-/// The test of the first clause of an invariant: of `λ s. IsStored N s.array s.start s.size`, by the definition
-/// `IsStored array_size array start n = (start + n ≤ cap array_size) × ..`, that of `s.start + s.size ≤ cap N`.
+/// The test of the first field of an invariant: of `λ s. IsStored N s.array s.start s.size`, by the record
+/// `IsStored (array_size : ℕ) (array : List ℕ) (start n : ℕ)` with `start + n ≤ cap array_size`, `s.start + s.size ≤ cap N`.
 pub fn test_of_invariant(invariant: &str, definition: &str, names: &Names) -> Result<String, String> {
     let fault = || format!("the invariant `{invariant}` by the definition `{definition}`");
     let (value, applied) = invariant.strip_prefix("λ ").and_then(|rest| rest.split_once(". ")).ok_or_else(fault)?;
-    let (head, clauses) = definition.split_once(" = (").ok_or_else(fault)?;
-    let (clause, _) = clauses.split_once(") × ").ok_or_else(fault)?;
-    let parameters: Vec<_> = head.split(' ').collect();
-    let arguments: Vec<_> = applied.split(' ').take(parameters.len()).collect();
+    let (head, fields) = definition.split_once(" : Type 0 where\n").ok_or_else(fault)?;
+    let (name, bound) = head.strip_prefix("pub record ").and_then(|head| head.split_once(' ')).ok_or_else(fault)?;
+    let field = fields.lines().next().and_then(|field| field.strip_prefix("  pub "));
+    let (_, clause) = field.and_then(|field| field.split_once(" : ")).ok_or_else(fault)?;
+    let bound = bound.split(['(', ')']).filter_map(|bound| bound.split_once(" : "));
+    let parameters: Vec<_> = [name].into_iter().chain(bound.flat_map(|(names, _)| names.split(' '))).collect();
+    let arguments: Vec<_> = applied.split(" × ").next().unwrap_or_default().split(' ').collect();
     if arguments.len() != parameters.len() || arguments[0] != parameters[0] {
         return Err(fault());
     }
@@ -247,8 +250,11 @@ mod tests {
         test_of(clause, &Names { head, result: Some("end") })
     }
 
-    const STORED: &str =
-        "IsStored array_size array start n = (start + n ≤ cap array_size) × (length array ≡ array_size)";
+    const STORED: &str = "\
+pub record IsStored (array_size : ℕ) (array : List ℕ) (start n : ℕ) : Type 0 where
+  pub within : start + n ≤ cap array_size
+  pub length : length array ≡ array_size
+";
 
     fn of_type(invariant: &str, definition: &str) -> Result<String, String> {
         let head = "struct S<const N: usize> {\n    start: u8,\n    size: u8,\n    len: usize,\n    array: [u8; N],\n}";
@@ -256,7 +262,7 @@ mod tests {
     }
 
     #[test]
-    fn the_first_clause_of_an_invariant_is_read_off_its_definition() {
+    fn the_first_field_of_an_invariant_is_read_off_its_definition() {
         let invariant = "λ s. IsStored N s.array s.start s.size";
         let capacity = "crate::ArrayString::<N>::capacity() as usize";
         let sum = "self.start as usize + self.size as usize";
@@ -287,8 +293,10 @@ mod tests {
             ("λ s. IsStored N s.array (s.start + 1) s.size", STORED),
             ("λ s. IsStored N s.array t.start s.size", STORED),
             ("λ s. IsStored 7 s.array s.start s.size", STORED),
-            (invariant, "IsStored array_size array start n = ∥ IsUtf8 (take n (drop start array)) ∥₁"),
-            (invariant, "IsStored array_size array start n = (IsUtf8 array) × (start + n ≤ cap array_size)"),
+            (invariant, "IsStored array_size array start n = start + n ≤ cap array_size"),
+            (invariant, "pub record IsStored (n : ℕ) : Type 0 where\n  pub within : n ≤ cap n\n"),
+            (invariant, &STORED.replace("start + n ≤ cap array_size", "∥ IsUtf8 (take n (drop start array)) ∥₁")),
+            (invariant, &STORED.replace("  pub within", "  pub utf8 : IsUtf8 array\n  pub within")),
         ] {
             assert!(of_type(invariant, definition).is_err(), "{invariant}: {:?}", of_type(invariant, definition));
         }

@@ -574,7 +574,7 @@ pub struct Inside {
 pub const INSIDE: &[Inside] =
     &[Inside { of: "steps::look", call: "look", by_hand: "crate::by_hand::look", clause: "in_bounds" }];
 
-/// Calls in which the first clause of the invariant of their type stands as known: what is stored ends within the capacity.
+/// Calls in which the first field of the invariant of their type stands as known: what is stored ends within the capacity.
 pub const INVARIANTS: &[&str] = &[
     "ArrayString::as_str",
     "ArrayString::as_bytes",
@@ -584,7 +584,7 @@ pub const INVARIANTS: &[&str] = &[
     "Drain::next_back",
 ];
 
-/// The definitions by which invariants are read, with their file in the folder of crates.
+/// The records by which invariants are read, with their file in the folder of crates.
 pub const DEFINITIONS: &[(&str, &str)] = &[("arraystring_core/specs/Stored.antt", "IsStored")];
 
 /// A file in which std does what a function of the source does.

@@ -221,7 +221,8 @@ fn made_as(path: &str, text: &str) -> Result<String, String> {
 fn made_with(path: &str, text: &str, is_whole: bool) -> Result<String, String> {
     let source = Source { krate: "arraystring_base", path, text };
     let mut tally = Tally::default();
-    let stored = "IsStored array_size array start n = (start + n ≤ cap array_size) × (length array ≡ array_size)";
+    let stored = "pub record IsStored (array_size : ℕ) (array : List ℕ) (start n : ℕ) : Type 0 where\n  \
+                  pub within : start + n ≤ cap array_size\n  pub length : length array ≡ array_size\n";
     tally.contracts.define("IsStored", stored);
     let _ = erase(&source, &mut tally);
     tally.contracts.is_whole = is_whole;

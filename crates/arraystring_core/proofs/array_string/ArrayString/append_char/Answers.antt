@@ -8,7 +8,7 @@ use Rattle.arraystring_core.proofs.array_string.ArrayString.append_char.Goals as
 
 pub returns-then-not-has_room-2-clause-text : goal.returns-then-not-has_room-2-clause-text
 returns-then-not-has_room-2-clause-text g c =
-    let long = stored-size g.row.N c.args.array.now c.args.start.now c.args.len.now c.requires.held in
+    let long = stored-size c.requires.held in
     let over : cap g.row.N < c.args.end - c.args.start.now + width c.args.ch = lt_of_not-le (iff_false c.has_room-then-not-has_room.ensures c.if-not-has_room-2.true) in
     (omega (arith, over, long, c.requires.end), refl)
 
@@ -19,21 +19,21 @@ compact_and_append-held-requires g c =
 
 pub returns-then-not-has_room-clause-text : goal.returns-then-not-has_room-clause-text
 returns-then-not-has_room-clause-text g c =
-    let long = stored-size g.row.N c.args.array.now c.args.start.now c.args.len.now c.requires.held in
+    let long = stored-size c.requires.held in
     let same : c.args.end - c.args.start.now ≡ c.args.len.now = omega (arith, c.requires.end) in
     (omega (arith, c.if-not-has_room-2.ensures.0 refl, long, same), rw same at c.compact_and_append-held.ensures.text)
 
 pub returns-clause-held : goal.returns-clause-held
 returns-clause-held g c =
     let room : c.args.start.now + c.args.len.now + width c.args.ch ≤ cap g.row.N = omega (arith, c.if-not-has_room.ensures.0 refl, c.requires.end) in
-    let lies = char-appended g.row.N c.args.array.now c.args.start.now c.args.len.now c.requires.held c.args.ch (search rules) c.encode.new.array room (rw c.requires.end at c.encode.ensures.bytes) in
+    let lies = char-appended c.requires.held c.args.ch (search rules) c.encode.new.array room (rw c.requires.end at c.encode.ensures.bytes) in
     let same : c.args.len.now + width c.args.ch ≡ c.args.end + c.encode.result - c.args.start.now = omega (arith, c.requires.end, c.encode.ensures.width) in
     (rw same at lies).held
 
 pub returns-clause-text : goal.returns-clause-text
 returns-clause-text g c =
-    let long = stored-size g.row.N c.args.array.now c.args.start.now c.args.len.now c.requires.held in
+    let long = stored-size c.requires.held in
     let room : c.args.start.now + c.args.len.now + width c.args.ch ≤ cap g.row.N = omega (arith, c.if-not-has_room.ensures.0 refl, c.requires.end) in
-    let lies = char-appended g.row.N c.args.array.now c.args.start.now c.args.len.now c.requires.held c.args.ch (search rules) c.encode.new.array room (rw c.requires.end at c.encode.ensures.bytes) in
+    let lies = char-appended c.requires.held c.args.ch (search rules) c.encode.new.array room (rw c.requires.end at c.encode.ensures.bytes) in
     let same : c.args.len.now + width c.args.ch ≡ c.args.end + c.encode.result - c.args.start.now = omega (arith, c.requires.end, c.encode.ensures.width) in
     (omega (arith, room, long), (rw same at lies).shown)

@@ -11,7 +11,7 @@ use Rattle.arraystring_core.proofs.array_string.ArrayString.append_chars.Goals a
 pub loop-ch-init : goal.loop-ch-init
 loop-ch-init g c =
     let old = (stored c.args.array.now c.args.start.now c.args.len.now).text in
-    let long : size old ≡ c.args.len.now = stored-size g.row.N c.args.array.now c.args.start.now c.args.len.now c.requires.held in
+    let long : size old ≡ c.args.len.now = stored-size c.requires.held in
     let on = c.requires.ends c.into_iter-ch-iterator.result c.into_iter-ch-iterator.ensures.into_iter_gives in
     record {
       can = on.0;
@@ -19,7 +19,7 @@ loop-ch-init g c =
       held = c.requires.held;
       end = refl;
       text = sym (append-nil old);
-      fits = omega (arith, long, c.requires.held.0);
+      fits = omega (arith, long, c.requires.held.within);
     }
 
 pub loop-ch-preserved : goal.loop-ch-preserved

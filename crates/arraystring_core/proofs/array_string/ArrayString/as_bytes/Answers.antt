@@ -5,14 +5,14 @@ use Rattle.arraystring_core.proofs.array_string.ArrayString.as_bytes.Goals as go
 
 pub returns-clause-bytes : goal.returns-clause-bytes
 returns-clause-bytes g c =
-    rw (borrowed-range g.row.N _ _ _ c.self.invariant) (sym (opened-bytes g.row.N _ _ _ c.self.invariant _ c.self.view_is))
+    rw borrowed-range (sym (opened-bytes c.self.invariant c.self.view_is))
 
 pub returns-clause-len : goal.returns-clause-len
 returns-clause-len g c = ap length (returns-clause-bytes g c) ∙ sym (size-is c.args.self.now.text)
 
 pub returns-clause-text : goal.returns-clause-text
-returns-clause-text g c = opened-text g.row.N _ _ _ c.self.invariant _ c.self.view_is
+returns-clause-text g c = opened-text c.self.invariant c.self.view_is
 
 pub returns-clause-fits : goal.returns-clause-fits
 returns-clause-fits g c =
-    omega (arith, opened-size g.row.N _ _ _ c.self.invariant _ c.self.view_is, c.self.invariant.0)
+    omega (arith, opened-size c.self.invariant c.self.view_is, c.self.invariant.within)

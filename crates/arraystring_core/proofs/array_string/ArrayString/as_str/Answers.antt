@@ -5,13 +5,13 @@ use Rattle.arraystring_core.proofs.array_string.ArrayString.as_str.Goals as goal
 
 pub from_utf8_unchecked-requires : goal.from_utf8_unchecked-requires
 from_utf8_unchecked-requires g c =
-    rw (borrowed-range g.row.N _ _ _ c.self.invariant) (stored-utf8 g.row.N _ _ _ c.self.invariant)
+    rw borrowed-range (stored-utf8 c.self.invariant)
 
 pub returns : goal.returns
 returns g c =
-    let borrowed = rw (borrowed-range g.row.N _ _ _ c.self.invariant) at c.from_utf8_unchecked.ensures in
+    let borrowed = rw borrowed-range at c.from_utf8_unchecked.ensures in
     record {
-      bytes = borrowed ∙ sym (opened-bytes g.row.N _ _ _ c.self.invariant _ c.self.view_is);
-      text = opened-text g.row.N _ _ _ c.self.invariant _ c.self.view_is;
-      fits = omega (arith, opened-size g.row.N _ _ _ c.self.invariant _ c.self.view_is, c.self.invariant.0);
+      bytes = borrowed ∙ sym (opened-bytes c.self.invariant c.self.view_is);
+      text = opened-text c.self.invariant c.self.view_is;
+      fits = omega (arith, opened-size c.self.invariant c.self.view_is, c.self.invariant.within);
     }

@@ -12,30 +12,30 @@ use Rattle.arraystring_core.proofs.array_string.ArrayString.compact_and_insert.G
 pub compact_and_open_gap-requires : goal.compact_and_open_gap-requires
 compact_and_open_gap-requires g c =
     let wide : c.len_utf8-len.result ≡ width c.args.ch = c.len_utf8-len.ensures.value ∙ sym (width-is c.args.ch) in
-    let long = opened-size g.row.N _ _ _ c.self.invariant _ c.self.view_is in
+    let long = opened-size c.self.invariant c.self.view_is in
     let within : c.args.at ≤ c.self.inside.size = omega (arith, long, boundary-within c.args.self.now.text c.args.at c.requires.boundary) in
     let room : c.args.at + (c.len_utf8-len.result + (c.self.inside.size - c.args.at)) ≤ cap g.row.N = omega (arith, long, within, wide, c.requires.room) in
-    rw (c.new-text.ensures.offset, c.new-text.ensures.size) (search rules, (omega arith, (within, (c.self.invariant.0, (room, omega arith)))))
+    rw (c.new-text.ensures.offset, c.new-text.ensures.size) (search rules, (omega arith, (within, (c.self.invariant.within, (room, omega arith)))))
 
 pub overflow_sub-self : goal.overflow_sub-self
 overflow_sub-self g c =
-    omega (arith, c.new-text.ensures.size, opened-size g.row.N _ _ _ c.self.invariant _ c.self.view_is, boundary-within c.args.self.now.text c.args.at c.requires.boundary)
+    omega (arith, c.new-text.ensures.size, opened-size c.self.invariant c.self.view_is, boundary-within c.args.self.now.text c.args.at c.requires.boundary)
 
 pub overflow_add-self-2 : goal.overflow_add-self-2
 overflow_add-self-2 g c =
     let wide : c.len_utf8-len.result ≡ width c.args.ch = c.len_utf8-len.ensures.value ∙ sym (width-is c.args.ch) in
-    let long = opened-size g.row.N _ _ _ c.self.invariant _ c.self.view_is in
+    let long = opened-size c.self.invariant c.self.view_is in
     omega (arith, c.new-text.ensures.size, long, boundary-within c.args.self.now.text c.args.at c.requires.boundary, wide, c.requires.room)
 
 pub overflow_cast-self : goal.overflow_cast-self
 overflow_cast-self g c =
     let wide : c.len_utf8-len.result ≡ width c.args.ch = c.len_utf8-len.ensures.value ∙ sym (width-is c.args.ch) in
-    let long = opened-size g.row.N _ _ _ c.self.invariant _ c.self.view_is in
+    let long = opened-size c.self.invariant c.self.view_is in
     omega (arith, c.new-text.ensures.size, long, boundary-within c.args.self.now.text c.args.at c.requires.boundary, wide, c.requires.room)
 
 pub encode-requires : goal.encode-requires
 encode-requires g c =
-    let long = opened-size g.row.N _ _ _ c.self.invariant _ c.self.view_is in
+    let long = opened-size c.self.invariant c.self.view_is in
     let within : c.args.at + width c.args.ch ≤ g.row.N = omega (arith, long, boundary-within c.args.self.now.text c.args.at c.requires.boundary, c.requires.room) in
     (search rules, within)
 
@@ -51,7 +51,7 @@ written g c =
     let wide : c.len_utf8-len.result ≡ length (utf8 ch) = c.len_utf8-len.ensures.value ∙ sym (width-is ch) ∙ sym (length-utf8 ch) in
     let u : IsUtf8 (utf8 ch) = rw (utf8-is ch) (IsUtf8-encode ch (search rules)) in
     let fits : size t - (at - at) + length (utf8 ch) ≤ cap g.row.N = omega (arith, c.requires.room, length-utf8 ch) in
-    rw (wide, c.new-text.ensures.size) (moved_to_start g.row.N _ _ _ c.self.invariant _ c.self.view_is at at (utf8 ch) (omega arith) c.requires.boundary c.requires.boundary fits u
+    rw (wide, c.new-text.ensures.size) (moved_to_start c.self.invariant c.self.view_is at at (utf8 ch) (omega arith) c.requires.boundary c.requires.boundary fits u
     gap.new.array c.encode.new.array gap.ensures.len (rw c.new-text.ensures.offset at gap.ensures.front)
     (rw (wide, c.new-text.ensures.offset, c.new-text.ensures.size) at gap.ensures.tail) (rw (← length-utf8 ch) at c.encode.ensures.bytes))
 

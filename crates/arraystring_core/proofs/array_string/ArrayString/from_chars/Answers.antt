@@ -1,15 +1,10 @@
-use Rattle.std.proofs.Common.{◌∙◌, subst, rules, arith}
-use Rattle.std.proofs.lemmas.Str.{chars-nil, IsUtf8-nil}
-use Rattle.std.proofs.lemmas.List.{length-replicate}
+use Rattle.std.proofs.Common.{◌∙◌, subst}
+use Rattle.std.proofs.lemmas.Str.{chars-nil}
 use Rattle.arraystring_base.specs.Text.{cap}
 use Rattle.arraystring_core.specs.Taken.{Takes}
 use Rattle.arraystring_core.proofs.TakenLaws.{chars-cut}
 use Rattle.arraystring_core.proofs.ConstructLaws.{fresh-room, fresh-cut}
 use Rattle.arraystring_core.proofs.array_string.ArrayString.from_chars.Goals as goal
-
-pub append_chars-requires : goal.append_chars-requires
-append_chars-requires g c =
-    (search rules, ((omega arith, length-replicate g.row.N 0, ∣ IsUtf8-nil ∣₁), c.requires))
 
 pub returns-clause-taken : goal.returns-clause-taken
 returns-clause-taken g c =

@@ -20,7 +20,11 @@ invariant_of-result g c =
     let fits : 0 + length given ≤ cap g.row.N = omega (arith, c.requires, size-borrowed c.utf8.string) in
     let zeros : length (replicate g.row.N 0) ≡ g.row.N = length-replicate g.row.N 0 in
     let long = written-length (replicate g.row.N 0) c.fill.new.array given 0 (omega (arith, fits, zeros)) copied ∙ zeros in
-    (fits, long, rw (ap (take (length given)) copied ∙ take_at given _ (length given) refl) (∣ c.utf8.string ∣₁))
+    record {
+      within = fits;
+      length = long;
+      utf8 = rw (ap (take (length given)) copied ∙ take_at given _ (length given) refl) (∣ c.utf8.string ∣₁);
+    }
 
 pub returns : goal.returns
 returns g c =

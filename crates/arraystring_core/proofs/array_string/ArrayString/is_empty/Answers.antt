@@ -7,5 +7,5 @@ use Rattle.arraystring_core.proofs.array_string.ArrayString.is_empty.Goals as go
 
 pub returns : goal.returns
 returns g c =
-    let long = opened-size g.row.N _ _ _ c.self.invariant _ c.self.view_is in
+    let long = opened-size c.self.invariant c.self.view_is in
     (λ e. empty-size (long ∙ eqb-true _ 0 e), λ e. eq-eqb _ 0 (sym long ∙ ap size e))

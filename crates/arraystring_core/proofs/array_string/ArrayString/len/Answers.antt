@@ -3,4 +3,4 @@ use Rattle.arraystring_core.proofs.StoredLaws.{opened-size}
 use Rattle.arraystring_core.proofs.array_string.ArrayString.len.Goals as goal
 
 pub returns-clause-value : goal.returns-clause-value
-returns-clause-value g c = sym (opened-size g.row.N _ _ _ c.self.invariant _ c.self.view_is)
+returns-clause-value g c = sym (opened-size c.self.invariant c.self.view_is)

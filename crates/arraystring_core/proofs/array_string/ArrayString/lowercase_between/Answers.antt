@@ -1,5 +1,4 @@
 use Rattle.std.proofs.Common.{◌+◌, ◌≤◌, arith, rules}
-use Rattle.std.specs.Char.{to_ascii_lowercase}
 use Rattle.arraystring_base.proofs.BoundaryLaws.{boundary-within}
 use Rattle.arraystring_core.proofs.StoredLaws.{opened-size}
 use Rattle.arraystring_core.proofs.AsciiLemmas.{lowercase-change, changed-stored, changed-text}
@@ -7,23 +6,23 @@ use Rattle.arraystring_core.proofs.array_string.ArrayString.lowercase_between.Go
 
 pub overflow_add-offset : goal.overflow_add-offset
 overflow_add-offset g c =
-    omega (arith, opened-size g.row.N _ _ _ c.self.invariant _ c.self.view_is, boundary-within c.args.self.now.text c.args.start c.requires.start, c.self.invariant.0)
+    omega (arith, opened-size c.self.invariant c.self.view_is, boundary-within c.args.self.now.text c.args.start c.requires.start, c.self.invariant.within)
 
 pub overflow_add-offset-2 : goal.overflow_add-offset-2
 overflow_add-offset-2 g c =
-    omega (arith, opened-size g.row.N _ _ _ c.self.invariant _ c.self.view_is, boundary-within c.args.self.now.text c.args.end c.requires.end, c.self.invariant.0)
+    omega (arith, opened-size c.self.invariant c.self.view_is, boundary-within c.args.self.now.text c.args.end c.requires.end, c.self.invariant.within)
 
 pub lowercase_bytes-requires : goal.lowercase_bytes-requires
 lowercase_bytes-requires g c =
     let order : c.self.inside.start + c.args.start ≤ c.self.inside.start + c.args.end = omega (arith, c.requires.order) in
     let within : c.self.inside.start + c.args.end ≤ g.row.N =
-    omega (arith, opened-size g.row.N _ _ _ c.self.invariant _ c.self.view_is, boundary-within c.args.self.now.text c.args.end c.requires.end, c.self.invariant.0) in
+    omega (arith, opened-size c.self.invariant c.self.view_is, boundary-within c.args.self.now.text c.args.end c.requires.end, c.self.invariant.within) in
     (search rules, (order, within))
 
 pub invariant_of-self : goal.invariant_of-self
 invariant_of-self g c =
-    changed-stored to_ascii_lowercase lowercase-change g.row.N _ _ _ c.self.invariant _ c.self.view_is _ _ c.requires.order c.requires.start c.requires.end _ c.lowercase_bytes.ensures
+    changed-stored lowercase-change c.self.invariant c.self.view_is _ _ c.requires.order c.requires.start c.requires.end _ c.lowercase_bytes.ensures
 
 pub returns : goal.returns
 returns g c =
-    changed-text to_ascii_lowercase lowercase-change g.row.N _ _ _ c.self.invariant _ c.self.view_is _ _ c.requires.order c.requires.start c.requires.end _ c.lowercase_bytes.ensures
+    changed-text lowercase-change c.self.invariant c.self.view_is _ _ c.requires.order c.requires.start c.requires.end _ c.lowercase_bytes.ensures

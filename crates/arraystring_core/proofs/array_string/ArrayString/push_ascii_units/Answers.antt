@@ -8,7 +8,7 @@ use Rattle.arraystring_core.proofs.array_string.ArrayString.push_ascii_units.Goa
 
 pub overflow_cast-self-2 : goal.overflow_cast-self-2
 overflow_cast-self-2 g c =
-    let end = c.end-end.ensures.value ∙ opened-end g.row.N _ _ _ c.self.invariant _ c.self.view_is in
+    let end = c.end-end.ensures.value ∙ opened-end c.self.invariant c.self.view_is in
     omega (arith, end, c.write_ascii-run.ensures.room)
 
 -- what is then in the array
@@ -16,13 +16,13 @@ written : (g : given.Over) (c : goal.After-self-1 g)
     → Lies g.row.N c.write_ascii-run.new.array c.self.inside.start (c.self.inside.size + c.write_ascii-run.result)
     (c.args.self.now.text ++ chars (take c.write_ascii-run.result c.args.units.now))
 written g c =
-    let end = c.end-end.ensures.value ∙ opened-end g.row.N _ _ _ c.self.invariant _ c.self.view_is in
+    let end = c.end-end.ensures.value ∙ opened-end c.self.invariant c.self.view_is in
     let n = c.write_ascii-run.result in
     let units = c.args.units.now in
     let wide : length (take n units) ≡ n = length-take-le n units c.write_ascii-run.ensures.within in
     let utf8 : IsUtf8 (take n units) = run-utf8 n units c.write_ascii-run.ensures.ascii in
     let room : c.self.inside.start + c.self.inside.size + length (take n units) ≤ cap g.row.N = rw (wide, ← end) c.write_ascii-run.ensures.room in
-    rw wide at (appended g.row.N _ _ _ c.self.invariant _ c.self.view_is (take n units) utf8 room c.write_ascii-run.new.array (rw (wide, ← end) c.write_ascii-run.ensures.bytes))
+    rw wide at (appended c.self.invariant c.self.view_is (take n units) utf8 room c.write_ascii-run.new.array (rw (wide, ← end) c.write_ascii-run.ensures.bytes))
 
 pub invariant_of-self : goal.invariant_of-self
 invariant_of-self g c = (written g c).held

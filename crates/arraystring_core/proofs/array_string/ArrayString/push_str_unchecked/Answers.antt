@@ -7,7 +7,7 @@ use Rattle.arraystring_core.proofs.array_string.ArrayString.push_str_unchecked.G
 
 pub overflow_cast-self-2 : goal.overflow_cast-self-2
 overflow_cast-self-2 g c =
-    let end = c.end-end.ensures.value ∙ opened-end g.row.N _ _ _ c.self.invariant _ c.self.view_is in
+    let end = c.end-end.ensures.value ∙ opened-end c.self.invariant c.self.view_is in
     omega (arith, end, c.if-end-string.false, c.capacity.ensures)
 
 -- what is then in the array
@@ -15,10 +15,10 @@ written : (g : given.Over) (c : goal.After-write_over g)
     → Lies g.row.N c.write_over.new.array c.self.inside.start (c.self.inside.size + length c.args.string.now) (c.args.self.now.text ++ chars c.args.string.now)
 written g c =
     let s = c.self.inside in
-    let end = c.end-end.ensures.value ∙ opened-end g.row.N _ _ _ c.self.invariant _ c.self.view_is in
+    let end = c.end-end.ensures.value ∙ opened-end c.self.invariant c.self.view_is in
     let room : s.start + s.size + length c.args.string.now ≤ cap g.row.N = omega (arith, end, c.if-end-string.false, c.capacity.ensures) in
     let copied = rw (end, c.as_bytes.ensures.value) at c.write_over.ensures in
-    appended g.row.N _ _ _ c.self.invariant _ c.self.view_is c.args.string.now c.utf8.string room _ copied
+    appended c.self.invariant c.self.view_is c.args.string.now c.utf8.string room _ copied
 
 pub invariant_of-self : goal.invariant_of-self
 invariant_of-self g c = (written g c).held

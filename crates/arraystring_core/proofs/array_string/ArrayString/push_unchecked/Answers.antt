@@ -10,14 +10,14 @@ use Rattle.arraystring_core.proofs.array_string.ArrayString.push_unchecked.Goals
 
 pub encode-len-requires : goal.encode-len-requires
 encode-len-requires g c =
-    let end = c.end-end.ensures.value ∙ opened-end g.row.N _ _ _ c.self.invariant _ c.self.view_is in
+    let end = c.end-end.ensures.value ∙ opened-end c.self.invariant c.self.view_is in
     let room = c.if-not-has_room.ensures.0 refl in
     let within : c.self.inside.start + c.self.inside.size + width c.args.ch ≤ g.row.N = omega (arith, end, room) in
     rw end (search rules, within)
 
 pub overflow_cast-self-2 : goal.overflow_cast-self-2
 overflow_cast-self-2 g c =
-    let end = c.end-end.ensures.value ∙ opened-end g.row.N _ _ _ c.self.invariant _ c.self.view_is in
+    let end = c.end-end.ensures.value ∙ opened-end c.self.invariant c.self.view_is in
     omega (arith, end, c.if-not-has_room.ensures.0 refl, c.encode-len.ensures.width)
 
 -- what is then in the array
@@ -26,12 +26,12 @@ written : (g : given.Over) (c : goal.After-self-1 g)
 written g c =
     let s = c.self.inside in
     let ch = c.args.ch in
-    let end = c.end-end.ensures.value ∙ opened-end g.row.N _ _ _ c.self.invariant _ c.self.view_is in
+    let end = c.end-end.ensures.value ∙ opened-end c.self.invariant c.self.view_is in
     let wide : c.encode-len.result ≡ length (utf8 ch) = c.encode-len.ensures.width ∙ sym (length-utf8 ch) in
     let u : IsUtf8 (utf8 ch) = rw (utf8-is ch) (IsUtf8-encode ch (search rules)) in
     let room : s.start + s.size + length (utf8 ch) ≤ cap g.row.N = rw (length-utf8 ch, ← end) (c.if-not-has_room.ensures.0 refl) in
     let bytes_in = rw (end, ← length-utf8 ch) at c.encode-len.ensures.bytes in
-    rw wide (appended g.row.N _ _ _ c.self.invariant _ c.self.view_is (utf8 ch) u room _ bytes_in)
+    rw wide (appended c.self.invariant c.self.view_is (utf8 ch) u room _ bytes_in)
 
 pub invariant_of-self : goal.invariant_of-self
 invariant_of-self g c = (written g c).held

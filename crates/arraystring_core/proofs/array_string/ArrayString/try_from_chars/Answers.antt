@@ -1,6 +1,5 @@
-use Rattle.std.proofs.Common.{◌<◌, subst, arith, rules, Ok}
-use Rattle.std.proofs.lemmas.Str.{chars-nil, IsUtf8-nil}
-use Rattle.std.proofs.lemmas.List.{length-replicate}
+use Rattle.std.proofs.Common.{◌<◌, subst, arith, Ok}
+use Rattle.std.proofs.lemmas.Str.{chars-nil}
 use Rattle.arraystring_base.specs.Text.{size, cap}
 use Rattle.arraystring_core.specs.Edits.{from_out_of_bounds}
 use Rattle.arraystring_core.specs.Stored.{stored}
@@ -8,10 +7,6 @@ use Rattle.arraystring_core.specs.Taken.{Takes}
 use Rattle.arraystring_core.proofs.TakenLaws.{chars-made}
 use Rattle.arraystring_core.proofs.ConstructLaws.{refused-made, fresh-room, fresh-whole}
 use Rattle.arraystring_core.proofs.array_string.ArrayString.try_from_chars.Goals as goal
-
-pub append_chars-requires : goal.append_chars-requires
-append_chars-requires g c =
-    (search rules, ((omega arith, length-replicate g.row.N 0, ∣ IsUtf8-nil ∣₁), c.requires))
 
 pub returns-in_err-append_chars : goal.returns-in_err-append_chars
 returns-in_err-append_chars g c =

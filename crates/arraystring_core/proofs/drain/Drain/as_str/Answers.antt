@@ -7,28 +7,28 @@ use Rattle.arraystring_core.proofs.drain.Drain.as_str.Goals as goal
 
 pub slice_bounds-from_utf8_unchecked-start : goal.slice_bounds-from_utf8_unchecked-start
 slice_bounds-from_utf8_unchecked-start g c =
-    omega (arith, given-within g.row.N _ _ _ _ c.self.invariant.0 c.self.invariant.1)
+    omega (arith, given-within c.self.invariant.0 c.self.invariant.1)
 
 pub slice_bounds-from_utf8_unchecked-count : goal.slice_bounds-from_utf8_unchecked-count
 slice_bounds-from_utf8_unchecked-count g c =
-    omega (arith, given-within g.row.N _ _ _ _ c.self.invariant.0 c.self.invariant.1, c.self.invariant.0.0, c.self.told)
+    omega (arith, given-within c.self.invariant.0 c.self.invariant.1, c.self.invariant.0.within, c.self.told)
 
 pub from_utf8_unchecked-requires : goal.from_utf8_unchecked-requires
-from_utf8_unchecked-requires g c = borrowed-utf8 g.row.N _ _ _ _ c.self.invariant.0 c.self.invariant.1 _ _ (omega arith) (omega arith)
+from_utf8_unchecked-requires g c = borrowed-utf8 c.self.invariant.0 c.self.invariant.1 _ _ (omega arith) (omega arith)
 
 pub returns-clause-bytes : goal.returns-clause-bytes
 returns-clause-bytes g c =
-    c.from_utf8_unchecked.ensures ∙ borrowed-bytes g.row.N _ _ _ _ c.self.invariant.0 c.self.invariant.1 _ _ (omega arith) (omega arith) ∙ ap (λ d. bytes d.left) c.self.view_is
+    c.from_utf8_unchecked.ensures ∙ borrowed-bytes c.self.invariant.0 c.self.invariant.1 _ _ (omega arith) (omega arith) ∙ ap (λ d. bytes d.left) c.self.view_is
 
 pub returns-clause-text : goal.returns-clause-text
 returns-clause-text g c =
-    let removed = opened-text g.row.N _ _ _ c.self.invariant.0 _ refl in
+    let removed = opened-text c.self.invariant.0 refl in
     subst (λ d. IsText d.left) c.self.view_is (back-text _ c.self.inside.front removed)
 
 pub returns-clause-fits : goal.returns-clause-fits
 returns-clause-fits g c =
-    subst (λ d. size d.left ≤ cap g.row.N) c.self.view_is (left-fits g.row.N _ _ _ _ c.self.invariant.0 c.self.invariant.1)
+    subst (λ d. size d.left ≤ cap g.row.N) c.self.view_is (left-fits c.self.invariant.0 c.self.invariant.1)
 
 pub prove-unreachable-requires : goal.prove-unreachable-requires
 prove-unreachable-requires g c =
-    omega (arith, given-within g.row.N _ _ _ _ c.self.invariant.0 c.self.invariant.1, c.if-prove.true)
+    omega (arith, given-within c.self.invariant.0 c.self.invariant.1, c.if-prove.true)

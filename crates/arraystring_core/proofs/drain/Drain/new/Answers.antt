@@ -7,7 +7,7 @@ pub invariant_of-result : goal.invariant_of-result
 invariant_of-result g c = (
   c.requires,
   record {
-    fits = omega (arith, stored-size g.row.N _ _ _ c.requires, c.requires.0);
+    fits = omega (arith, stored-size c.requires, c.requires.within);
     at = boundary-is [] _ 0 refl;
   },
 )

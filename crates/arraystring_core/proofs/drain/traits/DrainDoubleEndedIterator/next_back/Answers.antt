@@ -9,30 +9,30 @@ use Rattle.arraystring_core.proofs.drain.traits.DrainDoubleEndedIterator.next_ba
 pub returns-then-self-clause-steps : goal.returns-then-self-clause-steps
 returns-then-self-clause-steps g c =
     let past : c.self.inside.size ≤ c.self.inside.front = omega (arith, c.if-self.true) in
-    let none = sym (ap (λ d. d.left) c.self.view_is) ∙ none-left g.row.N _ _ _ _ c.self.invariant.0 c.self.invariant.1 past in
+    let none = sym (ap (λ d. d.left) c.self.view_is) ∙ none-left c.self.invariant.0 c.self.invariant.1 past in
     (none, none)
 
 pub overflow_sub-last : goal.overflow_sub-last
-overflow_sub-last g c = omega (arith, given-within g.row.N _ _ _ _ c.self.invariant.0 c.self.invariant.1, c.if-self.false)
+overflow_sub-last g c = omega (arith, given-within c.self.invariant.0 c.self.invariant.1, c.if-self.false)
 
 pub bounds-self-inside-self-inside : goal.bounds-self-inside-self-inside
 bounds-self-inside-self-inside g c =
-    omega (arith, given-within g.row.N _ _ _ _ c.self.invariant.0 c.self.invariant.1, c.self.invariant.0.0, c.if-self.false)
+    omega (arith, given-within c.self.invariant.0 c.self.invariant.1, c.self.invariant.0.within, c.if-self.false)
 
 pub overflow_sub-self : goal.overflow_sub-self
-overflow_sub-self g c = omega (arith, given-within g.row.N _ _ _ _ c.self.invariant.0 c.self.invariant.1, c.if-self.false)
+overflow_sub-self g c = omega (arith, given-within c.self.invariant.0 c.self.invariant.1, c.if-self.false)
 
 pub invariant_of-self : goal.invariant_of-self
 invariant_of-self g c =
-    let some : c.self.inside.front < c.self.inside.size = omega (arith, given-within g.row.N _ _ _ _ c.self.invariant.0 c.self.invariant.1, c.if-self.false) in
-    let held = last-held g.row.N _ _ _ _ c.self.invariant.0 c.self.invariant.1 some c.if-last-lt128.true in
-    let given = last-given g.row.N _ _ _ _ c.self.invariant.0 c.self.invariant.1 some c.if-last-lt128.true in
+    let some : c.self.inside.front < c.self.inside.size = omega (arith, given-within c.self.invariant.0 c.self.invariant.1, c.if-self.false) in
+    let held = last-held c.self.invariant.0 c.self.invariant.1 some c.if-last-lt128.true in
+    let given = last-given c.self.invariant.0 c.self.invariant.1 some c.if-last-lt128.true in
     (held, given)
 
 pub returns-then-last-lt128-clause-steps : goal.returns-then-last-lt128-clause-steps
 returns-then-last-lt128-clause-steps g c =
-    let some : c.self.inside.front < c.self.inside.size = omega (arith, given-within g.row.N _ _ _ _ c.self.invariant.0 c.self.invariant.1, c.if-self.false) in
-    sym (ap (λ d. d.left) c.self.view_is) ∙ last-rest g.row.N _ _ _ _ c.self.invariant.0 c.self.invariant.1 some c.if-last-lt128.true
+    let some : c.self.inside.front < c.self.inside.size = omega (arith, given-within c.self.invariant.0 c.self.invariant.1, c.if-self.false) in
+    sym (ap (λ d. d.left) c.self.view_is) ∙ last-rest c.self.invariant.0 c.self.invariant.1 some c.if-last-lt128.true
 
 pub returns-then-last-lt128-clause-goes : goal.returns-then-last-lt128-clause-goes
 returns-then-last-lt128-clause-goes g c =
@@ -50,22 +50,22 @@ overflow_cast-self g c =
     let left = c.args.self.now.left in
     let found = c.in_ok-kept.ensures.some in
     let ends = ap (λ d. d.left) c.self.view_is ∙ sym (chars-bytes c.as_str.utf8 c.as_str.ensures.bytes) ∙ found.1 in
-    omega (arith, back-within g.row.N _ _ _ _ c.self.invariant.0 c.self.invariant.1 c.in_ok-kept.ch found.0 ends, found.2, c.self.invariant.0.0)
+    omega (arith, back-within c.self.invariant.0 c.self.invariant.1 c.in_ok-kept.ch found.0 ends, found.2, c.self.invariant.0.within)
 
 pub overflow_add-self : goal.overflow_add-self
 overflow_add-self g c =
     let left = c.args.self.now.left in
     let found = c.in_ok-kept.ensures.some in
     let ends = ap (λ d. d.left) c.self.view_is ∙ sym (chars-bytes c.as_str.utf8 c.as_str.ensures.bytes) ∙ found.1 in
-    omega (arith, back-within g.row.N _ _ _ _ c.self.invariant.0 c.self.invariant.1 c.in_ok-kept.ch found.0 ends, found.2, c.self.invariant.0.0)
+    omega (arith, back-within c.self.invariant.0 c.self.invariant.1 c.in_ok-kept.ch found.0 ends, found.2, c.self.invariant.0.within)
 
 pub invariant_of-self-2 : goal.invariant_of-self-2
 invariant_of-self-2 g c =
     let left = c.args.self.now.left in
     let found = c.in_ok-kept.ensures.some in
     let ends = ap (λ d. d.left) c.self.view_is ∙ sym (chars-bytes c.as_str.utf8 c.as_str.ensures.bytes) ∙ found.1 in
-    let held = back-held g.row.N _ _ _ _ c.self.invariant.0 c.self.invariant.1 c.in_ok-kept.ch found.0 ends in
-    let given = back-given g.row.N _ _ _ _ c.self.invariant.0 c.self.invariant.1 c.in_ok-kept.ch found.0 ends in
+    let held = back-held c.self.invariant.0 c.self.invariant.1 c.in_ok-kept.ch found.0 ends in
+    let given = back-given c.self.invariant.0 c.self.invariant.1 c.in_ok-kept.ch found.0 ends in
     rw (← found.2) (held, given)
 
 pub returns-clause-steps : goal.returns-clause-steps
@@ -76,7 +76,7 @@ returns-clause-steps g c =
     let found = c.in_ok-kept.ensures.some in
     let borrowed = sym (chars-bytes c.as_str.utf8 c.as_str.ensures.bytes) ∙ found.1 in
     let ends = ap (λ d. d.left) c.self.view_is ∙ borrowed in
-    let rest = sym (back-rest g.row.N _ _ _ _ c.self.invariant.0 c.self.invariant.1 ch found.0 ends) ∙ ap (λ k. back (stored s.array s.start (s.front + k)).text s.front) found.2 in
+    let rest = sym (back-rest c.self.invariant.0 c.self.invariant.1 ch found.0 ends) ∙ ap (λ k. back (stored s.array s.start (s.front + k)).text s.front) found.2 in
     borrowed ∙ ap (λ l. l ++ ch ∷ []) rest
 
 pub returns-clause-goes : goal.returns-clause-goes
@@ -86,4 +86,4 @@ returns-clause-goes g c =
 
 pub prove-unreachable-requires : goal.prove-unreachable-requires
 prove-unreachable-requires g c =
-    omega (arith, given-within g.row.N _ _ _ _ c.self.invariant.0 c.self.invariant.1, c.if-self.false, c.if-prove.true)
+    omega (arith, given-within c.self.invariant.0 c.self.invariant.1, c.if-self.false, c.if-prove.true)

@@ -10,26 +10,26 @@ use Rattle.arraystring_core.proofs.drain.traits.DrainIterator.next.Goals as goal
 pub returns-then-self-clause-steps : goal.returns-then-self-clause-steps
 returns-then-self-clause-steps g c =
     let past : c.self.inside.size ≤ c.self.inside.front = omega (arith, c.if-self.true) in
-    let none = sym (ap (λ d. d.left) c.self.view_is) ∙ none-left g.row.N _ _ _ _ c.self.invariant.0 c.self.invariant.1 past in
+    let none = sym (ap (λ d. d.left) c.self.view_is) ∙ none-left c.self.invariant.0 c.self.invariant.1 past in
     (none, none)
 
 pub bounds-self-inside-self-inside : goal.bounds-self-inside-self-inside
 bounds-self-inside-self-inside g c =
-    omega (arith, given-within g.row.N _ _ _ _ c.self.invariant.0 c.self.invariant.1, c.self.invariant.0.0, c.if-self.false)
+    omega (arith, given-within c.self.invariant.0 c.self.invariant.1, c.self.invariant.0.within, c.if-self.false)
 
 pub overflow_add-self : goal.overflow_add-self
 overflow_add-self g c =
-    omega (arith, given-within g.row.N _ _ _ _ c.self.invariant.0 c.self.invariant.1, c.self.invariant.0.0, c.if-self.false)
+    omega (arith, given-within c.self.invariant.0 c.self.invariant.1, c.self.invariant.0.within, c.if-self.false)
 
 pub invariant_of-self : goal.invariant_of-self
 invariant_of-self g c =
-    let some : c.self.inside.front < c.self.inside.size = omega (arith, given-within g.row.N _ _ _ _ c.self.invariant.0 c.self.invariant.1, c.if-self.false) in
-    (c.self.invariant.0, first-given g.row.N _ _ _ _ c.self.invariant.0 c.self.invariant.1 some c.if-first-lt128.true)
+    let some : c.self.inside.front < c.self.inside.size = omega (arith, given-within c.self.invariant.0 c.self.invariant.1, c.if-self.false) in
+    (c.self.invariant.0, first-given c.self.invariant.0 c.self.invariant.1 some c.if-first-lt128.true)
 
 pub returns-then-first-lt128-clause-steps : goal.returns-then-first-lt128-clause-steps
 returns-then-first-lt128-clause-steps g c =
-    let some : c.self.inside.front < c.self.inside.size = omega (arith, given-within g.row.N _ _ _ _ c.self.invariant.0 c.self.invariant.1, c.if-self.false) in
-    sym (ap (λ d. d.left) c.self.view_is) ∙ first-rest g.row.N _ _ _ _ c.self.invariant.0 c.self.invariant.1 some c.if-first-lt128.true
+    let some : c.self.inside.front < c.self.inside.size = omega (arith, given-within c.self.invariant.0 c.self.invariant.1, c.if-self.false) in
+    sym (ap (λ d. d.left) c.self.view_is) ∙ first-rest c.self.invariant.0 c.self.invariant.1 some c.if-first-lt128.true
 
 pub returns-then-first-lt128-clause-goes : goal.returns-then-first-lt128-clause-goes
 returns-then-first-lt128-clause-goes g c =
@@ -48,25 +48,25 @@ pub overflow_cast-self : goal.overflow_cast-self
 overflow_cast-self g c =
     let shown = c.as_str.ensures.bytes ∙ ap (λ d. bytes d.left) (sym c.self.view_is) in
     let begins = sym c.chars-left.ensures.rest ∙ c.in_ok-ch.ensures.steps.0 ∙ ap (λ l. encode_utf8 c.in_ok-ch.ch ++ l) (sym c.as_str-2.ensures) in
-    omega (arith, decoded-within g.row.N _ _ _ _ c.self.invariant.0 c.self.invariant.1 _ c.as_str.utf8 shown _ _ c.as_str-2.utf8 begins, c.self.invariant.0.0)
+    omega (arith, decoded-within c.self.invariant.0 c.self.invariant.1 _ c.as_str.utf8 shown _ _ c.as_str-2.utf8 begins, c.self.invariant.0.within)
 
 pub overflow_sub-self : goal.overflow_sub-self
 overflow_sub-self g c =
     let shown = c.as_str.ensures.bytes ∙ ap (λ d. bytes d.left) (sym c.self.view_is) in
     let begins = sym c.chars-left.ensures.rest ∙ c.in_ok-ch.ensures.steps.0 ∙ ap (λ l. encode_utf8 c.in_ok-ch.ch ++ l) (sym c.as_str-2.ensures) in
-    decoded-within g.row.N _ _ _ _ c.self.invariant.0 c.self.invariant.1 _ c.as_str.utf8 shown _ _ c.as_str-2.utf8 begins
+    decoded-within c.self.invariant.0 c.self.invariant.1 _ c.as_str.utf8 shown _ _ c.as_str-2.utf8 begins
 
 pub invariant_of-self-2 : goal.invariant_of-self-2
 invariant_of-self-2 g c =
     let shown = c.as_str.ensures.bytes ∙ ap (λ d. bytes d.left) (sym c.self.view_is) in
     let begins = sym c.chars-left.ensures.rest ∙ c.in_ok-ch.ensures.steps.0 ∙ ap (λ l. encode_utf8 c.in_ok-ch.ch ++ l) (sym c.as_str-2.ensures) in
-    (c.self.invariant.0, decoded-given g.row.N _ _ _ _ c.self.invariant.0 c.self.invariant.1 _ c.as_str.utf8 shown _ _ c.as_str-2.utf8 begins)
+    (c.self.invariant.0, decoded-given c.self.invariant.0 c.self.invariant.1 _ c.as_str.utf8 shown _ _ c.as_str-2.utf8 begins)
 
 pub returns-clause-steps : goal.returns-clause-steps
 returns-clause-steps g c =
     let shown = c.as_str.ensures.bytes ∙ ap (λ d. bytes d.left) (sym c.self.view_is) in
     let begins = sym c.chars-left.ensures.rest ∙ c.in_ok-ch.ensures.steps.0 ∙ ap (λ l. encode_utf8 c.in_ok-ch.ch ++ l) (sym c.as_str-2.ensures) in
-    sym (ap (λ d. d.left) c.self.view_is) ∙ decoded-rest g.row.N _ _ _ _ c.self.invariant.0 c.self.invariant.1 _ c.as_str.utf8 shown _ _ c.as_str-2.utf8 begins
+    sym (ap (λ d. d.left) c.self.view_is) ∙ decoded-rest c.self.invariant.0 c.self.invariant.1 _ c.as_str.utf8 shown _ _ c.as_str-2.utf8 begins
 
 pub returns-clause-goes : goal.returns-clause-goes
 returns-clause-goes g c =
@@ -75,4 +75,4 @@ returns-clause-goes g c =
 
 pub prove-unreachable-requires : goal.prove-unreachable-requires
 prove-unreachable-requires g c =
-    omega (arith, given-within g.row.N _ _ _ _ c.self.invariant.0 c.self.invariant.1, c.if-self.false, c.if-prove.true)
+    omega (arith, given-within c.self.invariant.0 c.self.invariant.1, c.if-self.false, c.if-prove.true)
