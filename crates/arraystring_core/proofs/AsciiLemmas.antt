@@ -82,8 +82,8 @@ module _ (f : ℕ → ℕ) (is : IsAsciiChange f) where
 
 -- the bytes from start to end of the text that stands from p on are changed
 module _ {f : ℕ → ℕ} (is : IsAsciiChange f) {array_size : ℕ} {array : List ℕ} {p n : ℕ} (held : IsStored array_size array p n) {v : Stored}
-    (e : stored array p n ≡ v) (start end : ℕ) (order : start ≤ end) (b : boundary v.text start ≡ true) (d : boundary v.text end ≡ true)
-    (after : List ℕ)
+    (e : stored array p n ≡ v) {start end : ℕ} (order : start ≤ end) (b : boundary v.text start ≡ true) (d : boundary v.text end ≡ true)
+    {after : List ℕ}
     (written : after ≡ take (p + start) array ++ (map f (take (p + end - (p + start)) (drop (p + start) array)) ++ drop (p + end) array)) where
   reached : end ≤ n
   reached = omega (arith, opened-size held e, boundary-within v.text end d)
@@ -151,10 +151,10 @@ module _ {f : ℕ → ℕ} (is : IsAsciiChange f) {array_size : ℕ} {array : Li
   pub changed-stored : IsStored array_size after p n
   changed-stored =
       subst (λ k. IsStored array_size after p k) whole-length
-      ((replaced held e start end given order b d room given-utf8 after p after-length fits visible).held)
+      ((replaced held e given order b d room given-utf8 p after-length fits visible).held)
 
   pub changed-text : chars (take n (drop p after)) ≡ front v.text start ++ (map f (part v.text start end) ++ back v.text end)
   changed-text =
       ap (λ k. chars (take k (drop p after))) (sym whole-length)
-      ∙ (replaced held e start end given order b d room given-utf8 after p after-length fits visible).shown
+      ∙ (replaced held e given order b d room given-utf8 p after-length fits visible).shown
       ∙ ap (λ l. front v.text start ++ (l ++ back v.text end)) given-chars

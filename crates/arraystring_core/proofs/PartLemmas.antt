@@ -8,7 +8,7 @@ use Rattle.arraystring_core.proofs.SpanLemmas.{dropped as dropped_part, kept as 
 
 -- the part between two boundaries of a stored text, where it is in the array
 module _ {array_size : ℕ} {array : List ℕ} {p n : ℕ} (is : IsStored array_size array p n) {v : Stored} (e : stored array p n ≡ v)
-    (start end : ℕ) (order : start ≤ end) (b : boundary v.text start ≡ true) (d : boundary v.text end ≡ true) where
+    {start end : ℕ} (order : start ≤ end) (b : boundary v.text start ≡ true) (d : boundary v.text end ≡ true) where
   kept : IsStored array_size array p end
   kept = (kept_part is e end d).held
 

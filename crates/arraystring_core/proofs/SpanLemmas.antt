@@ -55,7 +55,7 @@ module _ (t xs : List ℕ) (n : ℕ) (is : bytes t ≡ take n xs) (u : IsUtf8 (t
 
 -- the same of the value that a contract sees
 module _ {array_size : ℕ} {array : List ℕ} {p n : ℕ} (is : IsStored array_size array p n) {v : Stored} (e : stored array p n ≡ v)
-    (start end : ℕ) (given : List ℕ) (order : start ≤ end) (b : boundary v.text start ≡ true) (d : boundary v.text end ≡ true)
+    {start end : ℕ} (given : List ℕ) (order : start ≤ end) (b : boundary v.text start ≡ true) (d : boundary v.text end ≡ true)
     (room : size v.text - (end - start) + length given ≤ cap array_size) where
   pub replaced-within : end ≤ n
   replaced-within = omega (arith, opened-size is e, boundary-within v.text end d)
@@ -64,7 +64,7 @@ module _ {array_size : ℕ} {array : List ℕ} {p n : ℕ} (is : IsStored array_
   replaced-room = omega (arith, opened-size is e, boundary-within v.text end d)
 
   -- q is the offset of the text afterwards
-  module _ (u : IsUtf8 given) (after : List ℕ) (q : ℕ) (long : length after ≡ array_size)
+  module _ (u : IsUtf8 given) {after : List ℕ} (q : ℕ) (long : length after ≡ array_size)
       (held : q + (start + (length given + (n - end))) ≤ cap array_size)
       (written : take (start + (length given + (n - end))) (drop q after) ≡ take start (drop p array) ++ (given ++ take (n - end) (drop end (drop p array)))) where
     pub replaced : Lies array_size after q (start + (length given + (n - end))) (front v.text start ++ (chars given ++ back v.text end))
@@ -78,7 +78,7 @@ module _ {array_size : ℕ} {array : List ℕ} {p n : ℕ} (is : IsStored array_
         }
 
   -- the text was moved to offset q, and `given` was written into the gap
-  module _ (u : IsUtf8 given) (gapped after : List ℕ) (q : ℕ) (long : length gapped ≡ array_size)
+  module _ (u : IsUtf8 given) (gapped : List ℕ) {after : List ℕ} (q : ℕ) (long : length gapped ≡ array_size)
       (held : q + (start + (length given + (n - end))) ≤ cap array_size)
       (moved : take start (drop q gapped) ≡ take start (drop p array))
       (tail : take (n - end) (drop (q + (start + length given)) gapped) ≡ take (n - end) (drop (p + end) array))
@@ -93,10 +93,10 @@ module _ {array_size : ℕ} {array : List ℕ} {p n : ℕ} (is : IsStored array_
     same = written-length gapped after given (q + start) within written ∙ long
 
     pub filled : Lies array_size after q (start + (length given + (n - end))) (front v.text start ++ (chars given ++ back v.text end))
-    filled = replaced u after q same held written-parts
+    filled = replaced u q same held written-parts
 
   -- and to offset 0
-  module _ (u : IsUtf8 given) (gapped after : List ℕ) (long : length gapped ≡ array_size)
+  module _ (u : IsUtf8 given) (gapped : List ℕ) {after : List ℕ} (long : length gapped ≡ array_size)
       (moved : take start gapped ≡ take start (drop p array))
       (tail : take (n - end) (drop (start + length given) gapped) ≡ take (n - end) (drop (p + end) array))
       (written : after ≡ take start gapped ++ (given ++ drop (start + length given) gapped)) where
@@ -110,11 +110,11 @@ module _ {array_size : ℕ} {array : List ℕ} {p n : ℕ} (is : IsStored array_
     written-at = written-from-zero gapped after given start written
 
     pub moved_to_start : Lies array_size after 0 (start + (length given + (n - end))) (front v.text start ++ (chars given ++ back v.text end))
-    moved_to_start = filled u gapped after 0 long from-zero moved tail-at written-at
+    moved_to_start = filled u gapped 0 long from-zero moved tail-at written-at
 
 -- `given` was written after the text
 module _ {array_size : ℕ} {array : List ℕ} {p n : ℕ} (is : IsStored array_size array p n) {v : Stored} (e : stored array p n ≡ v)
-    (given : List ℕ) (u : IsUtf8 given) (room : p + n + length given ≤ cap array_size) (after : List ℕ)
+    {given : List ℕ} (u : IsUtf8 given) (room : p + n + length given ≤ cap array_size) {after : List ℕ}
     (written : after ≡ take (p + n) array ++ (given ++ drop (p + n + length given) array)) where
   appended-end : boundary v.text n ≡ true
   appended-end = ap (boundary v.text) (sym (opened-size is e)) ∙ boundary-end v.text
@@ -137,7 +137,7 @@ module _ {array_size : ℕ} {array : List ℕ} {p n : ℕ} (is : IsStored array_
   appended-lies =
       let held : p + (n + (length given + (n - n))) ≤ cap array_size = omega (arith, room) in
       let long = written-length array after given (p + n) appended-within written ∙ is.length in
-      replaced is e n n given (omega arith) appended-end appended-end appended-fits u after p long held appended-parts
+      replaced is e given (omega arith) appended-end appended-end appended-fits u p long held appended-parts
 
   pub appended : Lies array_size after p (n + length given) (v.text ++ chars given)
   appended = record {
@@ -151,7 +151,7 @@ module _ {array_size : ℕ} {array : List ℕ} {p n : ℕ} (is : IsStored array_
 
 -- the text was moved to offset 0, and `given` was written after it
 module _ {array_size : ℕ} {array : List ℕ} {p n : ℕ} (is : IsStored array_size array p n) {v : Stored} (e : stored array p n ≡ v)
-    (given : List ℕ) (u : IsUtf8 given) (room : n + length given ≤ cap array_size) (compact after : List ℕ)
+    {given : List ℕ} (u : IsUtf8 given) (room : n + length given ≤ cap array_size) {compact after : List ℕ}
     (moved : compact ≡ take 0 array ++ (take n (drop p array) ++ drop (0 + n) array))
     (written : after ≡ take n compact ++ (given ++ drop (n + length given) compact)) where
   compact-source : p + n ≤ length array
@@ -174,11 +174,11 @@ module _ {array_size : ℕ} {array : List ℕ} {p n : ℕ} (is : IsStored array_
   appended_at_start =
       let text : (stored compact 0 n).text ≡ v.text = ap chars compact-bytes ∙ ap (λ w. w.text) e in
       rw text at
-      (appended compact-stored refl given u (omega (arith, room)) after (written-from-zero compact after given n written))
+      (appended compact-stored refl u (omega (arith, room)) (written-from-zero compact after given n written))
 
 -- the bytes from the boundary `end` on were moved to the boundary `start`
 module _ {array_size : ℕ} {array : List ℕ} {p n : ℕ} (is : IsStored array_size array p n) {v : Stored} (e : stored array p n ≡ v)
-    (start end : ℕ) (order : start ≤ end) (b : boundary v.text start ≡ true) (d : boundary v.text end ≡ true) (after : List ℕ)
+    {start end : ℕ} (order : start ≤ end) (b : boundary v.text start ≡ true) (d : boundary v.text end ≡ true) {after : List ℕ}
     (moved : after ≡ take (p + start) array ++ (take (n - end) (drop (p + end) array) ++ drop (p + start + (n - end)) array)) where
   closed-within : end ≤ n
   closed-within = omega (arith, opened-size is e, boundary-within v.text end d)
@@ -211,7 +211,7 @@ module _ {array_size : ℕ} {array : List ℕ} {p n : ℕ} (is : IsStored array_
   closed-held = omega (arith, closed-within, is.within)
 
   closed-lies : Lies array_size after p (start + (length {A = ℕ} [] + (n - end))) (front v.text start ++ (chars [] ++ back v.text end))
-  closed-lies = replaced is e start end [] order b d closed-fits IsUtf8-nil after p closed-long closed-held closed-parts
+  closed-lies = replaced is e [] order b d closed-fits IsUtf8-nil p closed-long closed-held closed-parts
 
   pub closed : Lies array_size after p (start + (n - end)) (front v.text start ++ back v.text end)
   closed = record {

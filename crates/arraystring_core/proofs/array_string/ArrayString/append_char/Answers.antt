@@ -26,7 +26,7 @@ returns-then-not-has_room-clause-text g c =
 pub returns-clause-held : goal.returns-clause-held
 returns-clause-held g c =
     let room : c.args.start.now + c.args.len.now + width c.args.ch ≤ cap g.row.N = omega (arith, c.if-not-has_room.ensures.0 refl, c.requires.end) in
-    let lies = char-appended c.requires.held c.args.ch (search rules) c.encode.new.array room (rw c.requires.end at c.encode.ensures.bytes) in
+    let lies = char-appended c.requires.held c.args.ch (search rules) room (rw c.requires.end at c.encode.ensures.bytes) in
     let same : c.args.len.now + width c.args.ch ≡ c.args.end + c.encode.result - c.args.start.now = omega (arith, c.requires.end, c.encode.ensures.width) in
     (rw same at lies).held
 
@@ -34,6 +34,6 @@ pub returns-clause-text : goal.returns-clause-text
 returns-clause-text g c =
     let long = stored-size c.requires.held in
     let room : c.args.start.now + c.args.len.now + width c.args.ch ≤ cap g.row.N = omega (arith, c.if-not-has_room.ensures.0 refl, c.requires.end) in
-    let lies = char-appended c.requires.held c.args.ch (search rules) c.encode.new.array room (rw c.requires.end at c.encode.ensures.bytes) in
+    let lies = char-appended c.requires.held c.args.ch (search rules) room (rw c.requires.end at c.encode.ensures.bytes) in
     let same : c.args.len.now + width c.args.ch ≡ c.args.end + c.encode.result - c.args.start.now = omega (arith, c.requires.end, c.encode.ensures.width) in
     (omega (arith, room, long), (rw same at lies).shown)

@@ -51,8 +51,8 @@ written g c =
     let wide : c.len_utf8-len.result ≡ length (utf8 ch) = c.len_utf8-len.ensures.value ∙ sym (width-is ch) ∙ sym (length-utf8 ch) in
     let u : IsUtf8 (utf8 ch) = rw (utf8-is ch) (IsUtf8-encode ch (search rules)) in
     let fits : size t - (at - at) + length (utf8 ch) ≤ cap g.row.N = omega (arith, c.requires.room, length-utf8 ch) in
-    rw (wide, c.new-text.ensures.size) (moved_to_start c.self.invariant c.self.view_is at at (utf8 ch) (omega arith) c.requires.boundary c.requires.boundary fits u
-    gap.new.array c.encode.new.array gap.ensures.len (rw c.new-text.ensures.offset at gap.ensures.front)
+    rw (wide, c.new-text.ensures.size) (moved_to_start c.self.invariant c.self.view_is (utf8 ch) (omega arith) c.requires.boundary c.requires.boundary fits u
+    gap.new.array gap.ensures.len (rw c.new-text.ensures.offset at gap.ensures.front)
     (rw (wide, c.new-text.ensures.offset, c.new-text.ensures.size) at gap.ensures.tail) (rw (← length-utf8 ch) at c.encode.ensures.bytes))
 
 pub invariant_of-self : goal.invariant_of-self

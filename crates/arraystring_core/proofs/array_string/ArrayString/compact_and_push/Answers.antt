@@ -29,7 +29,7 @@ written g c =
     let u : IsUtf8 (utf8 ch) = rw (utf8-is ch) (IsUtf8-encode ch (search rules)) in
     let room : c.self.inside.size + length (utf8 ch) ≤ cap g.row.N =
     omega (arith, opened-size c.self.invariant c.self.view_is, c.requires, length-utf8 ch) in
-    rw wide (appended_at_start c.self.invariant c.self.view_is (utf8 ch) u room _ _ c.move_run.ensures (rw (← length-utf8 ch) at c.encode-len.ensures.bytes))
+    rw wide (appended_at_start c.self.invariant c.self.view_is u room c.move_run.ensures (rw (← length-utf8 ch) at c.encode-len.ensures.bytes))
 
 pub invariant_of-self : goal.invariant_of-self
 invariant_of-self g c = (written g c).held

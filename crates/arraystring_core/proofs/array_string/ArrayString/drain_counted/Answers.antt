@@ -21,7 +21,7 @@ new-removed-requires g c =
     let start = c.saturating_ends-from.result.0 in
     let end = c.saturating_ends-from.result.1 in
     let part = part-where t start end (no_cause (draining t start end).tests c.in_ok-check_part.ensures) in
-    (search rules, (search rules, part-held c.self.invariant c.self.view_is start end part.order part.starts part.ends))
+    (search rules, (search rules, part-held c.self.invariant c.self.view_is part.order part.starts part.ends))
 
 pub take_out-requires : goal.take_out-requires
 take_out-requires g c =
@@ -39,7 +39,7 @@ returns-clause-edit g c =
     let ends = c.saturating_ends-from.ensures in
     let none = no_cause (draining t start end).tests c.in_ok-check_part.ensures in
     let part = part-where t start end none in
-    let taken = part-text c.self.invariant c.self.view_is start end part.order part.starts part.ends in
+    let taken = part-text c.self.invariant c.self.view_is part.order part.starts part.ends in
     let made = makes (draining t start end) t _ _ none (c.new-removed.ensures ∙ taken) c.take_out.ensures.text in
     let high = ends.holds.1 ∙ ap (saturated_end ends.end) c.len.ensures.value in
     let moved = c.take_out.ensures in

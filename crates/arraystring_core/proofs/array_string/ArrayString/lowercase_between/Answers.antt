@@ -21,8 +21,8 @@ lowercase_bytes-requires g c =
 
 pub invariant_of-self : goal.invariant_of-self
 invariant_of-self g c =
-    changed-stored lowercase-change c.self.invariant c.self.view_is _ _ c.requires.order c.requires.start c.requires.end _ c.lowercase_bytes.ensures
+    changed-stored lowercase-change c.self.invariant c.self.view_is c.requires.order c.requires.start c.requires.end c.lowercase_bytes.ensures
 
 pub returns : goal.returns
 returns g c =
-    changed-text lowercase-change c.self.invariant c.self.view_is _ _ c.requires.order c.requires.start c.requires.end _ c.lowercase_bytes.ensures
+    changed-text lowercase-change c.self.invariant c.self.view_is c.requires.order c.requires.start c.requires.end c.lowercase_bytes.ensures

@@ -22,7 +22,7 @@ written g c =
     let wide : length (take n units) ≡ n = length-take-le n units c.write_ascii-run.ensures.within in
     let utf8 : IsUtf8 (take n units) = run-utf8 n units c.write_ascii-run.ensures.ascii in
     let room : c.self.inside.start + c.self.inside.size + length (take n units) ≤ cap g.row.N = rw (wide, ← end) c.write_ascii-run.ensures.room in
-    rw wide at (appended c.self.invariant c.self.view_is (take n units) utf8 room c.write_ascii-run.new.array (rw (wide, ← end) c.write_ascii-run.ensures.bytes))
+    rw wide at (appended c.self.invariant c.self.view_is utf8 room {after = c.write_ascii-run.new.array} (rw (wide, ← end) c.write_ascii-run.ensures.bytes))
 
 pub invariant_of-self : goal.invariant_of-self
 invariant_of-self g c = (written g c).held

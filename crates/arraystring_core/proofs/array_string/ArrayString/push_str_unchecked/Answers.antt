@@ -18,7 +18,7 @@ written g c =
     let end = c.end-end.ensures.value ∙ opened-end c.self.invariant c.self.view_is in
     let room : s.start + s.size + length c.args.string.now ≤ cap g.row.N = omega (arith, end, c.if-end-string.false, c.capacity.ensures) in
     let copied = rw (end, c.as_bytes.ensures.value) at c.write_over.ensures in
-    appended c.self.invariant c.self.view_is c.args.string.now c.utf8.string room _ copied
+    appended c.self.invariant c.self.view_is c.utf8.string room copied
 
 pub invariant_of-self : goal.invariant_of-self
 invariant_of-self g c = (written g c).held

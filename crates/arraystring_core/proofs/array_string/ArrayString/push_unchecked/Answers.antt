@@ -31,7 +31,7 @@ written g c =
     let u : IsUtf8 (utf8 ch) = rw (utf8-is ch) (IsUtf8-encode ch (search rules)) in
     let room : s.start + s.size + length (utf8 ch) ≤ cap g.row.N = rw (length-utf8 ch, ← end) (c.if-not-has_room.ensures.0 refl) in
     let bytes_in = rw (end, ← length-utf8 ch) at c.encode-len.ensures.bytes in
-    rw wide (appended c.self.invariant c.self.view_is (utf8 ch) u room _ bytes_in)
+    rw wide (appended c.self.invariant c.self.view_is u room bytes_in)
 
 pub invariant_of-self : goal.invariant_of-self
 invariant_of-self g c = (written g c).held

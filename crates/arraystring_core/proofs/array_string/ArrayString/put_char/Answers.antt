@@ -57,8 +57,8 @@ written g c =
     let held : s.start + (at + (length (utf8 ch) + (s.size - at))) ≤ cap g.row.N = omega (arith, opened-size c.self.invariant c.self.view_is, boundary-within t at c.requires.boundary, wide, c.new-text.ensures.offset, c.new-text.ensures.size) in
     let u : IsUtf8 (utf8 ch) = rw (utf8-is ch) (IsUtf8-encode ch (search rules)) in
     let fits : size t - (at - at) + length (utf8 ch) ≤ cap g.row.N = omega (arith, c.requires.room, length-utf8 ch) in
-    rw (wide, c.new-text.ensures.size) (filled c.self.invariant c.self.view_is at at (utf8 ch) (omega arith) c.requires.boundary c.requires.boundary fits u
-    gap.new.array c.encode.new.array s.start gap.ensures.len held (rw c.new-text.ensures.offset at gap.ensures.front)
+    rw (wide, c.new-text.ensures.size) (filled c.self.invariant c.self.view_is (utf8 ch) (omega arith) c.requires.boundary c.requires.boundary fits u
+    gap.new.array s.start gap.ensures.len held (rw c.new-text.ensures.offset at gap.ensures.front)
     (rw (wide, c.new-text.ensures.offset, c.new-text.ensures.size) at gap.ensures.tail)
     (rw (← length-utf8 ch, c.new-text.ensures.offset) at c.encode.ensures.bytes))
 

@@ -10,7 +10,7 @@ pub open_gap-requires : goal.open_gap-requires
 open_gap-requires g c =
     let long = size-borrowed c.utf8.given in
     let fits : size c.args.self.now.text - (c.args.end - c.args.start) + length c.args.given.now ≤ cap g.row.N = omega (arith, c.requires.room, long) in
-    let within = replaced-within c.self.invariant c.self.view_is _ _ c.args.given.now c.requires.order c.requires.start c.requires.end fits in
+    let within = replaced-within c.self.invariant c.self.view_is c.args.given.now c.requires.order c.requires.start c.requires.end fits in
     let room : c.self.inside.start + (c.args.start + (length c.args.given.now + (c.self.inside.size - c.args.end))) ≤ cap g.row.N = rw (← c.new-text.ensures.offset, ← c.new-text.ensures.size) (omega arith) in
     rw (c.new-text.ensures.offset, c.new-text.ensures.size) (search rules, (c.requires.order, (within, (c.self.invariant.within, (room, c.requires.countable)))))
 
@@ -19,26 +19,26 @@ overflow_sub-tail g c =
     let long = size-borrowed c.utf8.given in
     let fits : size c.args.self.now.text - (c.args.end - c.args.start) + length c.args.given.now ≤ cap g.row.N = omega (arith, c.requires.room, long) in
     rw c.new-text.ensures.size
-    (replaced-within c.self.invariant c.self.view_is _ _ c.args.given.now c.requires.order c.requires.start c.requires.end fits)
+    (replaced-within c.self.invariant c.self.view_is c.args.given.now c.requires.order c.requires.start c.requires.end fits)
 
 pub overflow_add-start : goal.overflow_add-start
 overflow_add-start g c =
     let long = size-borrowed c.utf8.given in
     let fits : size c.args.self.now.text - (c.args.end - c.args.start) + length c.args.given.now ≤ cap g.row.N = omega (arith, c.requires.room, long) in
-    let room = replaced-room c.self.invariant c.self.view_is _ _ c.args.given.now c.requires.order c.requires.start c.requires.end fits in
+    let room = replaced-room c.self.invariant c.self.view_is c.args.given.now c.requires.order c.requires.start c.requires.end fits in
     omega (arith, room, c.new-text.ensures.offset, c.new-text.ensures.size)
 
 pub overflow_add-text : goal.overflow_add-text
 overflow_add-text g c =
     let long = size-borrowed c.utf8.given in
     let fits : size c.args.self.now.text - (c.args.end - c.args.start) + length c.args.given.now ≤ cap g.row.N = omega (arith, c.requires.room, long) in
-    let room = replaced-room c.self.invariant c.self.view_is _ _ c.args.given.now c.requires.order c.requires.start c.requires.end fits in
+    let room = replaced-room c.self.invariant c.self.view_is c.args.given.now c.requires.order c.requires.start c.requires.end fits in
     omega (arith, room, c.new-text.ensures.offset, c.new-text.ensures.size)
 
 pub returns-then-text-start-clause-tail_alone : goal.returns-then-text-start-clause-tail_alone
 returns-then-text-start-clause-tail_alone g c small =
     let long = size-borrowed c.utf8.given in
-    let within = replaced-within c.self.invariant c.self.view_is _ _ c.args.given.now c.requires.order c.requires.start c.requires.end
+    let within = replaced-within c.self.invariant c.self.view_is c.args.given.now c.requires.order c.requires.start c.requires.end
     (omega (arith, c.requires.room, long)) in
     omega (arith, small, long, within, c.self.invariant.within, c.requires.order)
 
@@ -52,8 +52,8 @@ written g c =
     let gap = c.open_gap in
     let fits : size c.args.self.now.text - (c.args.end - c.args.start) + length given ≤ cap g.row.N = omega (arith, c.requires.room, size-borrowed c.utf8.given) in
     let held : s.start + (c.args.start + (length given + (s.size - c.args.end))) ≤ cap g.row.N = rw (← c.new-text.ensures.offset, ← c.new-text.ensures.size) (omega arith) in
-    rw c.new-text.ensures.size (filled c.self.invariant c.self.view_is _ _ given c.requires.order c.requires.start c.requires.end fits c.utf8.given
-    gap.new.array c.write_over.new.array s.start gap.ensures.len held (rw c.new-text.ensures.offset at gap.ensures.front)
+    rw c.new-text.ensures.size (filled c.self.invariant c.self.view_is given c.requires.order c.requires.start c.requires.end fits c.utf8.given
+    gap.new.array s.start gap.ensures.len held (rw c.new-text.ensures.offset at gap.ensures.front)
     (rw (c.new-text.ensures.offset, c.new-text.ensures.size) at gap.ensures.tail)
     (rw (c.new-text.ensures.offset, c.as_bytes.ensures.value) at c.write_over.ensures))
 

@@ -11,35 +11,35 @@ returns-then-start-eq0-clause-text g c =
     c.drop_front.ensures ∙ sym (ap (λ l. l ++ back t c.args.end) (ap (front t) c.if-start-eq0.true ∙ front-start t))
 
 pub overflow_sub-tail : goal.overflow_sub-tail
-overflow_sub-tail g c = dropped-within c.self.invariant c.self.view_is c.args.end c.requires.end
+overflow_sub-tail g c = dropped-within c.self.invariant c.self.view_is _ c.requires.end
 
 pub overflow_cast-self : goal.overflow_cast-self
 overflow_cast-self g c =
-    let within = dropped-within c.self.invariant c.self.view_is c.args.end c.requires.end in
+    let within = dropped-within c.self.invariant c.self.view_is _ c.requires.end in
     omega (arith, within, c.requires.order, c.self.invariant.within)
 
 pub overflow_add-offset : goal.overflow_add-offset
 overflow_add-offset g c =
-    let within = dropped-within c.self.invariant c.self.view_is c.args.end c.requires.end in
+    let within = dropped-within c.self.invariant c.self.view_is _ c.requires.end in
     omega (arith, within, c.self.invariant.within)
 
 pub overflow_add-offset-2 : goal.overflow_add-offset-2
 overflow_add-offset-2 g c =
-    let within = dropped-within c.self.invariant c.self.view_is c.args.end c.requires.end in
+    let within = dropped-within c.self.invariant c.self.view_is _ c.requires.end in
     omega (arith, within, c.requires.order, c.self.invariant.within)
 
 pub shift-requires : goal.shift-requires
 shift-requires g c =
-    let within = dropped-within c.self.invariant c.self.view_is c.args.end c.requires.end in
+    let within = dropped-within c.self.invariant c.self.view_is _ c.requires.end in
     (search rules, (omega (arith, within, c.self.invariant.within), (omega (arith, within, c.requires.order, c.self.invariant.within), omega (arith, within, c.self.invariant.within, c.requires.countable))))
 
 pub invariant_of-self : goal.invariant_of-self
 invariant_of-self g c =
-    (closed c.self.invariant c.self.view_is c.args.start c.args.end c.requires.order c.requires.start c.requires.end _ c.shift.ensures.bytes).held
+    (closed c.self.invariant c.self.view_is c.requires.order c.requires.start c.requires.end c.shift.ensures.bytes).held
 
 pub returns-clause-text : goal.returns-clause-text
 returns-clause-text g c =
-    (closed c.self.invariant c.self.view_is c.args.start c.args.end c.requires.order c.requires.start c.requires.end _ c.shift.ensures.bytes).shown
+    (closed c.self.invariant c.self.view_is c.requires.order c.requires.start c.requires.end c.shift.ensures.bytes).shown
 
 pub returns-clause-tail_alone : goal.returns-clause-tail_alone
 returns-clause-tail_alone g c = rw (opened-size c.self.invariant c.self.view_is) (search rules)

@@ -10,10 +10,10 @@ prove-unreachable-requires g c =
 
 pub returns-clause-held : goal.returns-clause-held
 returns-clause-held g c =
-    let lies = char-appended_at_start c.requires.held c.args.ch (search rules) c.encode.new.array c.requires.room c.move_run.new.array c.move_run.ensures c.encode.ensures.bytes in
+    let lies = char-appended_at_start c.requires.held c.args.ch (search rules) c.requires.room c.move_run.ensures c.encode.ensures.bytes in
     (rw (← c.encode.ensures.width) at lies).held
 
 pub returns-clause-text : goal.returns-clause-text
 returns-clause-text g c =
-    let lies = char-appended_at_start c.requires.held c.args.ch (search rules) c.encode.new.array c.requires.room c.move_run.new.array c.move_run.ensures c.encode.ensures.bytes in
+    let lies = char-appended_at_start c.requires.held c.args.ch (search rules) c.requires.room c.move_run.ensures c.encode.ensures.bytes in
     (rw (← c.encode.ensures.width) at lies).shown
