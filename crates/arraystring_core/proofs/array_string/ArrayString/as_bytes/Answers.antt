@@ -15,4 +15,4 @@ returns-clause-text g c = opened-text c.self.invariant c.self.view_is
 
 pub returns-clause-fits : goal.returns-clause-fits
 returns-clause-fits g c =
-    omega (arith, opened-size c.self.invariant c.self.view_is, c.self.invariant.within)
+    omega (arith, opened-size c.self.invariant c.self.view_is)

@@ -13,5 +13,5 @@ returns g c =
     record {
       bytes = borrowed ∙ sym (opened-bytes c.self.invariant c.self.view_is);
       text = opened-text c.self.invariant c.self.view_is;
-      fits = omega (arith, opened-size c.self.invariant c.self.view_is, c.self.invariant.within);
+      fits = omega (arith, opened-size c.self.invariant c.self.view_is);
     }

@@ -13,7 +13,7 @@ overflow_add-self-inside g c =
     let start = c.saturating_ends-start.result.0 in
     let end = c.saturating_ends-start.result.1 in
     let part = part-where t start end (no_cause (draining t start end).tests c.in_ok-check_part.ensures) in
-    omega (arith, opened-size c.self.invariant c.self.view_is, c.self.invariant.within, part.order, part.within)
+    omega (arith, opened-size c.self.invariant c.self.view_is, part.order, part.within)
 
 pub new-removed-requires : goal.new-removed-requires
 new-removed-requires g c =

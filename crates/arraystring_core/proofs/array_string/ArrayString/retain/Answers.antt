@@ -4,7 +4,7 @@ use Rattle.arraystring_core.proofs.array_string.ArrayString.retain.Goals as goal
 
 pub retain_at-requires : goal.retain_at-requires
 retain_at-requires g c =
-    let within : c.self.inside.start + c.self.inside.size ≤ g.row.N = omega (arith, c.self.invariant.within) in
-    let small : c.self.inside.size ≤ 255 = omega (arith, c.self.invariant.within) in
+    let within : c.self.inside.start + c.self.inside.size ≤ g.row.N = omega arith in
+    let small : c.self.inside.size ≤ 255 = omega arith in
     let shown = ap (λ s. s.text) c.self.view_is in
     (search rules, (within, (small, (stored-utf8 c.self.invariant, rw shown c.requires))))

@@ -40,7 +40,7 @@ returns-then-text-start-clause-tail_alone g c small =
     let long = size-borrowed c.utf8.given in
     let within = replaced-within c.self.invariant c.self.view_is c.args.given.now c.requires.order c.requires.start c.requires.end
     (omega (arith, c.requires.room, long)) in
-    omega (arith, small, long, within, c.self.invariant.within, c.requires.order)
+    omega (arith, small, long, within, c.requires.order)
 
 -- what is then in the array
 written : (g : given.Over) (c : goal.After-write_over g)

@@ -6,17 +6,17 @@ use Rattle.arraystring_core.proofs.array_string.ArrayString.uppercase_between.Go
 
 pub overflow_add-offset : goal.overflow_add-offset
 overflow_add-offset g c =
-    omega (arith, opened-size c.self.invariant c.self.view_is, boundary-within c.args.self.now.text c.args.start c.requires.start, c.self.invariant.within)
+    omega (arith, opened-size c.self.invariant c.self.view_is, boundary-within c.args.self.now.text c.args.start c.requires.start)
 
 pub overflow_add-offset-2 : goal.overflow_add-offset-2
 overflow_add-offset-2 g c =
-    omega (arith, opened-size c.self.invariant c.self.view_is, boundary-within c.args.self.now.text c.args.end c.requires.end, c.self.invariant.within)
+    omega (arith, opened-size c.self.invariant c.self.view_is, boundary-within c.args.self.now.text c.args.end c.requires.end)
 
 pub uppercase_bytes-requires : goal.uppercase_bytes-requires
 uppercase_bytes-requires g c =
     let order : c.self.inside.start + c.args.start ≤ c.self.inside.start + c.args.end = omega (arith, c.requires.order) in
     let within : c.self.inside.start + c.args.end ≤ g.row.N =
-    omega (arith, opened-size c.self.invariant c.self.view_is, boundary-within c.args.self.now.text c.args.end c.requires.end, c.self.invariant.within) in
+    omega (arith, opened-size c.self.invariant c.self.view_is, boundary-within c.args.self.now.text c.args.end c.requires.end) in
     (search rules, (order, within))
 
 pub invariant_of-self : goal.invariant_of-self
