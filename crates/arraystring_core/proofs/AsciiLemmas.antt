@@ -115,14 +115,14 @@ module _ {f : ℕ → ℕ} (is : IsAsciiChange f) {array_size : ℕ} {array : Li
   given-length : length given ≡ end - start
   given-length =
       length-map (take (p + end - (p + start)) (drop (p + start) array)) f
-      ∙ length-take-le (p + end - (p + start)) (drop (p + start) array) (omega (arith, length-drop (p + start) array, reached, held.within, held.length))
+      ∙ length-take-le (p + end - (p + start)) (drop (p + start) array) (omega (arith, length-drop (p + start) array, reached))
       ∙ sum-less
     where
       sum-less : p + end - (p + start) ≡ end - start
       sum-less = omega arith
 
   room : size v.text - (end - start) + length given ≤ cap array_size
-  room = omega (arith, given-length, opened-size held e, reached, held.within)
+  room = omega (arith, given-length, opened-size held e, reached)
 
   behind : p + start + length given ≡ p + end
   behind = omega (arith, given-length)
@@ -131,7 +131,7 @@ module _ {f : ℕ → ℕ} (is : IsAsciiChange f) {array_size : ℕ} {array : Li
   over = written ∙ ap (λ k. take (p + start) array ++ (given ++ drop k array)) (sym behind)
 
   within : p + start + length given ≤ length array
-  within = omega (arith, behind, reached, held.within, held.length)
+  within = omega (arith, behind, reached)
 
   visible : take (start + (length given + (n - end))) (drop p after) ≡ take start (drop p array) ++ (given ++ take (n - end) (drop end (drop p array)))
   visible =
@@ -146,7 +146,7 @@ module _ {f : ℕ → ℕ} (is : IsAsciiChange f) {array_size : ℕ} {array : Li
   after-length = written-length array after given (p + start) within over ∙ held.length
 
   fits : p + (start + (length given + (n - end))) ≤ cap array_size
-  fits = omega (arith, whole-length, held.within)
+  fits = omega (arith, whole-length)
 
   pub changed-stored : IsStored array_size after p n
   changed-stored =

@@ -37,7 +37,7 @@ module _ {array_size : ℕ} {array : List ℕ} {p n i : ℕ} (held : IsStored ar
   -- its bytes are those of the array from f to e
   module _ (f e : ℕ) (from : f ≡ p + i) (to : e ≡ p + n) where
     long : e - f ≡ n - i
-    long = omega (arith, from, to, given-within)
+    long = omega (arith, given-within)
 
     pub borrowed-utf8 : IsUtf8 (take (e - f) (drop f array))
     borrowed-utf8 = rw (long, from) (stored-utf8 borrowed-stored)
@@ -49,13 +49,13 @@ module _ {array_size : ℕ} {array : List ℕ} {p n i : ℕ} (held : IsStored ar
         ∙ ap bytes (dropped_part held refl i is.at).shown
 
   pub left-fits : size left ≤ cap array_size
-  left-fits = omega (arith, left-size, held.within)
+  left-fits = omega (arith, left-size)
 
   pub none-left : n ≤ i → left ≡ []
   none-left past = empty-size (omega (arith, left-size))
 
   some-left : i < n → left ≢ []
-  some-left some none = absurd (omega (arith, some, left-size, ap size none))
+  some-left some none = absurd (omega (arith, left-size, ap size none))
 
   -- the first character is given
   module _ (c : ℕ) (rest : List ℕ) (starts : left ≡ c ∷ rest) where
@@ -132,7 +132,7 @@ module _ {array_size : ℕ} {array : List ℕ} {p n i : ℕ} (held : IsStored ar
 
     pub back-given : IsDrained array_size (stored array p (i + size rest)) i
     back-given = record {
-      fits = omega (arith, ap size kept-text, shorter, back-within, removed-size, is.fits);
+      fits = omega (arith, ap size kept-text, shorter, back-within, removed-size);
       at = ap (λ t. boundary t i) kept-text ∙ boundary-is before rest i (front-size removed i is.at);
     }
 
@@ -143,10 +143,10 @@ module _ {array_size : ℕ} {array : List ℕ} {p n i : ℕ} (held : IsStored ar
   module _ (some : i < n) (low : get_or array (p + n - 1) 0 < 128) where
     last-stored : get_or (bytes left) (length (bytes left) - 1) 0 ≡ get_or array (p + n - 1) 0
     last-stored =
-        let within : n - 1 < n = omega (arith, some) in
+        let within : n - 1 < n = omega arith in
         let long : length (bytes left) - 1 ≡ n - i - 1 = omega (arith, size-is left, left-size) in
-        let whole : i + (n - i - 1) ≡ n - 1 = omega (arith, some) in
-        let offset : p + (n - 1) ≡ p + n - 1 = omega (arith, some) in
+        let whole : i + (n - i - 1) ≡ n - 1 = omega arith in
+        let offset : p + (n - 1) ≡ p + n - 1 = omega arith in
         ap (λ k. get_or (bytes left) k 0) long ∙ ap (λ l. get_or l (n - i - 1) 0) left-bytes
         ∙ get_or-drop i (take n (drop p array)) (n - i - 1) 0 ∙ ap (λ k. get_or (take n (drop p array)) k 0) whole
         ∙ get_or-take n (drop p array) (n - 1) 0 within ∙ get_or-drop p array (n - 1) 0 ∙ ap (λ k. get_or array k 0) offset

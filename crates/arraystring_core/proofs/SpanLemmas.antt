@@ -120,13 +120,13 @@ module _ {array_size : ℕ} {array : List ℕ} {p n : ℕ} (is : IsStored array_
   appended-end = ap (boundary v.text) (sym (opened-size is e)) ∙ boundary-end v.text
 
   appended-fits : size v.text - (n - n) + length given ≤ cap array_size
-  appended-fits = omega (arith, opened-size is e, room)
+  appended-fits = omega (arith, opened-size is e)
 
   appended-size : n + (length given + (n - n)) ≡ n + length given
   appended-size = omega arith
 
   appended-within : p + n + length given ≤ length array
-  appended-within = omega (arith, room, is.length)
+  appended-within = omega arith
 
   appended-parts : take (n + (length given + (n - n))) (drop p after) ≡ take n (drop p array) ++ (given ++ take (n - n) (drop n (drop p array)))
   appended-parts =
@@ -135,7 +135,7 @@ module _ {array_size : ℕ} {array : List ℕ} {p n : ℕ} (is : IsStored array_
 
   appended-lies : Lies array_size after p (n + (length given + (n - n))) (front v.text n ++ (chars given ++ back v.text n))
   appended-lies =
-      let held : p + (n + (length given + (n - n))) ≤ cap array_size = omega (arith, room) in
+      let held : p + (n + (length given + (n - n))) ≤ cap array_size = omega arith in
       let long = written-length array after given (p + n) appended-within written ∙ is.length in
       replaced is e given (omega arith) appended-end appended-end appended-fits u p long held appended-parts
 
@@ -155,17 +155,17 @@ module _ {array_size : ℕ} {array : List ℕ} {p n : ℕ} (is : IsStored array_
     (moved : compact ≡ take 0 array ++ (take n (drop p array) ++ drop (0 + n) array))
     (written : after ≡ take n compact ++ (given ++ drop (n + length given) compact)) where
   compact-source : p + n ≤ length array
-  compact-source = omega (arith, is.within, is.length)
+  compact-source = omega arith
 
   compact-target : 0 + n ≤ length array
-  compact-target = omega (arith, is.within, is.length)
+  compact-target = omega arith
 
   compact-bytes : take n (drop 0 compact) ≡ take n (drop p array)
   compact-bytes = shift-moved array compact p 0 n compact-source compact-target moved
 
   compact-stored : IsStored array_size compact 0 n
   compact-stored = record {
-    within = omega (arith, is.within);
+    within = omega arith;
     length = shift-length array compact p 0 n compact-source compact-target moved ∙ is.length;
     utf8 = ∣ rw compact-bytes (stored-utf8 is) ∣₁;
   }
@@ -174,7 +174,7 @@ module _ {array_size : ℕ} {array : List ℕ} {p n : ℕ} (is : IsStored array_
   appended_at_start =
       let text : (stored compact 0 n).text ≡ v.text = ap chars compact-bytes ∙ ap (λ w. w.text) e in
       rw text at
-      (appended compact-stored refl u (omega (arith, room)) (written-from-zero compact after given n written))
+      (appended compact-stored refl u (omega arith) (written-from-zero compact after given n written))
 
 -- the bytes from the boundary `end` on were moved to the boundary `start`
 module _ {array_size : ℕ} {array : List ℕ} {p n : ℕ} (is : IsStored array_size array p n) {v : Stored} (e : stored array p n ≡ v)
@@ -184,13 +184,13 @@ module _ {array_size : ℕ} {array : List ℕ} {p n : ℕ} (is : IsStored array_
   closed-within = omega (arith, opened-size is e, boundary-within v.text end d)
 
   closed-source : p + end + (n - end) ≤ length array
-  closed-source = omega (arith, closed-within, is.within, is.length)
+  closed-source = omega (arith, closed-within)
 
   closed-target : p + start + (n - end) ≤ length array
-  closed-target = omega (arith, closed-within, is.within, is.length)
+  closed-target = omega (arith, closed-within)
 
   closed-fits : size v.text - (end - start) + length {A = ℕ} [] ≤ cap array_size
-  closed-fits = omega (arith, opened-size is e, is.within)
+  closed-fits = omega (arith, opened-size is e)
 
   closed-size : start + (length {A = ℕ} [] + (n - end)) ≡ start + (n - end)
   closed-size = omega arith
@@ -208,7 +208,7 @@ module _ {array_size : ℕ} {array : List ℕ} {p n : ℕ} (is : IsStored array_
   closed-long = shift-length array after (p + end) (p + start) (n - end) closed-source closed-target moved ∙ is.length
 
   closed-held : p + (start + (length {A = ℕ} [] + (n - end))) ≤ cap array_size
-  closed-held = omega (arith, closed-within, is.within)
+  closed-held = omega (arith, closed-within)
 
   closed-lies : Lies array_size after p (start + (length {A = ℕ} [] + (n - end))) (front v.text start ++ (chars [] ++ back v.text end))
   closed-lies = replaced is e [] order b d closed-fits IsUtf8-nil p closed-long closed-held closed-parts
@@ -242,7 +242,7 @@ module _ {array_size : ℕ} {array : List ℕ} {p n : ℕ} (is : IsStored array_
 
   pub dropped : Lies array_size array (p + m) (n - m) (back v.text m)
   dropped = record {
-    held = record { within = omega (arith, is.within, dropped-within); length = is.length; utf8 = ∣ dropped-utf8 ∣₁ };
+    held = record { within = omega (arith, dropped-within); length = is.length; utf8 = ∣ dropped-utf8 ∣₁ };
     shown = chars-bytes dropped-utf8 dropped-bytes;
   }
 
@@ -263,6 +263,6 @@ module _ {array_size : ℕ} {array : List ℕ} {p n : ℕ} (is : IsStored array_
 
   pub kept : Lies array_size array p m (front v.text m)
   kept = record {
-    held = record { within = omega (arith, is.within, kept-within); length = is.length; utf8 = ∣ kept-utf8 ∣₁ };
+    held = record { within = omega (arith, kept-within); length = is.length; utf8 = ∣ kept-utf8 ∣₁ };
     shown = chars-bytes kept-utf8 kept-bytes;
   }

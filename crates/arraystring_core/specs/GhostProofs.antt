@@ -19,13 +19,13 @@ module _ {array_size : ℕ} {array : List ℕ} {start n : ℕ} (is : IsStored ar
   pub stored-size : size (stored array start n).text ≡ n
   stored-size =
       size-is (stored array start n).text ∙ ap length stored-bytes
-      ∙ length-take-le n (drop start array) (omega (arith, is.within, is.length, length-drop start array))
+      ∙ length-take-le n (drop start array) (omega (arith, length-drop start array))
 
   pub stored-all : array_of (stored array start n) ≡ array
   stored-all =
       let front = take start array in
       let back = drop n (drop start array) in
-      let long : length front ≡ start = length-take-le start array (omega (arith, is.within, is.length)) in
+      let long : length front ≡ start = length-take-le start array (omega arith) in
       ap (λ f. f ++ (bytes (stored array start n).text ++ drop start (front ++ back))) (take_at front back start long)
       ∙ ap (λ d. front ++ (bytes (stored array start n).text ++ d)) (drop_at front back start long)
       ∙ ap (λ b. front ++ (b ++ back)) stored-bytes

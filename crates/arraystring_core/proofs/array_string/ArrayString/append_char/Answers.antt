@@ -10,30 +10,30 @@ pub returns-then-not-has_room-2-clause-text : goal.returns-then-not-has_room-2-c
 returns-then-not-has_room-2-clause-text g c =
     let long = stored-size c.requires.held in
     let over : cap g.row.N < c.args.end - c.args.start.now + width c.args.ch = lt_of_not-le (iff_false c.has_room-then-not-has_room.ensures c.if-not-has_room-2.true) in
-    (omega (arith, over, long, c.requires.end), refl)
+    (omega (arith, over, long), refl)
 
 pub compact_and_append-held-requires : goal.compact_and_append-held-requires
 compact_and_append-held-requires g c =
-    let same : c.args.end - c.args.start.now ≡ c.args.len.now = omega (arith, c.requires.end) in
+    let same : c.args.end - c.args.start.now ≡ c.args.len.now = omega arith in
     (search rules, (rw same c.requires.held, c.if-not-has_room-2.ensures.0 refl))
 
 pub returns-then-not-has_room-clause-text : goal.returns-then-not-has_room-clause-text
 returns-then-not-has_room-clause-text g c =
     let long = stored-size c.requires.held in
-    let same : c.args.end - c.args.start.now ≡ c.args.len.now = omega (arith, c.requires.end) in
+    let same : c.args.end - c.args.start.now ≡ c.args.len.now = omega arith in
     (omega (arith, c.if-not-has_room-2.ensures.0 refl, long, same), rw same at c.compact_and_append-held.ensures.text)
 
 pub returns-clause-held : goal.returns-clause-held
 returns-clause-held g c =
-    let room : c.args.start.now + c.args.len.now + width c.args.ch ≤ cap g.row.N = omega (arith, c.if-not-has_room.ensures.0 refl, c.requires.end) in
+    let room : c.args.start.now + c.args.len.now + width c.args.ch ≤ cap g.row.N = omega (arith, c.if-not-has_room.ensures.0 refl) in
     let lies = char-appended c.requires.held c.args.ch (search rules) room (rw c.requires.end at c.encode.ensures.bytes) in
-    let same : c.args.len.now + width c.args.ch ≡ c.args.end + c.encode.result - c.args.start.now = omega (arith, c.requires.end, c.encode.ensures.width) in
+    let same : c.args.len.now + width c.args.ch ≡ c.args.end + c.encode.result - c.args.start.now = omega (arith, c.encode.ensures.width) in
     (rw same at lies).held
 
 pub returns-clause-text : goal.returns-clause-text
 returns-clause-text g c =
     let long = stored-size c.requires.held in
-    let room : c.args.start.now + c.args.len.now + width c.args.ch ≤ cap g.row.N = omega (arith, c.if-not-has_room.ensures.0 refl, c.requires.end) in
+    let room : c.args.start.now + c.args.len.now + width c.args.ch ≤ cap g.row.N = omega (arith, c.if-not-has_room.ensures.0 refl) in
     let lies = char-appended c.requires.held c.args.ch (search rules) room (rw c.requires.end at c.encode.ensures.bytes) in
-    let same : c.args.len.now + width c.args.ch ≡ c.args.end + c.encode.result - c.args.start.now = omega (arith, c.requires.end, c.encode.ensures.width) in
+    let same : c.args.len.now + width c.args.ch ≡ c.args.end + c.encode.result - c.args.start.now = omega (arith, c.encode.ensures.width) in
     (omega (arith, room, long), (rw same at lies).shown)

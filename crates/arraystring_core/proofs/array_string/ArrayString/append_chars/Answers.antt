@@ -19,7 +19,7 @@ loop-ch-init g c =
       held = c.requires.held;
       end = refl;
       text = sym (append-nil old);
-      fits = omega (arith, long, c.requires.held.within);
+      fits = omega (arith, long);
     }
 
 pub loop-ch-preserved : goal.loop-ch-preserved

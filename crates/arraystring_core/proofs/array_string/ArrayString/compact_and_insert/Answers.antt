@@ -14,7 +14,7 @@ compact_and_open_gap-requires g c =
     let wide : c.len_utf8-len.result ≡ width c.args.ch = c.len_utf8-len.ensures.value ∙ sym (width-is c.args.ch) in
     let long = opened-size c.self.invariant c.self.view_is in
     let within : c.args.at ≤ c.self.inside.size = omega (arith, long, boundary-within c.args.self.now.text c.args.at c.requires.boundary) in
-    let room : c.args.at + (c.len_utf8-len.result + (c.self.inside.size - c.args.at)) ≤ cap g.row.N = omega (arith, long, within, wide, c.requires.room) in
+    let room : c.args.at + (c.len_utf8-len.result + (c.self.inside.size - c.args.at)) ≤ cap g.row.N = omega (arith, long, within, wide) in
     rw (c.new-text.ensures.offset, c.new-text.ensures.size) (search rules, (omega arith, (within, (c.self.invariant.within, (room, omega arith)))))
 
 pub overflow_sub-self : goal.overflow_sub-self
@@ -25,18 +25,18 @@ pub overflow_add-self-2 : goal.overflow_add-self-2
 overflow_add-self-2 g c =
     let wide : c.len_utf8-len.result ≡ width c.args.ch = c.len_utf8-len.ensures.value ∙ sym (width-is c.args.ch) in
     let long = opened-size c.self.invariant c.self.view_is in
-    omega (arith, c.new-text.ensures.size, long, boundary-within c.args.self.now.text c.args.at c.requires.boundary, wide, c.requires.room)
+    omega (arith, c.new-text.ensures.size, long, boundary-within c.args.self.now.text c.args.at c.requires.boundary, wide)
 
 pub overflow_cast-self : goal.overflow_cast-self
 overflow_cast-self g c =
     let wide : c.len_utf8-len.result ≡ width c.args.ch = c.len_utf8-len.ensures.value ∙ sym (width-is c.args.ch) in
     let long = opened-size c.self.invariant c.self.view_is in
-    omega (arith, c.new-text.ensures.size, long, boundary-within c.args.self.now.text c.args.at c.requires.boundary, wide, c.requires.room)
+    omega (arith, c.new-text.ensures.size, long, boundary-within c.args.self.now.text c.args.at c.requires.boundary, wide)
 
 pub encode-requires : goal.encode-requires
 encode-requires g c =
     let long = opened-size c.self.invariant c.self.view_is in
-    let within : c.args.at + width c.args.ch ≤ g.row.N = omega (arith, long, boundary-within c.args.self.now.text c.args.at c.requires.boundary, c.requires.room) in
+    let within : c.args.at + width c.args.ch ≤ g.row.N = omega (arith, long, boundary-within c.args.self.now.text c.args.at c.requires.boundary) in
     (search rules, within)
 
 -- what is then in the array
@@ -50,7 +50,7 @@ written g c =
     let gap = c.compact_and_open_gap in
     let wide : c.len_utf8-len.result ≡ length (utf8 ch) = c.len_utf8-len.ensures.value ∙ sym (width-is ch) ∙ sym (length-utf8 ch) in
     let u : IsUtf8 (utf8 ch) = rw (utf8-is ch) (IsUtf8-encode ch (search rules)) in
-    let fits : size t - (at - at) + length (utf8 ch) ≤ cap g.row.N = omega (arith, c.requires.room, length-utf8 ch) in
+    let fits : size t - (at - at) + length (utf8 ch) ≤ cap g.row.N = omega (arith, length-utf8 ch) in
     rw (wide, c.new-text.ensures.size) (moved_to_start c.self.invariant c.self.view_is (utf8 ch) (omega arith) c.requires.boundary c.requires.boundary fits u
     gap.new.array gap.ensures.len (rw c.new-text.ensures.offset at gap.ensures.front)
     (rw (wide, c.new-text.ensures.offset, c.new-text.ensures.size) at gap.ensures.tail) (rw (← length-utf8 ch) at c.encode.ensures.bytes))
@@ -70,4 +70,4 @@ pub prove-unreachable-requires : goal.prove-unreachable-requires
 prove-unreachable-requires g c =
     let within = boundary-within c.args.self.now.text c.args.at c.requires.boundary in
     let wide = width-bounds c.args.ch in
-    omega (arith, within, c.requires.room, wide.0, c.if-prove.true)
+    omega (arith, within, wide.0)

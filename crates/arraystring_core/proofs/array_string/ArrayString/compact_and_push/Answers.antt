@@ -9,7 +9,7 @@ use Rattle.arraystring_core.proofs.array_string.ArrayString.compact_and_push.Giv
 use Rattle.arraystring_core.proofs.array_string.ArrayString.compact_and_push.Goals as goal
 
 fits : (g : given.Over) (c : goal.After-encode-arg-1 g) → c.self.inside.size + width c.args.ch ≤ cap g.row.N
-fits g c = omega (arith, opened-size c.self.invariant c.self.view_is, c.requires)
+fits g c = omega (arith, opened-size c.self.invariant c.self.view_is)
 
 pub encode-len-requires : goal.encode-len-requires
 encode-len-requires g c =
@@ -18,7 +18,7 @@ encode-len-requires g c =
 
 pub overflow_cast-self : goal.overflow_cast-self
 overflow_cast-self g c =
-    omega (arith, opened-size c.self.invariant c.self.view_is, c.requires, c.encode-len.ensures.width)
+    omega (arith, opened-size c.self.invariant c.self.view_is, c.encode-len.ensures.width)
 
 -- what is then in the array
 written : (g : given.Over) (c : goal.After-self-2-1 g)
@@ -28,7 +28,7 @@ written g c =
     let wide : c.encode-len.result ≡ length (utf8 ch) = c.encode-len.ensures.width ∙ sym (length-utf8 ch) in
     let u : IsUtf8 (utf8 ch) = rw (utf8-is ch) (IsUtf8-encode ch (search rules)) in
     let room : c.self.inside.size + length (utf8 ch) ≤ cap g.row.N =
-    omega (arith, opened-size c.self.invariant c.self.view_is, c.requires, length-utf8 ch) in
+    omega (arith, opened-size c.self.invariant c.self.view_is, length-utf8 ch) in
     rw wide (appended_at_start c.self.invariant c.self.view_is u room c.move_run.ensures (rw (← length-utf8 ch) at c.encode-len.ensures.bytes))
 
 pub invariant_of-self : goal.invariant_of-self
@@ -43,4 +43,4 @@ returns g c =
 pub prove-unreachable-requires : goal.prove-unreachable-requires
 prove-unreachable-requires g c =
     let wide = width-bounds c.args.ch in
-    omega (arith, opened-size c.self.invariant c.self.view_is, c.requires, wide.0, c.if-prove.true)
+    omega (arith, opened-size c.self.invariant c.self.view_is, wide.0)

@@ -8,16 +8,16 @@ use Rattle.arraystring_core.proofs.array_string.ArrayString.from_str_unchecked.G
 
 pub fill-requires : goal.fill-requires
 fill-requires g c =
-    (search rules, omega (arith, c.requires, size-borrowed c.utf8.string, ap length c.as_bytes.ensures.value))
+    (search rules, omega (arith, size-borrowed c.utf8.string, ap length c.as_bytes.ensures.value))
 
 pub overflow_cast-result : goal.overflow_cast-result
-overflow_cast-result g c = omega (arith, c.requires, size-borrowed c.utf8.string)
+overflow_cast-result g c = omega (arith, size-borrowed c.utf8.string)
 
 pub invariant_of-result : goal.invariant_of-result
 invariant_of-result g c =
     let given = c.args.string.now in
     let copied = rw c.as_bytes.ensures.value at c.fill.ensures in
-    let fits : 0 + length given ≤ cap g.row.N = omega (arith, c.requires, size-borrowed c.utf8.string) in
+    let fits : 0 + length given ≤ cap g.row.N = omega (arith, size-borrowed c.utf8.string) in
     let zeros : length (replicate g.row.N 0) ≡ g.row.N = length-replicate g.row.N 0 in
     let long = written-length (replicate g.row.N 0) c.fill.new.array given 0 (omega (arith, fits, zeros)) copied ∙ zeros in
     record {

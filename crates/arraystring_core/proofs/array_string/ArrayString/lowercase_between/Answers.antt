@@ -14,7 +14,7 @@ overflow_add-offset-2 g c =
 
 pub lowercase_bytes-requires : goal.lowercase_bytes-requires
 lowercase_bytes-requires g c =
-    let order : c.self.inside.start + c.args.start ≤ c.self.inside.start + c.args.end = omega (arith, c.requires.order) in
+    let order : c.self.inside.start + c.args.start ≤ c.self.inside.start + c.args.end = omega arith in
     let within : c.self.inside.start + c.args.end ≤ g.row.N =
     omega (arith, opened-size c.self.invariant c.self.view_is, boundary-within c.args.self.now.text c.args.end c.requires.end) in
     (search rules, (order, within))

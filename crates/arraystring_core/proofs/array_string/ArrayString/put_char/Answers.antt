@@ -56,7 +56,7 @@ written g c =
     let wide : c.len_utf8-len.result ≡ length (utf8 ch) = c.len_utf8-len.ensures.value ∙ sym (width-is ch) ∙ sym (length-utf8 ch) in
     let held : s.start + (at + (length (utf8 ch) + (s.size - at))) ≤ cap g.row.N = omega (arith, opened-size c.self.invariant c.self.view_is, boundary-within t at c.requires.boundary, wide, c.new-text.ensures.offset, c.new-text.ensures.size) in
     let u : IsUtf8 (utf8 ch) = rw (utf8-is ch) (IsUtf8-encode ch (search rules)) in
-    let fits : size t - (at - at) + length (utf8 ch) ≤ cap g.row.N = omega (arith, c.requires.room, length-utf8 ch) in
+    let fits : size t - (at - at) + length (utf8 ch) ≤ cap g.row.N = omega (arith, length-utf8 ch) in
     rw (wide, c.new-text.ensures.size) (filled c.self.invariant c.self.view_is (utf8 ch) (omega arith) c.requires.boundary c.requires.boundary fits u
     gap.new.array s.start gap.ensures.len held (rw c.new-text.ensures.offset at gap.ensures.front)
     (rw (wide, c.new-text.ensures.offset, c.new-text.ensures.size) at gap.ensures.tail)
@@ -77,4 +77,4 @@ pub prove-unreachable-requires : goal.prove-unreachable-requires
 prove-unreachable-requires g c =
     let within = boundary-within c.args.self.now.text c.args.at c.requires.boundary in
     let long = opened-size c.self.invariant c.self.view_is in
-    omega (arith, c.new-text.ensures.offset, c.new-text.ensures.size, long, within, c.if-text-len.false, c.capacity.ensures, c.len_utf8-len.ensures.lower_bound, c.if-prove.true)
+    omega (arith, c.new-text.ensures.offset, c.new-text.ensures.size, long, within, c.capacity.ensures, c.len_utf8-len.ensures.lower_bound)

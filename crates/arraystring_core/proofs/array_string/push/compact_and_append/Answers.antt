@@ -6,7 +6,7 @@ use Rattle.arraystring_core.proofs.array_string.push.compact_and_append.Goals as
 pub prove-unreachable-requires : goal.prove-unreachable-requires
 prove-unreachable-requires g c =
     let wide = width-bounds c.args.ch in
-    omega (arith, c.requires.room, wide.0, c.if-prove.true)
+    omega (arith, wide.0)
 
 pub returns-clause-held : goal.returns-clause-held
 returns-clause-held g c =

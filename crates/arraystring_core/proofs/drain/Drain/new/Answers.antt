@@ -7,7 +7,7 @@ pub invariant_of-result : goal.invariant_of-result
 invariant_of-result g c = (
   c.requires,
   record {
-    fits = omega (arith, stored-size c.requires, c.requires.within);
+    fits = omega (arith, stored-size c.requires);
     at = boundary-is [] _ 0 refl;
   },
 )

@@ -8,30 +8,30 @@ use Rattle.arraystring_core.proofs.drain.traits.DrainDoubleEndedIterator.next_ba
 
 pub returns-then-self-clause-steps : goal.returns-then-self-clause-steps
 returns-then-self-clause-steps g c =
-    let past : c.self.inside.size ≤ c.self.inside.front = omega (arith, c.if-self.true) in
+    let past : c.self.inside.size ≤ c.self.inside.front = omega arith in
     let none = sym (ap (λ d. d.left) c.self.view_is) ∙ none-left c.self.invariant.0 c.self.invariant.1 past in
     (none, none)
 
 pub overflow_sub-last : goal.overflow_sub-last
-overflow_sub-last g c = omega (arith, given-within c.self.invariant.0 c.self.invariant.1, c.if-self.false)
+overflow_sub-last g c = omega (arith, given-within c.self.invariant.0 c.self.invariant.1)
 
 pub bounds-self-inside-self-inside : goal.bounds-self-inside-self-inside
 bounds-self-inside-self-inside g c =
-    omega (arith, given-within c.self.invariant.0 c.self.invariant.1, c.self.invariant.0.within, c.if-self.false)
+    omega (arith, given-within c.self.invariant.0 c.self.invariant.1, c.self.invariant.0.within)
 
 pub overflow_sub-self : goal.overflow_sub-self
-overflow_sub-self g c = omega (arith, given-within c.self.invariant.0 c.self.invariant.1, c.if-self.false)
+overflow_sub-self g c = omega (arith, given-within c.self.invariant.0 c.self.invariant.1)
 
 pub invariant_of-self : goal.invariant_of-self
 invariant_of-self g c =
-    let some : c.self.inside.front < c.self.inside.size = omega (arith, given-within c.self.invariant.0 c.self.invariant.1, c.if-self.false) in
+    let some : c.self.inside.front < c.self.inside.size = omega (arith, given-within c.self.invariant.0 c.self.invariant.1) in
     let held = last-held c.self.invariant.0 c.self.invariant.1 some c.if-last-lt128.true in
     let given = last-given c.self.invariant.0 c.self.invariant.1 some c.if-last-lt128.true in
     (held, given)
 
 pub returns-then-last-lt128-clause-steps : goal.returns-then-last-lt128-clause-steps
 returns-then-last-lt128-clause-steps g c =
-    let some : c.self.inside.front < c.self.inside.size = omega (arith, given-within c.self.invariant.0 c.self.invariant.1, c.if-self.false) in
+    let some : c.self.inside.front < c.self.inside.size = omega (arith, given-within c.self.invariant.0 c.self.invariant.1) in
     sym (ap (λ d. d.left) c.self.view_is) ∙ last-rest c.self.invariant.0 c.self.invariant.1 some c.if-last-lt128.true
 
 pub returns-then-last-lt128-clause-goes : goal.returns-then-last-lt128-clause-goes
@@ -86,4 +86,4 @@ returns-clause-goes g c =
 
 pub prove-unreachable-requires : goal.prove-unreachable-requires
 prove-unreachable-requires g c =
-    omega (arith, given-within c.self.invariant.0 c.self.invariant.1, c.if-self.false, c.if-prove.true)
+    omega (arith, given-within c.self.invariant.0 c.self.invariant.1)

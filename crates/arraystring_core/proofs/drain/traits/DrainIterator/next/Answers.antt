@@ -9,26 +9,26 @@ use Rattle.arraystring_core.proofs.drain.traits.DrainIterator.next.Goals as goal
 
 pub returns-then-self-clause-steps : goal.returns-then-self-clause-steps
 returns-then-self-clause-steps g c =
-    let past : c.self.inside.size ≤ c.self.inside.front = omega (arith, c.if-self.true) in
+    let past : c.self.inside.size ≤ c.self.inside.front = omega arith in
     let none = sym (ap (λ d. d.left) c.self.view_is) ∙ none-left c.self.invariant.0 c.self.invariant.1 past in
     (none, none)
 
 pub bounds-self-inside-self-inside : goal.bounds-self-inside-self-inside
 bounds-self-inside-self-inside g c =
-    omega (arith, given-within c.self.invariant.0 c.self.invariant.1, c.self.invariant.0.within, c.if-self.false)
+    omega (arith, given-within c.self.invariant.0 c.self.invariant.1, c.self.invariant.0.within)
 
 pub overflow_add-self : goal.overflow_add-self
 overflow_add-self g c =
-    omega (arith, given-within c.self.invariant.0 c.self.invariant.1, c.self.invariant.0.within, c.if-self.false)
+    omega (arith, given-within c.self.invariant.0 c.self.invariant.1, c.self.invariant.0.within)
 
 pub invariant_of-self : goal.invariant_of-self
 invariant_of-self g c =
-    let some : c.self.inside.front < c.self.inside.size = omega (arith, given-within c.self.invariant.0 c.self.invariant.1, c.if-self.false) in
+    let some : c.self.inside.front < c.self.inside.size = omega (arith, given-within c.self.invariant.0 c.self.invariant.1) in
     (c.self.invariant.0, first-given c.self.invariant.0 c.self.invariant.1 some c.if-first-lt128.true)
 
 pub returns-then-first-lt128-clause-steps : goal.returns-then-first-lt128-clause-steps
 returns-then-first-lt128-clause-steps g c =
-    let some : c.self.inside.front < c.self.inside.size = omega (arith, given-within c.self.invariant.0 c.self.invariant.1, c.if-self.false) in
+    let some : c.self.inside.front < c.self.inside.size = omega (arith, given-within c.self.invariant.0 c.self.invariant.1) in
     sym (ap (λ d. d.left) c.self.view_is) ∙ first-rest c.self.invariant.0 c.self.invariant.1 some c.if-first-lt128.true
 
 pub returns-then-first-lt128-clause-goes : goal.returns-then-first-lt128-clause-goes
@@ -75,4 +75,4 @@ returns-clause-goes g c =
 
 pub prove-unreachable-requires : goal.prove-unreachable-requires
 prove-unreachable-requires g c =
-    omega (arith, given-within c.self.invariant.0 c.self.invariant.1, c.if-self.false, c.if-prove.true)
+    omega (arith, given-within c.self.invariant.0 c.self.invariant.1)
