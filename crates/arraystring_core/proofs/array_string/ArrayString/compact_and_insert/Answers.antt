@@ -19,19 +19,19 @@ compact_and_open_gap-requires g c =
 
 pub overflow_sub-self : goal.overflow_sub-self
 overflow_sub-self g c =
-    omega (arith, c.new-text.ensures.size, opened-size c.self.invariant c.self.view_is, boundary-within c.args.self.now.text c.args.at c.requires.boundary)
+    omega (arith, opened-size c.self.invariant c.self.view_is, boundary-within c.args.self.now.text c.args.at c.requires.boundary)
 
 pub overflow_add-self-2 : goal.overflow_add-self-2
 overflow_add-self-2 g c =
     let wide : c.len_utf8-len.result ≡ width c.args.ch = c.len_utf8-len.ensures.value ∙ sym (width-is c.args.ch) in
     let long = opened-size c.self.invariant c.self.view_is in
-    omega (arith, c.new-text.ensures.size, long, boundary-within c.args.self.now.text c.args.at c.requires.boundary, wide)
+    omega (arith, long, boundary-within c.args.self.now.text c.args.at c.requires.boundary, wide)
 
 pub overflow_cast-self : goal.overflow_cast-self
 overflow_cast-self g c =
     let wide : c.len_utf8-len.result ≡ width c.args.ch = c.len_utf8-len.ensures.value ∙ sym (width-is c.args.ch) in
     let long = opened-size c.self.invariant c.self.view_is in
-    omega (arith, c.new-text.ensures.size, long, boundary-within c.args.self.now.text c.args.at c.requires.boundary, wide)
+    omega (arith, long, boundary-within c.args.self.now.text c.args.at c.requires.boundary, wide)
 
 pub encode-requires : goal.encode-requires
 encode-requires g c =

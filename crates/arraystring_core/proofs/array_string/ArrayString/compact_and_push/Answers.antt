@@ -18,7 +18,7 @@ encode-len-requires g c =
 
 pub overflow_cast-self : goal.overflow_cast-self
 overflow_cast-self g c =
-    omega (arith, opened-size c.self.invariant c.self.view_is, c.encode-len.ensures.width)
+    omega (arith, opened-size c.self.invariant c.self.view_is)
 
 -- what is then in the array
 written : (g : given.Over) (c : goal.After-self-2-1 g)

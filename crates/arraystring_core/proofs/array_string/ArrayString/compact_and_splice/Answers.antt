@@ -26,14 +26,14 @@ overflow_add-self-2 g c =
     let long = size-borrowed c.utf8.given in
     let fits : size c.args.self.now.text - (c.args.end - c.args.start) + length c.args.given.now ≤ cap g.row.N = omega (arith, long) in
     let room = replaced-room c.self.invariant c.self.view_is c.args.given.now c.requires.order c.requires.start c.requires.end fits in
-    omega (arith, room, c.new-text.ensures.size)
+    omega (arith, room)
 
 pub overflow_cast-self : goal.overflow_cast-self
 overflow_cast-self g c =
     let long = size-borrowed c.utf8.given in
     let fits : size c.args.self.now.text - (c.args.end - c.args.start) + length c.args.given.now ≤ cap g.row.N = omega (arith, long) in
     let room = replaced-room c.self.invariant c.self.view_is c.args.given.now c.requires.order c.requires.start c.requires.end fits in
-    omega (arith, room, c.new-text.ensures.size)
+    omega (arith, room)
 
 pub write_over-requires : goal.write_over-requires
 write_over-requires g c =

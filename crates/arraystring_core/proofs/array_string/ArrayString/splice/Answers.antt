@@ -26,14 +26,14 @@ overflow_add-start g c =
     let long = size-borrowed c.utf8.given in
     let fits : size c.args.self.now.text - (c.args.end - c.args.start) + length c.args.given.now ≤ cap g.row.N = omega (arith, long) in
     let room = replaced-room c.self.invariant c.self.view_is c.args.given.now c.requires.order c.requires.start c.requires.end fits in
-    omega (arith, room, c.new-text.ensures.offset, c.new-text.ensures.size)
+    omega (arith, room)
 
 pub overflow_add-text : goal.overflow_add-text
 overflow_add-text g c =
     let long = size-borrowed c.utf8.given in
     let fits : size c.args.self.now.text - (c.args.end - c.args.start) + length c.args.given.now ≤ cap g.row.N = omega (arith, long) in
     let room = replaced-room c.self.invariant c.self.view_is c.args.given.now c.requires.order c.requires.start c.requires.end fits in
-    omega (arith, room, c.new-text.ensures.offset, c.new-text.ensures.size)
+    omega (arith, room)
 
 pub returns-then-text-start-clause-tail_alone : goal.returns-then-text-start-clause-tail_alone
 returns-then-text-start-clause-tail_alone g c small =
@@ -68,9 +68,9 @@ returns-clause-tail_alone g c = rw (opened-size c.self.invariant c.self.view_is)
 
 pub returns-clause-most : goal.returns-clause-most
 returns-clause-most g c =
-    rw (opened-size c.self.invariant c.self.view_is) (omega (arith, c.open_gap.ensures.most, c.new-text.ensures.size))
+    rw (opened-size c.self.invariant c.self.view_is) (omega arith)
 
 pub returns-clause-least : goal.returns-clause-least
 returns-clause-least g c =
     rw (opened-size c.self.invariant c.self.view_is, size-borrowed c.utf8.given)
-    (λ is_not. let more = c.open_gap.ensures.least is_not in omega (arith, more, c.new-text.ensures.size))
+    (λ is_not. let more = c.open_gap.ensures.least is_not in omega (arith, more))

@@ -11,7 +11,7 @@ slice_bounds-from_utf8_unchecked-start g c =
 
 pub slice_bounds-from_utf8_unchecked-count : goal.slice_bounds-from_utf8_unchecked-count
 slice_bounds-from_utf8_unchecked-count g c =
-    omega (arith, given-within c.self.invariant.0 c.self.invariant.1, c.self.invariant.0.within)
+    omega (arith, given-within c.self.invariant.0 c.self.invariant.1)
 
 pub from_utf8_unchecked-requires : goal.from_utf8_unchecked-requires
 from_utf8_unchecked-requires g c = borrowed-utf8 c.self.invariant.0 c.self.invariant.1 _ _ (omega arith) (omega arith)

@@ -17,7 +17,7 @@ overflow_sub-last g c = omega (arith, given-within c.self.invariant.0 c.self.inv
 
 pub bounds-self-inside-self-inside : goal.bounds-self-inside-self-inside
 bounds-self-inside-self-inside g c =
-    omega (arith, given-within c.self.invariant.0 c.self.invariant.1, c.self.invariant.0.within)
+    omega (arith, given-within c.self.invariant.0 c.self.invariant.1)
 
 pub overflow_sub-self : goal.overflow_sub-self
 overflow_sub-self g c = omega (arith, given-within c.self.invariant.0 c.self.invariant.1)
@@ -50,14 +50,14 @@ overflow_cast-self g c =
     let left = c.args.self.now.left in
     let found = c.in_ok-kept.ensures.some in
     let ends = ap (λ d. d.left) c.self.view_is ∙ sym (chars-bytes c.as_str.utf8 c.as_str.ensures.bytes) ∙ found.1 in
-    omega (arith, back-within c.self.invariant.0 c.self.invariant.1 c.in_ok-kept.ch found.0 ends, found.2, c.self.invariant.0.within)
+    omega (arith, back-within c.self.invariant.0 c.self.invariant.1 c.in_ok-kept.ch found.0 ends, found.2)
 
 pub overflow_add-self : goal.overflow_add-self
 overflow_add-self g c =
     let left = c.args.self.now.left in
     let found = c.in_ok-kept.ensures.some in
     let ends = ap (λ d. d.left) c.self.view_is ∙ sym (chars-bytes c.as_str.utf8 c.as_str.ensures.bytes) ∙ found.1 in
-    omega (arith, back-within c.self.invariant.0 c.self.invariant.1 c.in_ok-kept.ch found.0 ends, found.2, c.self.invariant.0.within)
+    omega (arith, back-within c.self.invariant.0 c.self.invariant.1 c.in_ok-kept.ch found.0 ends, found.2)
 
 pub invariant_of-self-2 : goal.invariant_of-self-2
 invariant_of-self-2 g c =

@@ -15,11 +15,11 @@ returns-then-self-clause-steps g c =
 
 pub bounds-self-inside-self-inside : goal.bounds-self-inside-self-inside
 bounds-self-inside-self-inside g c =
-    omega (arith, given-within c.self.invariant.0 c.self.invariant.1, c.self.invariant.0.within)
+    omega (arith, given-within c.self.invariant.0 c.self.invariant.1)
 
 pub overflow_add-self : goal.overflow_add-self
 overflow_add-self g c =
-    omega (arith, given-within c.self.invariant.0 c.self.invariant.1, c.self.invariant.0.within)
+    omega (arith, given-within c.self.invariant.0 c.self.invariant.1)
 
 pub invariant_of-self : goal.invariant_of-self
 invariant_of-self g c =
@@ -48,7 +48,7 @@ pub overflow_cast-self : goal.overflow_cast-self
 overflow_cast-self g c =
     let shown = c.as_str.ensures.bytes ∙ ap (λ d. bytes d.left) (sym c.self.view_is) in
     let begins = sym c.chars-left.ensures.rest ∙ c.in_ok-ch.ensures.steps.0 ∙ ap (λ l. encode_utf8 c.in_ok-ch.ch ++ l) (sym c.as_str-2.ensures) in
-    omega (arith, decoded-within c.self.invariant.0 c.self.invariant.1 _ c.as_str.utf8 shown _ _ c.as_str-2.utf8 begins, c.self.invariant.0.within)
+    omega (arith, decoded-within c.self.invariant.0 c.self.invariant.1 _ c.as_str.utf8 shown _ _ c.as_str-2.utf8 begins)
 
 pub overflow_sub-self : goal.overflow_sub-self
 overflow_sub-self g c =
