@@ -84,7 +84,7 @@ module _ {array_size : ℕ} {array : List ℕ} {p n : ℕ} (is : IsStored array_
       (tail : take (n - end) (drop (q + (start + length given)) gapped) ≡ take (n - end) (drop (p + end) array))
       (written : after ≡ take (q + start) gapped ++ (given ++ drop (q + start + length given) gapped)) where
     within : q + start + length given ≤ length gapped
-    within = omega (arith, held, long)
+    within = omega arith
 
     written-parts : take (start + (length given + (n - end))) (drop q after) ≡ take start (drop p array) ++ (given ++ take (n - end) (drop end (drop p array)))
     written-parts = gap-filled array gapped after given p q start end (n - end) within moved tail written

@@ -10,7 +10,7 @@ pub returns-then-not-has_room-2-clause-text : goal.returns-then-not-has_room-2-c
 returns-then-not-has_room-2-clause-text g c =
     let long = stored-size c.requires.held in
     let over : cap g.row.N < c.args.end - c.args.start.now + width c.args.ch = lt_of_not-le (iff_false c.has_room-then-not-has_room.ensures c.if-not-has_room-2.true) in
-    (omega (arith, over, long), refl)
+    (omega arith, refl)
 
 pub compact_and_append-held-requires : goal.compact_and_append-held-requires
 compact_and_append-held-requires g c =
@@ -21,7 +21,7 @@ pub returns-then-not-has_room-clause-text : goal.returns-then-not-has_room-claus
 returns-then-not-has_room-clause-text g c =
     let long = stored-size c.requires.held in
     let same : c.args.end - c.args.start.now ≡ c.args.len.now = omega arith in
-    (omega (arith, c.if-not-has_room-2.ensures.0 refl, long, same), rw same at c.compact_and_append-held.ensures.text)
+    (omega (arith, c.if-not-has_room-2.ensures.0 refl), rw same at c.compact_and_append-held.ensures.text)
 
 pub returns-clause-held : goal.returns-clause-held
 returns-clause-held g c =
@@ -36,4 +36,4 @@ returns-clause-text g c =
     let room : c.args.start.now + c.args.len.now + width c.args.ch ≤ cap g.row.N = omega (arith, c.if-not-has_room.ensures.0 refl) in
     let lies = char-appended c.requires.held c.args.ch (search rules) room (rw c.requires.end at c.encode.ensures.bytes) in
     let same : c.args.len.now + width c.args.ch ≡ c.args.end + c.encode.result - c.args.start.now = omega arith in
-    (omega (arith, room, long), (rw same at lies).shown)
+    (omega arith, (rw same at lies).shown)

@@ -19,7 +19,7 @@ loop-ch-init g c =
       held = c.requires.held;
       end = refl;
       text = sym (append-nil old);
-      fits = omega (arith, long);
+      fits = omega arith;
     }
 
 pub loop-ch-preserved : goal.loop-ch-preserved
@@ -53,7 +53,7 @@ returns-in-None-append_char-clause-taken g c =
     let refused = c.in-None-append_char.ensures.text in
     let over : cap g.row.N < size now + size (x ∷ []) = refused.0 in
     let past = added-past chars_text char_text chars-more old now (cap g.row.N) xs inv.text inv.fits x over in
-    let none : cut (x ∷ []) room ≡ [] = cut-none x room (omega (arith, over, width-bounds x)) in (
+    let none : cut (x ∷ []) room ≡ [] = cut-none x room (omega (arith, width-bounds x)) in (
       xs ++ x ∷ [],
       (
         c.into_iter-ch-iterator.result,
@@ -71,7 +71,7 @@ returns-clause-taken g c =
     let old = (stored c.args.array.now c.args.start.now c.args.len.now).text in
     let now = (stored c.loop-ch.array c.loop-ch.start c.loop-ch.len).text in
     let filled : size old + size xs ≤ cap g.row.N = inv.fits in
-    let fits : size xs ≤ cap g.row.N - size old = omega (arith, filled) in (
+    let fits : size xs ≤ cap g.row.N - size old = omega arith in (
       xs,
       (
         c.into_iter-ch-iterator.result,

@@ -13,8 +13,8 @@ pub compact_and_open_gap-requires : goal.compact_and_open_gap-requires
 compact_and_open_gap-requires g c =
     let wide : c.len_utf8-len.result ≡ width c.args.ch = c.len_utf8-len.ensures.value ∙ sym (width-is c.args.ch) in
     let long = opened-size c.self.invariant c.self.view_is in
-    let within : c.args.at ≤ c.self.inside.size = omega (arith, long, boundary-within c.args.self.now.text c.args.at c.requires.boundary) in
-    let room : c.args.at + (c.len_utf8-len.result + (c.self.inside.size - c.args.at)) ≤ cap g.row.N = omega (arith, long, within, wide) in
+    let within : c.args.at ≤ c.self.inside.size = omega (arith, boundary-within c.args.self.now.text c.args.at c.requires.boundary) in
+    let room : c.args.at + (c.len_utf8-len.result + (c.self.inside.size - c.args.at)) ≤ cap g.row.N = omega arith in
     rw (c.new-text.ensures.offset, c.new-text.ensures.size) (search rules, (omega arith, (within, (c.self.invariant.within, (room, omega arith)))))
 
 pub overflow_sub-self : goal.overflow_sub-self
@@ -25,18 +25,18 @@ pub overflow_add-self-2 : goal.overflow_add-self-2
 overflow_add-self-2 g c =
     let wide : c.len_utf8-len.result ≡ width c.args.ch = c.len_utf8-len.ensures.value ∙ sym (width-is c.args.ch) in
     let long = opened-size c.self.invariant c.self.view_is in
-    omega (arith, long, boundary-within c.args.self.now.text c.args.at c.requires.boundary, wide)
+    omega (arith, boundary-within c.args.self.now.text c.args.at c.requires.boundary)
 
 pub overflow_cast-self : goal.overflow_cast-self
 overflow_cast-self g c =
     let wide : c.len_utf8-len.result ≡ width c.args.ch = c.len_utf8-len.ensures.value ∙ sym (width-is c.args.ch) in
     let long = opened-size c.self.invariant c.self.view_is in
-    omega (arith, long, boundary-within c.args.self.now.text c.args.at c.requires.boundary, wide)
+    omega (arith, boundary-within c.args.self.now.text c.args.at c.requires.boundary)
 
 pub encode-requires : goal.encode-requires
 encode-requires g c =
     let long = opened-size c.self.invariant c.self.view_is in
-    let within : c.args.at + width c.args.ch ≤ g.row.N = omega (arith, long, boundary-within c.args.self.now.text c.args.at c.requires.boundary) in
+    let within : c.args.at + width c.args.ch ≤ g.row.N = omega (arith, boundary-within c.args.self.now.text c.args.at c.requires.boundary) in
     (search rules, within)
 
 -- what is then in the array
@@ -70,4 +70,4 @@ pub prove-unreachable-requires : goal.prove-unreachable-requires
 prove-unreachable-requires g c =
     let within = boundary-within c.args.self.now.text c.args.at c.requires.boundary in
     let wide = width-bounds c.args.ch in
-    omega (arith, within, wide.0)
+    omega (arith, wide.0)

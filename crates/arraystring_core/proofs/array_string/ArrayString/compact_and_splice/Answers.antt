@@ -9,7 +9,7 @@ use Rattle.arraystring_core.proofs.array_string.ArrayString.compact_and_splice.G
 pub compact_and_open_gap-requires : goal.compact_and_open_gap-requires
 compact_and_open_gap-requires g c =
     let long = size-borrowed c.utf8.given in
-    let fits : size c.args.self.now.text - (c.args.end - c.args.start) + length c.args.given.now ≤ cap g.row.N = omega (arith, long) in
+    let fits : size c.args.self.now.text - (c.args.end - c.args.start) + length c.args.given.now ≤ cap g.row.N = omega arith in
     let within = replaced-within c.self.invariant c.self.view_is c.args.given.now c.requires.order c.requires.start c.requires.end fits in
     let room = replaced-room c.self.invariant c.self.view_is c.args.given.now c.requires.order c.requires.start c.requires.end fits in
     rw (c.new-text.ensures.offset, c.new-text.ensures.size) (search rules, (c.requires.order, (within, (c.self.invariant.within, (room, c.requires.countable)))))
@@ -17,30 +17,30 @@ compact_and_open_gap-requires g c =
 pub overflow_sub-self : goal.overflow_sub-self
 overflow_sub-self g c =
     let long = size-borrowed c.utf8.given in
-    let fits : size c.args.self.now.text - (c.args.end - c.args.start) + length c.args.given.now ≤ cap g.row.N = omega (arith, long) in
+    let fits : size c.args.self.now.text - (c.args.end - c.args.start) + length c.args.given.now ≤ cap g.row.N = omega arith in
     rw c.new-text.ensures.size
     (replaced-within c.self.invariant c.self.view_is c.args.given.now c.requires.order c.requires.start c.requires.end fits)
 
 pub overflow_add-self-2 : goal.overflow_add-self-2
 overflow_add-self-2 g c =
     let long = size-borrowed c.utf8.given in
-    let fits : size c.args.self.now.text - (c.args.end - c.args.start) + length c.args.given.now ≤ cap g.row.N = omega (arith, long) in
+    let fits : size c.args.self.now.text - (c.args.end - c.args.start) + length c.args.given.now ≤ cap g.row.N = omega arith in
     let room = replaced-room c.self.invariant c.self.view_is c.args.given.now c.requires.order c.requires.start c.requires.end fits in
-    omega (arith, room)
+    omega arith
 
 pub overflow_cast-self : goal.overflow_cast-self
 overflow_cast-self g c =
     let long = size-borrowed c.utf8.given in
-    let fits : size c.args.self.now.text - (c.args.end - c.args.start) + length c.args.given.now ≤ cap g.row.N = omega (arith, long) in
+    let fits : size c.args.self.now.text - (c.args.end - c.args.start) + length c.args.given.now ≤ cap g.row.N = omega arith in
     let room = replaced-room c.self.invariant c.self.view_is c.args.given.now c.requires.order c.requires.start c.requires.end fits in
-    omega (arith, room)
+    omega arith
 
 pub write_over-requires : goal.write_over-requires
 write_over-requires g c =
     let long = size-borrowed c.utf8.given in
-    let fits : size c.args.self.now.text - (c.args.end - c.args.start) + length c.args.given.now ≤ cap g.row.N = omega (arith, long) in
+    let fits : size c.args.self.now.text - (c.args.end - c.args.start) + length c.args.given.now ≤ cap g.row.N = omega arith in
     let room = replaced-room c.self.invariant c.self.view_is c.args.given.now c.requires.order c.requires.start c.requires.end fits in
-    rw c.as_bytes.ensures.value (search rules, omega (arith, room))
+    rw c.as_bytes.ensures.value (search rules, omega arith)
 
 -- what is then in the array
 written : (g : given.Over) (c : goal.After-write_over g)

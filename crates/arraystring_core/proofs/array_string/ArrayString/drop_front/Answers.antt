@@ -4,11 +4,11 @@ use Rattle.arraystring_core.proofs.array_string.ArrayString.drop_front.Goals as 
 
 pub overflow_add-self : goal.overflow_add-self
 overflow_add-self g c =
-    let within = dropped-within c.self.invariant c.self.view_is _ c.requires in omega (arith, within)
+    let within = dropped-within c.self.invariant c.self.view_is _ c.requires in omega arith
 
 pub overflow_cast-self-2 : goal.overflow_cast-self-2
 overflow_cast-self-2 g c =
-    let within = dropped-within c.self.invariant c.self.view_is _ c.requires in omega (arith, within)
+    let within = dropped-within c.self.invariant c.self.view_is _ c.requires in omega arith
 
 pub overflow_sub-self : goal.overflow_sub-self
 overflow_sub-self g c = dropped-within c.self.invariant c.self.view_is _ c.requires

@@ -8,7 +8,7 @@ use Rattle.arraystring_core.proofs.array_string.ArrayString.push_str_unchecked.G
 pub overflow_cast-self-2 : goal.overflow_cast-self-2
 overflow_cast-self-2 g c =
     let end = c.end-end.ensures.value ∙ opened-end c.self.invariant c.self.view_is in
-    omega (arith, end)
+    omega arith
 
 -- what is then in the array
 written : (g : given.Over) (c : goal.After-write_over g)
@@ -16,7 +16,7 @@ written : (g : given.Over) (c : goal.After-write_over g)
 written g c =
     let s = c.self.inside in
     let end = c.end-end.ensures.value ∙ opened-end c.self.invariant c.self.view_is in
-    let room : s.start + s.size + length c.args.string.now ≤ cap g.row.N = omega (arith, end) in
+    let room : s.start + s.size + length c.args.string.now ≤ cap g.row.N = omega arith in
     let copied = rw (end, c.as_bytes.ensures.value) at c.write_over.ensures in
     appended c.self.invariant c.self.view_is c.utf8.string room copied
 

@@ -12,13 +12,13 @@ pub encode-len-requires : goal.encode-len-requires
 encode-len-requires g c =
     let end = c.end-end.ensures.value ∙ opened-end c.self.invariant c.self.view_is in
     let room = c.if-not-has_room.ensures.0 refl in
-    let within : c.self.inside.start + c.self.inside.size + width c.args.ch ≤ g.row.N = omega (arith, end, room) in
+    let within : c.self.inside.start + c.self.inside.size + width c.args.ch ≤ g.row.N = omega arith in
     rw end (search rules, within)
 
 pub overflow_cast-self-2 : goal.overflow_cast-self-2
 overflow_cast-self-2 g c =
     let end = c.end-end.ensures.value ∙ opened-end c.self.invariant c.self.view_is in
-    omega (arith, end, c.if-not-has_room.ensures.0 refl)
+    omega (arith, c.if-not-has_room.ensures.0 refl)
 
 -- what is then in the array
 written : (g : given.Over) (c : goal.After-self-1 g)

@@ -9,7 +9,7 @@ use Rattle.arraystring_core.proofs.array_string.ArrayString.splice.Goals as goal
 pub open_gap-requires : goal.open_gap-requires
 open_gap-requires g c =
     let long = size-borrowed c.utf8.given in
-    let fits : size c.args.self.now.text - (c.args.end - c.args.start) + length c.args.given.now ≤ cap g.row.N = omega (arith, long) in
+    let fits : size c.args.self.now.text - (c.args.end - c.args.start) + length c.args.given.now ≤ cap g.row.N = omega arith in
     let within = replaced-within c.self.invariant c.self.view_is c.args.given.now c.requires.order c.requires.start c.requires.end fits in
     let room : c.self.inside.start + (c.args.start + (length c.args.given.now + (c.self.inside.size - c.args.end))) ≤ cap g.row.N = rw (← c.new-text.ensures.offset, ← c.new-text.ensures.size) (omega arith) in
     rw (c.new-text.ensures.offset, c.new-text.ensures.size) (search rules, (c.requires.order, (within, (c.self.invariant.within, (room, c.requires.countable)))))
@@ -17,30 +17,30 @@ open_gap-requires g c =
 pub overflow_sub-tail : goal.overflow_sub-tail
 overflow_sub-tail g c =
     let long = size-borrowed c.utf8.given in
-    let fits : size c.args.self.now.text - (c.args.end - c.args.start) + length c.args.given.now ≤ cap g.row.N = omega (arith, long) in
+    let fits : size c.args.self.now.text - (c.args.end - c.args.start) + length c.args.given.now ≤ cap g.row.N = omega arith in
     rw c.new-text.ensures.size
     (replaced-within c.self.invariant c.self.view_is c.args.given.now c.requires.order c.requires.start c.requires.end fits)
 
 pub overflow_add-start : goal.overflow_add-start
 overflow_add-start g c =
     let long = size-borrowed c.utf8.given in
-    let fits : size c.args.self.now.text - (c.args.end - c.args.start) + length c.args.given.now ≤ cap g.row.N = omega (arith, long) in
+    let fits : size c.args.self.now.text - (c.args.end - c.args.start) + length c.args.given.now ≤ cap g.row.N = omega arith in
     let room = replaced-room c.self.invariant c.self.view_is c.args.given.now c.requires.order c.requires.start c.requires.end fits in
-    omega (arith, room)
+    omega arith
 
 pub overflow_add-text : goal.overflow_add-text
 overflow_add-text g c =
     let long = size-borrowed c.utf8.given in
-    let fits : size c.args.self.now.text - (c.args.end - c.args.start) + length c.args.given.now ≤ cap g.row.N = omega (arith, long) in
+    let fits : size c.args.self.now.text - (c.args.end - c.args.start) + length c.args.given.now ≤ cap g.row.N = omega arith in
     let room = replaced-room c.self.invariant c.self.view_is c.args.given.now c.requires.order c.requires.start c.requires.end fits in
-    omega (arith, room)
+    omega arith
 
 pub returns-then-text-start-clause-tail_alone : goal.returns-then-text-start-clause-tail_alone
 returns-then-text-start-clause-tail_alone g c small =
     let long = size-borrowed c.utf8.given in
     let within = replaced-within c.self.invariant c.self.view_is c.args.given.now c.requires.order c.requires.start c.requires.end
-    (omega (arith, long)) in
-    omega (arith, small, long, within)
+    (omega arith) in
+    omega (arith, small)
 
 -- what is then in the array
 written : (g : given.Over) (c : goal.After-write_over g)
@@ -73,4 +73,4 @@ returns-clause-most g c =
 pub returns-clause-least : goal.returns-clause-least
 returns-clause-least g c =
     rw (opened-size c.self.invariant c.self.view_is, size-borrowed c.utf8.given)
-    (λ is_not. let more = c.open_gap.ensures.least is_not in omega (arith, more))
+    (λ is_not. let more = c.open_gap.ensures.least is_not in omega arith)

@@ -16,22 +16,22 @@ overflow_sub-tail g c = dropped-within c.self.invariant c.self.view_is _ c.requi
 pub overflow_cast-self : goal.overflow_cast-self
 overflow_cast-self g c =
     let within = dropped-within c.self.invariant c.self.view_is _ c.requires.end in
-    omega (arith, within)
+    omega arith
 
 pub overflow_add-offset : goal.overflow_add-offset
 overflow_add-offset g c =
     let within = dropped-within c.self.invariant c.self.view_is _ c.requires.end in
-    omega (arith, within)
+    omega arith
 
 pub overflow_add-offset-2 : goal.overflow_add-offset-2
 overflow_add-offset-2 g c =
     let within = dropped-within c.self.invariant c.self.view_is _ c.requires.end in
-    omega (arith, within)
+    omega arith
 
 pub shift-requires : goal.shift-requires
 shift-requires g c =
     let within = dropped-within c.self.invariant c.self.view_is _ c.requires.end in
-    (search rules, (omega (arith, within), (omega (arith, within), omega (arith, within))))
+    (search rules, (omega arith, (omega arith, omega arith)))
 
 pub invariant_of-self : goal.invariant_of-self
 invariant_of-self g c =

@@ -11,12 +11,12 @@ pub returns-then-not-has_room : goal.returns-then-not-has_room
 returns-then-not-has_room g c =
     let t = c.args.self.now.text in
     let over : cap g.row.N < c.self.inside.size + width c.args.ch = lt_of_not-le (iff_false c.has_room.ensures c.if-not-has_room.true) in
-    refuses _ t Room (addition-room t (c.args.ch ∷ []) (cap g.row.N) (omega (arith, over, opened-size c.self.invariant c.self.view_is)))
+    refuses _ t Room (addition-room t (c.args.ch ∷ []) (cap g.row.N) (omega (arith, opened-size c.self.invariant c.self.view_is)))
 
 pub compact_and_push-requires : goal.compact_and_push-requires
 compact_and_push-requires g c =
     let long = opened-size c.self.invariant c.self.view_is in
-    let fits : size c.args.self.now.text + width c.args.ch ≤ cap g.row.N = omega (arith, long, c.if-not-has_room.ensures.0 refl) in
+    let fits : size c.args.self.now.text + width c.args.ch ≤ cap g.row.N = omega (arith, c.if-not-has_room.ensures.0 refl) in
     (search rules, fits)
 
 pub returns : goal.returns
@@ -24,6 +24,6 @@ returns g c =
     let t = c.args.self.now.text in
     let ch = c.args.ch in
     let long = opened-size c.self.invariant c.self.view_is in
-    let fits : size t + size (ch ∷ []) ≤ cap g.row.N = omega (arith, long, c.if-not-has_room.ensures.0 refl) in
+    let fits : size t + size (ch ∷ []) ≤ cap g.row.N = omega (arith, c.if-not-has_room.ensures.0 refl) in
     makes (addition t (ch ∷ []) (cap g.row.N)) t tt c.compact_and_push.new.self.text (addition-no_cause t (ch ∷ []) (cap g.row.N) fits) refl
     c.compact_and_push.ensures
