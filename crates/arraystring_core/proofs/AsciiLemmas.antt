@@ -6,9 +6,9 @@ use Rattle.std.proofs.lemmas.Str.Ascii.{uppercase_ascii, lowercase_ascii, upperc
 use Rattle.std.specs.Char.{to_ascii_uppercase, to_ascii_lowercase}
 use Rattle.arraystring_base.specs.Text.{IsScalarValue, IsText, size, utf8, bytes, cap, front, back, boundary}
 use Rattle.arraystring_base.proofs.TextLaws.{bytes-utf8, chars-bytes}
-use Rattle.arraystring_base.proofs.BoundaryLaws.{boundary-within, bytes-part, front-text, back-text}
+use Rattle.arraystring_base.proofs.BoundaryLaws.{bytes-part, front-text, back-text}
 use Rattle.arraystring_core.specs.Stored.{Stored, stored, IsStored}
-use Rattle.arraystring_core.proofs.StoredLaws.{opened-bytes, opened-size, opened-text}
+use Rattle.arraystring_core.proofs.StoredLaws.{opened-bytes, opened-size, opened-within, opened-text}
 use Rattle.arraystring_core.specs.Edits.{part}
 use Rattle.arraystring_core.proofs.GapLemmas.{written-length, written-parts}
 use Rattle.arraystring_core.proofs.SpanLemmas.{replaced}
@@ -86,7 +86,7 @@ module _ {f : ℕ → ℕ} (is : IsAsciiChange f) {array_size : ℕ} {array : Li
     {after : List ℕ}
     (written : after ≡ take (p + start) array ++ (map f (take (p + end - (p + start)) (drop (p + start) array)) ++ drop (p + end) array)) where
   reached : end ≤ n
-  reached = omega (arith, opened-size held e, boundary-within v.text end d)
+  reached = opened-within held e end d
 
   abbrev given : List ℕ
   given = map f (take (p + end - (p + start)) (drop (p + start) array))

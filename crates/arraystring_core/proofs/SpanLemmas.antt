@@ -5,10 +5,10 @@ use Rattle.std.proofs.lemmas.List.{drop-take, drop-drop, append-nil}
 use Rattle.std.proofs.Math.Seq.{take-add}
 use Rattle.arraystring_base.specs.Text.{size, bytes, cap, front, back, boundary}
 use Rattle.arraystring_base.proofs.TextLaws.{chars-bytes, bytes-chars, bytes-append}
-use Rattle.arraystring_base.proofs.BoundaryLaws.{boundary-within, boundary-end, front-end, back-end, bytes-front, bytes-back, boundary-to_bytes}
+use Rattle.arraystring_base.proofs.BoundaryLaws.{boundary-end, front-end, back-end, bytes-front, bytes-back, boundary-to_bytes}
 use Rattle.arraystring_core.specs.Stored.{Stored, stored, IsStored}
 use Rattle.arraystring_core.specs.GhostProofs.{stored-utf8}
-use Rattle.arraystring_core.proofs.StoredLaws.{opened-bytes, opened-size}
+use Rattle.arraystring_core.proofs.StoredLaws.{opened-bytes, opened-size, opened-within}
 use Rattle.arraystring_core.proofs.GapLemmas.{gap-filled, written-length, written-from-zero, tail-from-zero, shift-before, shift-moved, shift-length}
 
 -- the n bytes of the array from the offset p on are the text t, and end within the capacity
@@ -57,11 +57,8 @@ module _ (t xs : List ℕ) (n : ℕ) (is : bytes t ≡ take n xs) (u : IsUtf8 (t
 module _ {array_size : ℕ} {array : List ℕ} {p n : ℕ} (is : IsStored array_size array p n) {v : Stored} (e : stored array p n ≡ v)
     {start end : ℕ} (given : List ℕ) (order : start ≤ end) (b : boundary v.text start ≡ true) (d : boundary v.text end ≡ true)
     (room : size v.text - (end - start) + length given ≤ cap array_size) where
-  pub replaced-within : end ≤ n
-  replaced-within = omega (arith, opened-size is e, boundary-within v.text end d)
-
   pub replaced-room : start + (length given + (n - end)) ≤ cap array_size
-  replaced-room = omega (arith, opened-size is e, boundary-within v.text end d)
+  replaced-room = omega (arith, opened-size is e, opened-within is e end d)
 
   -- q is the offset of the text afterwards
   module _ (u : IsUtf8 given) {after : List ℕ} (q : ℕ) (long : length after ≡ array_size)
@@ -69,12 +66,12 @@ module _ {array_size : ℕ} {array : List ℕ} {p n : ℕ} (is : IsStored array_
       (written : take (start + (length given + (n - end))) (drop q after) ≡ take start (drop p array) ++ (given ++ take (n - end) (drop end (drop p array)))) where
     pub replaced : Lies array_size after q (start + (length given + (n - end))) (front v.text start ++ (chars given ++ back v.text end))
     replaced =
-        let low : start ≤ n = omega (arith, replaced-within) in
+        let low : start ≤ n = omega (arith, opened-within is e end d) in
         let old = opened-bytes is e in
         let old_utf8 = stored-utf8 is in
         record {
-          held = record { within = held; length = long; utf8 = ∣ restored-utf8 v.text (drop p array) n old old_utf8 given u start end low replaced-within b d _ written ∣₁ };
-          shown = replaced-text v.text (drop p array) n old old_utf8 given u start end low replaced-within b d _ written;
+          held = record { within = held; length = long; utf8 = ∣ restored-utf8 v.text (drop p array) n old old_utf8 given u start end low (opened-within is e end d) b d _ written ∣₁ };
+          shown = replaced-text v.text (drop p array) n old old_utf8 given u start end low (opened-within is e end d) b d _ written;
         }
 
   -- the text was moved to offset q, and `given` was written into the gap
@@ -180,14 +177,11 @@ module _ {array_size : ℕ} {array : List ℕ} {p n : ℕ} (is : IsStored array_
 module _ {array_size : ℕ} {array : List ℕ} {p n : ℕ} (is : IsStored array_size array p n) {v : Stored} (e : stored array p n ≡ v)
     {start end : ℕ} (order : start ≤ end) (b : boundary v.text start ≡ true) (d : boundary v.text end ≡ true) {after : List ℕ}
     (moved : after ≡ take (p + start) array ++ (take (n - end) (drop (p + end) array) ++ drop (p + start + (n - end)) array)) where
-  closed-within : end ≤ n
-  closed-within = omega (arith, opened-size is e, boundary-within v.text end d)
-
   closed-source : p + end + (n - end) ≤ length array
-  closed-source = omega (arith, closed-within)
+  closed-source = omega (arith, opened-within is e end d)
 
   closed-target : p + start + (n - end) ≤ length array
-  closed-target = omega (arith, closed-within)
+  closed-target = omega (arith, opened-within is e end d)
 
   closed-fits : size v.text - (end - start) + length {A = ℕ} [] ≤ cap array_size
   closed-fits = omega (arith, opened-size is e)
@@ -208,7 +202,7 @@ module _ {array_size : ℕ} {array : List ℕ} {p n : ℕ} (is : IsStored array_
   closed-long = shift-length array after (p + end) (p + start) (n - end) closed-source closed-target moved ∙ is.length
 
   closed-held : p + (start + (length {A = ℕ} [] + (n - end))) ≤ cap array_size
-  closed-held = omega (arith, closed-within)
+  closed-held = omega (arith, opened-within is e end d)
 
   closed-lies : Lies array_size after p (start + (length {A = ℕ} [] + (n - end))) (front v.text start ++ (chars [] ++ back v.text end))
   closed-lies = replaced is e [] order b d closed-fits IsUtf8-nil p closed-long closed-held closed-parts
@@ -224,15 +218,12 @@ module _ {array_size : ℕ} {array : List ℕ} {p n : ℕ} (is : IsStored array_
 -- the part before the boundary m is dropped
 module _ {array_size : ℕ} {array : List ℕ} {p n : ℕ} (is : IsStored array_size array p n) {v : Stored} (e : stored array p n ≡ v)
     (m : ℕ) (b : boundary v.text m ≡ true) where
-  pub dropped-within : m ≤ n
-  dropped-within = omega (arith, opened-size is e, boundary-within v.text m b)
-
   whole-utf8 : IsUtf8 (bytes v.text)
   whole-utf8 = rw (opened-bytes is e) (stored-utf8 is)
 
   dropped-bytes : take (n - m) (drop (p + m) array) ≡ bytes (back v.text m)
   dropped-bytes =
-      let whole : m + (n - m) ≡ n = omega (arith, dropped-within) in
+      let whole : m + (n - m) ≡ n = omega (arith, opened-within is e m b) in
       ap (take (n - m)) (sym (drop-drop m p array)) ∙ sym (drop-take m (n - m) (drop p array))
       ∙ ap (λ k. drop m (take k (drop p array))) whole ∙ ap (drop m) (sym (opened-bytes is e)) ∙ bytes-back v.text m b
 
@@ -242,19 +233,16 @@ module _ {array_size : ℕ} {array : List ℕ} {p n : ℕ} (is : IsStored array_
 
   pub dropped : Lies array_size array (p + m) (n - m) (back v.text m)
   dropped = record {
-    held = record { within = omega (arith, dropped-within); length = is.length; utf8 = ∣ dropped-utf8 ∣₁ };
+    held = record { within = omega (arith, opened-within is e m b); length = is.length; utf8 = ∣ dropped-utf8 ∣₁ };
     shown = chars-bytes dropped-utf8 dropped-bytes;
   }
 
 -- the part before the boundary m is kept
 module _ {array_size : ℕ} {array : List ℕ} {p n : ℕ} (is : IsStored array_size array p n) {v : Stored} (e : stored array p n ≡ v)
     (m : ℕ) (b : boundary v.text m ≡ true) where
-  kept-within : m ≤ n
-  kept-within = omega (arith, opened-size is e, boundary-within v.text m b)
-
   kept-bytes : take m (drop p array) ≡ bytes (front v.text m)
   kept-bytes =
-      sym (take-take m n (drop p array) kept-within) ∙ ap (take m) (sym (opened-bytes is e)) ∙ bytes-front v.text m b
+      sym (take-take m n (drop p array) (opened-within is e m b)) ∙ ap (take m) (sym (opened-bytes is e)) ∙ bytes-front v.text m b
 
   kept-utf8 : IsUtf8 (take m (drop p array))
   kept-utf8 =
@@ -263,6 +251,6 @@ module _ {array_size : ℕ} {array : List ℕ} {p n : ℕ} (is : IsStored array_
 
   pub kept : Lies array_size array p m (front v.text m)
   kept = record {
-    held = record { within = omega (arith, kept-within); length = is.length; utf8 = ∣ kept-utf8 ∣₁ };
+    held = record { within = omega (arith, opened-within is e m b); length = is.length; utf8 = ∣ kept-utf8 ∣₁ };
     shown = chars-bytes kept-utf8 kept-bytes;
   }

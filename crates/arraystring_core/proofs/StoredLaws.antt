@@ -1,7 +1,8 @@
 -- Laws of what is stored.
-use Rattle.std.proofs.Common.{◌≡◌, ℕ, ◌+◌, ◌-◌, List, take, drop, refl, subst, sym, ap, ◌∙◌, arith, chars}
-use Rattle.arraystring_base.specs.Text.{size, bytes, IsText}
+use Rattle.std.proofs.Common.{◌≡◌, ℕ, ◌+◌, ◌-◌, ◌≤◌, List, take, drop, refl, subst, sym, ap, ◌∙◌, arith, true, chars}
+use Rattle.arraystring_base.specs.Text.{size, bytes, boundary, IsText}
 use Rattle.arraystring_base.proofs.TextLaws.{text-chars, chars-bytes, bytes-utf8}
+use Rattle.arraystring_base.proofs.BoundaryLaws.{boundary-within}
 use Rattle.arraystring_core.specs.Stored.{Stored, stored, IsStored, start_of}
 use Rattle.arraystring_core.specs.GhostProofs as ghost_proof
 
@@ -16,6 +17,9 @@ module _ {array_size : ℕ} {array : List ℕ} {start n : ℕ} (is : IsStored ar
 
   pub opened-size : size v.text ≡ n
   opened-size = ap (λ s. size s.text) (sym e) ∙ ghost_proof.stored-size is
+
+  pub opened-within : (m : ℕ) → boundary v.text m ≡ true → m ≤ n
+  opened-within m b = omega (arith, opened-size, boundary-within v.text m b)
 
   pub opened-end : start_of v + size v.text ≡ start + n
   opened-end = ap (λ s. start_of s + size s.text) (sym e) ∙ ap (λ k. start + k) (ghost_proof.stored-size is)

@@ -1,8 +1,8 @@
 use Rattle.std.proofs.Common.{◌+◌, ◌-◌, ◌≤◌, ◌++◌, chars, length, arith, rules}
 use Rattle.arraystring_base.specs.Text.{size, cap, front, back}
 use Rattle.arraystring_base.proofs.TextLaws.{size-borrowed}
-use Rattle.arraystring_core.proofs.StoredLaws.{opened-size}
-use Rattle.arraystring_core.proofs.SpanLemmas.{Lies, replaced-within, replaced-room, moved_to_start}
+use Rattle.arraystring_core.proofs.StoredLaws.{opened-size, opened-within}
+use Rattle.arraystring_core.proofs.SpanLemmas.{Lies, replaced-room, moved_to_start}
 use Rattle.arraystring_core.proofs.array_string.ArrayString.compact_and_splice.Given as given
 use Rattle.arraystring_core.proofs.array_string.ArrayString.compact_and_splice.Goals as goal
 
@@ -10,7 +10,7 @@ pub compact_and_open_gap-requires : goal.compact_and_open_gap-requires
 compact_and_open_gap-requires g c =
     let long = size-borrowed c.utf8.given in
     let fits : size c.args.self.now.text - (c.args.end - c.args.start) + length c.args.given.now ≤ cap g.row.N = omega arith in
-    let within = replaced-within c.self.invariant c.self.view_is c.args.given.now c.requires.order c.requires.start c.requires.end fits in
+    let within = opened-within c.self.invariant c.self.view_is _ c.requires.end in
     let room = replaced-room c.self.invariant c.self.view_is c.args.given.now c.requires.order c.requires.start c.requires.end fits in
     rw (c.new-text.ensures.offset, c.new-text.ensures.size) (search rules, (c.requires.order, (within, (c.self.invariant.within, (room, c.requires.countable)))))
 
@@ -19,7 +19,7 @@ overflow_sub-self g c =
     let long = size-borrowed c.utf8.given in
     let fits : size c.args.self.now.text - (c.args.end - c.args.start) + length c.args.given.now ≤ cap g.row.N = omega arith in
     rw c.new-text.ensures.size
-    (replaced-within c.self.invariant c.self.view_is c.args.given.now c.requires.order c.requires.start c.requires.end fits)
+    (opened-within c.self.invariant c.self.view_is _ c.requires.end)
 
 pub overflow_add-self-2 : goal.overflow_add-self-2
 overflow_add-self-2 g c =

@@ -1,8 +1,8 @@
 use Rattle.std.proofs.Common.{◌+◌, ◌-◌, ◌≤◌, ◌++◌, chars, length, arith, rules}
 use Rattle.arraystring_base.specs.Text.{size, cap, front, back}
 use Rattle.arraystring_base.proofs.TextLaws.{size-borrowed}
-use Rattle.arraystring_core.proofs.StoredLaws.{opened-size}
-use Rattle.arraystring_core.proofs.SpanLemmas.{Lies, replaced-within, replaced-room, filled}
+use Rattle.arraystring_core.proofs.StoredLaws.{opened-size, opened-within}
+use Rattle.arraystring_core.proofs.SpanLemmas.{Lies, replaced-room, filled}
 use Rattle.arraystring_core.proofs.array_string.ArrayString.splice.Given as given
 use Rattle.arraystring_core.proofs.array_string.ArrayString.splice.Goals as goal
 
@@ -10,7 +10,7 @@ pub open_gap-requires : goal.open_gap-requires
 open_gap-requires g c =
     let long = size-borrowed c.utf8.given in
     let fits : size c.args.self.now.text - (c.args.end - c.args.start) + length c.args.given.now ≤ cap g.row.N = omega arith in
-    let within = replaced-within c.self.invariant c.self.view_is c.args.given.now c.requires.order c.requires.start c.requires.end fits in
+    let within = opened-within c.self.invariant c.self.view_is _ c.requires.end in
     let room : c.self.inside.start + (c.args.start + (length c.args.given.now + (c.self.inside.size - c.args.end))) ≤ cap g.row.N = rw (← c.new-text.ensures.offset, ← c.new-text.ensures.size) (omega arith) in
     rw (c.new-text.ensures.offset, c.new-text.ensures.size) (search rules, (c.requires.order, (within, (c.self.invariant.within, (room, c.requires.countable)))))
 
@@ -19,7 +19,7 @@ overflow_sub-tail g c =
     let long = size-borrowed c.utf8.given in
     let fits : size c.args.self.now.text - (c.args.end - c.args.start) + length c.args.given.now ≤ cap g.row.N = omega arith in
     rw c.new-text.ensures.size
-    (replaced-within c.self.invariant c.self.view_is c.args.given.now c.requires.order c.requires.start c.requires.end fits)
+    (opened-within c.self.invariant c.self.view_is _ c.requires.end)
 
 pub overflow_add-start : goal.overflow_add-start
 overflow_add-start g c =
@@ -38,8 +38,7 @@ overflow_add-text g c =
 pub returns-then-text-start-clause-tail_alone : goal.returns-then-text-start-clause-tail_alone
 returns-then-text-start-clause-tail_alone g c small =
     let long = size-borrowed c.utf8.given in
-    let within = replaced-within c.self.invariant c.self.view_is c.args.given.now c.requires.order c.requires.start c.requires.end
-    (omega arith) in
+    let within = opened-within c.self.invariant c.self.view_is _ c.requires.end in
     omega (arith, small)
 
 -- what is then in the array

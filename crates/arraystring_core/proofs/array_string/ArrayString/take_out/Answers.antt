@@ -1,8 +1,8 @@
 use Rattle.std.proofs.Common.{◌++◌, arith, rules, ap, sym, ◌∙◌}
 use Rattle.arraystring_base.specs.Text.{front, back}
 use Rattle.arraystring_base.proofs.BoundaryLaws.{front-start}
-use Rattle.arraystring_core.proofs.StoredLaws.{opened-size}
-use Rattle.arraystring_core.proofs.SpanLemmas.{dropped-within, closed}
+use Rattle.arraystring_core.proofs.StoredLaws.{opened-size, opened-within}
+use Rattle.arraystring_core.proofs.SpanLemmas.{closed}
 use Rattle.arraystring_core.proofs.array_string.ArrayString.take_out.Goals as goal
 
 pub returns-then-start-eq0-clause-text : goal.returns-then-start-eq0-clause-text
@@ -11,26 +11,26 @@ returns-then-start-eq0-clause-text g c =
     c.drop_front.ensures ∙ sym (ap (λ l. l ++ back t c.args.end) (ap (front t) c.if-start-eq0.true ∙ front-start t))
 
 pub overflow_sub-tail : goal.overflow_sub-tail
-overflow_sub-tail g c = dropped-within c.self.invariant c.self.view_is _ c.requires.end
+overflow_sub-tail g c = opened-within c.self.invariant c.self.view_is _ c.requires.end
 
 pub overflow_cast-self : goal.overflow_cast-self
 overflow_cast-self g c =
-    let within = dropped-within c.self.invariant c.self.view_is _ c.requires.end in
+    let within = opened-within c.self.invariant c.self.view_is _ c.requires.end in
     omega arith
 
 pub overflow_add-offset : goal.overflow_add-offset
 overflow_add-offset g c =
-    let within = dropped-within c.self.invariant c.self.view_is _ c.requires.end in
+    let within = opened-within c.self.invariant c.self.view_is _ c.requires.end in
     omega arith
 
 pub overflow_add-offset-2 : goal.overflow_add-offset-2
 overflow_add-offset-2 g c =
-    let within = dropped-within c.self.invariant c.self.view_is _ c.requires.end in
+    let within = opened-within c.self.invariant c.self.view_is _ c.requires.end in
     omega arith
 
 pub shift-requires : goal.shift-requires
 shift-requires g c =
-    let within = dropped-within c.self.invariant c.self.view_is _ c.requires.end in
+    let within = opened-within c.self.invariant c.self.view_is _ c.requires.end in
     (search rules, (omega arith, (omega arith, omega arith)))
 
 pub invariant_of-self : goal.invariant_of-self
