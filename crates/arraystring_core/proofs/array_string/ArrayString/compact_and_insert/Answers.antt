@@ -4,7 +4,7 @@ use Rattle.std.proofs.lemmas.List.{append-nil}
 use Rattle.arraystring_base.specs.Text.{utf8, width, size, cap, front, back}
 use Rattle.arraystring_base.proofs.TextLaws.{chars-bytes, utf8-is, width-is, width-bounds, length-utf8}
 use Rattle.arraystring_base.proofs.BoundaryLaws.{boundary-within}
-use Rattle.arraystring_core.proofs.StoredLaws.{opened-size}
+use Rattle.arraystring_core.proofs.StoredLaws.{opened-size, opened-within}
 use Rattle.arraystring_core.proofs.SpanLemmas.{Lies, moved_to_start}
 use Rattle.arraystring_core.proofs.array_string.ArrayString.compact_and_insert.Given as given
 use Rattle.arraystring_core.proofs.array_string.ArrayString.compact_and_insert.Goals as goal
@@ -13,30 +13,26 @@ pub compact_and_open_gap-requires : goal.compact_and_open_gap-requires
 compact_and_open_gap-requires g c =
     let wide : c.len_utf8-len.result ≡ width c.args.ch = c.len_utf8-len.ensures.value ∙ sym (width-is c.args.ch) in
     let long = opened-size c.self.invariant c.self.view_is in
-    let within : c.args.at ≤ c.self.inside.size = omega (arith, boundary-within c.args.self.now.text c.args.at c.requires.boundary) in
+    let within = opened-within c.self.invariant c.self.view_is _ c.requires.boundary in
     let room : c.args.at + (c.len_utf8-len.result + (c.self.inside.size - c.args.at)) ≤ cap g.row.N = omega arith in
     rw (c.new-text.ensures.offset, c.new-text.ensures.size) (search rules, (omega arith, (within, (c.self.invariant.within, (room, omega arith)))))
 
 pub overflow_sub-self : goal.overflow_sub-self
-overflow_sub-self g c =
-    omega (arith, opened-size c.self.invariant c.self.view_is, boundary-within c.args.self.now.text c.args.at c.requires.boundary)
+overflow_sub-self g c = omega (arith, opened-within c.self.invariant c.self.view_is _ c.requires.boundary)
 
 pub overflow_add-self-2 : goal.overflow_add-self-2
 overflow_add-self-2 g c =
     let wide : c.len_utf8-len.result ≡ width c.args.ch = c.len_utf8-len.ensures.value ∙ sym (width-is c.args.ch) in
-    let long = opened-size c.self.invariant c.self.view_is in
-    omega (arith, boundary-within c.args.self.now.text c.args.at c.requires.boundary)
+    omega (arith, opened-size c.self.invariant c.self.view_is, opened-within c.self.invariant c.self.view_is _ c.requires.boundary)
 
 pub overflow_cast-self : goal.overflow_cast-self
 overflow_cast-self g c =
     let wide : c.len_utf8-len.result ≡ width c.args.ch = c.len_utf8-len.ensures.value ∙ sym (width-is c.args.ch) in
-    let long = opened-size c.self.invariant c.self.view_is in
-    omega (arith, boundary-within c.args.self.now.text c.args.at c.requires.boundary)
+    omega (arith, opened-size c.self.invariant c.self.view_is, opened-within c.self.invariant c.self.view_is _ c.requires.boundary)
 
 pub encode-requires : goal.encode-requires
 encode-requires g c =
-    let long = opened-size c.self.invariant c.self.view_is in
-    let within : c.args.at + width c.args.ch ≤ g.row.N = omega (arith, boundary-within c.args.self.now.text c.args.at c.requires.boundary) in
+    let within : c.args.at + width c.args.ch ≤ g.row.N = omega (arith, opened-size c.self.invariant c.self.view_is, opened-within c.self.invariant c.self.view_is _ c.requires.boundary) in
     (search rules, within)
 
 -- what is then in the array
@@ -68,6 +64,5 @@ returns g c =
 
 pub prove-unreachable-requires : goal.prove-unreachable-requires
 prove-unreachable-requires g c =
-    let within = boundary-within c.args.self.now.text c.args.at c.requires.boundary in
     let wide = width-bounds c.args.ch in
-    omega (arith, wide.0)
+    omega (arith, boundary-within c.args.self.now.text c.args.at c.requires.boundary, wide.0)

@@ -2,45 +2,31 @@ use Rattle.std.proofs.Common.{◌+◌, ◌-◌, ◌≤◌, ◌++◌, chars, leng
 use Rattle.arraystring_base.specs.Text.{size, cap, front, back}
 use Rattle.arraystring_base.proofs.TextLaws.{size-borrowed}
 use Rattle.arraystring_core.proofs.StoredLaws.{opened-size, opened-within}
-use Rattle.arraystring_core.proofs.SpanLemmas.{Lies, replaced-room, moved_to_start}
+use Rattle.arraystring_core.proofs.SpanLemmas.{Lies, moved_to_start}
 use Rattle.arraystring_core.proofs.array_string.ArrayString.compact_and_splice.Given as given
 use Rattle.arraystring_core.proofs.array_string.ArrayString.compact_and_splice.Goals as goal
 
 pub compact_and_open_gap-requires : goal.compact_and_open_gap-requires
 compact_and_open_gap-requires g c =
-    let long = size-borrowed c.utf8.given in
-    let fits : size c.args.self.now.text - (c.args.end - c.args.start) + length c.args.given.now ≤ cap g.row.N = omega arith in
     let within = opened-within c.self.invariant c.self.view_is _ c.requires.end in
-    let room = replaced-room c.self.invariant c.self.view_is c.args.given.now c.requires.order c.requires.start c.requires.end fits in
+    let room : c.args.start + (length c.args.given.now + (c.self.inside.size - c.args.end)) ≤ cap g.row.N =
+    omega (arith, opened-size c.self.invariant c.self.view_is, size-borrowed c.utf8.given) in
     rw (c.new-text.ensures.offset, c.new-text.ensures.size) (search rules, (c.requires.order, (within, (c.self.invariant.within, (room, c.requires.countable)))))
 
 pub overflow_sub-self : goal.overflow_sub-self
-overflow_sub-self g c =
-    let long = size-borrowed c.utf8.given in
-    let fits : size c.args.self.now.text - (c.args.end - c.args.start) + length c.args.given.now ≤ cap g.row.N = omega arith in
-    rw c.new-text.ensures.size
-    (opened-within c.self.invariant c.self.view_is _ c.requires.end)
+overflow_sub-self g c = rw c.new-text.ensures.size (opened-within c.self.invariant c.self.view_is _ c.requires.end)
 
 pub overflow_add-self-2 : goal.overflow_add-self-2
 overflow_add-self-2 g c =
-    let long = size-borrowed c.utf8.given in
-    let fits : size c.args.self.now.text - (c.args.end - c.args.start) + length c.args.given.now ≤ cap g.row.N = omega arith in
-    let room = replaced-room c.self.invariant c.self.view_is c.args.given.now c.requires.order c.requires.start c.requires.end fits in
-    omega arith
+    omega (arith, opened-size c.self.invariant c.self.view_is, opened-within c.self.invariant c.self.view_is _ c.requires.end, size-borrowed c.utf8.given)
 
 pub overflow_cast-self : goal.overflow_cast-self
 overflow_cast-self g c =
-    let long = size-borrowed c.utf8.given in
-    let fits : size c.args.self.now.text - (c.args.end - c.args.start) + length c.args.given.now ≤ cap g.row.N = omega arith in
-    let room = replaced-room c.self.invariant c.self.view_is c.args.given.now c.requires.order c.requires.start c.requires.end fits in
-    omega arith
+    omega (arith, opened-size c.self.invariant c.self.view_is, opened-within c.self.invariant c.self.view_is _ c.requires.end, size-borrowed c.utf8.given)
 
 pub write_over-requires : goal.write_over-requires
 write_over-requires g c =
-    let long = size-borrowed c.utf8.given in
-    let fits : size c.args.self.now.text - (c.args.end - c.args.start) + length c.args.given.now ≤ cap g.row.N = omega arith in
-    let room = replaced-room c.self.invariant c.self.view_is c.args.given.now c.requires.order c.requires.start c.requires.end fits in
-    rw c.as_bytes.ensures.value (search rules, omega arith)
+    rw c.as_bytes.ensures.value (search rules, omega (arith, opened-size c.self.invariant c.self.view_is, opened-within c.self.invariant c.self.view_is _ c.requires.end, size-borrowed c.utf8.given))
 
 -- what is then in the array
 written : (g : given.Over) (c : goal.After-write_over g)

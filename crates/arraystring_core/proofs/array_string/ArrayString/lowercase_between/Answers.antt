@@ -1,22 +1,19 @@
 use Rattle.std.proofs.Common.{◌+◌, ◌≤◌, arith, rules}
-use Rattle.arraystring_base.proofs.BoundaryLaws.{boundary-within}
-use Rattle.arraystring_core.proofs.StoredLaws.{opened-size}
+use Rattle.arraystring_core.proofs.StoredLaws.{opened-within}
 use Rattle.arraystring_core.proofs.AsciiLemmas.{lowercase-change, changed-stored, changed-text}
 use Rattle.arraystring_core.proofs.array_string.ArrayString.lowercase_between.Goals as goal
 
 pub overflow_add-offset : goal.overflow_add-offset
-overflow_add-offset g c =
-    omega (arith, opened-size c.self.invariant c.self.view_is, boundary-within c.args.self.now.text c.args.start c.requires.start)
+overflow_add-offset g c = omega (arith, opened-within c.self.invariant c.self.view_is _ c.requires.start)
 
 pub overflow_add-offset-2 : goal.overflow_add-offset-2
-overflow_add-offset-2 g c =
-    omega (arith, opened-size c.self.invariant c.self.view_is, boundary-within c.args.self.now.text c.args.end c.requires.end)
+overflow_add-offset-2 g c = omega (arith, opened-within c.self.invariant c.self.view_is _ c.requires.end)
 
 pub lowercase_bytes-requires : goal.lowercase_bytes-requires
 lowercase_bytes-requires g c =
     let order : c.self.inside.start + c.args.start ≤ c.self.inside.start + c.args.end = omega arith in
     let within : c.self.inside.start + c.args.end ≤ g.row.N =
-    omega (arith, opened-size c.self.invariant c.self.view_is, boundary-within c.args.self.now.text c.args.end c.requires.end) in
+    omega (arith, opened-within c.self.invariant c.self.view_is _ c.requires.end) in
     (search rules, (order, within))
 
 pub invariant_of-self : goal.invariant_of-self

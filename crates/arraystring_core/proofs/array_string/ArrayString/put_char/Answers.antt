@@ -3,44 +3,34 @@ use Rattle.std.proofs.lemmas.Str.{IsUtf8-encode}
 use Rattle.std.proofs.lemmas.List.{append-nil}
 use Rattle.arraystring_base.specs.Text.{utf8, width, size, cap, front, back}
 use Rattle.arraystring_base.proofs.TextLaws.{chars-bytes, utf8-is, width-is, length-utf8}
-use Rattle.arraystring_base.proofs.BoundaryLaws.{boundary-within}
-use Rattle.arraystring_core.proofs.StoredLaws.{opened-size}
+use Rattle.arraystring_core.proofs.StoredLaws.{opened-within}
 use Rattle.arraystring_core.proofs.SpanLemmas.{Lies, filled}
 use Rattle.arraystring_core.proofs.array_string.ArrayString.put_char.Given as given
 use Rattle.arraystring_core.proofs.array_string.ArrayString.put_char.Goals as goal
 
 pub open_gap-requires : goal.open_gap-requires
 open_gap-requires g c =
-    let long = opened-size c.self.invariant c.self.view_is in
-    let within : c.args.at ≤ c.self.inside.size = omega (arith, boundary-within c.args.self.now.text c.args.at c.requires.boundary) in
+    let within = opened-within c.self.invariant c.self.view_is _ c.requires.boundary in
     let room : c.self.inside.start + (c.args.at + (c.len_utf8-len.result + (c.self.inside.size - c.args.at))) ≤ cap g.row.N =
     omega arith in
     rw (c.new-text.ensures.offset, c.new-text.ensures.size) (search rules, (omega arith, (within, (c.self.invariant.within, (room, omega arith)))))
 
 pub overflow_sub-self : goal.overflow_sub-self
-overflow_sub-self g c =
-    omega (arith, opened-size c.self.invariant c.self.view_is, boundary-within c.args.self.now.text c.args.at c.requires.boundary)
+overflow_sub-self g c = omega (arith, opened-within c.self.invariant c.self.view_is _ c.requires.boundary)
 
 pub overflow_add-self-2 : goal.overflow_add-self-2
-overflow_add-self-2 g c =
-    let long = opened-size c.self.invariant c.self.view_is in
-    omega (arith, boundary-within c.args.self.now.text c.args.at c.requires.boundary)
+overflow_add-self-2 g c = omega (arith, opened-within c.self.invariant c.self.view_is _ c.requires.boundary)
 
 pub overflow_cast-self : goal.overflow_cast-self
-overflow_cast-self g c =
-    let long = opened-size c.self.invariant c.self.view_is in
-    omega (arith, boundary-within c.args.self.now.text c.args.at c.requires.boundary)
+overflow_cast-self g c = omega (arith, opened-within c.self.invariant c.self.view_is _ c.requires.boundary)
 
 pub overflow_add-text-3 : goal.overflow_add-text-3
-overflow_add-text-3 g c =
-    let long = opened-size c.self.invariant c.self.view_is in
-    omega (arith, boundary-within c.args.self.now.text c.args.at c.requires.boundary)
+overflow_add-text-3 g c = omega (arith, opened-within c.self.invariant c.self.view_is _ c.requires.boundary)
 
 pub encode-requires : goal.encode-requires
 encode-requires g c =
     let wide : c.len_utf8-len.result ≡ width c.args.ch = c.len_utf8-len.ensures.value ∙ sym (width-is c.args.ch) in
-    let long = opened-size c.self.invariant c.self.view_is in
-    let within : c.self.inside.start + c.args.at + width c.args.ch ≤ g.row.N = omega (arith, boundary-within c.args.self.now.text c.args.at c.requires.boundary) in
+    let within : c.self.inside.start + c.args.at + width c.args.ch ≤ g.row.N = omega (arith, opened-within c.self.invariant c.self.view_is _ c.requires.boundary) in
     rw c.new-text.ensures.offset (search rules, within)
 
 -- what is then in the array
@@ -54,7 +44,7 @@ written g c =
     let at = c.args.at in
     let gap = c.open_gap in
     let wide : c.len_utf8-len.result ≡ length (utf8 ch) = c.len_utf8-len.ensures.value ∙ sym (width-is ch) ∙ sym (length-utf8 ch) in
-    let held : s.start + (at + (length (utf8 ch) + (s.size - at))) ≤ cap g.row.N = omega (arith, opened-size c.self.invariant c.self.view_is, boundary-within t at c.requires.boundary) in
+    let held : s.start + (at + (length (utf8 ch) + (s.size - at))) ≤ cap g.row.N = omega (arith, opened-within c.self.invariant c.self.view_is _ c.requires.boundary) in
     let u : IsUtf8 (utf8 ch) = rw (utf8-is ch) (IsUtf8-encode ch (search rules)) in
     let fits : size t - (at - at) + length (utf8 ch) ≤ cap g.row.N = omega (arith, length-utf8 ch) in
     rw (wide, c.new-text.ensures.size) (filled c.self.invariant c.self.view_is (utf8 ch) (omega arith) c.requires.boundary c.requires.boundary fits u
@@ -75,6 +65,4 @@ returns g c =
 
 pub prove-unreachable-requires : goal.prove-unreachable-requires
 prove-unreachable-requires g c =
-    let within = boundary-within c.args.self.now.text c.args.at c.requires.boundary in
-    let long = opened-size c.self.invariant c.self.view_is in
-    omega arith
+    omega (arith, opened-within c.self.invariant c.self.view_is _ c.requires.boundary)

@@ -2,44 +2,30 @@ use Rattle.std.proofs.Common.{◌+◌, ◌-◌, ◌≤◌, ◌++◌, chars, leng
 use Rattle.arraystring_base.specs.Text.{size, cap, front, back}
 use Rattle.arraystring_base.proofs.TextLaws.{size-borrowed}
 use Rattle.arraystring_core.proofs.StoredLaws.{opened-size, opened-within}
-use Rattle.arraystring_core.proofs.SpanLemmas.{Lies, replaced-room, filled}
+use Rattle.arraystring_core.proofs.SpanLemmas.{Lies, filled}
 use Rattle.arraystring_core.proofs.array_string.ArrayString.splice.Given as given
 use Rattle.arraystring_core.proofs.array_string.ArrayString.splice.Goals as goal
 
 pub open_gap-requires : goal.open_gap-requires
 open_gap-requires g c =
-    let long = size-borrowed c.utf8.given in
-    let fits : size c.args.self.now.text - (c.args.end - c.args.start) + length c.args.given.now ≤ cap g.row.N = omega arith in
     let within = opened-within c.self.invariant c.self.view_is _ c.requires.end in
     let room : c.self.inside.start + (c.args.start + (length c.args.given.now + (c.self.inside.size - c.args.end))) ≤ cap g.row.N = rw (← c.new-text.ensures.offset, ← c.new-text.ensures.size) (omega arith) in
     rw (c.new-text.ensures.offset, c.new-text.ensures.size) (search rules, (c.requires.order, (within, (c.self.invariant.within, (room, c.requires.countable)))))
 
 pub overflow_sub-tail : goal.overflow_sub-tail
-overflow_sub-tail g c =
-    let long = size-borrowed c.utf8.given in
-    let fits : size c.args.self.now.text - (c.args.end - c.args.start) + length c.args.given.now ≤ cap g.row.N = omega arith in
-    rw c.new-text.ensures.size
-    (opened-within c.self.invariant c.self.view_is _ c.requires.end)
+overflow_sub-tail g c = rw c.new-text.ensures.size (opened-within c.self.invariant c.self.view_is _ c.requires.end)
 
 pub overflow_add-start : goal.overflow_add-start
 overflow_add-start g c =
-    let long = size-borrowed c.utf8.given in
-    let fits : size c.args.self.now.text - (c.args.end - c.args.start) + length c.args.given.now ≤ cap g.row.N = omega arith in
-    let room = replaced-room c.self.invariant c.self.view_is c.args.given.now c.requires.order c.requires.start c.requires.end fits in
-    omega arith
+    omega (arith, opened-size c.self.invariant c.self.view_is, opened-within c.self.invariant c.self.view_is _ c.requires.end, size-borrowed c.utf8.given)
 
 pub overflow_add-text : goal.overflow_add-text
 overflow_add-text g c =
-    let long = size-borrowed c.utf8.given in
-    let fits : size c.args.self.now.text - (c.args.end - c.args.start) + length c.args.given.now ≤ cap g.row.N = omega arith in
-    let room = replaced-room c.self.invariant c.self.view_is c.args.given.now c.requires.order c.requires.start c.requires.end fits in
-    omega arith
+    omega (arith, opened-size c.self.invariant c.self.view_is, opened-within c.self.invariant c.self.view_is _ c.requires.end, size-borrowed c.utf8.given)
 
 pub returns-then-text-start-clause-tail_alone : goal.returns-then-text-start-clause-tail_alone
 returns-then-text-start-clause-tail_alone g c small =
-    let long = size-borrowed c.utf8.given in
-    let within = opened-within c.self.invariant c.self.view_is _ c.requires.end in
-    omega (arith, small)
+    omega (arith, small, opened-within c.self.invariant c.self.view_is _ c.requires.end, size-borrowed c.utf8.given)
 
 -- what is then in the array
 written : (g : given.Over) (c : goal.After-write_over g)
@@ -66,8 +52,7 @@ pub returns-clause-tail_alone : goal.returns-clause-tail_alone
 returns-clause-tail_alone g c = rw (opened-size c.self.invariant c.self.view_is) (λ _. rw c.new-text.ensures.size at c.open_gap.ensures.most)
 
 pub returns-clause-most : goal.returns-clause-most
-returns-clause-most g c =
-    rw (opened-size c.self.invariant c.self.view_is) (omega arith)
+returns-clause-most g c = rw (opened-size c.self.invariant c.self.view_is) (omega arith)
 
 pub returns-clause-least : goal.returns-clause-least
 returns-clause-least g c =

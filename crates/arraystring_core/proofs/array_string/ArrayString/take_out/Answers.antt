@@ -14,19 +14,13 @@ pub overflow_sub-tail : goal.overflow_sub-tail
 overflow_sub-tail g c = opened-within c.self.invariant c.self.view_is _ c.requires.end
 
 pub overflow_cast-self : goal.overflow_cast-self
-overflow_cast-self g c =
-    let within = opened-within c.self.invariant c.self.view_is _ c.requires.end in
-    omega arith
+overflow_cast-self g c = omega (arith, opened-within c.self.invariant c.self.view_is _ c.requires.end)
 
 pub overflow_add-offset : goal.overflow_add-offset
-overflow_add-offset g c =
-    let within = opened-within c.self.invariant c.self.view_is _ c.requires.end in
-    omega arith
+overflow_add-offset g c = omega (arith, opened-within c.self.invariant c.self.view_is _ c.requires.end)
 
 pub overflow_add-offset-2 : goal.overflow_add-offset-2
-overflow_add-offset-2 g c =
-    let within = opened-within c.self.invariant c.self.view_is _ c.requires.end in
-    omega arith
+overflow_add-offset-2 g c = omega (arith, opened-within c.self.invariant c.self.view_is _ c.requires.end)
 
 pub shift-requires : goal.shift-requires
 shift-requires g c =
