@@ -6,9 +6,7 @@ use Rattle.arraystring_core.proofs.array_string.ArrayString.push_str_unchecked.G
 use Rattle.arraystring_core.proofs.array_string.ArrayString.push_str_unchecked.Goals as goal
 
 pub overflow_cast-self-2 : goal.overflow_cast-self-2
-overflow_cast-self-2 g c =
-    let end = c.end-end.ensures.value ∙ opened-end c.self.invariant c.self.view_is in
-    omega arith
+overflow_cast-self-2 g c = omega (arith, opened-end c.self.invariant c.self.view_is)
 
 -- what is then in the array
 written : (g : given.Over) (c : goal.After-write_over g)

@@ -16,9 +16,7 @@ encode-len-requires g c =
     rw end (search rules, within)
 
 pub overflow_cast-self-2 : goal.overflow_cast-self-2
-overflow_cast-self-2 g c =
-    let end = c.end-end.ensures.value ∙ opened-end c.self.invariant c.self.view_is in
-    omega (arith, c.if-not-has_room.ensures.0 refl)
+overflow_cast-self-2 g c = omega (arith, opened-end c.self.invariant c.self.view_is, c.if-not-has_room.ensures.0 refl)
 
 -- what is then in the array
 written : (g : given.Over) (c : goal.After-self-1 g)
