@@ -1,8 +1,8 @@
 -- What a contract sees of a `Drain`.
-use Rattle.std.specs.Prelude.{ℕ, ◌≤◌, ◌++◌, List, [], ◌∷◌, Option, Some, None, Result, Ok, Err, IsTrue, drop}
-use Rattle.arraystring_base.specs.Text.{size, cap, front, back, boundary}
+use Rattle.std.specs.Prelude.{ℕ, ◌++◌, List, [], ◌∷◌, Option, Some, None, Result, Ok, Err, IsTrue, drop}
+use Rattle.arraystring_base.specs.Text.{front, back, boundary}
 use Rattle.arraystring_base.specs.declared.error.Error.{Error}
-use Rattle.arraystring_core.specs.Stored.{Stored}
+use Rattle.arraystring_core.specs.Stored.{Stored, stored, IsStored}
 use Rattle.arraystring_core.specs.Edits.{first_of, last_of, all_but_last}
 
 -- the characters that are left, those that were given from the front, and numbers that no public clause names
@@ -24,10 +24,10 @@ abbrev pub with_left : Result Drained Error → Result (List ℕ) Error
 with_left (Ok d) = Ok d.left
 with_left (Err e) = Err e
 
--- `removed` is within the capacity of `array_size` bytes, and i is a boundary of it
-pub record IsDrained (array_size : ℕ) (removed : Stored) (i : ℕ) : Type 0 where
-  pub fits : size removed.text ≤ cap array_size
-  pub at : IsTrue (boundary removed.text i)
+-- the n bytes of the array from `start` on are the text that was removed, and i is a boundary of it
+pub record IsDrained (array_size : ℕ) (array : List ℕ) (start n i : ℕ) : Type 0 where
+  pub held : IsStored array_size array start n
+  pub at : IsTrue (boundary (stored array start n).text i)
 
 -- the end from which a character is taken
 pub data End : Type 0 where

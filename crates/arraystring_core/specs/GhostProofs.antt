@@ -31,21 +31,19 @@ module _ {array_size : ℕ} {array : List ℕ} {start n : ℕ} (is : IsStored ar
       ∙ ap (λ b. front ++ (b ++ back)) stored-bytes
       ∙ ap (λ d. front ++ d) (take-append-drop n (drop start array)) ∙ take-append-drop start array
 
--- the removed text, and what was given of it
-module _ (array_size : ℕ) (removed : Stored) (i : ℕ) (is : IsDrained array_size removed i) where
-  drained-removed : removed_of (drained removed i) ≡ removed
-  drained-removed = ap with_spare (front-back removed.text i)
+-- the removed text, where it lies, and what was given of it
+module _ {array_size : ℕ} {array : List ℕ} {start n i : ℕ} (is : IsDrained array_size array start n i) where
+  drained-removed : removed_of (drained (stored array start n) i) ≡ stored array start n
+  drained-removed = ap with_spare (front-back (stored array start n).text i)
     where
       with_spare : List ℕ → Stored
-      with_spare t = record { text = t; spare = removed.spare }
+      with_spare t = record { text = t; spare = (stored array start n).spare }
 
-  pub drained-front : size (drained removed i).yielded ≡ i
-  drained-front = front-size removed.text i is.at
+  pub drained-front : size (drained (stored array start n) i).yielded ≡ i
+  drained-front = front-size (stored array start n).text i is.at
 
--- and where it lies: the n bytes of the array from `start` on
-module _ (array_size : ℕ) (array : List ℕ) (start n i : ℕ) (held : IsStored array_size array start n) (is : IsDrained array_size (stored array start n) i) where
   pub drained-array : array_of (removed_of (drained (stored array start n) i)) ≡ array
-  drained-array = ap array_of (drained-removed array_size (stored array start n) i is) ∙ stored-all held
+  drained-array = ap array_of drained-removed ∙ stored-all is.held
 
   pub drained-size : size (removed_of (drained (stored array start n) i)).text ≡ n
-  drained-size = ap (λ r. size r.text) (drained-removed array_size (stored array start n) i is) ∙ stored-size held
+  drained-size = ap (λ r. size r.text) drained-removed ∙ stored-size is.held

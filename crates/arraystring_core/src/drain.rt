@@ -37,7 +37,7 @@ pub struct Drain<const N: usize> {
 
 impl<const N: usize> Model for Drain<N> {
     ghost use Rattle.arraystring_base.specs.Text.{size as text_size};
-    ghost use Rattle.arraystring_core.specs.Stored.{stored, IsStored, start_of, array_of};
+    ghost use Rattle.arraystring_core.specs.Stored.{stored, start_of, array_of};
     ghost use Rattle.arraystring_core.specs.Drained.{Drained, IsDrained, drained, removed_of};
     ghost use Rattle.arraystring_core.specs.GhostProofs.{drained-front, drained-array, drained-size};
 
@@ -45,16 +45,16 @@ impl<const N: usize> Model for Drain<N> {
 
     ghost view = { λ d. drained (stored d.array d.start d.size) d.front };
 
-    ghost invariant = { λ d. IsStored N d.array d.start d.size × IsDrained N (stored d.array d.start d.size) d.front };
+    ghost invariant = { λ d. IsDrained N d.array d.start d.size d.front };
 
     ghost inverse = { λ v. let removed = removed_of v in
         record { front = text_size v.yielded; start = start_of removed; size = text_size removed.text; array = array_of removed } };
 
     ghost inverse_ok = { λ d h i. record {
-      front = drained-front N (stored d.array d.start d.size) d.front h.1 i;
+      front = drained-front h i;
       start = d.start;
-      size = drained-size N d.array d.start d.size d.front h.0 h.1 i;
-      array = drained-array N d.array d.start d.size d.front h.0 h.1 i;
+      size = drained-size h i;
+      array = drained-array h i;
     } };
 }
 

@@ -1,35 +1,28 @@
-use Rattle.std.proofs.Common.{◌<◌, ◌≤◌, ◌≡◌, ◌++◌, [], length, sym, ap, ◌∙◌, arith, chars}
+use Rattle.std.proofs.Common.{◌≤◌, ◌≡◌, ◌-◌, ◌++◌, [], length, sym, ap, ◌∙◌, arith, chars}
 use Rattle.std.proofs.lemmas.List.{nil_from_length}
 use Rattle.std.proofs.lemmas.Str.{chars-nil}
-use Rattle.arraystring_base.specs.Text.{bytes}
 use Rattle.std.specs.Char.{encode_utf8}
 use Rattle.arraystring_base.proofs.TextLaws.{chars-bytes}
-use Rattle.arraystring_core.proofs.DrainLemmas.{given-within, none-left, first-given, first-rest, decoded-within, decoded-given, decoded-rest}
+use Rattle.arraystring_core.proofs.DrainLemmas.{GivesFirst, given-within, none-left, first-given, decoded-within, decoded}
+use Rattle.arraystring_core.proofs.drain.traits.DrainIterator.next.Given as given
 use Rattle.arraystring_core.proofs.drain.traits.DrainIterator.next.Goals as goal
 
 pub returns-then-self-clause-steps : goal.returns-then-self-clause-steps
 returns-then-self-clause-steps g c =
-    let past : c.self.inside.size ≤ c.self.inside.front = omega arith in
-    let none = sym (ap (λ d. d.left) c.self.view_is) ∙ none-left c.self.invariant.0 c.self.invariant.1 past in
+    let none = none-left c.self.invariant c.self.view_is (omega arith) in
     (none, none)
 
 pub bounds-self-inside-self-inside : goal.bounds-self-inside-self-inside
-bounds-self-inside-self-inside g c =
-    omega (arith, given-within c.self.invariant.0 c.self.invariant.1)
+bounds-self-inside-self-inside g c = omega (arith, given-within c.self.invariant)
 
 pub overflow_add-self : goal.overflow_add-self
-overflow_add-self g c =
-    omega (arith, given-within c.self.invariant.0 c.self.invariant.1)
+overflow_add-self g c = omega (arith, given-within c.self.invariant)
 
 pub invariant_of-self : goal.invariant_of-self
-invariant_of-self g c =
-    let some : c.self.inside.front < c.self.inside.size = omega (arith, given-within c.self.invariant.0 c.self.invariant.1) in
-    (c.self.invariant.0, first-given c.self.invariant.0 c.self.invariant.1 some c.if-first-lt128.true)
+invariant_of-self g c = (first-given c.self.invariant c.self.view_is (omega (arith, given-within c.self.invariant)) c.if-first-lt128.true).held
 
 pub returns-then-first-lt128-clause-steps : goal.returns-then-first-lt128-clause-steps
-returns-then-first-lt128-clause-steps g c =
-    let some : c.self.inside.front < c.self.inside.size = omega (arith, given-within c.self.invariant.0 c.self.invariant.1) in
-    sym (ap (λ d. d.left) c.self.view_is) ∙ first-rest c.self.invariant.0 c.self.invariant.1 some c.if-first-lt128.true
+returns-then-first-lt128-clause-steps g c = (first-given c.self.invariant c.self.view_is (omega (arith, given-within c.self.invariant)) c.if-first-lt128.true).rest
 
 pub returns-then-first-lt128-clause-goes : goal.returns-then-first-lt128-clause-goes
 returns-then-first-lt128-clause-goes g c =
@@ -44,29 +37,29 @@ returns-in_err-ch-clause-steps g c =
     let none : left ≡ [] = sym borrowed ∙ ap chars (sym c.chars-left.ensures.rest ∙ over) ∙ chars-nil in
     rw c.from_residual.ensures (none, none)
 
+within : (g : given.Over) (c : goal.After-as_str-2 g) → length c.as_str-2.result.now ≤ c.self.inside.size
+within g c =
+    decoded-within c.self.invariant c.self.view_is c.as_str.utf8 c.as_str.ensures.bytes _ c.as_str-2.utf8
+    (sym c.chars-left.ensures.rest ∙ c.in_ok-ch.ensures.steps.0 ∙ ap (λ l. encode_utf8 c.in_ok-ch.ch ++ l) (sym c.as_str-2.ensures))
+
 pub overflow_cast-self : goal.overflow_cast-self
-overflow_cast-self g c =
-    let shown = c.as_str.ensures.bytes ∙ ap (λ d. bytes d.left) (sym c.self.view_is) in
-    let begins = sym c.chars-left.ensures.rest ∙ c.in_ok-ch.ensures.steps.0 ∙ ap (λ l. encode_utf8 c.in_ok-ch.ch ++ l) (sym c.as_str-2.ensures) in
-    omega (arith, decoded-within c.self.invariant.0 c.self.invariant.1 _ c.as_str.utf8 shown _ _ c.as_str-2.utf8 begins)
+overflow_cast-self g c = omega (arith, within g c)
 
 pub overflow_sub-self : goal.overflow_sub-self
-overflow_sub-self g c =
-    let shown = c.as_str.ensures.bytes ∙ ap (λ d. bytes d.left) (sym c.self.view_is) in
-    let begins = sym c.chars-left.ensures.rest ∙ c.in_ok-ch.ensures.steps.0 ∙ ap (λ l. encode_utf8 c.in_ok-ch.ch ++ l) (sym c.as_str-2.ensures) in
-    decoded-within c.self.invariant.0 c.self.invariant.1 _ c.as_str.utf8 shown _ _ c.as_str-2.utf8 begins
+overflow_sub-self g c = within g c
+
+-- what is then left
+gives : (g : given.Over) (c : goal.After-self-2-1 g)
+    → GivesFirst g.row.N c.self.inside.array c.self.inside.start c.self.inside.size (c.self.inside.size - length c.as_str-2.result.now) c.args.self.now.left c.in_ok-ch.ch
+gives g c =
+    decoded c.self.invariant c.self.view_is c.as_str.utf8 c.as_str.ensures.bytes _ c.as_str-2.utf8
+    (sym c.chars-left.ensures.rest ∙ c.in_ok-ch.ensures.steps.0 ∙ ap (λ l. encode_utf8 c.in_ok-ch.ch ++ l) (sym c.as_str-2.ensures))
 
 pub invariant_of-self-2 : goal.invariant_of-self-2
-invariant_of-self-2 g c =
-    let shown = c.as_str.ensures.bytes ∙ ap (λ d. bytes d.left) (sym c.self.view_is) in
-    let begins = sym c.chars-left.ensures.rest ∙ c.in_ok-ch.ensures.steps.0 ∙ ap (λ l. encode_utf8 c.in_ok-ch.ch ++ l) (sym c.as_str-2.ensures) in
-    (c.self.invariant.0, decoded-given c.self.invariant.0 c.self.invariant.1 _ c.as_str.utf8 shown _ _ c.as_str-2.utf8 begins)
+invariant_of-self-2 g c = (gives g c).held
 
 pub returns-clause-steps : goal.returns-clause-steps
-returns-clause-steps g c =
-    let shown = c.as_str.ensures.bytes ∙ ap (λ d. bytes d.left) (sym c.self.view_is) in
-    let begins = sym c.chars-left.ensures.rest ∙ c.in_ok-ch.ensures.steps.0 ∙ ap (λ l. encode_utf8 c.in_ok-ch.ch ++ l) (sym c.as_str-2.ensures) in
-    sym (ap (λ d. d.left) c.self.view_is) ∙ decoded-rest c.self.invariant.0 c.self.invariant.1 _ c.as_str.utf8 shown _ _ c.as_str-2.utf8 begins
+returns-clause-steps g c = (gives g c).rest
 
 pub returns-clause-goes : goal.returns-clause-goes
 returns-clause-goes g c =
@@ -74,5 +67,4 @@ returns-clause-goes g c =
     record { on = λ _. (tt, tt, omega (arith, ap length shorter)); keeps = tt; rests = λ _. tt }
 
 pub prove-unreachable-requires : goal.prove-unreachable-requires
-prove-unreachable-requires g c =
-    omega (arith, given-within c.self.invariant.0 c.self.invariant.1)
+prove-unreachable-requires g c = omega (arith, given-within c.self.invariant)
