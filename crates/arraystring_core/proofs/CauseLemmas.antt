@@ -1,16 +1,9 @@
--- What is known where no test of a removal or of a replacement holds.
+-- What is known where no test of a replacement holds.
 use Rattle.std.proofs.Common.{◌≡◌, ℕ, ◌+◌, ◌-◌, ◌≤◌, Option, Some, None, Ok, List, refl, arith, true}
 use Rattle.std.proofs.lemmas.Bool.{ltb-false}
 use Rattle.arraystring_base.specs.Text.{size, boundary}
-use Rattle.arraystring_core.specs.Edits.{Cause, Test, first_cause, ok_unless, draining, replacement}
+use Rattle.arraystring_core.specs.Edits.{Cause, Test, first_cause, ok_unless, replacement}
 use Rattle.arraystring_core.proofs.EditLaws.{none-holds, inside-failed}
-
--- what is known if no test of a removal holds
-pub record IsPart (t : List ℕ) (start end : ℕ) : Type 0 where
-  pub order : start ≤ end
-  pub within : end ≤ size t
-  pub starts : boundary t start ≡ true
-  pub ends : boundary t end ≡ true
 
 pub no_cause : (tests : List Test) → Ok (tt {0}) ≡ ok_unless (first_cause tests) (tt {0}) → first_cause tests ≡ None
 no_cause tests is = go (first_cause tests) is
@@ -18,18 +11,6 @@ no_cause tests is = go (first_cause tests) is
     go : (found : Option Cause) → Ok (tt {0}) ≡ ok_unless found (tt {0}) → found ≡ None
     go None is = refl
     go (Some cause) is = absurd (cc)
-
-pub part-where : (t : List ℕ) (start end : ℕ) → first_cause (draining t start end).tests ≡ None → IsPart t start end
-part-where t start end e =
-    let none = none-holds (draining t start end).tests e in
-    let le : start ≤ end = ltb-false end start none.0 in
-    let reached : end ≤ size t = ltb-false (size t) end none.1.0 in
-    record {
-      order = le;
-      within = reached;
-      starts = inside-failed t start (omega arith) none.1.1.0;
-      ends = inside-failed t end reached none.1.1.1.0;
-    }
 
 -- what is known if a replacement has no cause
 pub record IsAllowed (t : List ℕ) (start end : ℕ) (given : List ℕ) (n : ℕ) : Type 0 where

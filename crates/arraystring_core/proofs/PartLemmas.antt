@@ -1,9 +1,13 @@
 -- Where the part between two boundaries of a stored text is in the array.
-use Rattle.std.proofs.Common.{◌≡◌, ℕ, ◌+◌, ◌-◌, ◌≤◌, List, refl, ap, ◌∙◌, true}
-use Rattle.arraystring_base.specs.Text.{back, boundary}
+use Rattle.std.proofs.Common.{◌≡◌, ℕ, ◌+◌, ◌-◌, ◌≤◌, ◌++◌, List, Ok, refl, ap, ◌∙◌, arith, true}
+use Rattle.std.proofs.lemmas.Bool.{ltb-false}
+use Rattle.arraystring_base.specs.Text.{size, front, back, boundary}
 use Rattle.arraystring_base.proofs.BoundaryLaws.{boundary-in_front}
 use Rattle.arraystring_core.specs.Stored.{Stored, stored, IsStored}
-use Rattle.arraystring_core.specs.Edits.{part}
+use Rattle.arraystring_core.specs.Edits.{part, draining, first_cause, ok_unless, Makes}
+use Rattle.arraystring_core.proofs.StoredLaws.{opened-size}
+use Rattle.arraystring_core.proofs.EditLaws.{makes, none-holds, inside-failed}
+use Rattle.arraystring_core.proofs.CauseLemmas.{no_cause}
 use Rattle.arraystring_core.proofs.SpanLemmas.{dropped as dropped_part, kept as kept_part}
 
 -- the part between two boundaries of a stored text, where it is in the array
@@ -15,10 +19,39 @@ module _ {array_size : ℕ} {array : List ℕ} {p n : ℕ} (is : IsStored array_
   starts : boundary (stored array p end).text start ≡ true
   starts = rw (kept_part is e end d).shown (boundary-in_front v.text start end order b)
 
-  pub part-held : IsStored array_size array (p + start) (end - start)
+  part-held : IsStored array_size array (p + start) (end - start)
   part-held = (dropped_part kept refl start starts).held
 
-  pub part-text : (stored array (p + start) (end - start)).text ≡ part v.text start end
+  part-text : (stored array (p + start) (end - start)).text ≡ part v.text start end
   part-text =
       (dropped_part kept refl start starts).shown
       ∙ ap (λ t. back t start) (kept_part is e end d).shown
+
+-- the part was not refused, and where the array holds it
+pub record IsTakable (array_size : ℕ) (array : List ℕ) (p n : ℕ) (v : Stored) (start end : ℕ) : Type 0 where
+  pub order : start ≤ end
+  pub within : end ≤ n
+  pub starts : boundary v.text start ≡ true
+  pub ends : boundary v.text end ≡ true
+  pub held : IsStored array_size array (p + start) (end - start)
+  pub made : (left new : List ℕ) → left ≡ (stored array (p + start) (end - start)).text → new ≡ front v.text start ++ back v.text end
+      → Makes (draining v.text start end) v.text (Ok left) new
+
+pub takable : {array_size : ℕ} {array : List ℕ} {p n : ℕ} → IsStored array_size array p n → {v : Stored} → stored array p n ≡ v → (start end : ℕ)
+    → Ok (tt {0}) ≡ ok_unless (first_cause (draining v.text start end).tests) (tt {0}) → IsTakable array_size array p n v start end
+takable is {v = v} e start end checked =
+    let edit = draining v.text start end in
+    let none = no_cause edit.tests checked in
+    let each = none-holds edit.tests none in
+    let order : start ≤ end = ltb-false end start each.0 in
+    let reached : end ≤ size v.text = ltb-false (size v.text) end each.1.0 in
+    let starts = inside-failed v.text start (omega arith) each.1.1.0 in
+    let ends = inside-failed v.text end reached each.1.1.1.0 in
+    record {
+      order = order;
+      within = omega (arith, opened-size is e);
+      starts = starts;
+      ends = ends;
+      held = part-held is e order starts ends;
+      made = λ left new same after. makes edit v.text left new none (same ∙ part-text is e order starts ends) after;
+    }
