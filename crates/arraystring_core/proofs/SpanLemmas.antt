@@ -4,7 +4,7 @@ use Rattle.std.proofs.lemmas.Str.{IsUtf8-append, IsUtf8-take, IsUtf8-drop, IsUtf
 use Rattle.std.proofs.lemmas.List.{drop-take, drop-drop, append-nil}
 use Rattle.std.proofs.Math.Seq.{take-add}
 use Rattle.arraystring_base.specs.Text.{size, bytes, cap, front, back, boundary}
-use Rattle.arraystring_base.proofs.TextLaws.{chars-bytes, bytes-chars, bytes-append}
+use Rattle.arraystring_base.proofs.TextLaws.{chars-bytes, bytes-chars, bytes-append, size-borrowed}
 use Rattle.arraystring_base.proofs.BoundaryLaws.{boundary-end, front-end, back-end, bytes-front, bytes-back, boundary-to_bytes}
 use Rattle.arraystring_core.specs.Stored.{Stored, stored, IsStored}
 use Rattle.arraystring_core.specs.GhostProofs.{stored-utf8}
@@ -15,6 +15,11 @@ use Rattle.arraystring_core.proofs.GapLemmas.{gap-filled, written-length, writte
 pub record Lies (array_size : ℕ) (array : List ℕ) (p n : ℕ) (t : List ℕ) : Type 0 where
   pub held : IsStored array_size array p n
   pub shown : chars (take n (drop p array)) ≡ t
+
+-- what the sizes of a text and of `given` are, and that a boundary is within
+pub spliced : {array_size : ℕ} {array : List ℕ} {p n : ℕ} → IsStored array_size array p n → {v : Stored} → stored array p n ≡ v
+    → {end : ℕ} → boundary v.text end ≡ true → {given : List ℕ} → IsUtf8 given → (size v.text ≡ n) × (end ≤ n) × (size (chars given) ≡ length given)
+spliced is e d u = (opened-size is e, opened-within is e _ d, size-borrowed u)
 
 -- xs shows the text t in its first n bytes; `new` shows it with `given` instead of the part from start to end
 module _ (t xs : List ℕ) (n : ℕ) (is : bytes t ≡ take n xs) (u : IsUtf8 (take n xs)) (given : List ℕ) (g : IsUtf8 given)
@@ -56,12 +61,12 @@ module _ (t xs : List ℕ) (n : ℕ) (is : bytes t ≡ take n xs) (u : IsUtf8 (t
 -- the same of the value that a contract sees
 module _ {array_size : ℕ} {array : List ℕ} {p n : ℕ} (is : IsStored array_size array p n) {v : Stored} (e : stored array p n ≡ v)
     {start end : ℕ} (given : List ℕ) (order : start ≤ end) (b : boundary v.text start ≡ true) (d : boundary v.text end ≡ true)
-    (room : size v.text - (end - start) + length given ≤ cap array_size) where
-  pub replaced-room : start + (length given + (n - end)) ≤ cap array_size
-  replaced-room = omega (arith, opened-size is e, opened-within is e end d)
+    (room : size v.text - (end - start) + size (chars given) ≤ cap array_size) (u : IsUtf8 given) where
+  replaced-room : start + (length given + (n - end)) ≤ cap array_size
+  replaced-room = omega (arith, spliced is e d u)
 
   -- q is the offset of the text afterwards
-  module _ (u : IsUtf8 given) {after : List ℕ} (q : ℕ) (long : length after ≡ array_size)
+  module _ {after : List ℕ} (q : ℕ) (long : length after ≡ array_size)
       (held : q + (start + (length given + (n - end))) ≤ cap array_size)
       (written : take (start + (length given + (n - end))) (drop q after) ≡ take start (drop p array) ++ (given ++ take (n - end) (drop end (drop p array)))) where
     pub replaced : Lies array_size after q (start + (length given + (n - end))) (front v.text start ++ (chars given ++ back v.text end))
@@ -75,7 +80,7 @@ module _ {array_size : ℕ} {array : List ℕ} {p n : ℕ} (is : IsStored array_
         }
 
   -- the text was moved to offset q, and `given` was written into the gap
-  module _ (u : IsUtf8 given) (gapped : List ℕ) {after : List ℕ} (q : ℕ) (long : length gapped ≡ array_size)
+  module _ (gapped : List ℕ) {after : List ℕ} (q : ℕ) (long : length gapped ≡ array_size)
       (held : q + (start + (length given + (n - end))) ≤ cap array_size)
       (moved : take start (drop q gapped) ≡ take start (drop p array))
       (tail : take (n - end) (drop (q + (start + length given)) gapped) ≡ take (n - end) (drop (p + end) array))
@@ -83,31 +88,33 @@ module _ {array_size : ℕ} {array : List ℕ} {p n : ℕ} (is : IsStored array_
     within : q + start + length given ≤ length gapped
     within = omega arith
 
-    written-parts : take (start + (length given + (n - end))) (drop q after) ≡ take start (drop p array) ++ (given ++ take (n - end) (drop end (drop p array)))
-    written-parts = gap-filled array gapped after given p q start end (n - end) within moved tail written
+    put : Lies array_size after q (start + (length given + (n - end))) (front v.text start ++ (chars given ++ back v.text end))
+    put =
+        replaced q (written-length gapped after given (q + start) within written ∙ long) held
+        (gap-filled array gapped after given p q start end (n - end) within moved tail written)
 
-    same : length after ≡ array_size
-    same = written-length gapped after given (q + start) within written ∙ long
+-- the same by the numbers of the code: the offset and the size of the text, and the length of `given`
+module _ {array_size : ℕ} {array : List ℕ} {p n : ℕ} (is : IsStored array_size array p n) {v : Stored} (e : stored array p n ≡ v)
+    {start end : ℕ} {given : List ℕ} (order : start ≤ end) (b : boundary v.text start ≡ true) (d : boundary v.text end ≡ true)
+    (room : size v.text - (end - start) + size (chars given) ≤ cap array_size) (u : IsUtf8 given) {offset count len : ℕ} (at : offset ≡ p) (many : count ≡ n)
+    (wide : len ≡ length given) (gapped : List ℕ) {after : List ℕ} (long : length gapped ≡ array_size) where
+  pub filled : offset + (start + (len + (count - end))) ≤ cap array_size → take start (drop offset gapped) ≡ take start (drop offset array)
+      → take (count - end) (drop (offset + (start + len)) gapped) ≡ take (count - end) (drop (offset + end) array)
+      → after ≡ take (offset + start) gapped ++ (given ++ drop (offset + start + length given) gapped)
+      → Lies array_size after p (start + (len + (count - end))) (front v.text start ++ (chars given ++ back v.text end))
+  filled held moved tail written =
+      rw (many, wide)
+      (put is e given order b d room u gapped p long (rw (at, many, wide) at held) (rw at at moved) (rw (at, many, wide) at tail) (rw at at written))
 
-    pub filled : Lies array_size after q (start + (length given + (n - end))) (front v.text start ++ (chars given ++ back v.text end))
-    filled = replaced u q same held written-parts
-
-  -- and to offset 0
-  module _ (u : IsUtf8 given) (gapped : List ℕ) {after : List ℕ} (long : length gapped ≡ array_size)
-      (moved : take start gapped ≡ take start (drop p array))
-      (tail : take (n - end) (drop (start + length given) gapped) ≡ take (n - end) (drop (p + end) array))
-      (written : after ≡ take start gapped ++ (given ++ drop (start + length given) gapped)) where
-    from-zero : 0 + (start + (length given + (n - end))) ≤ cap array_size
-    from-zero = omega (arith, replaced-room)
-
-    abbrev tail-at : take (n - end) (drop (0 + (start + length given)) gapped) ≡ take (n - end) (drop (p + end) array)
-    tail-at = tail-from-zero gapped _ start (length given) (n - end) tail
-
-    abbrev written-at : after ≡ take (0 + start) gapped ++ (given ++ drop (0 + start + length given) gapped)
-    written-at = written-from-zero gapped after given start written
-
-    pub moved_to_start : Lies array_size after 0 (start + (length given + (n - end))) (front v.text start ++ (chars given ++ back v.text end))
-    moved_to_start = filled u gapped 0 long from-zero moved tail-at written-at
+  pub moved_to_start : take start gapped ≡ take start (drop offset array)
+      → take (count - end) (drop (start + len) gapped) ≡ take (count - end) (drop (offset + end) array)
+      → after ≡ take start gapped ++ (given ++ drop (start + length given) gapped)
+      → Lies array_size after 0 (start + (len + (count - end))) (front v.text start ++ (chars given ++ back v.text end))
+  moved_to_start moved tail written =
+      let held : 0 + (start + (length given + (n - end))) ≤ cap array_size = omega (arith, replaced-room is e given order b d room u) in
+      rw (many, wide)
+      (put is e given order b d room u gapped 0 long held (rw at at moved)
+      (tail-from-zero gapped _ start (length given) (n - end) (rw (at, many, wide) at tail)) (written-from-zero gapped after given start written))
 
 -- `given` was written after the text
 module _ {array_size : ℕ} {array : List ℕ} {p n : ℕ} (is : IsStored array_size array p n) {v : Stored} (e : stored array p n ≡ v)
@@ -116,8 +123,8 @@ module _ {array_size : ℕ} {array : List ℕ} {p n : ℕ} (is : IsStored array_
   appended-end : boundary v.text n ≡ true
   appended-end = ap (boundary v.text) (sym (opened-size is e)) ∙ boundary-end v.text
 
-  appended-fits : size v.text - (n - n) + length given ≤ cap array_size
-  appended-fits = omega (arith, opened-size is e)
+  appended-fits : size v.text - (n - n) + size (chars given) ≤ cap array_size
+  appended-fits = omega (arith, opened-size is e, size-borrowed u)
 
   appended-size : n + (length given + (n - n)) ≡ n + length given
   appended-size = omega arith
@@ -183,8 +190,8 @@ module _ {array_size : ℕ} {array : List ℕ} {p n : ℕ} (is : IsStored array_
   closed-target : p + start + (n - end) ≤ length array
   closed-target = omega (arith, opened-within is e end d)
 
-  closed-fits : size v.text - (end - start) + length {A = ℕ} [] ≤ cap array_size
-  closed-fits = omega (arith, opened-size is e)
+  closed-fits : size v.text - (end - start) + size (chars []) ≤ cap array_size
+  closed-fits = omega (arith, opened-size is e, size-borrowed IsUtf8-nil)
 
   closed-size : start + (length {A = ℕ} [] + (n - end)) ≡ start + (n - end)
   closed-size = omega arith

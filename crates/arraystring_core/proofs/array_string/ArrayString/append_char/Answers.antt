@@ -26,14 +26,14 @@ returns-then-not-has_room-clause-text g c =
 pub returns-clause-held : goal.returns-clause-held
 returns-clause-held g c =
     let room : c.args.start.now + c.args.len.now + width c.args.ch ≤ cap g.row.N = omega (arith, c.if-not-has_room.ensures.0 refl) in
-    let lies = char-appended c.requires.held c.args.ch (search rules) room (rw c.requires.end at c.encode.ensures.bytes) in
-    let same : c.args.len.now + width c.args.ch ≡ c.args.end + c.encode.result - c.args.start.now = omega arith in
+    let lies = char-appended c.requires.held refl c.args.ch (search rules) c.encode.ensures.width room (rw c.requires.end at c.encode.ensures.bytes) in
+    let same : c.args.len.now + c.encode.result ≡ c.args.end + c.encode.result - c.args.start.now = omega arith in
     (rw same at lies).held
 
 pub returns-clause-text : goal.returns-clause-text
 returns-clause-text g c =
     let long = stored-size c.requires.held in
     let room : c.args.start.now + c.args.len.now + width c.args.ch ≤ cap g.row.N = omega (arith, c.if-not-has_room.ensures.0 refl) in
-    let lies = char-appended c.requires.held c.args.ch (search rules) room (rw c.requires.end at c.encode.ensures.bytes) in
-    let same : c.args.len.now + width c.args.ch ≡ c.args.end + c.encode.result - c.args.start.now = omega arith in
+    let lies = char-appended c.requires.held refl c.args.ch (search rules) c.encode.ensures.width room (rw c.requires.end at c.encode.ensures.bytes) in
+    let same : c.args.len.now + c.encode.result ≡ c.args.end + c.encode.result - c.args.start.now = omega arith in
     (omega arith, (rw same at lies).shown)

@@ -1,20 +1,18 @@
-use Rattle.std.proofs.Common.{◌≡◌, ◌+◌, ◌-◌, ◌≤◌, ◌++◌, ◌∷◌, [], sym, ap, ◌∙◌, arith, chars, length, rules, IsUtf8}
-use Rattle.std.proofs.lemmas.Str.{IsUtf8-encode}
-use Rattle.std.proofs.lemmas.List.{append-nil}
-use Rattle.arraystring_base.specs.Text.{utf8, width, size, cap, front, back}
-use Rattle.arraystring_base.proofs.TextLaws.{chars-bytes, utf8-is, width-is, width-bounds, length-utf8}
+use Rattle.std.proofs.Common.{◌+◌, ◌-◌, ◌≤◌, ◌++◌, ◌∷◌, sym, ◌∙◌, arith, rules}
+use Rattle.arraystring_base.specs.Text.{width, cap, front, back}
+use Rattle.arraystring_base.proofs.TextLaws.{width-is, width-bounds}
 use Rattle.arraystring_base.proofs.BoundaryLaws.{boundary-within}
 use Rattle.arraystring_core.proofs.StoredLaws.{opened-size, opened-within}
-use Rattle.arraystring_core.proofs.SpanLemmas.{Lies, moved_to_start}
+use Rattle.arraystring_core.proofs.SpanLemmas.{Lies}
+use Rattle.arraystring_core.proofs.AppendLemmas.{char-inserted_at_start}
 use Rattle.arraystring_core.proofs.array_string.ArrayString.compact_and_insert.Given as given
 use Rattle.arraystring_core.proofs.array_string.ArrayString.compact_and_insert.Goals as goal
 
 pub compact_and_open_gap-requires : goal.compact_and_open_gap-requires
 compact_and_open_gap-requires g c =
-    let wide : c.len_utf8-len.result ≡ width c.args.ch = c.len_utf8-len.ensures.value ∙ sym (width-is c.args.ch) in
-    let long = opened-size c.self.invariant c.self.view_is in
     let within = opened-within c.self.invariant c.self.view_is _ c.requires.boundary in
-    let room : c.args.at + (c.len_utf8-len.result + (c.self.inside.size - c.args.at)) ≤ cap g.row.N = omega arith in
+    let room : c.args.at + (c.len_utf8-len.result + (c.self.inside.size - c.args.at)) ≤ cap g.row.N =
+    omega (arith, opened-size c.self.invariant c.self.view_is, width-is c.args.ch) in
     rw (c.new-text.ensures.offset, c.new-text.ensures.size) (search rules, (omega arith, (within, (c.self.invariant.within, (room, omega arith)))))
 
 pub overflow_sub-self : goal.overflow_sub-self
@@ -22,13 +20,11 @@ overflow_sub-self g c = omega (arith, opened-within c.self.invariant c.self.view
 
 pub overflow_add-self-2 : goal.overflow_add-self-2
 overflow_add-self-2 g c =
-    let wide : c.len_utf8-len.result ≡ width c.args.ch = c.len_utf8-len.ensures.value ∙ sym (width-is c.args.ch) in
-    omega (arith, opened-size c.self.invariant c.self.view_is, opened-within c.self.invariant c.self.view_is _ c.requires.boundary)
+    omega (arith, opened-size c.self.invariant c.self.view_is, opened-within c.self.invariant c.self.view_is _ c.requires.boundary, width-is c.args.ch)
 
 pub overflow_cast-self : goal.overflow_cast-self
 overflow_cast-self g c =
-    let wide : c.len_utf8-len.result ≡ width c.args.ch = c.len_utf8-len.ensures.value ∙ sym (width-is c.args.ch) in
-    omega (arith, opened-size c.self.invariant c.self.view_is, opened-within c.self.invariant c.self.view_is _ c.requires.boundary)
+    omega (arith, opened-size c.self.invariant c.self.view_is, opened-within c.self.invariant c.self.view_is _ c.requires.boundary, width-is c.args.ch)
 
 pub encode-requires : goal.encode-requires
 encode-requires g c =
@@ -38,29 +34,17 @@ encode-requires g c =
 -- what is then in the array
 written : (g : given.Over) (c : goal.After-encode g)
     → Lies g.row.N c.encode.new.array 0 (c.args.at + (c.len_utf8-len.result + (c.new-text.result.size - c.args.at)))
-    (front c.args.self.now.text c.args.at ++ (chars (utf8 c.args.ch) ++ back c.args.self.now.text c.args.at))
+    (front c.args.self.now.text c.args.at ++ (c.args.ch ∷ back c.args.self.now.text c.args.at))
 written g c =
-    let t = c.args.self.now.text in
-    let ch = c.args.ch in
-    let at = c.args.at in
-    let gap = c.compact_and_open_gap in
-    let wide : c.len_utf8-len.result ≡ length (utf8 ch) = c.len_utf8-len.ensures.value ∙ sym (width-is ch) ∙ sym (length-utf8 ch) in
-    let u : IsUtf8 (utf8 ch) = rw (utf8-is ch) (IsUtf8-encode ch (search rules)) in
-    let fits : size t - (at - at) + length (utf8 ch) ≤ cap g.row.N = omega (arith, length-utf8 ch) in
-    rw (wide, c.new-text.ensures.size) (moved_to_start c.self.invariant c.self.view_is (utf8 ch) (omega arith) c.requires.boundary c.requires.boundary fits u
-    gap.new.array gap.ensures.len (rw c.new-text.ensures.offset at gap.ensures.front)
-    (rw (wide, c.new-text.ensures.offset, c.new-text.ensures.size) at gap.ensures.tail) (rw (← length-utf8 ch) at c.encode.ensures.bytes))
+    let gap = c.compact_and_open_gap in let text = c.new-text.ensures in
+    char-inserted_at_start c.self.invariant c.self.view_is c.args.ch (search rules) (c.len_utf8-len.ensures.value ∙ sym (width-is c.args.ch))
+    _ c.requires.boundary c.requires.room text.offset text.size gap.new.array gap.ensures.len gap.ensures.front gap.ensures.tail c.encode.ensures.bytes
 
 pub invariant_of-self : goal.invariant_of-self
 invariant_of-self g c = (written g c).held
 
 pub returns : goal.returns
-returns g c =
-    let t = c.args.self.now.text in
-    let ch = c.args.ch in
-    let u : IsUtf8 (utf8 ch) = rw (utf8-is ch) (IsUtf8-encode ch (search rules)) in
-    let one : chars (utf8 ch) ≡ ch ∷ [] = chars-bytes u (sym (append-nil (utf8 ch))) in
-    (written g c).shown ∙ ap (λ l. front t c.args.at ++ (l ++ back t c.args.at)) one
+returns g c = (written g c).shown
 
 pub prove-unreachable-requires : goal.prove-unreachable-requires
 prove-unreachable-requires g c =

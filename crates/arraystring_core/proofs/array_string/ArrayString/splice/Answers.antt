@@ -1,8 +1,8 @@
-use Rattle.std.proofs.Common.{◌+◌, ◌-◌, ◌≤◌, ◌++◌, chars, length, arith, rules}
-use Rattle.arraystring_base.specs.Text.{size, cap, front, back}
+use Rattle.std.proofs.Common.{◌+◌, ◌-◌, ◌≤◌, ◌++◌, chars, length, refl, arith, rules}
+use Rattle.arraystring_base.specs.Text.{cap, front, back}
 use Rattle.arraystring_base.proofs.TextLaws.{size-borrowed}
 use Rattle.arraystring_core.proofs.StoredLaws.{opened-size, opened-within}
-use Rattle.arraystring_core.proofs.SpanLemmas.{Lies, filled}
+use Rattle.arraystring_core.proofs.SpanLemmas.{Lies, spliced, filled}
 use Rattle.arraystring_core.proofs.array_string.ArrayString.splice.Given as given
 use Rattle.arraystring_core.proofs.array_string.ArrayString.splice.Goals as goal
 
@@ -17,11 +17,11 @@ overflow_sub-tail g c = rw c.new-text.ensures.size (opened-within c.self.invaria
 
 pub overflow_add-start : goal.overflow_add-start
 overflow_add-start g c =
-    omega (arith, opened-size c.self.invariant c.self.view_is, opened-within c.self.invariant c.self.view_is _ c.requires.end, size-borrowed c.utf8.given)
+    omega (arith, spliced c.self.invariant c.self.view_is c.requires.end c.utf8.given)
 
 pub overflow_add-text : goal.overflow_add-text
 overflow_add-text g c =
-    omega (arith, opened-size c.self.invariant c.self.view_is, opened-within c.self.invariant c.self.view_is _ c.requires.end, size-borrowed c.utf8.given)
+    omega (arith, spliced c.self.invariant c.self.view_is c.requires.end c.utf8.given)
 
 pub returns-then-text-start-clause-tail_alone : goal.returns-then-text-start-clause-tail_alone
 returns-then-text-start-clause-tail_alone g c small =
@@ -32,15 +32,9 @@ written : (g : given.Over) (c : goal.After-write_over g)
     → Lies g.row.N c.write_over.new.array c.self.inside.start (c.args.start + (length c.args.given.now + (c.new-text.result.size - c.args.end)))
     (front c.args.self.now.text c.args.start ++ (chars c.args.given.now ++ back c.args.self.now.text c.args.end))
 written g c =
-    let s = c.self.inside in
-    let given = c.args.given.now in
-    let gap = c.open_gap in
-    let fits : size c.args.self.now.text - (c.args.end - c.args.start) + length given ≤ cap g.row.N = omega (arith, size-borrowed c.utf8.given) in
-    let held : s.start + (c.args.start + (length given + (s.size - c.args.end))) ≤ cap g.row.N = rw (← c.new-text.ensures.offset, ← c.new-text.ensures.size) (omega arith) in
-    rw c.new-text.ensures.size (filled c.self.invariant c.self.view_is given c.requires.order c.requires.start c.requires.end fits c.utf8.given
-    gap.new.array s.start gap.ensures.len held (rw c.new-text.ensures.offset at gap.ensures.front)
-    (rw (c.new-text.ensures.offset, c.new-text.ensures.size) at gap.ensures.tail)
-    (rw (c.new-text.ensures.offset, c.as_bytes.ensures.value) at c.write_over.ensures))
+    let gap = c.open_gap in let text = c.new-text.ensures in
+    filled c.self.invariant c.self.view_is c.requires.order c.requires.start c.requires.end c.requires.room c.utf8.given text.offset text.size refl
+    gap.new.array gap.ensures.len (omega arith) gap.ensures.front gap.ensures.tail (rw c.as_bytes.ensures.value at c.write_over.ensures)
 
 pub invariant_of-self : goal.invariant_of-self
 invariant_of-self g c = (written g c).held

@@ -1,4 +1,4 @@
-use Rattle.std.proofs.Common.{rules, arith}
+use Rattle.std.proofs.Common.{refl, rules, arith}
 use Rattle.arraystring_base.proofs.TextLaws.{width-bounds}
 use Rattle.arraystring_core.proofs.AppendLemmas.{char-appended_at_start}
 use Rattle.arraystring_core.proofs.array_string.push.compact_and_append.Goals as goal
@@ -10,10 +10,8 @@ prove-unreachable-requires g c =
 
 pub returns-clause-held : goal.returns-clause-held
 returns-clause-held g c =
-    let lies = char-appended_at_start c.requires.held c.args.ch (search rules) c.requires.room c.move_run.ensures c.encode.ensures.bytes in
-    (rw (← c.encode.ensures.width) at lies).held
+    (char-appended_at_start c.requires.held refl c.args.ch (search rules) c.encode.ensures.width c.requires.room c.move_run.ensures c.encode.ensures.bytes).held
 
 pub returns-clause-text : goal.returns-clause-text
 returns-clause-text g c =
-    let lies = char-appended_at_start c.requires.held c.args.ch (search rules) c.requires.room c.move_run.ensures c.encode.ensures.bytes in
-    (rw (← c.encode.ensures.width) at lies).shown
+    (char-appended_at_start c.requires.held refl c.args.ch (search rules) c.encode.ensures.width c.requires.room c.move_run.ensures c.encode.ensures.bytes).shown
