@@ -94,11 +94,11 @@ impl Contracts {
         self.definitions.insert(name.to_string(), definition.to_string());
     }
 
-    /// The declaration of a type, its invariant, and the definition with which that begins.
-    pub fn invariant_of(&self, owner: &str) -> Option<(&str, &str, &str)> {
+    /// The declaration of a type, and its invariant, if that begins with one of the definitions, which come along.
+    pub fn invariant_of(&self, owner: &str) -> Option<(&str, &str, &BTreeMap<String, String>)> {
         let invariant = self.invariants.get(owner)?;
-        let definition = self.definitions.get(invariant.split(' ').nth(2)?)?;
-        Some((self.declared.get(owner)?, invariant, definition))
+        let is_read = self.definitions.contains_key(invariant.split(' ').nth(2)?);
+        is_read.then_some((self.declared.get(owner)?, invariant, &self.definitions))
     }
 
     /// The head of a function, and the text of the postcondition of this name.

@@ -271,11 +271,11 @@ impl<'a> File<'a, '_> {
         let Function { call, head, .. } = function;
         let owner = call.split("::").next().unwrap_or_default();
         let contracts = &self.tally.contracts;
-        let Some((declared, invariant, definition)) = contracts.invariant_of(owner) else {
+        let Some((declared, invariant, definitions)) = contracts.invariant_of(owner) else {
             let why = || Fault::new(head.start, format!("`{owner}` has no invariant by a definition that is read"));
             return if contracts.is_whole { Err(why()) } else { Ok(None) };
         };
-        let test = test_of_invariant(invariant, definition, &Names { head: declared, result: None });
+        let test = test_of_invariant(invariant, definitions, &Names { head: declared, result: None });
         test.map(Some).map_err(|why| Fault::new(head.start, format!("`{call}`: {why}")))
     }
 

@@ -3,6 +3,8 @@
 //! Clauses speak of numbers without an upper bound. So a sum on the left of a comparison is tested not to wrap, and a
 //! difference stops at 0, as it does in a clause. What can't be read so is refused.
 
+use std::collections::BTreeMap;
+
 /// What the names of a clause are in its function, or in its type.
 pub struct Names<'a> {
     /// From `fn` to the clauses, or the declaration of the type.
@@ -24,24 +26,34 @@ pub fn test_of(clause: &str, names: &Names) -> Result<String, String> {
 
 /// The test of the first field of an invariant: of `λ s. IsStored N s.array s.start s.size`, by the record
 /// `IsStored (array_size : ℕ) (array : List ℕ) (start n : ℕ)` with `start + n ≤ cap array_size`, `s.start + s.size ≤ cap N`.
-pub fn test_of_invariant(invariant: &str, definition: &str, names: &Names) -> Result<String, String> {
-    let fault = || format!("the invariant `{invariant}` by the definition `{definition}`");
-    let (value, applied) = invariant.strip_prefix("λ ").and_then(|rest| rest.split_once(". ")).ok_or_else(fault)?;
-    let (head, fields) = definition.split_once(" : Type 0 where\n").ok_or_else(fault)?;
-    let (name, bound) = head.strip_prefix("pub record ").and_then(|head| head.split_once(' ')).ok_or_else(fault)?;
-    let field = fields.lines().next().and_then(|field| field.strip_prefix("  pub "));
-    let (_, clause) = field.and_then(|field| field.split_once(" : ")).ok_or_else(fault)?;
-    let bound = bound.split(['(', ')']).filter_map(|bound| bound.split_once(" : "));
-    let parameters: Vec<_> = [name].into_iter().chain(bound.flat_map(|(names, _)| names.split(' '))).collect();
-    let arguments: Vec<_> = applied.split(" × ").next().unwrap_or_default().split(' ').collect();
-    if arguments.len() != parameters.len() || arguments[0] != parameters[0] {
-        return Err(fault());
+/// A field that is a fact of the definitions itself stands for its own first field.
+pub fn test_of_invariant(
+    invariant: &str,
+    definitions: &BTreeMap<String, String>,
+    names: &Names,
+) -> Result<String, String> {
+    let fault = || format!("the invariant `{invariant}` by its definition");
+    let (value, fact) = invariant.strip_prefix("λ ").and_then(|rest| rest.split_once(". ")).ok_or_else(fault)?;
+    let own =
+        |word: &str| word.strip_prefix(value).filter(|rest| rest.starts_with('.')).map(|rest| format!("self{rest}"));
+    let mut fact: Vec<_> = fact.split(' ').map(|word| own(word).unwrap_or_else(|| word.to_string())).collect();
+    while let Some(definition) = definitions.get(&fact[0]) {
+        fact = first_field(definition, &fact[1..]).ok_or_else(fault)?;
     }
+    test_of(&fact.join(" "), names)
+}
+
+/// The words of the first field of a record, with these arguments for its parameters.
+fn first_field(record: &str, arguments: &[String]) -> Option<Vec<String>> {
+    let (head, fields) = record.split_once(" : Type 0 where\n")?;
+    let bound = head.split(['(', ')']).filter_map(|bound| bound.split_once(" : "));
+    let parameters: Vec<_> = bound.flat_map(|(names, _)| names.split(' ')).collect();
+    let (_, clause) = fields.lines().next()?.strip_prefix("  pub ")?.split_once(" : ")?;
     let put = |word: String| match parameters.iter().position(|parameter| *parameter == word) {
-        Some(at) => arguments[at].replacen(&format!("{value}."), "self.", 1),
+        Some(at) => arguments[at].clone(),
         None => word,
     };
-    test_of(&words(clause).into_iter().map(put).collect::<Vec<_>>().join(" "), names)
+    (parameters.len() == arguments.len()).then(|| words(clause).into_iter().map(put).collect())
 }
 
 /// A number that a clause names.
@@ -256,9 +268,17 @@ pub record IsStored (array_size : ℕ) (array : List ℕ) (start n : ℕ) : Type
   pub length : length array ≡ array_size
 ";
 
+    const DRAINED: &str = "\
+pub record IsDrained (array_size : ℕ) (array : List ℕ) (start n i : ℕ) : Type 0 where
+  pub held : IsStored array_size array start n
+  pub at : IsTrue (boundary (stored array start n).text i)
+";
+
     fn of_type(invariant: &str, definition: &str) -> Result<String, String> {
+        let definitions = [("IsStored", definition), ("IsDrained", DRAINED)];
+        let definitions = definitions.map(|(name, text)| (name.to_string(), text.to_string())).into();
         let head = "struct S<const N: usize> {\n    start: u8,\n    size: u8,\n    len: usize,\n    array: [u8; N],\n}";
-        test_of_invariant(invariant, definition, &Names { head, result: None })
+        test_of_invariant(invariant, &definitions, &Names { head, result: None })
     }
 
     #[test]
@@ -268,7 +288,7 @@ pub record IsStored (array_size : ℕ) (array : List ℕ) (start n : ℕ) : Type
         let sum = "self.start as usize + self.size as usize";
         for (invariant, definition, test) in [
             (invariant, STORED.to_string(), format!("{sum} <= {capacity}")),
-            (&format!("{invariant} × IsDrained N s.start"), STORED.to_string(), format!("{sum} <= {capacity}")),
+            ("λ d. IsDrained N d.array d.start d.size d.len", STORED.to_string(), format!("{sum} <= {capacity}")),
             ("λ of. IsStored N of.array of.size of.start", STORED.to_string(), {
                 format!("self.size as usize + self.start as usize <= {capacity}")
             }),
@@ -286,6 +306,9 @@ pub record IsStored (array_size : ℕ) (array : List ℕ) (start n : ℕ) : Type
         }
         for (invariant, definition) in [
             ("λ s. IsKept N s.array s.start s.size", STORED),
+            ("λ s. IsStored N s.array s.start s.size × IsDrained N s.start", STORED),
+            ("λ d. IsDrained N d.array d.start d.size", STORED),
+            ("λ d. IsDrained N d.array d.start d.len d.size", STORED),
             ("λ s. IsStored N s.array s.start", STORED),
             ("IsStored N s.array s.start s.size", STORED),
             ("λ s. IsStored N s.array s.start s.len", STORED),
