@@ -11,7 +11,7 @@ use Rattle.arraystring_core.specs.Stored.{Stored, stored, IsStored}
 use Rattle.arraystring_core.proofs.StoredLaws.{opened-bytes, opened-size, opened-within, opened-text}
 use Rattle.arraystring_core.specs.Edits.{part}
 use Rattle.arraystring_core.proofs.GapLemmas.{written-length, written-parts}
-use Rattle.arraystring_core.proofs.SpanLemmas.{replaced}
+use Rattle.arraystring_core.proofs.SpanLemmas.{Lies, replaced}
 
 -- a change of ASCII characters alone
 pub record IsAsciiChange (f : ℕ → ℕ) : Type 0 where
@@ -148,13 +148,5 @@ module _ {f : ℕ → ℕ} (is : IsAsciiChange f) {array_size : ℕ} {array : Li
   fits : p + (start + (length given + (n - end))) ≤ cap array_size
   fits = omega (arith, whole-length)
 
-  pub changed-stored : IsStored array_size after p n
-  changed-stored =
-      subst (λ k. IsStored array_size after p k) whole-length
-      ((replaced held e given order b d room given-utf8 p after-length fits visible).held)
-
-  pub changed-text : chars (take n (drop p after)) ≡ front v.text start ++ (map f (part v.text start end) ++ back v.text end)
-  changed-text =
-      ap (λ k. chars (take k (drop p after))) (sym whole-length)
-      ∙ (replaced held e given order b d room given-utf8 p after-length fits visible).shown
-      ∙ ap (λ l. front v.text start ++ (l ++ back v.text end)) given-chars
+  pub changed : Lies array_size after p n (front v.text start ++ (map f (part v.text start end) ++ back v.text end))
+  changed = rw (whole-length, given-chars) at (replaced held e given order b d room given-utf8 p after-length fits visible)

@@ -1,6 +1,6 @@
 use Rattle.std.proofs.Common.{◌+◌, ◌≤◌, arith, rules}
 use Rattle.arraystring_core.proofs.StoredLaws.{opened-within}
-use Rattle.arraystring_core.proofs.AsciiLemmas.{uppercase-change, changed-stored, changed-text}
+use Rattle.arraystring_core.proofs.AsciiLemmas.{uppercase-change, changed}
 use Rattle.arraystring_core.proofs.array_string.ArrayString.uppercase_between.Goals as goal
 
 pub overflow_add-offset : goal.overflow_add-offset
@@ -17,9 +17,7 @@ uppercase_bytes-requires g c =
     (search rules, (order, within))
 
 pub invariant_of-self : goal.invariant_of-self
-invariant_of-self g c =
-    changed-stored uppercase-change c.self.invariant c.self.view_is c.requires.order c.requires.start c.requires.end c.uppercase_bytes.ensures
+invariant_of-self g c = (changed uppercase-change c.self.invariant c.self.view_is c.requires.order c.requires.start c.requires.end c.uppercase_bytes.ensures).held
 
 pub returns : goal.returns
-returns g c =
-    changed-text uppercase-change c.self.invariant c.self.view_is c.requires.order c.requires.start c.requires.end c.uppercase_bytes.ensures
+returns g c = (changed uppercase-change c.self.invariant c.self.view_is c.requires.order c.requires.start c.requires.end c.uppercase_bytes.ensures).shown
