@@ -8,7 +8,7 @@ use lib.Bits.{xor_add_and, and_le_l, and_le_r, and_self}
 use lib.Lanes.{zip2, fold_l}
 
 xor_same : (x y : ℕ) → bit_xor x y ≡ 0 → x ≡ y
-xor_same x y none = omega (arith, none, xor_add_and x y, and_le_l x y, and_le_r x y)
+xor_same x y none = omega (arith, xor_add_and x y, and_le_l x y, and_le_r x y)
 
 xor_self : (x : ℕ) → bit_xor x x ≡ 0
 xor_self x = omega (arith, xor_add_and x x, and_self x)
@@ -36,8 +36,8 @@ xor_lanes (suc n) (x ∷ xs) (y ∷ ys) one other =
 
 pub xor_none : (n : ℕ) (xs ys : List ℕ) → length xs ≡ n → length ys ≡ n → zip2 bit_xor xs ys ≡ replicate n 0 → xs ≡ ys
 xor_none n [] [] one other none = refl
-xor_none n [] (y ∷ ys) one other none = absurd (omega (arith, one, other))
-xor_none n (x ∷ xs) [] one other none = absurd (omega (arith, one, other))
+xor_none n [] (y ∷ ys) one other none = absurd (omega arith)
+xor_none n (x ∷ xs) [] one other none = absurd (omega arith)
 xor_none zero (x ∷ xs) (y ∷ ys) one other none = absurd (omega arith)
 xor_none (suc n) (x ∷ xs) (y ∷ ys) one other none =
     let head : bit_xor x y ≡ 0 = cc in
@@ -62,8 +62,8 @@ or_none (suc n) (x ∷ xs) (y ∷ ys) one other none =
     let head : bit_or x y ≡ 0 = cc in
     let rest : zip2 bit_or xs ys ≡ replicate n 0 = cc in
     let both = or_none n xs ys (omega arith) (omega arith) rest in
-    let x_is : x ≡ 0 = omega (arith, head, le_or_l x y) in
-    let y_is : y ≡ 0 = omega (arith, head, le_or_r x y) in
+    let x_is : x ≡ 0 = omega (arith, le_or_l x y) in
+    let y_is : y ≡ 0 = omega (arith, le_or_r x y) in
     (ap (λ z. z ∷ xs) x_is ∙ ap (λ l. 0 ∷ l) both.0, ap (λ z. z ∷ ys) y_is ∙ ap (λ l. 0 ∷ l) both.1)
 
 pub none_or : (n : ℕ) (ys : List ℕ) → length ys ≡ n → zip2 bit_or (replicate n 0) ys ≡ ys
@@ -79,8 +79,8 @@ fold_none : (x : ℕ) (xs : List ℕ) → fold_l bit_or x xs ≡ 0 → (x ≡ 0)
 fold_none x [] none = (none, refl)
 fold_none x (y ∷ ys) none =
     let rest = fold_none (bit_or x y) ys none in
-    let x_is : x ≡ 0 = omega (arith, rest.0, le_or_l x y) in
-    let y_is : y ≡ 0 = omega (arith, rest.0, le_or_r x y) in
+    let x_is : x ≡ 0 = omega (arith, le_or_l x y) in
+    let y_is : y ≡ 0 = omega (arith, le_or_r x y) in
     (x_is, ap (λ z. z ∷ ys) y_is ∙ ap (λ l. 0 ∷ l) rest.1)
 
 fold_zero : (n : ℕ) → fold_l bit_or 0 (replicate n 0) ≡ 0

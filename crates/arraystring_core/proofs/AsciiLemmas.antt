@@ -1,5 +1,5 @@
 -- ASCII letters in the other case, in characters and in bytes.
-use Rattle.std.proofs.Common.{◌≡◌, ℕ, ◌+◌, ◌-◌, ◌/◌, ◌%◌, ◌<◌, ◌≤◌, List, [], ◌∷◌, ◌++◌, map, length, take, drop, chars, refl, sym, ap, subst, ◌∙◌, arith, true, inl, inr, IsUtf8, take-take, length-take-le, length-drop}
+use Rattle.std.proofs.Common.{◌≡◌, ℕ, ◌+◌, ◌-◌, ◌/◌, ◌%◌, ◌<◌, ◌≤◌, List, [], ◌∷◌, ◌++◌, map, length, take, drop, chars, refl, sym, ap, ◌∙◌, arith, true, inl, inr, IsUtf8, take-take, length-take-le, length-drop}
 use Rattle.std.proofs.lemmas.Bool.{cases_lt, lt-ltb, le-ltb}
 use Rattle.std.proofs.lemmas.List.{map-append, length-map, drop-take, drop-drop}
 use Rattle.std.proofs.lemmas.Str.Ascii.{uppercase_ascii, lowercase_ascii, uppercase_is, lowercase_is}

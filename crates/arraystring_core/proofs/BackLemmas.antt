@@ -27,13 +27,13 @@ module _ (t given : List ℕ) (start end n : ℕ) (is : IsAllowed t start end gi
 
   after-size : size (front t start ++ (given ++ back t end)) ≡ size t - (end - start) + size given
   after-size =
-      omega (arith, size-append (front t start) (given ++ back t end), size-append given (back t end), before, back-size t end is.ends, is.order, is.within)
+      omega (arith, size-append (front t start) (given ++ back t end), size-append given (back t end), before, back-size t end is.ends)
 
   back-allowed : size t ≤ n → IsAllowed (front t start ++ (given ++ back t end)) start (start + size given) (part t start end) n
   back-allowed le = record {
     order = omega arith;
-    within = omega (arith, after-size, is.order, is.within);
-    room = omega (arith, after-size, part-size t start end is.order is.starts is.ends, is.order, is.within);
+    within = omega (arith, after-size);
+    room = omega (arith, after-size, part-size t start end is.order is.starts is.ends);
     starts = boundary-is (front t start) (given ++ back t end) start before;
     ends = ap (λ l. boundary l (start + size given)) split_behind ∙ boundary-is (front t start ++ given) (back t end) (start + size given) reached;
   }

@@ -19,8 +19,8 @@ refused-made (Err e) t n err past = (past, refl)
 pub made-more : (result : Result Stored Error) (t all : List ℕ) (n : ℕ) → ((t ≡ all) × (size t ≤ n)) ⊎ ((more : List ℕ) × (all ≡ t ++ more) × (n < size t))
     → IsWholeOrRefused t n result → IsWholeOrRefused all n result
 made-more result t all n (inl ends) made = subst (λ l. IsWholeOrRefused l n result) ends.0 made
-made-more (Ok s) t all n (inr stops) made = absurd (omega (arith, made.0, stops.2))
-made-more (Err e) t all n (inr stops) made = (omega (arith, stops.2, ap size stops.1, size-append t stops.0), made.1)
+made-more (Ok s) t all n (inr stops) made = absurd (omega arith)
+made-more (Err e) t all n (inr stops) made = (omega (arith, ap size stops.1, size-append t stops.0), made.1)
 
 -- what is added to the empty text
 module _ (old t : List ℕ) (n : ℕ) (empty : old ≡ []) where
@@ -31,4 +31,4 @@ module _ (old t : List ℕ) (n : ℕ) (empty : old ≡ []) where
   fresh-cut new e = e ∙ ap (λ l. l ++ cut t (n - size old)) empty ∙ ap (cut t) fresh-room
 
   pub fresh-whole : (new : List ℕ) → size t ≤ n - size old → new ≡ old ++ cut t (n - size old) → (size t ≤ n) × (new ≡ t)
-  fresh-whole new le e = let fits : size t ≤ n = omega (arith, le, fresh-room) in (fits, fresh-cut new e ∙ cut-all fits)
+  fresh-whole new le e = let fits : size t ≤ n = omega (arith, fresh-room) in (fits, fresh-cut new e ∙ cut-all fits)

@@ -53,7 +53,7 @@ first-low (c ∷ cs) b some e lt =
       | inr past ↦
           let high = high-bytes c past in
           let same : high.0 ≡ b = sym (ap (λ l. get_or (l ++ bytes cs) 0 0) high.3) ∙ e in
-          absurd (omega (arith, same, high.4))
+          absurd (omega arith)
     ]
 
 pub last-low : (t : List ℕ) (b : ℕ) → t ≢ [] → get_or (bytes t) (length (bytes t) - 1) 0 ≡ b → b < 128 → (rest : List ℕ) × (t ≡ rest ++ b ∷ []) × (width b ≡ 1)
@@ -71,5 +71,5 @@ last-low t b some e lt =
           let high = high-bytes c past in
           let whole = shown ∙ ap (λ l. bytes before ++ l) high.3 ∙ sym (append_assoc (bytes before) (high.0 ∷ high.1) (high.2 ∷ [])) in
           let same : high.2 ≡ b = sym (last-byte (bytes t) (bytes before ++ high.0 ∷ high.1) high.2 whole) ∙ e in
-          absurd (omega (arith, same, high.5))
+          absurd (omega arith)
     ]

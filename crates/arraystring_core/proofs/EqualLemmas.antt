@@ -29,8 +29,8 @@ pub same_block : (K : ℕ) (a b : List ℕ) → K ≤ 64 → length a ≡ K → 
 same_block K a b few one other =
     let long : length a ≡ length b = one ∙ sym other in
     let tops = tops_compared w8 apart a b in
-    let mask = mask_l-mod _ 64 (omega (arith, ap length tops, length-zip2 apart a b long, one, few)) ∙ ap mask_l tops in
-    rw (take_all K a (omega (arith, one)), take_all K b (omega (arith, other))) (
+    let mask = mask_l-mod _ 64 (omega (arith, ap length tops, length-zip2 apart a b long)) ∙ ap mask_l tops in
+    rw (take_all K a (omega arith), take_all K b (omega arith)) (
       λ e. none_apart a b long (sym mask ∙ eqb-true _ _ e),
       λ e. eq-eqb _ _ (mask ∙ ap (λ l. mask_l (zip2 apart a l)) (sym e) ∙ apart_self a),
     )

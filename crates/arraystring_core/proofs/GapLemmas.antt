@@ -22,7 +22,7 @@ module _ (old new : List ℕ) (from to k : ℕ) (source : from + k ≤ length ol
       ap (λ m. drop i (take m old)) (sym sum) ∙ drop-take i (to - i) old in
       let long : length (take (to - i) (drop i old)) ≡ to - i = length-take-le (to - i) (drop i old) (omega (arith, length-drop i old)) in
       ap (λ l. take n (drop i l)) moved ∙ ap (take n) (drop-append-le i (take to old) rest past)
-      ∙ ap (λ l. take n (l ++ rest)) kept ∙ take-append-le n (take (to - i) (drop i old)) rest (omega (arith, long))
+      ∙ ap (λ l. take n (l ++ rest)) kept ∙ take-append-le n (take (to - i) (drop i old)) rest (omega arith)
       ∙ take-take n (to - i) (drop i old) (omega arith)
 
   -- at the target is what was moved
@@ -60,7 +60,7 @@ module _ (old new given : List ℕ) (at : ℕ) (within : at + length given ≤ l
   written-parts q s k e =
       let rest = given ++ drop (at + length given) old in
       let before : length (take at old) ≡ at = length-take-le at old (omega arith) in
-      let past : q ≤ length (take at old) = omega (arith, before) in
+      let past : q ≤ length (take at old) = omega arith in
       let kept : drop q (take at old) ≡ take s (drop q old) = ap (λ m. drop q (take m old)) e ∙ drop-take q s old in
       let long : length (take s (drop q old)) ≡ s = length-take-le s (drop q old) (omega (arith, length-drop q old)) in
       let parts : drop q new ≡ take s (drop q old) ++ rest =

@@ -21,7 +21,7 @@ other_decides x y differ xs ys =
     elim (cases_lt x y) [
       | inl less ↦ rw (← nat_cmp_is x y Less less) refl
       | inr more ↦
-          let greater : y < x = omega (arith, differ) in
+          let greater : y < x = omega arith in
           rw (← nat_cmp_is x y Greater greater) refl
     ]
 
@@ -74,7 +74,7 @@ first_apart (x ∷ xs) (y ∷ ys) zero long set before = (omega arith, refl, λ 
 first_apart (x ∷ xs) (y ∷ ys) (suc i) long set before =
     let rest = first_apart xs ys i (omega arith) set (λ j lt. before (suc j) (omega arith)) in
     let same : x ≡ y = not_apart x y (before 0 (omega arith)) in
-    (omega (arith, rest.0), ap (λ l. x ∷ l) rest.1 ∙ ap (λ z. z ∷ take i ys) same, rest.2)
+    (omega arith, ap (λ l. x ∷ l) rest.1 ∙ ap (λ z. z ∷ take i ys) same, rest.2)
 
 one-is : (t : Bool) → ◌≡◌ {A = ℕ} (cond t 1 0) 1 → t ≡ true
 one-is true e = refl
@@ -107,7 +107,7 @@ first_other (x ∷ xs) (y ∷ ys) zero long differ clear before = (omega arith, 
 first_other (x ∷ xs) (y ∷ ys) (suc i) long differ clear before =
     let same : x ≡ y = eqb-true x y (before 0 (omega arith)) in
     let rest = first_other xs ys i (omega arith) (λ e. differ (ap (λ l. x ∷ l) e ∙ ap (λ z. z ∷ ys) same)) clear (λ j lt. before (suc j) (omega arith)) in
-    (omega (arith, rest.0), ap (λ l. x ∷ l) rest.1 ∙ ap (λ z. z ∷ take i ys) same, rest.2)
+    (omega arith, ap (λ l. x ∷ l) rest.1 ∙ ap (λ z. z ∷ take i ys) same, rest.2)
 
 -- the lowest bit that a mask of equal lanes has not
 first_clear : (xs ys : List ℕ) (m : ℕ) → length xs ≡ length ys → xs ≢ ys → m ≡ mask_l (zip2 eqb xs ys) → m + 1 < 2 ^ 64
@@ -163,7 +163,7 @@ module _ (K : ℕ) (few : K ≤ 64) (a b : List ℕ) (at : ℕ) (in_a : at + K �
   mask-is =
       let tops = tops_compared w8 apart (block a) (block b) in
       rw (take_all K (block a) (omega (arith, block-length a in_a)), take_all K (block b) (omega (arith, block-length b in_b)))
-      (mask_l-mod _ 64 (omega (arith, ap length tops, length-zip2 apart (block a) (block b) long, block-length a in_a, few)) ∙ ap mask_l tops)
+      (mask_l-mod _ 64 (omega (arith, ap length tops, length-zip2 apart (block a) (block b) long, block-length a in_a)) ∙ ap mask_l tops)
 
   -- none is apart
   pub block_same : mask ≡ 0 → take (at + K) a ≡ take (at + K) b
@@ -265,11 +265,11 @@ pub prefix_decides : (a b : List ℕ) (n : ℕ) → n ≡ min (length a) (length
 prefix_decides a b n lesser same =
     elim (cases_lt (length a) (length b)) [
       | inl less ↦
-          let is : n ≡ length a = omega (arith, lesser) in
+          let is : n ≡ length a = omega arith in
           let front = sym (ap (λ k. take k a) is) ∙ same ∙ ap (λ k. take k b) is in
           length_decides a b (take_all (length b) a (omega arith) ∙ sym (take_all (length a) a (omega arith)) ∙ front)
       | inr past ↦
-          let is : n ≡ length b = omega (arith, lesser) in
+          let is : n ≡ length b = omega arith in
           let front = sym (ap (λ k. take k a) is) ∙ same ∙ ap (λ k. take k b) is in
           length_decides a b (front ∙ take_all (length b) b (omega arith) ∙ sym (take_all (length a) b (omega arith)))
     ]

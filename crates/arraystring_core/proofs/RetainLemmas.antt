@@ -147,7 +147,7 @@ module _ (array : List ℕ) (offset read size : ℕ) (some : read < size) (withi
       ∙ ap (λ l. l ++ drop 1 all) (sym (utf8-one (get_or array (offset + read) 0) small))
 
   pub ascii-scalar : IsScalar (get_or array (offset + read) 0)
-  ascii-scalar = scalar-is (get_or array (offset + read) 0) (inl (omega (arith, small)))
+  ascii-scalar = scalar-is (get_or array (offset + read) 0) (inl (omega arith))
 
   pub ascii-width : width (get_or array (offset + read) 0) ≡ 1
   ascii-width = sym (length-utf8 (get_or array (offset + read) 0)) ∙ ap length (utf8-one (get_or array (offset + read) 0) small)
@@ -213,7 +213,7 @@ module _ {F : Type 0} (can : F → ℕ → Type 0) (steps : F → ℕ → Bool �
         record {
           long = part.long;
           kept_first = part.kept_first;
-          run_next = omega (arith, part.run_next);
+          run_next = omega arith;
           read_within = char-within array offset read size c rest part.read_within within starts;
           rest_text = rw after rest-utf8;
           kept_text = rw more_bytes (IsUtf8-append (kept_bytes array offset kept run read) (utf8 c) part.kept_text c-utf8);
@@ -238,7 +238,7 @@ module _ {F : Type 0} (can : F → ℕ → Type 0) (steps : F → ℕ → Bool �
         moved-rest array moved offset kept run read size part.kept_first part.run_next part.read_within within written next size (omega arith) ∙ after in
         record {
           long = moved-length array moved offset kept run read size part.kept_first part.run_next part.read_within within written ∙ part.long;
-          kept_first = omega (arith, part.kept_first, part.run_next);
+          kept_first = omega arith;
           run_next = omega arith;
           read_within = fits;
           rest_text = rw left rest-utf8;
@@ -261,7 +261,7 @@ module _ {F : Type 0} (can : F → ℕ → Type 0) (steps : F → ℕ → Bool �
       moved-rest array moved offset kept run read size part.kept_first part.run_next part.read_within within written read size (omega arith) in
       record {
         long = moved-length array moved offset kept run read size part.kept_first part.run_next part.read_within within written ∙ part.long;
-        kept_first = omega (arith, part.kept_first, part.run_next);
+        kept_first = omega arith;
         run_next = omega arith;
         read_within = part.read_within;
         rest_text = rw left part.rest_text;

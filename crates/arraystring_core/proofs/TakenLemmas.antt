@@ -76,7 +76,7 @@ module _ {A : Type 0} (spelled : List A → List ℕ) (one : A → List ℕ)
     (more : (items : List A) (x : A) → spelled (items ++ x ∷ []) ≡ spelled items ++ one x)
     (now : List ℕ) (n : ℕ) (items : List A) (is : now ≡ spelled items) (x : A) where
   pub next-fits : size (spelled (items ++ x ∷ [])) ≤ n → size now + size (one x) ≤ n
-  next-fits fits = omega (arith, fits, ap size is, ap size (more items x), size-append (spelled items) (one x))
+  next-fits fits = omega (arith, ap size is, ap size (more items x), size-append (spelled items) (one x))
 
   pub next-text : (new : List ℕ) → new ≡ now ++ one x → new ≡ spelled (items ++ x ∷ [])
   next-text new e = e ∙ ap (λ l. l ++ one x) is ∙ sym (more items x)
@@ -89,5 +89,5 @@ fitting-all becomes steps iter n fits taken takes = elim takes.2 [
   | inl ends ↦ ((takes.0, takes.1, ends.0), cut-all ends.1)
   | inr stops ↦
       let within : size taken ≤ n = fits takes.0 takes.1 taken stops.0 stops.1 in
-      absurd (omega (arith, within, stops.2.4))
+      absurd (omega arith)
 ]

@@ -23,8 +23,8 @@ one-unit u small = let low : u < 0x1_0000 = omega arith in rw (lt-ltb u 0x1_0000
 
 unit-reads : (u : ℕ) (units : List ℕ) (items : List Unit16) → u < 0x80 → IsReading units items → IsReading (u ∷ units) (Char u ∷ items)
 unit-reads u units items small part = record {
-  each_unit = All-cons (λ unit. unit < 0x1_0000) u units (omega (arith, small)) part.each_unit;
-  each_item = All-cons IsItem (Char u) items (inl (omega (arith, small))) part.each_item;
+  each_unit = All-cons (λ unit. unit < 0x1_0000) u units (omega arith) part.each_unit;
+  each_item = All-cons IsItem (Char u) items (inl (omega arith)) part.each_item;
   joined = ap (λ l. u ∷ l) part.joined ∙ ap (λ l. l ++ joined_units items) (sym (one-unit u small));
   apart = λ before after high low e up down. apart-behind u items part.apart before after high low e up down;
 }
@@ -36,14 +36,14 @@ run-reads zero units items ascii part = part
 run-reads (suc n) [] items ascii part = part
 run-reads (suc n) (u ∷ units) items ascii part =
     unit-reads u units (map Char (take n units) ++ items) (ascii 0 (omega arith))
-    (run-reads n units items (λ i lt. ascii (suc i) (omega (arith, lt))) part)
+    (run-reads n units items (λ i lt. ascii (suc i) (omega arith)) part)
 
 -- the bytes of a run are a text
 ascii-run : (n : ℕ) (units : List ℕ) → AreAscii units n → IsAscii (take n units)
 ascii-run zero units ascii i = omega arith
 ascii-run (suc n) [] ascii i = omega arith
 ascii-run (suc n) (u ∷ units) ascii zero = ascii 0 (omega arith)
-ascii-run (suc n) (u ∷ units) ascii (suc i) = ascii-run n units (λ j lt. ascii (suc j) (omega (arith, lt))) i
+ascii-run (suc n) (u ∷ units) ascii (suc i) = ascii-run n units (λ j lt. ascii (suc j) (omega arith)) i
 
 pub run-utf8 : (n : ℕ) (units : List ℕ) → AreAscii units n → IsUtf8 (take n units)
 run-utf8 n units ascii = IsUtf8-from_ascii (take n units) (ascii-run n units ascii)

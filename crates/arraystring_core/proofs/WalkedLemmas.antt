@@ -49,7 +49,7 @@ walked-each (Back ∷ ends) (c ∷ cs) =
     let last = last-split c cs in
     let long : length (c ∷ cs) ≡ length last.0 + 1 = ap length last.2 ∙ length-append last.0 (last.1 ∷ []) in
     let kept = ap (λ w. length w.left) (walked-back ends (c ∷ cs) last.0 last.1 last.2) in
-    omega (arith, long, kept, walked-each ends last.0)
+    omega (arith, walked-each ends last.0)
 
 pub walked-all : (ends : List End) (t : List ℕ) → length t ≤ length ends → (walked ends t).left ≡ []
 walked-all ends t enough = nil_from_length (walked ends t).left (omega (arith, walked-each ends t))
@@ -66,7 +66,7 @@ module _ (n : ℕ) (all : Walked) (fronts : List ℕ) (ends : List End) (t backs
   on-front c on e =
       let step = walked-front ends t new c e in
       record {
-        fits = omega (arith, on.fits, ap size e, size-append fronts (c ∷ []));
+        fits = omega (arith, ap size e, size-append fronts (c ∷ []));
         gives = append_assoc fronts (c ∷ []) (walked ends new).fronts ∙ ap (λ w. fronts ++ w.fronts) (sym step) ∙ on.gives;
         leaves = ap (λ w. w.left) (sym step) ∙ on.leaves;
         gives_back = ap (λ w. backs ++ w.backs) (sym step) ∙ on.gives_back;
@@ -76,7 +76,7 @@ module _ (n : ℕ) (all : Walked) (fronts : List ℕ) (ends : List End) (t backs
   on-back c on e =
       let step = walked-back ends t new c e in
       record {
-        fits = omega (arith, on.fits, ap size e, size-append new (c ∷ []), size-append backs (c ∷ []));
+        fits = omega (arith, ap size e, size-append new (c ∷ []), size-append backs (c ∷ []));
         gives = ap (λ w. fronts ++ w.fronts) (sym step) ∙ on.gives;
         leaves = ap (λ w. w.left) (sym step) ∙ on.leaves;
         gives_back = append_assoc backs (c ∷ []) (walked ends new).backs ∙ ap (λ w. backs ++ w.backs) (sym step) ∙ on.gives_back;
@@ -86,7 +86,7 @@ module _ (n : ℕ) (all : Walked) (fronts : List ℕ) (ends : List End) (t backs
   on-none end on e d =
       let step = walked-past end ends t new e d in
       record {
-        fits = omega (arith, on.fits, ap size e, ap size d);
+        fits = omega (arith, ap size e, ap size d);
         gives = ap (λ w. fronts ++ w.fronts) (sym step) ∙ on.gives;
         leaves = ap (λ w. w.left) (sym step) ∙ on.leaves;
         gives_back = ap (λ w. backs ++ w.backs) (sym step) ∙ on.gives_back;

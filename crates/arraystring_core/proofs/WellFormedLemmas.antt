@@ -30,7 +30,7 @@ utf8-run bs n four (a, b, c, d) ascii =
 
 -- the rows of the table: what may be the second byte depends on the first
 pub one-byte : (a : ℕ) → a ≤ 0x7F → IsUtf8 (a ∷ [])
-one-byte a low = of_one (a ∷ []) 0 (omega arith) (omega (arith, low))
+one-byte a low = of_one (a ∷ []) 0 (omega arith) (omega arith)
 
 pub two-bytes : (a b : ℕ) → 0xC2 ≤ a → a ≤ 0xDF → (0x80 ≤ b) × (b ≤ 0xBF) → IsUtf8 (a ∷ b ∷ [])
 two-bytes a b least most second = of_two (a ∷ b ∷ []) 0 (omega arith) (omega arith) (omega arith)

@@ -22,9 +22,9 @@ value (x ∷ xs) = x * 256 ^ length xs + value xs
 eq_or_not : (x y : ℕ) → (x ≡ y) ⊎ (x ≢ y)
 eq_or_not x y =
     elim (cases_lt x y) [
-      | inl less ↦ inr (λ e. omega (arith, less, e))
+      | inl less ↦ inr (λ e. omega arith)
       | inr past ↦ elim (cases_lt y x) [
-        | inl more ↦ inr (λ e. omega (arith, more, e))
+        | inl more ↦ inr (λ e. omega arith)
         | inr within ↦ inl (omega arith)
       ]
     ]
@@ -32,25 +32,25 @@ eq_or_not x y =
 higher : (x y p v w : ℕ) → x < y → v < p → x * p + v < y * p + w
 higher x y p v w less small =
     let step : suc x * p ≤ y * p = mul-le-mul_right p less in
-    omega (arith, step, suc-mul x p, small)
+    omega (arith, suc-mul x p)
 
 value_small : (xs : List ℕ) → AreBytes xs → value xs < 256 ^ length xs
 value_small [] bytes = omega arith
 value_small (x ∷ xs) bytes =
     let rest = value_small xs (λ i. bytes (suc i)) in
     let less = higher x 256 (256 ^ length xs) (value xs) 0 (bytes 0) rest in
-    omega (arith, less, pow-suc 256 (length xs))
+    omega (arith, pow-suc 256 (length xs))
 
 -- equal amounts change no order
 more_cmp : (k l v w : ℕ) → k ≡ l → nat_cmp (k + v) (l + w) ≡ nat_cmp v w
 more_cmp k l v w same =
     elim (cases_lt v w) [
-      | inl less ↦ sym (nat_cmp_is (k + v) (l + w) Less (omega (arith, same, less))) ∙ nat_cmp_is v w Less less
+      | inl less ↦ sym (nat_cmp_is (k + v) (l + w) Less (omega arith)) ∙ nat_cmp_is v w Less less
       | inr past ↦ elim (cases_lt w v) [
-        | inl more ↦ sym (nat_cmp_is (k + v) (l + w) Greater (omega (arith, same, more))) ∙ nat_cmp_is v w Greater more
+        | inl more ↦ sym (nat_cmp_is (k + v) (l + w) Greater (omega arith)) ∙ nat_cmp_is v w Greater more
         | inr within ↦
             let equal : v ≡ w = omega arith in
-            sym (nat_cmp_is (k + v) (l + w) Equal (omega (arith, same, equal))) ∙ nat_cmp_is v w Equal equal
+            sym (nat_cmp_is (k + v) (l + w) Equal (omega arith)) ∙ nat_cmp_is v w Equal equal
       ]
     ]
 
@@ -60,7 +60,7 @@ higher_decides x y p v w differ small other_small =
     elim (cases_lt x y) [
       | inl less ↦ sym (nat_cmp_is _ _ Less (higher x y p v w less small)) ∙ nat_cmp_is x y Less less
       | inr past ↦
-          let more : y < x = omega (arith, differ) in
+          let more : y < x = omega arith in
           sym (nat_cmp_is _ _ Greater (higher y x p w v more other_small)) ∙ nat_cmp_is x y Greater more
     ]
 
@@ -198,10 +198,10 @@ module _ (a b : List ℕ) (at : ℕ) (bytes : AreBytes a) (other_bytes : AreByte
 
 -- the last K of n bytes, behind the first K, which are equal
 pub last_before : (K : ℕ) (a b : List ℕ) (n : ℕ) → n ≤ K + K → take K a ≡ take K b → take (n - K) a ≡ take (n - K) b
-last_before K a b n most same = shorter_same (n - K) K a b (omega (arith, most)) same
+last_before K a b n most same = shorter_same (n - K) K a b (omega arith) same
 
 pub last_all : (K : ℕ) (a b : List ℕ) (n : ℕ) → K ≤ n → take (n - K + K) a ≡ take (n - K + K) b → take n a ≡ take n b
-last_all K a b n least same = let whole : n - K + K ≡ n = omega (arith, least) in rw whole at same
+last_all K a b n least same = let whole : n - K + K ≡ n = omega arith in rw whole at same
 
 -- one element after equal ones
 pub one_decides : (a b : List ℕ) (at : ℕ) → at < length a → at < length b → take at a ≡ take at b → get_or a at 0 ≢ get_or b at 0

@@ -1,4 +1,4 @@
-use Rattle.std.proofs.Common.{◌+◌, ◌-◌, ◌≤◌, ◌++◌, ◌∷◌, [], sym, arith, inl, inr}
+use Rattle.std.proofs.Common.{◌-◌, ◌≤◌, ◌++◌, ◌∷◌, [], sym, arith, inl, inr}
 use Rattle.std.proofs.iter.Next.{Yields-more}
 use Rattle.arraystring_base.specs.Text.{size, cap}
 use Rattle.arraystring_base.proofs.CutLaws.{cut-all}
@@ -48,7 +48,6 @@ returns g c =
     let inv = c.loop-piece.invariant in
     let xs = c.loop-piece.yielded in
     let old = c.args.self.now.text in
-    let filled : size old + size (joined_pieces xs) ≤ cap g.row.N = inv.fits in
     let fits : size (joined_pieces xs) ≤ cap g.row.N - size old = omega arith in (
       xs,
       (

@@ -8,9 +8,8 @@ use Rattle.arraystring_core.proofs.array_string.ArrayString.append_char.Goals as
 
 pub returns-then-not-has_room-2-clause-text : goal.returns-then-not-has_room-2-clause-text
 returns-then-not-has_room-2-clause-text g c =
-    let long = stored-size c.requires.held in
     let over : cap g.row.N < c.args.end - c.args.start.now + width c.args.ch = lt_of_not-le (iff_false c.has_room-then-not-has_room.ensures c.if-not-has_room-2.true) in
-    (omega arith, refl)
+    (omega (arith, stored-size c.requires.held), refl)
 
 pub compact_and_append-held-requires : goal.compact_and_append-held-requires
 compact_and_append-held-requires g c =

@@ -70,7 +70,6 @@ returns-clause-taken g c =
     let xs = c.loop-ch.yielded in
     let old = (stored c.args.array.now c.args.start.now c.args.len.now).text in
     let now = (stored c.loop-ch.array c.loop-ch.start c.loop-ch.len).text in
-    let filled : size old + size xs ≤ cap g.row.N = inv.fits in
     let fits : size xs ≤ cap g.row.N - size old = omega arith in (
       xs,
       (

@@ -12,7 +12,7 @@ range_from-requires g c _ =
 
 pub first_char-requires : goal.first_char-requires
 first_char-requires g c =
-    omega (arith, size-is c.args.self.now.text, ap length c.as_str.ensures.bytes, c.requires.before_end, c.range_from.ensures.len)
+    omega (arith, size-is c.args.self.now.text, ap length c.as_str.ensures.bytes)
 
 -- the text goes on from there with the character
 goes_on : (g : given.Over) (c : goal.After-first_char g)

@@ -48,5 +48,4 @@ returns g c = (written g c).shown
 
 pub prove-unreachable-requires : goal.prove-unreachable-requires
 prove-unreachable-requires g c =
-    let wide = width-bounds c.args.ch in
-    omega (arith, boundary-within c.args.self.now.text c.args.at c.requires.boundary, wide.0)
+    omega (arith, width-bounds c.args.ch, boundary-within c.args.self.now.text c.args.at c.requires.boundary)

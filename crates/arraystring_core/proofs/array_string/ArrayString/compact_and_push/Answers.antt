@@ -31,5 +31,4 @@ returns g c = (written g c).shown
 
 pub prove-unreachable-requires : goal.prove-unreachable-requires
 prove-unreachable-requires g c =
-    let wide = width-bounds c.args.ch in
-    omega (arith, opened-size c.self.invariant c.self.view_is, wide.0)
+    omega (arith, width-bounds c.args.ch, opened-size c.self.invariant c.self.view_is)

@@ -9,7 +9,7 @@ compact_and_splice-requires g c =
     let t = c.args.self.now.text in
     let n = c.len-len.result in
     let end : boundary t n ≡ true = ap (boundary t) c.len-len.ensures.value ∙ boundary-end t in
-    let fits : size t - (n - n) + size (chars c.args.string.now) ≤ cap g.row.N = omega (arith, c.requires) in
+    let fits : size t - (n - n) + size (chars c.args.string.now) ≤ cap g.row.N = omega arith in
     (search rules, (omega arith, (end, (end, (fits, omega arith)))))
 
 pub returns : goal.returns

@@ -5,7 +5,7 @@ use Rattle.arraystring_core.proofs.array_string.ArrayString.drain.Goals as goal
 
 pub overflow_add-self-inside : goal.overflow_add-self-inside
 overflow_add-self-inside g c =
-    let part = takable c.self.invariant c.self.view_is c.saturating_ends-start.result.0 c.saturating_ends-start.result.1 c.in_ok-check_part.ensures in omega arith
+    omega (arith, takable c.self.invariant c.self.view_is c.saturating_ends-start.result.0 c.saturating_ends-start.result.1 c.in_ok-check_part.ensures)
 
 pub new-removed-requires : goal.new-removed-requires
 new-removed-requires g c =

@@ -5,7 +5,7 @@ use Rattle.arraystring_core.proofs.array_string.ArrayString.drain_counted.Goals 
 
 pub overflow_add-self-inside : goal.overflow_add-self-inside
 overflow_add-self-inside g c =
-    let part = takable c.self.invariant c.self.view_is c.saturating_ends-from.result.0 c.saturating_ends-from.result.1 c.in_ok-check_part.ensures in omega arith
+    omega (arith, takable c.self.invariant c.self.view_is c.saturating_ends-from.result.0 c.saturating_ends-from.result.1 c.in_ok-check_part.ensures)
 
 pub new-removed-requires : goal.new-removed-requires
 new-removed-requires g c =
@@ -27,5 +27,5 @@ returns-clause-edit g c =
       start = ends.start;
       end = ends.end;
       returned = ends.returned;
-      holds = rw (← ends.holds.0, ← high) (made, λ first. omega (arith, moved.free first), omega (arith, moved.tail_alone), λ some. omega (arith, moved.least some));
+      holds = rw (← ends.holds.0, ← high) (made, λ first. omega (arith, moved.free first), omega arith, λ some. omega (arith, moved.least some));
     }

@@ -20,7 +20,7 @@ module _ (text borrowed rest : List ℕ) (ch : ℕ) (is : borrowed ≡ bytes tex
   -- the offset after it, and the text from there on
   module _ (k : ℕ) (wide : k ≡ width ch) where
     long : size (ch ∷ []) ≡ k
-    long = omega (arith, wide)
+    long = omega arith
 
     second-boundary : boundary text k ≡ true
     second-boundary = ap (λ t. boundary t k) first.1 ∙ boundary-is (ch ∷ []) first.0 k long

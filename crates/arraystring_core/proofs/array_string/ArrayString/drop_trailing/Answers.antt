@@ -13,7 +13,7 @@ module _ (text seen before : List ℕ) (ch start : ℕ) (same : seen ≡ text) (
   whole = sym same ∙ parts
 
   last-size : size text ≡ start + width ch
-  last-size = omega (arith, ap size whole, size-append before (ch ∷ []), at)
+  last-size = omega (arith, ap size whole, size-append before (ch ∷ []))
 
   last-boundary : boundary text start ≡ true
   last-boundary = ap (λ l. boundary l start) whole ∙ boundary-is before (ch ∷ []) start at
@@ -24,7 +24,7 @@ module _ (text seen before : List ℕ) (ch start : ℕ) (same : seen ≡ text) (
     left-is = dropped ∙ ap (λ l. front l start) whole ∙ front-is before (ch ∷ []) start at
 
     left-size : size text ≡ size left + width ch
-    left-size = omega (arith, ap size left-is, last-size, at)
+    left-size = omega (arith, ap size left-is, last-size)
 
     left-length : length text ≡ length left + 1
     left-length = omega (arith, ap length whole, ap length left-is, length-append before (ch ∷ []))
@@ -36,11 +36,11 @@ module _ (text seen before : List ℕ) (ch start : ℕ) (same : seen ≡ text) (
 
 pub loop-start-init : goal.loop-start-init
 loop-start-init g c =
-    record { same = λ passes tells. refl; looked = omega arith; few = omega arith; fits = omega (arith, c.text_fits.ensures); least = omega arith; counted = omega arith; moved = refl }
+    record { same = λ passes tells. refl; looked = omega arith; few = omega arith; fits = omega arith; least = omega arith; counted = omega arith; moved = refl }
 
 pub last_char-requires : goal.last_char-requires
 last_char-requires g c =
-    let inv = c.loop-start.invariant in omega (arith, inv.looked, inv.fits, c.requires.looks)
+    omega arith
 
 pub overflow_cast-start : goal.overflow_cast-start
 overflow_cast-start g c =
@@ -85,11 +85,11 @@ loop-start-preserved g c =
           left-passes text _ found.0 ch c.in-Some.start same found.1 found.2 c.keep.new.self.text c.keep.ensures passes
           (sym (tells.at ch c.drops.result c.drops.ensures) ∙ c.if-not-drops.false)
           ∙ inv.same passes tells;
-      looked = omega (arith, inv.looked, ensured.looked, sizes, width-bounds ch);
-      few = omega (arith, inv.few, ensured.looked, lengths);
+      looked = omega (arith, width-bounds ch);
+      few = omega arith;
       fits = inv.fits;
-      least = omega (arith, inv.least, rw c.in-Some.is at ensured.least, lengths);
-      counted = omega (arith, inv.counted, ensured.counted);
+      least = omega (arith, rw c.in-Some.is at ensured.least);
+      counted = omega arith;
       moved = ensured.moved ∙ inv.moved;
     }
 
@@ -111,13 +111,12 @@ returns-clause-text g c = λ passes tells.
 pub returns-clause-least : goal.returns-clause-least
 returns-clause-least g c =
     let text = c.loop-start.self.text in
-    let inv = c.loop-start.invariant in
     elim c.match-last_char.branch [
-      | in-Some+then-not-drops w ↦ omega (arith, inv.least, w.in-Some.ensures.least)
+      | in-Some+then-not-drops w ↦ omega (arith, w.in-Some.ensures.least)
       | in_default w ↦
           let none : text ≡ [] = sym (chars-bytes c.as_str.utf8 c.as_str.ensures.bytes) ∙ (rw w.in_default.is at c.last_char.ensures.none) in
-          omega (arith, inv.least, c.last_char.ensures.counted, ap length none)
+          omega (arith, ap length none)
     ]
 
 pub returns-clause-looked : goal.returns-clause-looked
-returns-clause-looked g c = let inv = c.loop-start.invariant in omega (arith, inv.few, inv.counted, c.last_char.ensures.looked)
+returns-clause-looked g c = omega arith

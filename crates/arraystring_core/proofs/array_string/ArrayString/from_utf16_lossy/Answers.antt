@@ -12,7 +12,7 @@ pub loop-item-init : goal.loop-item-init
 loop-item-init g c =
     let run = take c.push_ascii_units-run.result c.args.units.now in
     let whole = c.push_ascii_units-run.ensures.text ∙ ap (λ t. t ++ run) c.new-text.ensures in (
-      omega (arith, c.text_fits.ensures),
+      omega arith,
       lossy-behind run c.into_iter-item-iterator.result ∙ ap (λ t. t ++ lossy_text c.into_iter-item-iterator.result) (sym whole),
     )
 
@@ -24,7 +24,7 @@ loop-item-preserved g c =
     let left = lossy_text c.next.new.self in
     let added = addition-made (ch ∷ []) (cap g.row.N) c.in-Ok.ensures in
     let first = ap lossy_text c.in-Some.ensures.steps ∙ ap (λ d. d ∷ left) (sym c.shown.ensures) in
-    let fits : size (run ++ ch ∷ []) ≤ cap g.row.N = omega (arith, added.0, size-append run (ch ∷ [])) in (
+    let fits : size (run ++ ch ∷ []) ≤ cap g.row.N = omega (arith, size-append run (ch ∷ [])) in (
       rw added.1 fits,
       inv.1 ∙ ap (λ l. run ++ l) first ∙ sym (append_assoc run (ch ∷ []) left) ∙ ap (λ l. l ++ left) (sym added.1),
     )
@@ -36,7 +36,7 @@ returns-in-Err g c = λ items is.
     let ch = c.shown.result in
     let left = lossy_text c.next.new.self in
     let refused = addition-refused (ch ∷ []) (cap g.row.N) c.in-Err.ensures in
-    let past : cap g.row.N < size run + width ch = omega (arith, refused.0) in
+    let past : cap g.row.N < size run + width ch = omega arith in
     let first = ap lossy_text c.in-Some.ensures.steps ∙ ap (λ d. d ∷ left) (sym c.shown.ensures) in
     let same = ap lossy_text (c.only_reading.ensures.only items _ is
     (run-reads c.push_ascii_units-run.result c.args.units.now _ c.push_ascii_units-run.ensures.ascii (rw (rest-whole c.push_ascii_units-run.result c.args.units.now) at c.new-item-items.ensures))

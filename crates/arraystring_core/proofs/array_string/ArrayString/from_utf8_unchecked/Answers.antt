@@ -10,7 +10,7 @@ pub from_str_unchecked-requires : goal.from_str_unchecked-requires
 from_str_unchecked-requires g c =
     let borrowed = c.from_utf8_unchecked.result.now in
     let fits : size (chars borrowed) ≤ cap g.row.N =
-    omega (arith, size-borrowed c.from_utf8_unchecked.utf8, ap length c.from_utf8_unchecked.ensures, c.requires.fits) in
+    omega (arith, size-borrowed c.from_utf8_unchecked.utf8, ap length c.from_utf8_unchecked.ensures) in
     (search rules, fits)
 
 pub returns-clause-bytes : goal.returns-clause-bytes

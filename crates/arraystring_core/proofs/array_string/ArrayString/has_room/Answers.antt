@@ -1,23 +1,19 @@
 use Rattle.std.proofs.Common.{◌≡◌, ◌∙◌, sym, ap, arith, length}
 use Rattle.std.proofs.lemmas.Bool.{le-leb, leb-true, lt-ltb, ltb-true}
-use Rattle.arraystring_base.specs.Text.{width, cap}
+use Rattle.arraystring_base.specs.Text.{width}
 use Rattle.arraystring_base.proofs.TextLaws.{width-is, width-bounds, utf8-one, length-utf8}
 use Rattle.arraystring_core.proofs.array_string.ArrayString.has_room.Goals as goal
 
 pub returns-then-ch-lt128 : goal.returns-then-ch-lt128
 returns-then-ch-lt128 g c =
     let narrow : width c.args.ch ≡ 1 = sym (length-utf8 c.args.ch) ∙ ap length (utf8-one c.args.ch c.if-ch-lt128.true) in
-    let whole : c.capacity-capacity.result ≡ cap g.row.N = c.capacity-capacity.ensures in
-    (λ is. let below = ltb-true _ _ is in omega (arith, below, narrow, whole), λ fits. lt-ltb _ _ (omega (arith, fits, narrow, whole)))
+    (λ is. let below = ltb-true _ _ is in omega arith, λ fits. lt-ltb _ _ (omega arith))
 
 pub returns-then-len-capacity : goal.returns-then-len-capacity
 returns-then-len-capacity g c =
-    let wide = width-bounds c.args.ch in
-    let whole : c.capacity-capacity.result ≡ cap g.row.N = c.capacity-capacity.ensures in
-    (λ is. omega (arith, c.if-len-capacity.true, wide, whole), λ fits. le-leb _ _ c.if-len-capacity.true)
+    (λ is. omega (arith, width-bounds c.args.ch), λ fits. le-leb _ _ c.if-len-capacity.true)
 
 pub returns-else-len-capacity : goal.returns-else-len-capacity
 returns-else-len-capacity g c =
     let wide : c.len_utf8.result ≡ width c.args.ch = c.len_utf8.ensures.value ∙ sym (width-is c.args.ch) in
-    let whole : c.capacity-capacity.result ≡ cap g.row.N = c.capacity-capacity.ensures in
-    (λ is. let within = leb-true _ _ is in omega (arith, within, wide, whole), λ fits. le-leb _ _ (omega (arith, fits, wide, whole)))
+    (λ is. let within = leb-true _ _ is in omega arith, λ fits. le-leb _ _ (omega arith))

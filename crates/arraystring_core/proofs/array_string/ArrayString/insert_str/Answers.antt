@@ -22,7 +22,6 @@ insert_str_unchecked-requires g c =
     chars-bytes c.truncate_str.utf8 c.truncate_str.ensures in
     let within : size (chars c.truncate_str.result.now) ≤ room = rw added (cut-fits (chars c.args.string.now) room) in
     let filled : size t ≤ cap g.row.N = rw (← c.len.ensures.value) c.len.ensures.fits in
-    let whole : c.capacity.result ≡ cap g.row.N = c.capacity.ensures in
     let fits : size t + size (chars c.truncate_str.result.now) ≤ cap g.row.N = omega arith in
     (search rules, (sym c.is_boundary.ensures ∙ c.if-not-is_boundary.false, fits))
 

@@ -4,5 +4,5 @@ use Rattle.arraystring_core.proofs.array_string.ArrayString.insert_str_unchecked
 
 pub splice-requires : goal.splice-requires
 splice-requires g c =
-    let fits : size c.args.self.now.text - (c.args.index - c.args.index) + size (chars c.args.string.now) ≤ cap g.row.N = omega (arith, c.requires.room) in
+    let fits : size c.args.self.now.text - (c.args.index - c.args.index) + size (chars c.args.string.now) ≤ cap g.row.N = omega arith in
     (search rules, (omega arith, (c.requires.boundary, (c.requires.boundary, (fits, omega arith)))))

@@ -19,7 +19,7 @@ overflow_cast-start g c =
     let found = c.in_ok-start.ensures.some in
     let parts : text ≡ found.0 ++ c.in_ok-start.ch ∷ [] =
     sym (chars-bytes c.as_str.utf8 c.as_str.ensures.bytes) ∙ found.1 in
-    omega (arith, ap size parts, size-append found.0 (c.in_ok-start.ch ∷ []), found.2, c.as_str.ensures.fits)
+    omega (arith, ap size parts, size-append found.0 (c.in_ok-start.ch ∷ []))
 
 pub keep-requires : goal.keep-requires
 keep-requires g c =

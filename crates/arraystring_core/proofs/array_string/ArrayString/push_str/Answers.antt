@@ -13,15 +13,13 @@ push_str_unchecked-requires g c =
     chars-bytes c.truncate_str.utf8 c.truncate_str.ensures in
     let within : size (chars c.truncate_str.result.now) ≤ room = rw added (cut-fits (chars c.args.string.now) room) in
     let filled : size c.args.self.now.text ≤ cap g.row.N = rw (← c.len.ensures.value) c.len.ensures.fits in
-    let whole : c.capacity.result ≡ cap g.row.N = c.capacity.ensures in
-    omega (arith, c.len.ensures.value)
+    omega arith
 
 pub returns : goal.returns
 returns g c =
     let room = c.capacity.result - c.len.result in
     let added : chars c.truncate_str.result.now ≡ cut (chars c.args.string.now) room =
     chars-bytes c.truncate_str.utf8 c.truncate_str.ensures in
-    let whole : c.capacity.result ≡ cap g.row.N = c.capacity.ensures in
-    let left : room ≡ cap g.row.N - size c.args.self.now.text = omega (arith, c.len.ensures.value) in
+    let left : room ≡ cap g.row.N - size c.args.self.now.text = omega arith in
     makes (addition_of_cut c.args.self.now.text (chars c.args.string.now) (cap g.row.N)) c.args.self.now.text tt c.push_str_unchecked.new.self.text
     refl refl (c.push_str_unchecked.ensures ∙ ap (λ l. c.args.self.now.text ++ l) (added ∙ ap (cut (chars c.args.string.now)) left))

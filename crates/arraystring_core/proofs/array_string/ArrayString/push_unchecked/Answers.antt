@@ -9,8 +9,7 @@ use Rattle.arraystring_core.proofs.array_string.ArrayString.push_unchecked.Goals
 pub encode-len-requires : goal.encode-len-requires
 encode-len-requires g c =
     let end = c.end-end.ensures.value ∙ opened-end c.self.invariant c.self.view_is in
-    let room = c.if-not-has_room.ensures.0 refl in
-    let within : c.self.inside.start + c.self.inside.size + width c.args.ch ≤ g.row.N = omega arith in
+    let within : c.self.inside.start + c.self.inside.size + width c.args.ch ≤ g.row.N = omega (arith, c.if-not-has_room.ensures.0 refl) in
     rw end (search rules, within)
 
 pub overflow_cast-self-2 : goal.overflow_cast-self-2

@@ -6,7 +6,7 @@ use Rattle.arraystring_core.proofs.EditLaws.{inside-not, makes}
 use Rattle.arraystring_core.proofs.array_string.ArrayString.remove_counted.Goals as goal
 
 pub overflow_add-start : goal.overflow_add-start
-overflow_add-start g c = omega (arith, c.char_at-ch.ensures.width, width-bounds c.char_at-ch.result.0)
+overflow_add-start g c = omega (arith, width-bounds c.char_at-ch.result.0)
 
 pub take_out-requires : goal.take_out-requires
 take_out-requires g c =
@@ -29,4 +29,4 @@ returns-clause-tail_alone g c = rw (← c.char_at-ch.ensures.width) c.take_out.e
 
 pub returns-clause-least : goal.returns-clause-least
 returns-clause-least g c =
-    rw (← c.char_at-ch.ensures.width) (c.take_out.ensures.least (λ e. omega (arith, e, c.char_at-ch.ensures.width, width-bounds c.char_at-ch.result.0)))
+    rw (← c.char_at-ch.ensures.width) (c.take_out.ensures.least (λ e. omega (arith, width-bounds c.char_at-ch.result.0)))

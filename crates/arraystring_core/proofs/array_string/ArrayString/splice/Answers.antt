@@ -25,7 +25,7 @@ overflow_add-text g c =
 
 pub returns-then-text-start-clause-tail_alone : goal.returns-then-text-start-clause-tail_alone
 returns-then-text-start-clause-tail_alone g c small =
-    omega (arith, small, opened-within c.self.invariant c.self.view_is _ c.requires.end, size-borrowed c.utf8.given)
+    omega (arith, opened-within c.self.invariant c.self.view_is _ c.requires.end, size-borrowed c.utf8.given)
 
 -- what is then in the array
 written : (g : given.Over) (c : goal.After-write_over g)
@@ -51,4 +51,4 @@ returns-clause-most g c = rw (opened-size c.self.invariant c.self.view_is) (omeg
 pub returns-clause-least : goal.returns-clause-least
 returns-clause-least g c =
     rw (opened-size c.self.invariant c.self.view_is, size-borrowed c.utf8.given)
-    (λ is_not. let more = c.open_gap.ensures.least is_not in omega arith)
+    (λ is_not. omega (arith, c.open_gap.ensures.least is_not))

@@ -20,11 +20,8 @@ range_from-requires g c _ =
 
 pub from_str_unchecked-rest-requires : goal.from_str_unchecked-rest-requires
 from_str_unchecked-rest-requires g c =
-    let long = size-is c.args.self.now.text in
-    let whole = ap length c.as_str.ensures.bytes in
     let filled : size c.args.self.now.text ≤ cap g.row.N = rw (← c.len.ensures.value) c.len.ensures.fits in
-    let borrowed = size-borrowed c.range_from.utf8 in
-    (search rules, omega (arith, long, whole, filled, c.range_from.ensures.len, borrowed))
+    (search rules, omega (arith, size-borrowed c.range_from.utf8, ap length c.as_str.ensures.bytes, size-is c.args.self.now.text))
 
 pub returns : goal.returns
 returns g c =

@@ -16,7 +16,7 @@ returns-in_err-append_chars g c =
     let n = cap g.row.N in
     let room = fresh-room _ ensured.0 n chars-nil in
     let takes = subst (λ k. Takes becomes steps (λ cs. cs) c.args.characters k ensured.0) room ensured.1 in
-    let past : n < size ensured.0 = omega (arith, ensured.2) in
+    let past : n < size ensured.0 = omega arith in
     let made = refused-made c.from_residual.result ensured.0 n c.from_residual.ensures.0 past in
     record {
       taken = (ensured.0, takes, made);

@@ -14,7 +14,7 @@ returns-in_err-add_strs g c =
     let n = cap g.row.N in
     let room = fresh-room c.new-made.result.text (joined_pieces ensured.0) n c.new-made.ensures in
     let takes = subst (λ k. Takes becomes steps joined_pieces c.args.pieces k ensured.0) room ensured.1 in
-    let past : n < size (joined_pieces ensured.0) = omega (arith, ensured.2, room) in
+    let past : n < size (joined_pieces ensured.0) = omega arith in
     let made = refused-made c.from_residual.result (joined_pieces ensured.0) n c.from_residual.ensures.0 past in
     record {
       taken = (ensured.0, takes, made);

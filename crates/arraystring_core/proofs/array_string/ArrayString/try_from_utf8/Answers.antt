@@ -15,15 +15,14 @@ returns-then-text-capacity-clause-whole g c = λ t is e.
     let read = c.in-Ok.ensures in
     let same : chars given ≡ t = chars-bytes read.1 (sym e) in
     let past : cap g.row.N < size t =
-    omega (arith, c.if-text-capacity.true, c.capacity.ensures, size-borrowed read.1, ap length read.0, ap size same) in
+    omega (arith, size-borrowed read.1, ap length read.0, ap size same) in
     (past, refl)
 
 pub from_str_unchecked-requires : goal.from_str_unchecked-requires
 from_str_unchecked-requires g c =
-    let given = c.args.given.now in
     let read = c.in-Ok.ensures in
     let fits : size (chars c.in-Ok.text.now) ≤ cap g.row.N =
-    omega (arith, c.if-text-capacity.false, c.capacity.ensures, size-borrowed read.1, ap length read.0, ap (λ l. size (chars l)) read.0) in
+    omega (arith, size-borrowed read.1, ap length read.0, ap (λ l. size (chars l)) read.0) in
     (search rules, fits)
 
 pub returns : goal.returns
@@ -36,7 +35,7 @@ returns g c =
       whole = λ t is e.
           let same : chars given ≡ t = chars-bytes read.1 (sym e) in
           let fits : size t ≤ cap g.row.N =
-          omega (arith, c.if-text-capacity.false, c.capacity.ensures, size-borrowed read.1, ap length read.0, ap size same) in
+          omega (arith, size-borrowed read.1, ap length read.0, ap size same) in
           (fits, text ∙ same);
       bytes = ap bytes text ∙ bytes-chars read.1;
       text = rw text (text-chars read.1);

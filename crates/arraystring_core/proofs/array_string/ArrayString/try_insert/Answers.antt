@@ -23,8 +23,7 @@ returns-then-not-is_boundary g c =
 
 pub insert_unchecked-requires : goal.insert_unchecked-requires
 insert_unchecked-requires g c =
-    let wide : c.len_utf8.result ≡ width c.args.ch = c.len_utf8.ensures.value ∙ sym (width-is c.args.ch) in
-    let fits : size c.args.self.now.text + width c.args.ch ≤ cap g.row.N = omega arith in
+    let fits : size c.args.self.now.text + width c.args.ch ≤ cap g.row.N = omega (arith, width-is c.args.ch) in
     (search rules, (sym c.is_boundary.ensures ∙ c.if-not-is_boundary.false, fits))
 
 pub returns : goal.returns

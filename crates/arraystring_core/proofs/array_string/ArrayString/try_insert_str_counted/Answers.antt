@@ -40,5 +40,4 @@ returns-clause-edit g c =
 
 pub returns-clause-least : goal.returns-clause-least
 returns-clause-least g c some =
-    let given = chars c.args.string.now in
-    c.splice.ensures.least (λ e. some (empty-size (omega (arith, e))))
+    c.splice.ensures.least (λ e. some (empty-size (omega arith)))

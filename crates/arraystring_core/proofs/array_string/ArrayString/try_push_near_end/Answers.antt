@@ -15,15 +15,13 @@ returns-then-not-has_room g c =
 
 pub compact_and_push-requires : goal.compact_and_push-requires
 compact_and_push-requires g c =
-    let long = opened-size c.self.invariant c.self.view_is in
-    let fits : size c.args.self.now.text + width c.args.ch ≤ cap g.row.N = omega (arith, c.if-not-has_room.ensures.0 refl) in
+    let fits : size c.args.self.now.text + width c.args.ch ≤ cap g.row.N = omega (arith, opened-size c.self.invariant c.self.view_is, c.if-not-has_room.ensures.0 refl) in
     (search rules, fits)
 
 pub returns : goal.returns
 returns g c =
     let t = c.args.self.now.text in
     let ch = c.args.ch in
-    let long = opened-size c.self.invariant c.self.view_is in
-    let fits : size t + size (ch ∷ []) ≤ cap g.row.N = omega (arith, c.if-not-has_room.ensures.0 refl) in
+    let fits : size t + size (ch ∷ []) ≤ cap g.row.N = omega (arith, opened-size c.self.invariant c.self.view_is, c.if-not-has_room.ensures.0 refl) in
     makes (addition t (ch ∷ []) (cap g.row.N)) t tt c.compact_and_push.new.self.text (addition-no_cause t (ch ∷ []) (cap g.row.N) fits) refl
     c.compact_and_push.ensures

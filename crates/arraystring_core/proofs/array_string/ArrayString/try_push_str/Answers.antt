@@ -9,22 +9,22 @@ pub returns-then-size-string : goal.returns-then-size-string
 returns-then-size-string g c =
     let given = chars c.args.string.now in
     let over : cap g.row.N < size c.args.self.now.text + size given =
-    omega (arith, c.if-size-string.true, c.len-size.ensures.value, c.capacity-capacity.ensures, size-borrowed c.utf8.string) in
+    omega (arith, size-borrowed c.utf8.string) in
     refuses _ c.args.self.now.text Room (addition-room c.args.self.now.text given (cap g.row.N) over)
 
 pub compact_and_push_str-requires : goal.compact_and_push_str-requires
 compact_and_push_str-requires g c =
-    omega (arith, c.if-size-string.false, c.len-size.ensures.value, c.capacity-capacity.ensures, size-borrowed c.utf8.string)
+    omega (arith, size-borrowed c.utf8.string)
 
 pub push_str_unchecked-requires : goal.push_str_unchecked-requires
 push_str_unchecked-requires g c =
-    omega (arith, c.if-self-size.false, c.len-size.ensures.value, c.capacity-capacity.ensures, size-borrowed c.utf8.string)
+    omega (arith, size-borrowed c.utf8.string)
 
 pub returns-else-size-string : goal.returns-else-size-string
 returns-else-size-string g c =
     let given = chars c.args.string.now in
     let fits : size c.args.self.now.text + size given ≤ cap g.row.N =
-    omega (arith, c.if-size-string.false, c.len-size.ensures.value, c.capacity-capacity.ensures, size-borrowed c.utf8.string) in
+    omega (arith, size-borrowed c.utf8.string) in
     makes (addition c.args.self.now.text given (cap g.row.N)) c.args.self.now.text tt c.compact_and_push_str.new.self.text
     (addition-no_cause c.args.self.now.text given (cap g.row.N) fits) refl c.compact_and_push_str.ensures
 
@@ -32,6 +32,6 @@ pub returns-else-self-size : goal.returns-else-self-size
 returns-else-self-size g c =
     let given = chars c.args.string.now in
     let fits : size c.args.self.now.text + size given ≤ cap g.row.N =
-    omega (arith, c.if-self-size.false, c.len-size.ensures.value, c.capacity-capacity.ensures, size-borrowed c.utf8.string) in
+    omega (arith, size-borrowed c.utf8.string) in
     makes (addition c.args.self.now.text given (cap g.row.N)) c.args.self.now.text tt c.push_str_unchecked.new.self.text
     (addition-no_cause c.args.self.now.text given (cap g.row.N) fits) refl c.push_str_unchecked.ensures

@@ -5,8 +5,7 @@ use Rattle.arraystring_core.proofs.array_string.push.compact_and_append.Goals as
 
 pub prove-unreachable-requires : goal.prove-unreachable-requires
 prove-unreachable-requires g c =
-    let wide = width-bounds c.args.ch in
-    omega (arith, wide.0)
+    omega (arith, width-bounds c.args.ch)
 
 pub returns-clause-held : goal.returns-clause-held
 returns-clause-held g c =

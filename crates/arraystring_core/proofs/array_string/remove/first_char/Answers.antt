@@ -13,7 +13,7 @@ returns c =
     let left = ap length c.as_str.ensures in
     record {
       first = (rest, parts);
-      width = omega (arith, ap length parts, wide, left, length-utf8 ch);
-      some = omega (arith, ap length parts, wide, left, length-utf8 ch, width-bounds ch);
+      width = omega (arith, ap length parts, length-utf8 ch);
+      some = omega (arith, ap length parts, length-utf8 ch, width-bounds ch);
       within = omega arith;
     }

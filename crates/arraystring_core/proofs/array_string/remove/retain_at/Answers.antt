@@ -13,7 +13,7 @@ loop-read-init g c =
 pub f-requires : goal.f-requires
 f-requires g c =
     let l = c.loop-read in
-    let within : c.args.offset + c.args.size ≤ length l.array = omega (arith, l.invariant.long, c.requires.held) in
+    let within : c.args.offset + c.args.size ≤ length l.array = omega arith in
     let some : l.read < c.args.size = c.loop-read-test.true in
     let small : get_or l.array (c.args.offset + l.read) 0 < 0x80 = c.if-first-lt128.true in
     let left = rest-chars (goal.F-pre g) (goal.F-step g) g.row.N c.args.array.now c.args.f c.args.offset c.args.size l.array l.f l.kept l.read l.read l.invariant within _ (ascii-scalar l.array c.args.offset l.read c.args.size some within small) (ascii-rest l.array c.args.offset l.read c.args.size some within small) (ascii-starts l.array c.args.offset l.read c.args.size some within small) l.f in
@@ -22,7 +22,7 @@ f-requires g c =
 pub loop-read-preserved-then-first-lt128 : goal.loop-read-preserved-then-first-lt128
 loop-read-preserved-then-first-lt128 g c =
     let l = c.loop-read in
-    let within : c.args.offset + c.args.size ≤ length l.array = omega (arith, l.invariant.long, c.requires.held) in
+    let within : c.args.offset + c.args.size ≤ length l.array = omega arith in
     let some : l.read < c.args.size = c.loop-read-test.true in
     let first = get_or l.array (c.args.offset + l.read) 0 in
     let small : first < 0x80 = c.if-first-lt128.true in
@@ -45,7 +45,7 @@ f-requires-else-first-lt128 g c =
     let wide : c.args.offset + c.args.size - (c.args.offset + l.read) ≡ c.args.size - l.read = omega arith in
     let starts : between l.array c.args.offset l.read c.args.size ≡ utf8 ch ++ c.first_char-ch.ensures.first.0 =
     ap (λ k. take k (drop (c.args.offset + l.read) l.array)) (sym wide) ∙ sym c.from_utf8_unchecked-text.ensures ∙ c.first_char-ch.ensures.first.1 in
-    let within : c.args.offset + c.args.size ≤ length l.array = omega (arith, l.invariant.long) in
+    let within : c.args.offset + c.args.size ≤ length l.array = omega arith in
     let left = rest-chars (goal.F-pre g) (goal.F-step g) g.row.N c.args.array.now c.args.f c.args.offset c.args.size l.array l.f l.kept l.read l.read l.invariant within ch (search rules) c.first_char-ch.ensures.first.0 starts l.f in
     callable-now (goal.F-pre g) (goal.F-step g) _ _ _ (rw left at l.invariant.callable)
 
@@ -56,7 +56,7 @@ loop-read-preserved g c =
     let wide : c.args.offset + c.args.size - (c.args.offset + l.read) ≡ c.args.size - l.read = omega arith in
     let starts : between l.array c.args.offset l.read c.args.size ≡ utf8 ch ++ c.first_char-ch.ensures.first.0 =
     ap (λ k. take k (drop (c.args.offset + l.read) l.array)) (sym wide) ∙ sym c.from_utf8_unchecked-text.ensures ∙ c.first_char-ch.ensures.first.1 in
-    let within : c.args.offset + c.args.size ≤ length l.array = omega (arith, l.invariant.long) in
+    let within : c.args.offset + c.args.size ≤ length l.array = omega arith in
     let next : c.first_char-ch.result.1 ≡ width ch = c.first_char-ch.ensures.width in
     elim c.if-f-2.branch [
       | then-f-2 w ↦
@@ -72,7 +72,7 @@ loop-read-preserved g c =
 pub returns-clause-filtered : goal.returns-clause-filtered
 returns-clause-filtered g c =
     let l = c.loop-read in
-    let ended : c.args.size ≡ l.read = omega (arith, l.invariant.read_within) in
+    let ended : c.args.size ≡ l.read = omega arith in
     let over : chars (between l.array c.args.offset l.read c.args.size) ≡ [] =
     ap (λ k. chars (between l.array c.args.offset l.read k)) ended ∙ ap chars (none-between l.array c.args.offset l.read) ∙ chars-nil in
     let together : take l.kept (drop c.args.offset l.array) ≡ kept_bytes l.array c.args.offset l.kept l.read l.read =

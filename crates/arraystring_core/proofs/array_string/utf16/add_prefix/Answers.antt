@@ -14,7 +14,7 @@ pub loop-item-init : goal.loop-item-init
 loop-item-init g c =
     let run = take c.push_ascii_units-run.result c.args.units.now in
     let whole = c.push_ascii_units-run.ensures.text ∙ ap (λ t. t ++ run) c.requires in
-    (omega (arith, c.text_fits.ensures), ap (λ t. map Char t ++ c.into_iter-item-iterator.result) (sym whole))
+    (omega arith, ap (λ t. map Char t ++ c.into_iter-item-iterator.result) (sym whole))
 
 pub loop-item-preserved : goal.loop-item-preserved
 loop-item-preserved g c =
@@ -25,7 +25,7 @@ loop-item-preserved g c =
     let added = addition-made (ch ∷ []) (cap g.row.N) c.in-Ok.ensures in
     let first = c.in-Some.ensures.steps ∙ ap (λ item. item ∷ left) c.in-Char.is in
     let longer = map-append Char prefix (ch ∷ []) in
-    let fits : size (prefix ++ ch ∷ []) ≤ cap g.row.N = omega (arith, added.0, size-append prefix (ch ∷ [])) in (
+    let fits : size (prefix ++ ch ∷ []) ≤ cap g.row.N = omega (arith, size-append prefix (ch ∷ [])) in (
       rw added.1 fits,
       inv.1 ∙ ap (λ l. map Char prefix ++ l) first ∙ sym (append_assoc (map Char prefix) (Char ch ∷ []) left)
           ∙ ap (λ l. l ++ left) (sym longer) ∙ ap (λ l. map Char l ++ left) (sym added.1),
@@ -38,7 +38,7 @@ returns-in-Err g c = λ items is.
     let ch = c.in-Char.ch in
     let left = c.next.new.self in
     let refused = addition-refused (ch ∷ []) (cap g.row.N) c.in-Err.ensures in
-    let past : cap g.row.N < size prefix + width ch = omega (arith, refused.0) in
+    let past : cap g.row.N < size prefix + width ch = omega arith in
     let same = c.only_reading.ensures.only items _ is
     (run-reads c.push_ascii_units-run.result c.args.units.now _ c.push_ascii_units-run.ensures.ascii (rw (rest-whole c.push_ascii_units-run.result c.args.units.now) at c.new-item-items.ensures))
     ∙ ap (λ l. map Char (take c.push_ascii_units-run.result c.args.units.now) ++ l) (sym c.into_iter-item-iterator.ensures.into_iter_gives) ∙ inv.1 in

@@ -7,14 +7,14 @@ pub loop-run-preserved : goal.loop-run-preserved
 loop-run-preserved g c =
     let l = c.loop-run in
     let units = c.args.units.now in (
-      omega (arith, c.loop-run-test.true),
+      omega arith,
       λ i lt. elim (cases_lt i l.run) [
         | inl less ↦ l.invariant.1 i less
         | inr past ↦
-            let same : l.run ≡ i = omega (arith, lt, past) in
+            let same : l.run ≡ i = omega arith in
             subst (λ k. slice_index_or units k 0 < 128) same c.if-units-run-lt128.true
       ],
       run-longer c.args.array.now units c.args.at l.run l.array
-          (omega (arith, c.loop-run-test.true, c.min-most.ensures, c.capacity.ensures, c.told-array, c.requires))
-          (omega (arith, c.loop-run-test.true, c.min-most.ensures)) l.invariant.2,
+          (omega arith)
+          (omega arith) l.invariant.2,
     )

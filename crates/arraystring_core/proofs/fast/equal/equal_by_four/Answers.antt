@@ -8,4 +8,4 @@ equal_by_two-first-requires-clause-same c =
 
 pub returns : goal.returns
 returns c =
-    both_ends 128 (length c.args.a.now - 128) _ _ _ _ (omega (arith, c.requires.most)) c.equal_by_two-first.ensures c.equal_by_two-last.ensures
+    both_ends 128 (length c.args.a.now - 128) _ _ _ _ (omega arith) c.equal_by_two-first.ensures c.equal_by_two-last.ensures

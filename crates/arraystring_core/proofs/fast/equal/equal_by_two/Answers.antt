@@ -4,4 +4,4 @@ use Rattle.arraystring_core.proofs.fast.equal.equal_by_two.Goals as goal
 
 pub returns : goal.returns
 returns g c =
-    both_ends g.row.K (length c.args.a.now - g.row.K) _ _ _ _ (omega (arith, c.requires.most)) c.equal_block-first.ensures c.equal_block-last.ensures
+    both_ends g.row.K (length c.args.a.now - g.row.K) _ _ _ _ (omega arith) c.equal_block-first.ensures c.equal_block-last.ensures

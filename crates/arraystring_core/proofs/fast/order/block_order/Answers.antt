@@ -8,16 +8,16 @@ returns-then-mask-eq0-clause-none g c =
 
 pub order_at-requires-clause-one : goal.order_at-requires-clause-one
 order_at-requires-clause-one g c =
-    first-in_a g.row.K c.requires.lanes c.args.a.now c.args.b.now c.args.at c.requires.one c.requires.other c.requires.before (omega (arith, c.if-mask-eq0.false))
+    first-in_a g.row.K c.requires.lanes c.args.a.now c.args.b.now c.args.at c.requires.one c.requires.other c.requires.before (omega arith)
 
 pub order_at-requires-clause-other : goal.order_at-requires-clause-other
 order_at-requires-clause-other g c =
-    first-in_b g.row.K c.requires.lanes c.args.a.now c.args.b.now c.args.at c.requires.one c.requires.other c.requires.before (omega (arith, c.if-mask-eq0.false))
+    first-in_b g.row.K c.requires.lanes c.args.a.now c.args.b.now c.args.at c.requires.one c.requires.other c.requires.before (omega arith)
 
 pub order_at-requires-clause-before : goal.order_at-requires-clause-before
 order_at-requires-clause-before g c =
-    first_same g.row.K c.requires.lanes c.args.a.now c.args.b.now c.args.at c.requires.one c.requires.other c.requires.before (omega (arith, c.if-mask-eq0.false))
+    first_same g.row.K c.requires.lanes c.args.a.now c.args.b.now c.args.at c.requires.one c.requires.other c.requires.before (omega arith)
 
 pub order_at-requires-clause-apart : goal.order_at-requires-clause-apart
 order_at-requires-clause-apart g c =
-    apart_there g.row.K c.requires.lanes c.args.a.now c.args.b.now c.args.at c.requires.one c.requires.other c.requires.before (omega (arith, c.if-mask-eq0.false))
+    apart_there g.row.K c.requires.lanes c.args.a.now c.args.b.now c.args.at c.requires.one c.requires.other c.requires.before (omega arith)

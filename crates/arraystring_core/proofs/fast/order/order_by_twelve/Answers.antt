@@ -8,11 +8,11 @@ use Rattle.arraystring_core.proofs.fast.order.order_by_twelve.Goals as goal
 pub returns-then-one-other : goal.returns-then-one-other
 returns-then-one-other g c =
     c.of_different.ensures
-    ∙ word_decides c.args.a.now c.args.b.now 0 (λ i. omega (arith, c.type_inv.a i)) (λ i. omega (arith, c.type_inv.b i)) refl (omega (arith, c.requires.least, c.requires.lesser)) (omega (arith, c.requires.least, c.requires.lesser)) _ _ c.word-one.ensures c.word-other.ensures c.if-one-other.true
+    ∙ word_decides c.args.a.now c.args.b.now 0 (λ i. omega (arith, c.type_inv.a i)) (λ i. omega (arith, c.type_inv.b i)) refl (omega arith) (omega arith) _ _ c.word-one.ensures c.word-other.ensures c.if-one-other.true
 
 pub apart_between-between-requires-clause-before : goal.apart_between-between-requires-clause-before
 apart_between-between-requires-clause-before g c =
-    word_same c.args.a.now c.args.b.now 0 (λ i. omega (arith, c.type_inv.a i)) (λ i. omega (arith, c.type_inv.b i)) refl (omega (arith, c.requires.least, c.requires.lesser)) (omega (arith, c.requires.least, c.requires.lesser)) _ _ c.word-one.ensures c.word-other.ensures (omega (arith, c.if-one-other.false))
+    word_same c.args.a.now c.args.b.now 0 (λ i. omega (arith, c.type_inv.a i)) (λ i. omega (arith, c.type_inv.b i)) refl (omega arith) (omega arith) _ _ c.word-one.ensures c.word-other.ensures (omega arith)
 
 pub is_zero-requires : goal.is_zero-requires
 is_zero-requires g c = or_long 16 _ _ c.apart_between-between.ensures.long c.apart.ensures.long
@@ -22,7 +22,7 @@ returns-then-is_zero g c =
     let both = or_none 16 _ _ c.apart_between-between.ensures.long c.apart.ensures.long (c.is_zero.ensures.0 c.if-is_zero.true) in
     let front = c.apart_between-between.ensures.same both.0 in
     let whole = front_longer (c.args.common - 16) (c.args.common - 16) 16 c.args.a.now c.args.b.now (omega arith) front (c.apart.ensures.same both.1) in
-    let all : c.args.common - 16 + 16 ≡ c.args.common = omega (arith, c.requires.least) in
+    let all : c.args.common - 16 + 16 ≡ c.args.common = omega arith in
     c.order_of_lengths.ensures ∙ sym (prefix_decides c.args.a.now c.args.b.now c.args.common c.requires.lesser (rw all at whole))
 
 pub order_of_apart-requires-clause-tells : goal.order_of_apart-requires-clause-tells

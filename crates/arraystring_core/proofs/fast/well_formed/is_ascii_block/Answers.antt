@@ -10,7 +10,7 @@ returns g c e k ge lt =
     let K = g.row.K in
     let block = take K (drop c.args.at given) in
     let long : length block ≡ K =
-    omega (arith, c.requires.block, length-take K (drop c.args.at given), length-drop c.args.at given) in
+    omega (arith, length-take K (drop c.args.at given), length-drop c.args.at given) in
     let tops = tops_compared w8 leb (replicate K 128) block ∙ zip2_splat_left leb 128 K block long in
-    let empty = sym (mask_l-mod _ 64 (omega (arith, ap length tops, length-map block (leb 128), long, c.requires.few))) ∙ eqb-true _ _ e in
+    let empty = sym (mask_l-mod _ 64 (omega (arith, ap length tops, length-map block (leb 128)))) ∙ eqb-true _ _ e in
     leb-false _ _ (none_from_empty_mask (leb 128) given c.args.at K 0 c.requires.block (sym (ap mask_l tops) ∙ empty) k ge lt)

@@ -27,8 +27,7 @@ returns-then-last-lt128-clause-steps g c = (last-given c.self.invariant c.self.v
 
 pub returns-then-last-lt128-clause-goes : goal.returns-then-last-lt128-clause-goes
 returns-then-last-lt128-clause-goes g c =
-    let shorter = pushed-length _ _ _ (returns-then-last-lt128-clause-steps g c) in
-    record { on = λ _. (tt, tt, omega arith); keeps = tt; rests = λ _. tt }
+    record { on = λ _. (tt, tt, omega (arith, pushed-length _ _ _ (returns-then-last-lt128-clause-steps g c))); keeps = tt; rests = λ _. tt }
 
 pub returns-in_err-kept-clause-steps : goal.returns-in_err-kept-clause-steps
 returns-in_err-kept-clause-steps g c =
@@ -60,8 +59,7 @@ returns-clause-steps g c = (gives g c).rest
 
 pub returns-clause-goes : goal.returns-clause-goes
 returns-clause-goes g c =
-    let shorter = pushed-length _ _ _ (returns-clause-steps g c) in
-    record { on = λ _. (tt, tt, omega arith); keeps = tt; rests = λ _. tt }
+    record { on = λ _. (tt, tt, omega (arith, pushed-length _ _ _ (returns-clause-steps g c))); keeps = tt; rests = λ _. tt }
 
 pub prove-unreachable-requires : goal.prove-unreachable-requires
 prove-unreachable-requires g c = omega (arith, given-within c.self.invariant)
