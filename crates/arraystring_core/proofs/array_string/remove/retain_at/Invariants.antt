@@ -4,7 +4,7 @@ use Rattle.arraystring_core.proofs.array_string.remove.retain_at.Given as goal
 
 abbrev pub invariant-loop-read : goal.invariant-loop-read
 invariant-loop-read g l =
-    IsPartRetained (goal.F-pre g) (goal.F-step g) g.row.N l.fn.array l.fn.f l.offset l.size l.array l.f l.kept l.read l.read
+    IsPartRetained (goal.F-pre g) (goal.F-step g) g.row.N l.fn.array l.fn.f l.offset l.size l.array l.f l.kept l.read
 
 abbrev pub decreases-loop-read : goal.decreases-loop-read
 decreases-loop-read g l = l.size - l.read
