@@ -5,7 +5,7 @@ use Rattle.std.proofs.lemmas.List.{map-append, length-map, drop-take, drop-drop}
 use Rattle.std.proofs.lemmas.Str.Ascii.{uppercase_ascii, lowercase_ascii, uppercase_is, lowercase_is}
 use Rattle.std.specs.Char.{to_ascii_uppercase, to_ascii_lowercase}
 use Rattle.arraystring_base.specs.Text.{IsScalarValue, IsText, size, utf8, bytes, cap, front, back, boundary}
-use Rattle.arraystring_base.proofs.TextLaws.{bytes-utf8, chars-bytes}
+use Rattle.arraystring_base.proofs.TextLaws.{bytes-utf8, chars-bytes, size-borrowed}
 use Rattle.arraystring_base.proofs.BoundaryLaws.{bytes-part, front-text, back-text}
 use Rattle.arraystring_core.specs.Stored.{Stored, stored, IsStored}
 use Rattle.arraystring_core.proofs.StoredLaws.{opened-bytes, opened-size, opened-within, opened-text}
@@ -121,8 +121,8 @@ module _ {f : ℕ → ℕ} (is : IsAsciiChange f) {array_size : ℕ} {array : Li
       sum-less : p + end - (p + start) ≡ end - start
       sum-less = omega arith
 
-  room : size v.text - (end - start) + length given ≤ cap array_size
-  room = omega (arith, given-length, opened-size held e, reached)
+  room : size v.text - (end - start) + size (chars given) ≤ cap array_size
+  room = omega (arith, given-length, size-borrowed given-utf8, opened-size held e, reached)
 
   behind : p + start + length given ≡ p + end
   behind = omega (arith, given-length)

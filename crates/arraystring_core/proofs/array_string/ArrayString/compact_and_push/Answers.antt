@@ -1,5 +1,5 @@
 use Rattle.std.proofs.Common.{◌+◌, ◌≤◌, ◌++◌, ◌∷◌, [], arith, rules}
-use Rattle.arraystring_base.specs.Text.{width, cap}
+use Rattle.arraystring_base.specs.Text.{width}
 use Rattle.arraystring_base.proofs.TextLaws.{width-bounds}
 use Rattle.arraystring_core.proofs.StoredLaws.{opened-size}
 use Rattle.arraystring_core.proofs.SpanLemmas.{Lies}

@@ -1,4 +1,4 @@
-use Rattle.std.proofs.Common.{◌≡◌, ◌+◌, ◌-◌, ◌≤◌, ◌++◌, ◌∷◌, sym, ◌∙◌, arith, rules}
+use Rattle.std.proofs.Common.{◌+◌, ◌-◌, ◌≤◌, ◌++◌, ◌∷◌, sym, ◌∙◌, arith, rules}
 use Rattle.arraystring_base.specs.Text.{width, cap, front, back}
 use Rattle.arraystring_base.proofs.TextLaws.{width-is}
 use Rattle.arraystring_core.proofs.StoredLaws.{opened-within}
