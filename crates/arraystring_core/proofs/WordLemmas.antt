@@ -1,6 +1,6 @@
 -- The number of which bytes are the digits, and the order of lists that such numbers are read from.
 use Rattle.std.specs.Option.{IfNone}
-use Rattle.std.proofs.Common.{Option, None, Some, ◌≡◌, ◌≢◌, ℕ, Less, Equal, Greater, ◌+◌, ◌-◌, ◌*◌, ◌^◌, ◌<◌, ◌≤◌, ◌++◌, List, [], ◌∷◌, suc, zero, length, take, drop, get_or, length-take-le, length-drop, take-append-drop, mul-le-mul_right, suc-mul, pow-suc, refl, sym, ap, ◌∙◌, arith, inl, inr, ◌⊎◌, w32, w64}
+use Rattle.std.proofs.Common.{Option, None, Some, ◌≡◌, ◌≢◌, ℕ, Less, Equal, Greater, ◌+◌, ◌-◌, ◌*◌, ◌^◌, ◌<◌, ◌≤◌, ◌++◌, List, [], ◌∷◌, suc, zero, length, min, take, drop, get_or, length-take-le, length-drop, take-append-drop, mul-le-mul_right, suc-mul, pow-suc, refl, sym, ap, ◌∙◌, arith, inl, inr, ◌⊎◌, Fits, w8, w32, w64}
 use Rattle.std.proofs.lemmas.Bool.{cases_lt}
 use Rattle.std.proofs.lemmas.List.{get_or-drop}
 use Rattle.std.proofs.lemmas.Nat.{be_bytes_4, be_bytes_8}
@@ -102,15 +102,22 @@ value_4 (a ∷ b ∷ c ∷ []) l = absurd (omega arith)
 value_4 (a ∷ b ∷ c ∷ d ∷ []) l = omega arith
 value_4 (a ∷ b ∷ c ∷ d ∷ x ∷ bs) l = absurd (omega arith)
 
-number_cmp_8 : (a b : List ℕ) → length a ≡ 8 → length b ≡ 8 → AreBytes a → AreBytes b
-    → nat_cmp (from_be_bytes w64 a) (from_be_bytes w64 b) ≡ slice_cmp nat_cmp a b
-number_cmp_8 a b one other bytes other_bytes =
-    rw (value_8 a one, value_8 b other) (value_cmp a b (one ∙ sym other) bytes other_bytes)
+-- K bytes are the digits of a number
+pub record AreDigits (K : ℕ) (number : List ℕ → ℕ) : Type 0 where
+  compare : (a b : List ℕ) → length a ≡ K → length b ≡ K → AreBytes a → AreBytes b → nat_cmp (number a) (number b) ≡ slice_cmp nat_cmp a b
+  same : (a b : List ℕ) → length a ≡ K → length b ≡ K → AreBytes a → AreBytes b → number a ≡ number b → a ≡ b
 
-number_cmp_4 : (a b : List ℕ) → length a ≡ 4 → length b ≡ 4 → AreBytes a → AreBytes b
-    → nat_cmp (from_be_bytes w32 a) (from_be_bytes w32 b) ≡ slice_cmp nat_cmp a b
-number_cmp_4 a b one other bytes other_bytes =
-    rw (value_4 a one, value_4 b other) (value_cmp a b (one ∙ sym other) bytes other_bytes)
+pub eight : AreDigits 8 (from_be_bytes w64)
+eight = record {
+  compare = λ a b one other bytes other_bytes. rw (value_8 a one, value_8 b other) (value_cmp a b (one ∙ sym other) bytes other_bytes);
+  same = λ a b one other bytes other_bytes e. sym (be_bytes_8 a _ one bytes refl) ∙ ap (to_be_bytes w64) e ∙ be_bytes_8 b _ other other_bytes refl;
+}
+
+pub four : AreDigits 4 (from_be_bytes w32)
+four = record {
+  compare = λ a b one other bytes other_bytes. rw (value_4 a one, value_4 b other) (value_cmp a b (one ∙ sym other) bytes other_bytes);
+  same = λ a b one other bytes other_bytes e. sym (be_bytes_4 a _ one bytes refl) ∙ ap (to_be_bytes w32) e ∙ be_bytes_4 b _ other other_bytes refl;
+}
 
 -- parts of bytes are bytes
 take_bytes : (k : ℕ) (l : List ℕ) → AreBytes l → AreBytes (take k l)
@@ -161,47 +168,57 @@ module _ (K : ℕ) (a b : List ℕ) (at : ℕ) (in_a : at + K ≤ length a) (in_
       let wide : at + K - at ≡ K = omega arith in
       longer_same K a b at before (rw wide same)
 
+at_bytes : (K at : ℕ) (l : List ℕ) → AreBytes l → AreBytes (take K (drop at l))
+at_bytes K at l all = take_bytes K (drop at l) (λ i. rw (get_or-drop at l i 0) (all (at + i)))
+
 -- by their numbers
-module _ (a b : List ℕ) (at : ℕ) (bytes : AreBytes a) (other_bytes : AreBytes b) (before : take at a ≡ take at b) where
-  at_bytes : (k : ℕ) (l : List ℕ) → AreBytes l → AreBytes (take k (drop at l))
-  at_bytes k l all = take_bytes k (drop at l) (λ i. rw (get_or-drop at l i 0) (all (at + i)))
+module _ {K : ℕ} {number : List ℕ → ℕ} (digits : AreDigits K number) (a b : List ℕ) (at : ℕ) (bytes : AreBytes a) (other_bytes : AreBytes b)
+    (before : take at a ≡ take at b) (in_a : at + K ≤ length a) (in_b : at + K ≤ length b)
+    (x y : ℕ) (one : x ≡ number (take K (drop at a))) (other : y ≡ number (take K (drop at b))) where
+  long : (l : List ℕ) → at + K ≤ length l → length (take K (drop at l)) ≡ K
+  long = part-length K a b at in_a in_b before
 
-  module _ (in_a : at + 8 ≤ length a) (in_b : at + 8 ≤ length b)
-      (x y : ℕ) (one : x ≡ from_be_bytes w64 (take 8 (drop at a))) (other : y ≡ from_be_bytes w64 (take 8 (drop at b))) where
-    pub word_decides : x ≢ y → nat_cmp x y ≡ slice_cmp nat_cmp a b
-    word_decides differ =
-        ap (λ n. nat_cmp n y) one ∙ ap (nat_cmp (from_be_bytes w64 (take 8 (drop at a)))) other
-        ∙ number_cmp_8 (take 8 (drop at a)) (take 8 (drop at b)) (part-length 8 a b at in_a in_b before a in_a) (part-length 8 a b at in_a in_b before b in_b) (at_bytes 8 a bytes) (at_bytes 8 b other_bytes)
-        ∙ sym (words_decide 8 a b at in_a in_b before (λ e. differ (one ∙ ap (from_be_bytes w64) e ∙ sym other)))
+  pub word_decides : x ≢ y → nat_cmp x y ≡ slice_cmp nat_cmp a b
+  word_decides differ =
+      ap (λ n. nat_cmp n y) one ∙ ap (nat_cmp (number (take K (drop at a)))) other
+      ∙ digits.compare _ _ (long a in_a) (long b in_b) (at_bytes K at a bytes) (at_bytes K at b other_bytes)
+      ∙ sym (words_decide K a b at in_a in_b before (λ e. differ (one ∙ ap number e ∙ sym other)))
 
-    pub word_same : x ≡ y → take (at + 8) a ≡ take (at + 8) b
-    word_same same =
-        words_same 8 a b at in_a in_b before
-        (sym (be_bytes_8 (take 8 (drop at a)) x (part-length 8 a b at in_a in_b before a in_a) (at_bytes 8 a bytes) one)
-        ∙ ap (to_be_bytes w64) same
-        ∙ be_bytes_8 (take 8 (drop at b)) y (part-length 8 a b at in_a in_b before b in_b) (at_bytes 8 b other_bytes) other)
+  pub word_same : x ≡ y → take (at + K) a ≡ take (at + K) b
+  word_same same =
+      words_same K a b at in_a in_b before
+      (digits.same _ _ (long a in_a) (long b in_b) (at_bytes K at a bytes) (at_bytes K at b other_bytes) (sym one ∙ same ∙ other))
 
-  module _ (in_a : at + 4 ≤ length a) (in_b : at + 4 ≤ length b)
-      (x y : ℕ) (one : x ≡ from_be_bytes w32 (take 4 (drop at a))) (other : y ≡ from_be_bytes w32 (take 4 (drop at b))) where
-    pub half_decides : x ≢ y → nat_cmp x y ≡ slice_cmp nat_cmp a b
-    half_decides differ =
-        ap (λ n. nat_cmp n y) one ∙ ap (nat_cmp (from_be_bytes w32 (take 4 (drop at a)))) other
-        ∙ number_cmp_4 (take 4 (drop at a)) (take 4 (drop at b)) (part-length 4 a b at in_a in_b before a in_a) (part-length 4 a b at in_a in_b before b in_b) (at_bytes 4 a bytes) (at_bytes 4 b other_bytes)
-        ∙ sym (words_decide 4 a b at in_a in_b before (λ e. differ (one ∙ ap (from_be_bytes w32) e ∙ sym other)))
+-- the first K of at most twice as many bytes decide, or else the last K
+module _ {K : ℕ} {number : List ℕ → ℕ} (digits : AreDigits K number) (a b : List ℕ)
+    (fit : (i : ℕ) → Fits w8 (get_or a i 0)) (other_fit : (i : ℕ) → Fits w8 (get_or b i 0)) {common : ℕ} (least : K ≤ common) (lesser : common ≡ min (length a) (length b))
+    {x y : ℕ} (one : x ≡ number (take K (drop 0 a))) (other : y ≡ number (take K (drop 0 b))) where
+  bytes : AreBytes a
+  bytes i = omega (arith, fit i)
 
-    pub half_same : x ≡ y → take (at + 4) a ≡ take (at + 4) b
-    half_same same =
-        words_same 4 a b at in_a in_b before
-        (sym (be_bytes_4 (take 4 (drop at a)) x (part-length 4 a b at in_a in_b before a in_a) (at_bytes 4 a bytes) one)
-        ∙ ap (to_be_bytes w32) same
-        ∙ be_bytes_4 (take 4 (drop at b)) y (part-length 4 a b at in_a in_b before b in_b) (at_bytes 4 b other_bytes) other)
+  other_bytes : AreBytes b
+  other_bytes i = omega (arith, other_fit i)
 
--- the last K of n bytes, behind the first K, which are equal
-pub last_before : (K : ℕ) (a b : List ℕ) (n : ℕ) → n ≤ K + K → take K a ≡ take K b → take (n - K) a ≡ take (n - K) b
-last_before K a b n most same = shorter_same (n - K) K a b (omega arith) same
+  pub front_decides : x ≢ y → nat_cmp x y ≡ slice_cmp nat_cmp a b
+  front_decides = word_decides digits a b 0 bytes other_bytes refl (omega arith) (omega arith) x y one other
 
-pub last_all : (K : ℕ) (a b : List ℕ) (n : ℕ) → K ≤ n → take (n - K + K) a ≡ take (n - K + K) b → take n a ≡ take n b
-last_all K a b n least same = let whole : n - K + K ≡ n = omega arith in rw whole at same
+  pub front_same : x ≡ y → take K a ≡ take K b
+  front_same same =
+      let none : 0 + K ≡ K = omega arith in
+      rw none at (word_same digits a b 0 bytes other_bytes refl (omega arith) (omega arith) x y one other same)
+
+  module _ (most : common ≤ K + K) (same : x ≡ y) {z w : ℕ} (one_last : z ≡ number (take K (drop (common - K) a)))
+      (other_last : w ≡ number (take K (drop (common - K) b))) where
+    before : take (common - K) a ≡ take (common - K) b
+    before = shorter_same (common - K) K a b (omega arith) (front_same same)
+
+    pub back_decides : z ≢ w → nat_cmp z w ≡ slice_cmp nat_cmp a b
+    back_decides = word_decides digits a b (common - K) bytes other_bytes before (omega arith) (omega arith) z w one_last other_last
+
+    pub back_same : z ≡ w → take common a ≡ take common b
+    back_same last =
+        let whole : common - K + K ≡ common = omega arith in
+        rw whole at (word_same digits a b (common - K) bytes other_bytes before (omega arith) (omega arith) z w one_last other_last last)
 
 -- one element after equal ones
 pub one_decides : (a b : List ℕ) (at : ℕ) → at < length a → at < length b → take at a ≡ take at b → get_or a at 0 ≢ get_or b at 0

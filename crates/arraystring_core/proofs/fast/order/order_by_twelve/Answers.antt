@@ -2,17 +2,17 @@ use Rattle.std.proofs.Common.{◌≡◌, ◌+◌, ◌-◌, refl, sym, ap, ◌∙
 use lib.Lanes.{zip2}
 use Rattle.arraystring_core.proofs.ApartLemmas.{or_none, or_long, none_or, front_longer}
 use Rattle.arraystring_core.proofs.OrderLemmas.{prefix_decides}
-use Rattle.arraystring_core.proofs.WordLemmas.{word_decides, word_same}
+use Rattle.arraystring_core.proofs.WordLemmas.{eight, front_decides, front_same}
 use Rattle.arraystring_core.proofs.fast.order.order_by_twelve.Goals as goal
 
 pub returns-then-one-other : goal.returns-then-one-other
 returns-then-one-other g c =
     c.of_different.ensures
-    ∙ word_decides c.args.a.now c.args.b.now 0 (λ i. omega (arith, c.type_inv.a i)) (λ i. omega (arith, c.type_inv.b i)) refl (omega arith) (omega arith) _ _ c.word-one.ensures c.word-other.ensures c.if-one-other.true
+    ∙ front_decides eight c.args.a.now c.args.b.now c.type_inv.a c.type_inv.b (omega arith) c.requires.lesser c.word-one.ensures c.word-other.ensures c.if-one-other.true
 
 pub apart_between-between-requires-clause-before : goal.apart_between-between-requires-clause-before
 apart_between-between-requires-clause-before g c =
-    word_same c.args.a.now c.args.b.now 0 (λ i. omega (arith, c.type_inv.a i)) (λ i. omega (arith, c.type_inv.b i)) refl (omega arith) (omega arith) _ _ c.word-one.ensures c.word-other.ensures (omega arith)
+    front_same eight c.args.a.now c.args.b.now c.type_inv.a c.type_inv.b (omega arith) c.requires.lesser c.word-one.ensures c.word-other.ensures (omega arith)
 
 pub is_zero-requires : goal.is_zero-requires
 is_zero-requires g c = or_long 16 _ _ c.apart_between-between.ensures.long c.apart.ensures.long
