@@ -1,12 +1,12 @@
 -- ASCII letters in the other case, in characters and in bytes.
 use Rattle.std.proofs.Common.{◌≡◌, ℕ, ◌+◌, ◌-◌, ◌/◌, ◌%◌, ◌<◌, ◌≤◌, List, [], ◌∷◌, ◌++◌, map, length, take, drop, chars, refl, sym, ap, ◌∙◌, arith, true, inl, inr, IsUtf8, take-take, length-take-le, length-drop}
 use Rattle.std.proofs.lemmas.Bool.{cases_lt, lt-ltb, le-ltb}
-use Rattle.std.proofs.lemmas.List.{map-append, length-map, drop-take, drop-drop}
+use Rattle.std.proofs.lemmas.List.{append-nil, map-append, length-map, drop-take, drop-drop}
 use Rattle.std.proofs.lemmas.Str.Ascii.{uppercase_ascii, lowercase_ascii, uppercase_is, lowercase_is}
 use Rattle.std.specs.Char.{to_ascii_uppercase, to_ascii_lowercase}
 use Rattle.arraystring_base.specs.Text.{IsScalarValue, IsText, size, utf8, bytes, cap, front, back, boundary}
 use Rattle.arraystring_base.proofs.TextLaws.{bytes-utf8, chars-bytes, size-borrowed}
-use Rattle.arraystring_base.proofs.BoundaryLaws.{bytes-part, front-text, back-text}
+use Rattle.arraystring_base.proofs.BoundaryLaws.{bytes-part, front-text, back-text, front-start, front-end, back-start, back-end}
 use Rattle.arraystring_core.specs.Stored.{Stored, stored, IsStored}
 use Rattle.arraystring_core.proofs.StoredLaws.{opened-bytes, opened-size, opened-within, opened-text}
 use Rattle.arraystring_core.specs.Edits.{part}
@@ -150,3 +150,9 @@ module _ {f : ℕ → ℕ} (is : IsAsciiChange f) {array_size : ℕ} {array : Li
 
   pub changed : Lies array_size after p n (front v.text start ++ (map f (part v.text start end) ++ back v.text end))
   changed = rw (whole-length, given-chars) at (replaced held e given order b d room given-utf8 p after-length fits visible)
+
+-- all of a text is changed
+pub whole-changed : (f : ℕ → ℕ) (t : List ℕ) {n : ℕ} {new : List ℕ} → n ≡ size t → new ≡ front t 0 ++ (map f (part t 0 n) ++ back t n) → new ≡ map f t
+whole-changed f t long written =
+    written ∙ ap (λ k. front t 0 ++ (map f (part t 0 k) ++ back t k)) long
+    ∙ rw (front-start t, back-start (front t (size t)), front-end t, back-end t) (append-nil (map f t))

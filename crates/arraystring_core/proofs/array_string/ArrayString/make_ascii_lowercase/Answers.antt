@@ -1,10 +1,10 @@
-use Rattle.std.proofs.Common.{◌≡◌, ◌++◌, [], map, ap, ◌∙◌, refl, arith, rules, true}
-use Rattle.std.proofs.lemmas.List.{append-nil}
+use Rattle.std.proofs.Common.{[], ◌≡◌, ap, ◌∙◌, refl, arith, rules, true}
 use Rattle.std.specs.Char.{to_ascii_lowercase}
-use Rattle.arraystring_base.specs.Text.{front, back, boundary}
-use Rattle.arraystring_base.proofs.BoundaryLaws.{boundary-is, boundary-end, front-start, front-end, back-start, back-end}
-use Rattle.arraystring_core.specs.Edits.{lowercase, part}
+use Rattle.arraystring_base.specs.Text.{boundary}
+use Rattle.arraystring_base.proofs.BoundaryLaws.{boundary-is, boundary-end}
+use Rattle.arraystring_core.specs.Edits.{lowercase}
 use Rattle.arraystring_core.proofs.EditLaws.{makes}
+use Rattle.arraystring_core.proofs.AsciiLemmas.{whole-changed}
 use Rattle.arraystring_core.proofs.array_string.ArrayString.make_ascii_lowercase.Goals as goal
 
 pub lowercase_between-requires : goal.lowercase_between-requires
@@ -16,8 +16,4 @@ lowercase_between-requires g c =
 pub returns : goal.returns
 returns g c =
     let t = c.args.self.now.text in
-    let whole : part t 0 c.len.result ≡ t = back-start (front t c.len.result) ∙ ap (front t) c.len.ensures.value ∙ front-end t in
-    let rest : back t c.len.result ≡ [] = ap (back t) c.len.ensures.value ∙ back-end t in
-    makes (lowercase t) t tt _ refl refl
-    (c.lowercase_between.ensures ∙ ap (λ l. l ++ (map to_ascii_lowercase (part t 0 c.len.result) ++ back t c.len.result)) (front-start t)
-    ∙ ap (λ l. map to_ascii_lowercase l ++ back t c.len.result) whole ∙ ap (λ l. map to_ascii_lowercase t ++ l) rest ∙ append-nil (map to_ascii_lowercase t))
+    makes (lowercase t) t _ _ refl refl (whole-changed to_ascii_lowercase t c.len.ensures.value c.lowercase_between.ensures)
