@@ -16,37 +16,50 @@ chars_text cs = cs
 abbrev pub char_text : ℕ → List ℕ
 char_text c = c ∷ []
 
-pub chars-more : (cs : List ℕ) (c : ℕ) → chars_text (cs ++ c ∷ []) ≡ chars_text cs ++ char_text c
-chars-more cs c = refl
+-- the text of items, by that of one
+pub record IsSpelling {A : Type 0} (spelled : List A → List ℕ) (one : A → List ℕ) : Type 0 where
+  pub more : (items : List A) (x : A) → spelled (items ++ x ∷ []) ≡ spelled items ++ one x
 
-pub joined-more : (pieces : List (Bor (List ℕ))) (piece : Bor (List ℕ)) → joined_pieces (pieces ++ piece ∷ []) ≡ joined_pieces pieces ++ piece_text piece
-joined-more pieces piece =
-    ap joined (map-append piece_text pieces (piece ∷ [])) ∙ joined-append (map piece_text pieces) (piece_text piece ∷ [])
-    ∙ ap (λ l. joined_pieces pieces ++ l) (append-nil (piece_text piece))
+pub of_characters : IsSpelling chars_text char_text
+of_characters = record { more = λ cs c. refl }
 
--- a text after another
-pub behind : (old a b new : List ℕ) → new ≡ old ++ a → a ≡ b → new ≡ old ++ b
-behind old a b new e f = e ∙ ap (λ l. old ++ l) f
+pub of_pieces : IsSpelling joined_pieces piece_text
+of_pieces = record {
+  more = λ pieces piece.
+      ap joined (map-append piece_text pieces (piece ∷ [])) ∙ joined-append (map piece_text pieces) (piece_text piece ∷ [])
+      ∙ ap (λ l. joined_pieces pieces ++ l) (append-nil (piece_text piece));
+}
 
 -- a character that does not fit has no cut
 pub cut-none : (c n : ℕ) → n < width c → cut (c ∷ []) n ≡ []
 cut-none c n over = rw (lt-leb (width c) n over) refl
 
--- the text `now` is the text `old` and the items after it, and the item x comes
-module _ {A : Type 0} (spelled : List A → List ℕ) (one : A → List ℕ)
-    (more : (items : List A) (x : A) → spelled (items ++ x ∷ []) ≡ spelled items ++ one x)
-    (old now : List ℕ) (n : ℕ) (items : List A) (is : now ≡ old ++ spelled items) (filled : size old + size (spelled items) ≤ n) (x : A) where
+-- the text `now` is the text `old` and the items after it, which fit into n bytes
+pub record IsAdded {A : Type 0} (spelled : List A → List ℕ) (old now : List ℕ) (n : ℕ) (items : List A) : Type 0 where
+  pub text : now ≡ old ++ spelled items
+  pub fits : size old + size (spelled items) ≤ n
+
+-- no other item comes
+pub added-all : {A : Type 0} {spelled : List A → List ℕ} {old now : List ℕ} {n : ℕ} {items : List A} → IsAdded spelled old now n items
+    → (size (spelled items) ≤ n - size old) × (now ≡ old ++ cut (spelled items) (n - size old))
+added-all {spelled = spelled} {old} {n = n} {items} is =
+    let fits : size (spelled items) ≤ n - size old = omega arith in
+    (fits, is.text ∙ ap (λ l. old ++ l) (sym (cut-all fits)))
+
+-- the item x comes
+module _ {A : Type 0} {spelled : List A → List ℕ} {one : A → List ℕ} (spelling : IsSpelling spelled one)
+    {old now : List ℕ} {n : ℕ} {items : List A} (is : IsAdded spelled old now n items) (x : A) where
   sum : size now ≡ size old + size (spelled items)
-  sum = ap size is ∙ size-append old (spelled items)
+  sum = ap size is.text ∙ size-append old (spelled items)
 
   next-sum : size (spelled (items ++ x ∷ [])) ≡ size (spelled items) + size (one x)
-  next-sum = ap size (more items x) ∙ size-append (spelled items) (one x)
+  next-sum = ap size (spelling.more items x) ∙ size-append (spelled items) (one x)
 
-  pub added-text : (new : List ℕ) → new ≡ now ++ one x → new ≡ old ++ spelled (items ++ x ∷ [])
-  added-text new e = e ∙ ap (λ l. l ++ one x) is ∙ append_assoc old (spelled items) (one x) ∙ ap (λ l. old ++ l) (sym (more items x))
-
-  pub added-fits : size now + size (one x) ≤ n → size old + size (spelled (items ++ x ∷ [])) ≤ n
-  added-fits le = omega (arith, sum, next-sum)
+  pub added-more : {new : List ℕ} → (size now + size (one x) ≤ n) × (new ≡ now ++ one x) → IsAdded spelled old new n (items ++ x ∷ [])
+  added-more done = record {
+    text = done.1 ∙ ap (λ l. l ++ one x) is.text ∙ append_assoc old (spelled items) (one x) ∙ ap (λ l. old ++ l) (sym (spelling.more items x));
+    fits = omega (arith, sum, next-sum);
+  }
 
   pub added-past : n < size now + size (one x) → IsFirstPast spelled (n - size old) (items ++ x ∷ [])
   added-past over =
@@ -58,28 +71,27 @@ module _ {A : Type 0} (spelled : List A → List ℕ) (one : A → List ℕ)
   added-cut =
       let left : n - size now ≡ n - size old - size (spelled items) = omega (arith, sum) in
       let fits : size (spelled items) ≤ n - size old = omega arith in
-      ap (λ l. l ++ cut (one x) (n - size now)) is
+      ap (λ l. l ++ cut (one x) (n - size now)) is.text
       ∙ append_assoc old (spelled items) (cut (one x) (n - size now))
       ∙ ap (λ l. old ++ l) (ap (λ k. spelled items ++ cut (one x) k) left
-      ∙ sym (ap (λ l. cut l (n - size old)) (more items x) ∙ cut-past_part (spelled items) (one x) (n - size old) fits))
+      ∙ sym (ap (λ l. cut l (n - size old)) (spelling.more items x) ∙ cut-past_part (spelled items) (one x) (n - size old) fits))
 
   -- if a part of x was added, and if x has none
-  pub added-part : (before new : List ℕ) → before ≡ now → new ≡ before ++ cut (one x) (n - size before)
+  pub added-part : {before new : List ℕ} → before ≡ now → new ≡ before ++ cut (one x) (n - size before)
       → new ≡ old ++ cut (spelled (items ++ x ∷ [])) (n - size old)
-  added-part before new e f = f ∙ ap (λ s. s ++ cut (one x) (n - size s)) e ∙ added-cut
+  added-part e f = f ∙ ap (λ s. s ++ cut (one x) (n - size s)) e ∙ added-cut
 
-  pub added-none : (new : List ℕ) → new ≡ now → cut (one x) (n - size now) ≡ [] → new ≡ old ++ cut (spelled (items ++ x ∷ [])) (n - size old)
-  added-none new e none = e ∙ sym (ap (λ l. now ++ l) none ∙ append-nil now) ∙ added-cut
+  pub added-none : {new : List ℕ} → new ≡ now → cut (one x) (n - size now) ≡ [] → new ≡ old ++ cut (spelled (items ++ x ∷ [])) (n - size old)
+  added-none e none = e ∙ sym (ap (λ l. now ++ l) none ∙ append-nil now) ∙ added-cut
 
 -- the text `now` is the items, and with the item x they fit
-module _ {A : Type 0} (spelled : List A → List ℕ) (one : A → List ℕ)
-    (more : (items : List A) (x : A) → spelled (items ++ x ∷ []) ≡ spelled items ++ one x)
-    (now : List ℕ) (n : ℕ) (items : List A) (is : now ≡ spelled items) (x : A) where
-  pub next-fits : size (spelled (items ++ x ∷ [])) ≤ n → size now + size (one x) ≤ n
-  next-fits fits = omega (arith, ap size is, ap size (more items x), size-append (spelled items) (one x))
+module _ {A : Type 0} {spelled : List A → List ℕ} {one : A → List ℕ} (spelling : IsSpelling spelled one)
+    {now : List ℕ} (items : List A) (is : now ≡ spelled items) (x : A) where
+  pub next-fits : {n : ℕ} → size (spelled (items ++ x ∷ [])) ≤ n → size now + size (one x) ≤ n
+  next-fits fits = omega (arith, ap size is, ap size (spelling.more items x), size-append (spelled items) (one x))
 
-  pub next-text : (new : List ℕ) → new ≡ now ++ one x → new ≡ spelled (items ++ x ∷ [])
-  next-text new e = e ∙ ap (λ l. l ++ one x) is ∙ sym (more items x)
+  pub next-text : {new : List ℕ} → new ≡ now ++ one x → new ≡ spelled (items ++ x ∷ [])
+  next-text e = e ∙ ap (λ l. l ++ one x) is ∙ sym (spelling.more items x)
 
 -- characters that were taken and all fit are all that come
 pub fitting-all : {U T : Type 0} (becomes : U → T → Type 0) (steps : T → Option ℕ → T → Type 0) (iter : U) (n : ℕ)

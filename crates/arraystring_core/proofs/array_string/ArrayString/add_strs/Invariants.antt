@@ -1,12 +1,11 @@
-use Rattle.std.proofs.Common.{◌≡◌, ◌+◌, ◌≤◌, ◌++◌}
-use Rattle.arraystring_base.specs.Text.{size, cap}
+use Rattle.arraystring_base.specs.Text.{cap}
 use Rattle.arraystring_core.specs.Taken.{joined_pieces}
+use Rattle.arraystring_core.proofs.TakenLemmas.{IsAdded}
 use Rattle.arraystring_core.proofs.array_string.ArrayString.add_strs.Given as goal
 
 abbrev pub invariant-loop-piece : goal.invariant-loop-piece
 invariant-loop-piece g l = record {
   can : (goal.iterator-loop-piece g).can_next l.piece-iterator;
   ends : (goal.iterator-loop-piece g).is_finite l.piece-iterator;
-  text : l.self.text ≡ l.initial.self.text ++ joined_pieces l.yielded;
-  fits : size l.initial.self.text + size (joined_pieces l.yielded) ≤ cap g.row.N;
+  added : IsAdded joined_pieces l.initial.self.text l.self.text (cap g.row.N) l.yielded;
 }

@@ -1,6 +1,7 @@
-use Rattle.std.proofs.Common.{◌≡◌, ◌+◌, ◌≤◌, ◌++◌}
-use Rattle.arraystring_base.specs.Text.{size, cap}
+use Rattle.std.proofs.Common.{◌≡◌, ◌+◌}
+use Rattle.arraystring_base.specs.Text.{cap}
 use Rattle.arraystring_core.specs.Stored.{stored, IsStored}
+use Rattle.arraystring_core.proofs.TakenLemmas.{IsAdded, chars_text}
 use Rattle.arraystring_core.proofs.array_string.ArrayString.append_chars.Given as goal
 
 abbrev pub invariant-loop-ch : goal.invariant-loop-ch
@@ -9,6 +10,5 @@ invariant-loop-ch g l = let old = (stored l.fn.array l.fn.start l.fn.len).text i
   ends : (goal.iterator-loop-ch g).is_finite l.ch-iterator;
   held : IsStored g.row.N l.array l.start l.len;
   end : l.end ≡ l.start + l.len;
-  text : (stored l.array l.start l.len).text ≡ old ++ l.yielded;
-  fits : size old + size l.yielded ≤ cap g.row.N;
+  added : IsAdded chars_text old (stored l.array l.start l.len).text (cap g.row.N) l.yielded;
 }

@@ -1,9 +1,8 @@
-use Rattle.std.proofs.Common.{◌-◌, refl}
+use Rattle.std.proofs.Common.{◌-◌, ◌++◌, refl, ap, ◌∙◌}
 use Rattle.arraystring_base.specs.Text.{size, cap}
 use Rattle.arraystring_core.specs.Edits.{addition_of_cut}
 use Rattle.arraystring_core.proofs.EditLaws.{makes}
 use Rattle.arraystring_core.proofs.TakenLaws.{chars-cut}
-use Rattle.arraystring_core.proofs.TakenLemmas.{behind}
 use Rattle.arraystring_core.proofs.array_string.ArrayString.extend_chars.Goals as goal
 
 pub returns-clause-whole : goal.returns-clause-whole
@@ -11,4 +10,4 @@ returns-clause-whole g c = λ all gives.
     let old = c.args.self.now.text in
     let ensured = c.add_chars.ensures in
     let same = chars-cut g.I.IntoIterator.into_iter_gives g.I.IntoIter.Iterator.next_gives c.args.characters all gives ensured.0 (cap g.row.N - size old) ensured.1 in
-    makes (addition_of_cut old all (cap g.row.N)) old tt c.add_chars.new.self.text refl refl (behind old _ _ c.add_chars.new.self.text ensured.3 same)
+    makes (addition_of_cut old all (cap g.row.N)) old tt c.add_chars.new.self.text refl refl (ensured.3 ∙ ap (λ l. old ++ l) same)

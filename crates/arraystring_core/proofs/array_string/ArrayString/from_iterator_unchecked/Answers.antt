@@ -1,9 +1,9 @@
 use Rattle.std.proofs.Common.{◌+◌, ◌≤◌, ◌∙◌, rules}
 use Rattle.std.proofs.iter.Next.{Yields-more}
 use Rattle.arraystring_base.specs.Text.{size, cap}
-use Rattle.arraystring_core.specs.Taken.{joined_pieces, piece_text}
+use Rattle.arraystring_core.specs.Taken.{piece_text}
 use Rattle.arraystring_core.proofs.TakenLaws.{pieces-all}
-use Rattle.arraystring_core.proofs.TakenLemmas.{joined-more, next-fits, next-text}
+use Rattle.arraystring_core.proofs.TakenLemmas.{of_pieces, next-fits, next-text}
 use Rattle.arraystring_core.proofs.array_string.ArrayString.from_iterator_unchecked.Goals as goal
 
 pub push_str_unchecked-requires : goal.push_str_unchecked-requires
@@ -13,18 +13,16 @@ push_str_unchecked-requires g c =
     let yields = Yields-more g.I.IntoIter.Iterator.next_gives _ xs _ x _ c.loop-piece.yielded_by c.in-Some.ensures.steps in
     let fits = c.requires.fits c.into_iter-piece-iterator.result c.into_iter-piece-iterator.ensures.into_iter_gives _ c.next.new.self yields in
     let room : size c.loop-piece.made.text + size (piece_text x) ≤ cap g.row.N =
-    next-fits joined_pieces piece_text joined-more c.loop-piece.made.text (cap g.row.N) xs c.loop-piece.invariant.text x fits in
+    next-fits of_pieces xs c.loop-piece.invariant.text x fits in
     (search rules, room)
 
 pub loop-piece-preserved : goal.loop-piece-preserved
 loop-piece-preserved g c =
-    let x = c.in-Some.piece in
-    let xs = c.loop-piece.yielded in
     let on = c.in-Some.ensures.goes.on c.loop-piece.invariant.ends in
     record {
       can = on.0;
       ends = on.1;
-      text = next-text joined_pieces piece_text joined-more c.loop-piece.made.text (cap g.row.N) xs c.loop-piece.invariant.text x c.push_str_unchecked.new.self.text c.push_str_unchecked.ensures;
+      text = next-text of_pieces c.loop-piece.yielded c.loop-piece.invariant.text c.in-Some.piece c.push_str_unchecked.ensures;
     }
 
 pub returns-clause-whole : goal.returns-clause-whole
