@@ -30,7 +30,7 @@ unit-reads u units items small part = record {
 }
 
 -- what is read behind a run, and all of it
-pub run-reads : (n : ℕ) (units : List ℕ) (items : List Unit16) → AreAscii units n → IsReading (drop n units) items
+run-reads : (n : ℕ) (units : List ℕ) (items : List Unit16) → AreAscii units n → IsReading (drop n units) items
     → IsReading units (map Char (take n units) ++ items)
 run-reads zero units items ascii part = part
 run-reads (suc n) [] items ascii part = part
@@ -86,8 +86,15 @@ run-longer array units at n now in_array in_units is =
     ∙ ap (λ k. take at array ++ (take k units ++ rest)) next
     ∙ ap (λ k. take at array ++ (take (n + 1) units ++ drop k array)) behind
 
-pub rest-whole : (n : ℕ) (units : List ℕ) → take (length units - n) (drop n units) ≡ drop n units
+rest-whole : (n : ℕ) (units : List ℕ) → take (length units - n) (drop n units) ≡ drop n units
 rest-whole n units = take_all (length units - n) (drop n units) (omega (arith, length-drop n units))
+
+-- so the only reading is that of the run, and then what the units behind it give
+pub whole-reading : (n : ℕ) (units : List ℕ) {items rest given : List Unit16} → AreAscii units n
+    → IsReading (take (length units - n) (drop n units)) rest → given ≡ rest
+    → ((a b : List Unit16) → IsReading units a → IsReading units b → a ≡ b) → IsReading units items → items ≡ map Char (take n units) ++ given
+whole-reading n units ascii reads gives only is =
+    only _ _ is (run-reads n units _ ascii (rw (rest-whole n units) at reads)) ∙ ap (λ l. map Char (take n units) ++ l) (sym gives)
 
 pub lossy-behind : (run : List ℕ) (items : List Unit16) → lossy_text (map Char run ++ items) ≡ run ++ lossy_text items
 lossy-behind [] items = refl

@@ -1,5 +1,5 @@
 use Rattle.std.proofs.Common.{◌≡◌, ◌+◌, ◌≤◌, ◌<◌, [], ◌∷◌, ◌++◌, sym, ap, ◌∙◌, arith, append-nil, append_assoc, map, take}
-use Rattle.arraystring_core.proofs.UnitLemmas.{run-reads, rest-whole, lossy-behind}
+use Rattle.arraystring_core.proofs.UnitLemmas.{whole-reading, lossy-behind}
 use Rattle.arraystring_base.specs.declared.utf16.Unit16.TheVariants.{Char}
 use Rattle.arraystring_base.specs.Text.{cap, cut, size, width}
 use Rattle.arraystring_base.proofs.TextLaws.{size-append}
@@ -38,9 +38,8 @@ returns-in-Err g c = λ items is.
     let refused = addition-refused (ch ∷ []) (cap g.row.N) c.in-Err.ensures in
     let past : cap g.row.N < size run + width ch = omega arith in
     let first = ap lossy_text c.in-Some.ensures.steps ∙ ap (λ d. d ∷ left) (sym c.shown.ensures) in
-    let same = ap lossy_text (c.only_reading.ensures.only items _ is
-    (run-reads c.push_ascii_units-run.result c.args.units.now _ c.push_ascii_units-run.ensures.ascii (rw (rest-whole c.push_ascii_units-run.result c.args.units.now) at c.new-item-items.ensures))
-    ∙ ap (λ l. map Char (take c.push_ascii_units-run.result c.args.units.now) ++ l) (sym c.into_iter-item-iterator.ensures.into_iter_gives)) ∙ inv.1 ∙ ap (λ l. run ++ l) first in
+    let same = ap lossy_text (whole-reading c.push_ascii_units-run.result c.args.units.now c.push_ascii_units-run.ensures.ascii c.new-item-items.ensures c.into_iter-item-iterator.ensures.into_iter_gives
+    c.only_reading.ensures.only is) ∙ inv.1 ∙ ap (λ l. run ++ l) first in
     let ends = cut-is run (ch ∷ left) (cap g.row.N) inv.0 (λ d es e. let one : ch ≡ d = cc in rw (← one) past) in
     refused.2 ∙ sym (ap (λ l. cut l (cap g.row.N)) same ∙ ends)
 
@@ -48,8 +47,7 @@ pub returns : goal.returns
 returns g c = λ items is.
     let inv = c.loop-item.invariant in
     let run = c.loop-item.text.text in
-    let same = ap lossy_text (c.only_reading.ensures.only items _ is
-    (run-reads c.push_ascii_units-run.result c.args.units.now _ c.push_ascii_units-run.ensures.ascii (rw (rest-whole c.push_ascii_units-run.result c.args.units.now) at c.new-item-items.ensures))
-    ∙ ap (λ l. map Char (take c.push_ascii_units-run.result c.args.units.now) ++ l) (sym c.into_iter-item-iterator.ensures.into_iter_gives)) ∙ inv.1 in
+    let same = ap lossy_text (whole-reading c.push_ascii_units-run.result c.args.units.now c.push_ascii_units-run.ensures.ascii c.new-item-items.ensures c.into_iter-item-iterator.ensures.into_iter_gives
+    c.only_reading.ensures.only is) ∙ inv.1 in
     let whole = ap (λ l. run ++ lossy_text l) c.in-None.ensures.steps.0 ∙ append-nil run in
     sym (ap (λ l. cut l (cap g.row.N)) (same ∙ whole) ∙ cut-all inv.0)

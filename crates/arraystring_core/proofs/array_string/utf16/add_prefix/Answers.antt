@@ -6,7 +6,7 @@ use Rattle.arraystring_base.proofs.TextLaws.{size-append}
 use Rattle.arraystring_base.specs.Utf16.{End, Fault, Full}
 use Rattle.arraystring_base.proofs.Utf16Laws.{stop-is}
 use Rattle.arraystring_core.specs.FromUtf16.{stop_at}
-use Rattle.arraystring_core.proofs.UnitLemmas.{run-reads, rest-whole}
+use Rattle.arraystring_core.proofs.UnitLemmas.{whole-reading}
 use Rattle.arraystring_core.proofs.EditLaws.{addition-made, addition-refused}
 use Rattle.arraystring_core.proofs.array_string.utf16.add_prefix.Goals as goal
 
@@ -39,9 +39,8 @@ returns-in-Err g c = λ items is.
     let left = c.next.new.self in
     let refused = addition-refused (ch ∷ []) (cap g.row.N) c.in-Err.ensures in
     let past : cap g.row.N < size prefix + width ch = omega arith in
-    let same = c.only_reading.ensures.only items _ is
-    (run-reads c.push_ascii_units-run.result c.args.units.now _ c.push_ascii_units-run.ensures.ascii (rw (rest-whole c.push_ascii_units-run.result c.args.units.now) at c.new-item-items.ensures))
-    ∙ ap (λ l. map Char (take c.push_ascii_units-run.result c.args.units.now) ++ l) (sym c.into_iter-item-iterator.ensures.into_iter_gives) ∙ inv.1 in
+    let same = whole-reading c.push_ascii_units-run.result c.args.units.now c.push_ascii_units-run.ensures.ascii c.new-item-items.ensures c.into_iter-item-iterator.ensures.into_iter_gives
+    c.only_reading.ensures.only is ∙ inv.1 in
     let first = c.in-Some.ensures.steps ∙ ap (λ item. item ∷ left) c.in-Char.is in
     stop-is items (cap g.row.N) (Full prefix) (ch, left, same ∙ ap (λ l. map Char prefix ++ l) first, inv.0, past)
     ∙ ap Full (sym refused.2)
@@ -52,9 +51,8 @@ returns-in-Lone g c = λ items is.
     let prefix = c.loop-item.prefix.text in
     let unit = c.in-Lone.field-0 in
     let left = c.next.new.self in
-    let same = c.only_reading.ensures.only items _ is
-    (run-reads c.push_ascii_units-run.result c.args.units.now _ c.push_ascii_units-run.ensures.ascii (rw (rest-whole c.push_ascii_units-run.result c.args.units.now) at c.new-item-items.ensures))
-    ∙ ap (λ l. map Char (take c.push_ascii_units-run.result c.args.units.now) ++ l) (sym c.into_iter-item-iterator.ensures.into_iter_gives) ∙ inv.1 in
+    let same = whole-reading c.push_ascii_units-run.result c.args.units.now c.push_ascii_units-run.ensures.ascii c.new-item-items.ensures c.into_iter-item-iterator.ensures.into_iter_gives
+    c.only_reading.ensures.only is ∙ inv.1 in
     let first = c.in-Some.ensures.steps ∙ ap (λ item. item ∷ left) c.in-Lone.is in
     stop-is items (cap g.row.N) (Fault prefix) (unit, left, same ∙ ap (λ l. map Char prefix ++ l) first, inv.0)
     ∙ ap (λ item. stop_at (Some item) prefix) (sym c.in-Lone.is)
@@ -63,8 +61,7 @@ pub returns : goal.returns
 returns g c = λ items is.
     let inv = c.loop-item.invariant in
     let prefix = c.loop-item.prefix.text in
-    let same = c.only_reading.ensures.only items _ is
-    (run-reads c.push_ascii_units-run.result c.args.units.now _ c.push_ascii_units-run.ensures.ascii (rw (rest-whole c.push_ascii_units-run.result c.args.units.now) at c.new-item-items.ensures))
-    ∙ ap (λ l. map Char (take c.push_ascii_units-run.result c.args.units.now) ++ l) (sym c.into_iter-item-iterator.ensures.into_iter_gives) ∙ inv.1 in
+    let same = whole-reading c.push_ascii_units-run.result c.args.units.now c.push_ascii_units-run.ensures.ascii c.new-item-items.ensures c.into_iter-item-iterator.ensures.into_iter_gives
+    c.only_reading.ensures.only is ∙ inv.1 in
     let whole = ap (λ l. map Char prefix ++ l) c.in-None.ensures.steps.0 ∙ append-nil (map Char prefix) in
     stop-is items (cap g.row.N) (End prefix) (same ∙ whole, inv.0)
