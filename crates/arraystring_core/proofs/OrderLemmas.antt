@@ -139,6 +139,35 @@ block_of K a b at same =
     let wide : at + K - at ≡ K = omega arith in
     rw wide (sym (drop-take at K a) ∙ ap (drop at) same ∙ drop-take at K b)
 
+-- two lists differ at i, and not before
+pub record DiffersAt (a b : List ℕ) (i : ℕ) : Type 0 where
+  pub in_a : i < length a
+  pub in_b : i < length b
+  pub before : take i a ≡ take i b
+  pub apart : get_or a i 0 ≢ get_or b i 0
+
+-- the first of K bytes that is apart, behind `at` bytes that are not
+differ-behind : (K : ℕ) (a b : List ℕ) (at : ℕ) → at + K ≤ length a → at + K ≤ length b → take at a ≡ take at b → (i : ℕ)
+    → (i < length (take K (drop at a))) × (take i (take K (drop at a)) ≡ take i (take K (drop at b)))
+    × (get_or (take K (drop at a)) i 0 ≢ get_or (take K (drop at b)) i 0) → DiffersAt a b (at + i)
+differ-behind K a b at in_a in_b before i found = record {
+  in_a = omega (arith, within);
+  in_b = omega (arith, within);
+  before =
+      take-add at i a ∙ ap (λ l. l ++ take i (drop at a)) before
+      ∙ ap (λ l. take at b ++ l) (sym (taken a) ∙ found.1 ∙ taken b) ∙ sym (take-add at i b);
+  apart = λ e. found.2 (read a ∙ e ∙ sym (read b));
+}
+  where
+    within : i < K
+    within = omega (arith, length-take-le K (drop at a) (omega (arith, length-drop at a)))
+
+    taken : (l : List ℕ) → take i (take K (drop at l)) ≡ take i (drop at l)
+    taken l = take-take i K (drop at l) (omega (arith, within))
+
+    read : (l : List ℕ) → get_or (take K (drop at l)) i 0 ≡ get_or l (at + i) 0
+    read l = get_or-take K (drop at l) i 0 within ∙ get_or-drop at l i 0
+
 -- the K bytes of both lists from `at` on, as their vectors are compared
 module _ (K : ℕ) (few : K ≤ 64) (a b : List ℕ) (at : ℕ) (in_a : at + K ≤ length a) (in_b : at + K ≤ length b) (before : take at a ≡ take at b) where
   abbrev block : List ℕ → List ℕ
@@ -174,32 +203,9 @@ module _ (K : ℕ) (few : K ≤ 64) (a b : List ℕ) (at : ℕ) (in_a : at + K �
   abbrev first : ℕ
   first = trailing_zeros w64 mask
 
-  module _ (some : 0 < mask) where
-    found : (first < length (block a)) × (take first (block a) ≡ take first (block b)) × (get_or (block a) first 0 ≢ get_or (block b) first 0)
-    found = first_bit (block a) (block b) mask long mask-is some (omega arith)
-
-    within : first < K
-    within = omega (arith, found.0, block-length a in_a)
-
-    taken : (l : List ℕ) → take first (block l) ≡ take first (drop at l)
-    taken l = ap (take first) (block-is l) ∙ take-take first K (drop at l) (omega (arith, within))
-
-    read : (l : List ℕ) → get_or (block l) first 0 ≡ get_or l (at + first) 0
-    read l = ap (λ xs. get_or xs first 0) (block-is l) ∙ get_or-take K (drop at l) first 0 within ∙ get_or-drop at l first 0
-
-    pub first-in_a : at + first < length a
-    first-in_a = omega (arith, within)
-
-    pub first-in_b : at + first < length b
-    first-in_b = omega (arith, within)
-
-    pub apart_there : get_or a (at + first) 0 ≢ get_or b (at + first) 0
-    apart_there e = found.2 (read a ∙ e ∙ sym (read b))
-
-    pub first_same : take (at + first) a ≡ take (at + first) b
-    first_same =
-        take-add at first a ∙ ap (λ l. l ++ take first (drop at a)) before
-        ∙ ap (λ l. take at b ++ l) (sym (taken a) ∙ found.1 ∙ taken b) ∙ sym (take-add at first b)
+  pub first-differ : 0 < mask → DiffersAt a b (at + first)
+  first-differ some =
+      differ-behind (at + K - at) a b at (omega arith) (omega arith) before first (first_bit (block a) (block b) mask long mask-is some (omega arith))
 
 -- 16 bytes of both lists from `at` on, told by a vector of which a lane is zero where they are equal
 module _ (a b : List ℕ) (at : ℕ) (in_a : at + 16 ≤ length a) (in_b : at + 16 ≤ length b) (before : take at a ≡ take at b)
@@ -233,31 +239,9 @@ module _ (a b : List ℕ) (at : ℕ) (in_a : at + 16 ≤ length a) (in_b : at + 
   bytes-differ : bytes a ≢ bytes b
   bytes-differ e = some (is ∙ ap (λ l. zip2 bit_xor l (bytes b)) e ∙ xor_equal 16 (bytes b) (block_long 16 at b in_b))
 
-  other : (place < length (bytes a)) × (take place (bytes a) ≡ take place (bytes b)) × (get_or (bytes a) place 0 ≢ get_or (bytes b) place 0)
-  other = first_clear (bytes a) (bytes b) told bytes-long bytes-differ told-is (omega (arith, narrow))
-
-  place-within : place < 16
-  place-within = omega (arith, other.0, block_long 16 at a in_a)
-
-  front-is : (l : List ℕ) → take place (bytes l) ≡ take place (drop at l)
-  front-is l = take-take place 16 (drop at l) (omega (arith, place-within))
-
-  byte-is : (l : List ℕ) → get_or (bytes l) place 0 ≡ get_or l (at + place) 0
-  byte-is l = get_or-take 16 (drop at l) place 0 place-within ∙ get_or-drop at l place 0
-
-  pub told-in_a : at + place < length a
-  told-in_a = omega (arith, place-within)
-
-  pub told-in_b : at + place < length b
-  told-in_b = omega (arith, place-within)
-
-  pub told_same : take (at + place) a ≡ take (at + place) b
-  told_same =
-      take-add at place a ∙ ap (λ l. l ++ take place (drop at a)) before
-      ∙ ap (λ l. take at b ++ l) (sym (front-is a) ∙ other.1 ∙ front-is b) ∙ sym (take-add at place b)
-
-  pub told_apart : get_or a (at + place) 0 ≢ get_or b (at + place) 0
-  told_apart e = other.2 (byte-is a ∙ e ∙ sym (byte-is b))
+  pub told-differ : DiffersAt a b (at + place)
+  told-differ =
+      differ-behind 16 a b at in_a in_b before place (first_clear (bytes a) (bytes b) told bytes-long bytes-differ told-is (omega (arith, narrow)))
 
 -- one list begins the other
 pub prefix_decides : (a b : List ℕ) (n : ℕ) → n ≡ min (length a) (length b) → take n a ≡ take n b
