@@ -23,12 +23,12 @@ made-more (Ok s) t all n (inr stops) made = absurd (omega arith)
 made-more (Err e) t all n (inr stops) made = (omega (arith, ap size stops.1, size-append t stops.0), made.1)
 
 -- what is added to the empty text
-module _ (old t : List ℕ) (n : ℕ) (empty : old ≡ []) where
-  pub fresh-room : n - size old ≡ n
-  fresh-room = omega (arith, ap size empty)
+pub fresh-room : (old : List ℕ) (n : ℕ) → old ≡ [] → n - size old ≡ n
+fresh-room old n empty = omega (arith, ap size empty)
 
+module _ (old t : List ℕ) (n : ℕ) (empty : old ≡ []) where
   pub fresh-cut : (new : List ℕ) → new ≡ old ++ cut t (n - size old) → new ≡ cut t n
-  fresh-cut new e = e ∙ ap (λ l. l ++ cut t (n - size old)) empty ∙ ap (cut t) fresh-room
+  fresh-cut new e = e ∙ ap (λ l. l ++ cut t (n - size old)) empty ∙ ap (cut t) (fresh-room old n empty)
 
   pub fresh-whole : (new : List ℕ) → size t ≤ n - size old → new ≡ old ++ cut t (n - size old) → (size t ≤ n) × (new ≡ t)
-  fresh-whole new le e = let fits : size t ≤ n = omega (arith, fresh-room) in (fits, fresh-cut new e ∙ cut-all fits)
+  fresh-whole new le e = let fits : size t ≤ n = omega (arith, fresh-room old n empty) in (fits, fresh-cut new e ∙ cut-all fits)

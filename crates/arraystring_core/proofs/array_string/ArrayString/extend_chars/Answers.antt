@@ -1,4 +1,4 @@
-use Rattle.std.proofs.Common.{◌-◌, ◌++◌, refl, ap, ◌∙◌}
+use Rattle.std.proofs.Common.{◌-◌, refl}
 use Rattle.arraystring_base.specs.Text.{size, cap}
 use Rattle.arraystring_core.specs.Edits.{addition_of_cut}
 use Rattle.arraystring_core.proofs.EditLaws.{makes}
@@ -10,4 +10,4 @@ returns-clause-whole g c = λ all gives.
     let old = c.args.self.now.text in
     let ensured = c.add_chars.ensures in
     let same = chars-cut g.I.IntoIterator.into_iter_gives g.I.IntoIter.Iterator.next_gives c.args.characters all gives ensured.0 (cap g.row.N - size old) ensured.1 in
-    makes (addition_of_cut old all (cap g.row.N)) old tt c.add_chars.new.self.text refl refl (ensured.3 ∙ ap (λ l. old ++ l) same)
+    makes (addition_of_cut old all (cap g.row.N)) old tt c.add_chars.new.self.text refl refl (rw same at ensured.3)
