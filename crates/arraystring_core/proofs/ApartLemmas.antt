@@ -27,37 +27,28 @@ xor_eqb x y = go (eqb x y) refl (eqb (bit_xor x y) 0) refl
 -- where the lanes are zero, the bytes are equal
 pub xor_lanes : (n : ℕ) (xs ys : List ℕ) → length xs ≡ n → length ys ≡ n → zip2 eqb (zip2 bit_xor xs ys) (replicate n 0) ≡ zip2 eqb xs ys
 xor_lanes zero [] ys one other = refl
-xor_lanes zero (x ∷ xs) ys one other = absurd (omega arith)
-xor_lanes (suc n) [] ys one other = absurd (omega arith)
-xor_lanes (suc n) (x ∷ xs) [] one other = absurd (omega arith)
 xor_lanes (suc n) (x ∷ xs) (y ∷ ys) one other =
     ap (λ t. t ∷ zip2 eqb (zip2 bit_xor xs ys) (replicate n 0)) (xor_eqb x y)
     ∙ ap (λ l. eqb x y ∷ l) (xor_lanes n xs ys (omega arith) (omega arith))
+xor_lanes n xs ys one other = absurd (omega arith)
 
 pub xor_none : (n : ℕ) (xs ys : List ℕ) → length xs ≡ n → length ys ≡ n → zip2 bit_xor xs ys ≡ replicate n 0 → xs ≡ ys
 xor_none n [] [] one other none = refl
-xor_none n [] (y ∷ ys) one other none = absurd (omega arith)
-xor_none n (x ∷ xs) [] one other none = absurd (omega arith)
-xor_none zero (x ∷ xs) (y ∷ ys) one other none = absurd (omega arith)
 xor_none (suc n) (x ∷ xs) (y ∷ ys) one other none =
     let head : bit_xor x y ≡ 0 = cc in
     let rest : zip2 bit_xor xs ys ≡ replicate n 0 = cc in
     ap (λ z. z ∷ xs) (xor_same x y head) ∙ ap (λ l. y ∷ l) (xor_none n xs ys (omega arith) (omega arith) rest)
+xor_none n xs ys one other none = absurd (omega arith)
 
 pub xor_equal : (n : ℕ) (xs : List ℕ) → length xs ≡ n → zip2 bit_xor xs xs ≡ replicate n 0
 xor_equal zero [] long = refl
-xor_equal zero (x ∷ xs) long = absurd (omega arith)
-xor_equal (suc n) [] long = absurd (omega arith)
 xor_equal (suc n) (x ∷ xs) long =
     ap (λ z. z ∷ zip2 bit_xor xs xs) (xor_self x) ∙ ap (λ l. 0 ∷ l) (xor_equal n xs (omega arith))
+xor_equal n xs long = absurd (omega arith)
 
 -- `|` is zero if and only if both are
 pub or_none : (n : ℕ) (xs ys : List ℕ) → length xs ≡ n → length ys ≡ n → zip2 bit_or xs ys ≡ replicate n 0 → (xs ≡ replicate n 0) × (ys ≡ replicate n 0)
 or_none zero [] [] one other none = (refl, refl)
-or_none zero [] (y ∷ ys) one other none = absurd (omega arith)
-or_none zero (x ∷ xs) ys one other none = absurd (omega arith)
-or_none (suc n) [] ys one other none = absurd (omega arith)
-or_none (suc n) (x ∷ xs) [] one other none = absurd (omega arith)
 or_none (suc n) (x ∷ xs) (y ∷ ys) one other none =
     let head : bit_or x y ≡ 0 = cc in
     let rest : zip2 bit_or xs ys ≡ replicate n 0 = cc in
@@ -65,12 +56,12 @@ or_none (suc n) (x ∷ xs) (y ∷ ys) one other none =
     let x_is : x ≡ 0 = omega (arith, le_or_l x y) in
     let y_is : y ≡ 0 = omega (arith, le_or_r x y) in
     (ap (λ z. z ∷ xs) x_is ∙ ap (λ l. 0 ∷ l) both.0, ap (λ z. z ∷ ys) y_is ∙ ap (λ l. 0 ∷ l) both.1)
+or_none n xs ys one other none = absurd (omega arith)
 
 pub none_or : (n : ℕ) (ys : List ℕ) → length ys ≡ n → zip2 bit_or (replicate n 0) ys ≡ ys
 none_or zero [] long = refl
-none_or zero (y ∷ ys) long = absurd (omega arith)
-none_or (suc n) [] long = absurd (omega arith)
 none_or (suc n) (y ∷ ys) long = ap (λ l. y ∷ l) (none_or n ys (omega arith))
+none_or n xs long = absurd (omega arith)
 
 pub or_long : (n : ℕ) (xs ys : List ℕ) → length xs ≡ n → length ys ≡ n → length (zip2 bit_or xs ys) ≡ n
 or_long n xs ys one other = length-zip2 bit_or xs ys (one ∙ sym other) ∙ one

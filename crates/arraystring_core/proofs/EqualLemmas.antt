@@ -10,14 +10,13 @@ apart x y = not (eqb x y)
 
 pub none_apart : (xs ys : List ℕ) → length xs ≡ length ys → mask_l (zip2 apart xs ys) ≡ 0 → xs ≡ ys
 none_apart [] [] long none = refl
-none_apart [] (y ∷ ys) long none = absurd (omega arith)
-none_apart (x ∷ xs) [] long none = absurd (omega arith)
 none_apart (x ∷ xs) (y ∷ ys) long none = go (eqb x y) refl none (none_apart xs ys (omega arith))
   where
     go : (t : Bool) → eqb x y ≡ t → cond (not t) 1 0 + 2 * mask_l (zip2 apart xs ys) ≡ 0
         → (mask_l (zip2 apart xs ys) ≡ 0 → xs ≡ ys) → x ∷ xs ≡ y ∷ ys
     go true e h more = rw (eqb-true x y e, more (omega arith)) refl
     go false e h more = absurd (omega arith)
+none_apart xs ys long none = absurd (omega arith)
 
 pub apart_self : (xs : List ℕ) → mask_l (zip2 apart xs xs) ≡ 0
 apart_self [] = refl

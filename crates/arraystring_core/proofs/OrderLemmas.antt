@@ -27,13 +27,12 @@ other_decides x y differ xs ys =
 
 pub first_decides : (a b : List ℕ) (i : ℕ) → i < length a → i < length b → take i a ≡ take i b → get_or a i 0 ≢ get_or b i 0
     → slice_cmp nat_cmp a b ≡ nat_cmp (get_or a i 0) (get_or b i 0)
-first_decides [] b i in_a in_b same differ = absurd (omega arith)
-first_decides (x ∷ a) [] i in_a in_b same differ = absurd (omega arith)
 first_decides (x ∷ a) (y ∷ b) zero in_a in_b same differ = other_decides x y differ a b
 first_decides (x ∷ a) (y ∷ b) (suc i) in_a in_b same differ =
     let first : x ≡ y = cc in
     let rest : take i a ≡ take i b = cc in
     rw (first, tied_itself nat_cmp_total y) (first_decides a b i (omega arith) (omega arith) rest differ)
+first_decides xs b i in_a in_b same differ = absurd (omega arith)
 
 suc_cmp : (m n : ℕ) → nat_cmp m n ≡ nat_cmp (suc m) (suc n)
 suc_cmp m n =
@@ -101,13 +100,12 @@ first_other : (xs ys : List ℕ) (i : ℕ) → length xs ≡ length ys → xs �
     → ((j : ℕ) → j < i → get_or (zip2 eqb xs ys) j false ≡ true)
     → (i < length xs) × (take i xs ≡ take i ys) × (get_or xs i 0 ≢ get_or ys i 0)
 first_other [] [] i long differ clear before = absurd (differ refl)
-first_other [] (y ∷ ys) i long differ clear before = absurd (omega arith)
-first_other (x ∷ xs) [] i long differ clear before = absurd (omega arith)
 first_other (x ∷ xs) (y ∷ ys) zero long differ clear before = (omega arith, refl, λ e. absurd (both_ways (eqb x y) clear (eq-eqb x y e)))
 first_other (x ∷ xs) (y ∷ ys) (suc i) long differ clear before =
     let same : x ≡ y = eqb-true x y (before 0 (omega arith)) in
     let rest = first_other xs ys i (omega arith) (λ e. differ (ap (λ l. x ∷ l) e ∙ ap (λ z. z ∷ ys) same)) clear (λ j lt. before (suc j) (omega arith)) in
     (omega arith, ap (λ l. x ∷ l) rest.1 ∙ ap (λ z. z ∷ take i ys) same, rest.2)
+first_other xs ys i long differ clear before = absurd (omega arith)
 
 -- the lowest bit that a mask of equal lanes has not
 first_clear : (xs ys : List ℕ) (m : ℕ) → length xs ≡ length ys → xs ≢ ys → m ≡ mask_l (zip2 eqb xs ys) → m + 1 < 2 ^ 64

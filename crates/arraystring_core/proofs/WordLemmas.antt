@@ -66,8 +66,6 @@ higher_decides x y p v w differ small other_small =
 
 value_cmp : (xs ys : List ℕ) → length xs ≡ length ys → AreBytes xs → AreBytes ys → nat_cmp (value xs) (value ys) ≡ slice_cmp nat_cmp xs ys
 value_cmp [] [] long bytes other_bytes = refl
-value_cmp [] (y ∷ ys) long bytes other_bytes = absurd (omega arith)
-value_cmp (x ∷ xs) [] long bytes other_bytes = absurd (omega arith)
 value_cmp (x ∷ xs) (y ∷ ys) long bytes other_bytes =
     let tail : length xs ≡ length ys = omega arith in
     let power : 256 ^ length xs ≡ 256 ^ length ys = ap (λ n. 256 ^ n) tail in
@@ -81,26 +79,15 @@ value_cmp (x ∷ xs) (y ∷ ys) long bytes other_bytes =
           ∙ higher_decides x y (256 ^ length ys) (value xs) (value ys) differ small other_small
           ∙ sym (other_decides x y differ xs ys)
     ]
+value_cmp xs ys long bytes other_bytes = absurd (omega arith)
 
 value_8 : (bs : List ℕ) → length bs ≡ 8 → from_be_bytes w64 bs ≡ value bs
-value_8 [] l = absurd (omega arith)
-value_8 (a ∷ []) l = absurd (omega arith)
-value_8 (a ∷ b ∷ []) l = absurd (omega arith)
-value_8 (a ∷ b ∷ c ∷ []) l = absurd (omega arith)
-value_8 (a ∷ b ∷ c ∷ d ∷ []) l = absurd (omega arith)
-value_8 (a ∷ b ∷ c ∷ d ∷ e ∷ []) l = absurd (omega arith)
-value_8 (a ∷ b ∷ c ∷ d ∷ e ∷ f ∷ []) l = absurd (omega arith)
-value_8 (a ∷ b ∷ c ∷ d ∷ e ∷ f ∷ g ∷ []) l = absurd (omega arith)
 value_8 (a ∷ b ∷ c ∷ d ∷ e ∷ f ∷ g ∷ h ∷ []) l = omega arith
-value_8 (a ∷ b ∷ c ∷ d ∷ e ∷ f ∷ g ∷ h ∷ x ∷ bs) l = absurd (omega arith)
+value_8 xs l = absurd (omega arith)
 
 value_4 : (bs : List ℕ) → length bs ≡ 4 → from_be_bytes w32 bs ≡ value bs
-value_4 [] l = absurd (omega arith)
-value_4 (a ∷ []) l = absurd (omega arith)
-value_4 (a ∷ b ∷ []) l = absurd (omega arith)
-value_4 (a ∷ b ∷ c ∷ []) l = absurd (omega arith)
 value_4 (a ∷ b ∷ c ∷ d ∷ []) l = omega arith
-value_4 (a ∷ b ∷ c ∷ d ∷ x ∷ bs) l = absurd (omega arith)
+value_4 xs l = absurd (omega arith)
 
 -- K bytes are the digits of a number
 pub record AreDigits (K : ℕ) (number : List ℕ → ℕ) : Type 0 where
@@ -129,13 +116,12 @@ take_bytes (suc k) (x ∷ l) bytes (suc i) = take_bytes k l (λ j. bytes (suc j)
 -- lists that differ in a part of one length, and not before it
 part_decides : (a b r s : List ℕ) → length a ≡ length b → a ≢ b → slice_cmp nat_cmp (a ++ r) (b ++ s) ≡ slice_cmp nat_cmp a b
 part_decides [] [] r s long differ = absurd (differ refl)
-part_decides [] (y ∷ b) r s long differ = absurd (omega arith)
-part_decides (x ∷ a) [] r s long differ = absurd (omega arith)
 part_decides (x ∷ a) (y ∷ b) r s long differ =
     elim (eq_or_not x y) [
       | inl same ↦ rw (same, tied_itself nat_cmp_total y) (part_decides a b r s (omega arith) (λ e. differ (ap (λ l. x ∷ l) e ∙ ap (λ z. z ∷ b) same)))
       | inr apart ↦ other_decides x y apart (a ++ r) (b ++ s) ∙ sym (other_decides x y apart a b)
     ]
+part_decides xs ys r s long differ = absurd (omega arith)
 
 behind_same : (p a b : List ℕ) → slice_cmp nat_cmp (p ++ a) (p ++ b) ≡ slice_cmp nat_cmp a b
 behind_same [] a b = refl
@@ -226,13 +212,12 @@ pub one_decides : (a b : List ℕ) (at : ℕ) → at < length a → at < length 
 one_decides a b at in_a in_b before differ = sym (first_decides a b at in_a in_b before differ)
 
 same_through : (a b : List ℕ) (at : ℕ) → at < length a → at < length b → take at a ≡ take at b → get_or a at 0 ≡ get_or b at 0 → take (suc at) a ≡ take (suc at) b
-same_through [] b at in_a in_b before same = absurd (omega arith)
-same_through (x ∷ a) [] at in_a in_b before same = absurd (omega arith)
 same_through (x ∷ a) (y ∷ b) zero in_a in_b before same = ap (λ z. z ∷ []) same
 same_through (x ∷ a) (y ∷ b) (suc at) in_a in_b before same =
     let first : x ≡ y = cc in
     let front : take at a ≡ take at b = cc in
     ap (λ l. x ∷ l) (same_through a b at (omega arith) (omega arith) front same) ∙ ap (λ z. z ∷ take (suc at) b) first
+same_through xs b at in_a in_b before same = absurd (omega arith)
 
 pub one_same : (a b : List ℕ) (at : ℕ) → at < length a → at < length b → take at a ≡ take at b → get_or a at 0 ≡ get_or b at 0 → take (at + 1) a ≡ take (at + 1) b
 one_same a b at in_a in_b before same =
