@@ -9,6 +9,9 @@ use Rattle.arraystring_base.specs.Text.{IsScalarValue, IsText}
 use Rattle.arraystring_base.specs.Utf16.{IsHigh, IsLow, utf16, text_units, item_units, joined_units, IsItem, NoPairApart, IsReading}
 use Rattle.arraystring_base.specs.Reading.{is_high, is_low, pair_character, single_item, read_before, reading}
 
+abbrev IsUnit : ℕ → Type 0
+IsUnit unit = unit < 0x1_0000
+
 -- what a unit is by itself
 single_item-character : (u : ℕ) → IsScalarValue u → single_item u ≡ Char u
 unfolding single_item
@@ -61,15 +64,18 @@ read_before-single unit (Lone next ∷ items) apart = by_test (is_high unit && i
     by_test false e = refl
 
 -- if the first item is lone, it is the first unit
+single-first : (v low : ℕ) (items rest : List Unit16) → single_item v ∷ items ≡ Lone low ∷ rest → v ≡ low
+single-first v low items rest e = let one : single_item v ≡ Lone low = cc in single_item-same v low one
+
 read_before-first : (v : ℕ) (items : List Unit16) (low : ℕ) (rest : List Unit16) → read_before v items ≡ Lone low ∷ rest → v ≡ low
 unfolding read_before
-read_before-first v [] low rest e = let one : single_item v ≡ Lone low = cc in single_item-same v low one
-read_before-first v (Char c ∷ items) low rest e = let one : single_item v ≡ Lone low = cc in single_item-same v low one
+read_before-first v [] low rest e = single-first v low _ rest e
+read_before-first v (Char c ∷ items) low rest e = single-first v low _ rest e
 read_before-first v (Lone next ∷ items) low rest e = by_test (is_high v && is_low next) e
   where
     by_test : (t : Bool) → cond t (Char (pair_character v next) ∷ items) (single_item v ∷ Lone next ∷ items) ≡ Lone low ∷ rest → v ≡ low
     by_test true f = absurd (cc)
-    by_test false f = let one : single_item v ≡ Lone low = cc in single_item-same v low one
+    by_test false f = single-first v low _ rest f
 
 reading-first : (units : List ℕ) (low : ℕ) (rest : List Unit16) → reading units ≡ Lone low ∷ rest → (more : List ℕ) × (units ≡ low ∷ more)
 reading-first [] low rest e = absurd (cc)
@@ -139,7 +145,7 @@ cons-apart item items first apart (other ∷ before) after high low e h l =
 
 nil-apart : NoPairApart []
 nil-apart [] after high low e h l = absurd (cc)
-nil-apart (item ∷ before) after high low e h l = absurd (cc)
+nil-apart before after high low e h l = absurd (cc)
 
 -- a unit by itself is an item that spells it: a step of this proof, which no law and no contract speaks of
 record IsSingle (unit : ℕ) : Type 0 where
@@ -169,7 +175,7 @@ single-reads : (unit : ℕ) (units : List ℕ) (items : List Unit16) → unit < 
 single-reads unit units items small is apart =
     let single = is-single unit small in
     record {
-      each_unit = All-cons (λ u. u < 0x1_0000) unit units small is.each_unit;
+      each_unit = All-cons IsUnit unit units small is.each_unit;
       each_item = All-cons IsItem (single_item unit) items single.is_item is.each_item;
       joined = ap (λ l. unit ∷ l) is.joined ∙ ap (λ l. l ++ joined_units items) (sym single.spells);
       apart = cons-apart (single_item unit) items
@@ -186,7 +192,7 @@ utf16-pair high low h l =
 pair-reads : (high low : ℕ) (units : List ℕ) (items : List Unit16) → high < 0x1_0000 → IsReading units (Lone low ∷ items)
     → IsHigh high → IsLow low → IsReading (high ∷ units) (Char (pair_character high low) ∷ items)
 pair-reads high low units items small is h l = record {
-  each_unit = All-cons (λ u. u < 0x1_0000) high units small is.each_unit;
+  each_unit = All-cons IsUnit high units small is.each_unit;
   each_item = All-cons IsItem (Char (pair_character high low)) items (inr (omega arith, omega arith)) (All-tail IsItem (Lone low) items is.each_item);
   joined = ap (λ l. high ∷ l) is.joined ∙ ap (λ l. l ++ joined_units items) (sym (utf16-pair high low h l));
   apart = cons-apart (Char (pair_character high low)) items (λ other next rest e. absurd (cc)) (tail-apart (Lone low) items is.apart);
@@ -207,20 +213,20 @@ read_before-reads unit units (Lone next ∷ items) small is = by_test (is_high u
         let tests : is_high unit && is_low next ≡ true = and_from _ _ (is-high unit h) (is-low next (subst IsLow (sym same) l)) in
         true≢false (sym tests ∙ e))
 
-pub reading-reads : (units : List ℕ) → All (λ unit. unit < 0x1_0000) units → IsReading units (reading units)
+pub reading-reads : (units : List ℕ) → All IsUnit units → IsReading units (reading units)
 reading-reads [] small = record { each_unit = small; each_item = All-nil IsItem; joined = refl; apart = nil-apart }
 reading-reads (unit ∷ units) small =
-    read_before-reads unit units (reading units) (All-head (λ u. u < 0x1_0000) unit units small)
-    (reading-reads units (All-tail (λ u. u < 0x1_0000) unit units small))
+    read_before-reads unit units (reading units) (All-head IsUnit unit units small)
+    (reading-reads units (All-tail IsUnit unit units small))
 
 -- the units of a text are read as its characters
 text_units-joined : (t : List ℕ) → text_units t ≡ joined_units (map Char t)
 text_units-joined [] = refl
 text_units-joined (c ∷ cs) = ap (λ l. utf16 c ++ l) (text_units-joined cs)
 
-utf16-small : (c : ℕ) → IsScalarValue c → All (λ u. u < 0x1_0000) (utf16 c)
+utf16-small : (c : ℕ) → IsScalarValue c → All IsUnit (utf16 c)
 utf16-small c h = elim (cases_lt c 0x1_0000) [
-  | inl one ↦ rw (lt-ltb c 0x1_0000 one) (All-cons (λ u. u < 0x1_0000) c [] one (All-nil (λ u. u < 0x1_0000)))
+  | inl one ↦ rw (lt-ltb c 0x1_0000 one) (All-cons IsUnit c [] one (All-nil IsUnit))
   | inr two ↦
       let top : c < 0x11_0000 = elim h [ inl a ↦ omega arith | inr b ↦ b.1 ] in
       let high = 0xD800 + (c - 0x1_0000) / 0x400 in
@@ -228,13 +234,13 @@ utf16-small c h = elim (cases_lt c 0x1_0000) [
       let first : high < 0x1_0000 = omega arith in
       let second : low < 0x1_0000 = omega arith in
       rw (le-ltb c 0x1_0000 two)
-      (All-cons (λ u. u < 0x1_0000) high (low ∷ []) first (All-cons (λ u. u < 0x1_0000) low [] second (All-nil (λ u. u < 0x1_0000))))
+      (All-cons IsUnit high (low ∷ []) first (All-cons IsUnit low [] second (All-nil IsUnit)))
 ]
 
-text_units-small : (t : List ℕ) → IsText t → All (λ u. u < 0x1_0000) (text_units t)
-text_units-small [] is = All-nil (λ u. u < 0x1_0000)
+text_units-small : (t : List ℕ) → IsText t → All IsUnit (text_units t)
+text_units-small [] is = All-nil IsUnit
 text_units-small (c ∷ cs) is =
-    All-append (λ u. u < 0x1_0000) (utf16 c) (text_units cs) (utf16-small c is.0) (text_units-small cs is.1)
+    All-append IsUnit (utf16 c) (text_units cs) (utf16-small c is.0) (text_units-small cs is.1)
 
 characters-items : (t : List ℕ) → IsText t → All IsItem (map Char t)
 characters-items [] is = All-nil IsItem
