@@ -1,14 +1,14 @@
 -- A text at an offset of its array, and what it is once a part of it is replaced, dropped or kept.
 use Rattle.std.proofs.Common.{◌≡◌, ℕ, ◌+◌, ◌-◌, ◌≤◌, List, [], ◌++◌, length, take, drop, refl, sym, ap, ◌∙◌, arith, IsUtf8, chars, true, take-take}
-use Rattle.std.proofs.lemmas.Str.{IsUtf8-append, IsUtf8-take, IsUtf8-drop, IsUtf8-nil, chars-nil}
+use Rattle.std.proofs.lemmas.Str.{IsUtf8-append, IsUtf8-nil, chars-nil}
 use Rattle.std.proofs.lemmas.List.{drop-take, drop-drop, append-nil}
 use Rattle.std.proofs.Math.Seq.{take-add}
-use Rattle.arraystring_base.specs.Text.{size, bytes, cap, front, back, boundary}
-use Rattle.arraystring_base.proofs.TextLaws.{chars-bytes, bytes-chars, bytes-append, size-borrowed}
-use Rattle.arraystring_base.proofs.BoundaryLaws.{boundary-end, front-end, back-end, bytes-front, bytes-back, boundary-to_bytes}
+use Rattle.arraystring_base.specs.Text.{IsText, size, bytes, cap, front, back, boundary}
+use Rattle.arraystring_base.proofs.TextLaws.{chars-bytes, bytes-chars, bytes-append, bytes-utf8, size-borrowed}
+use Rattle.arraystring_base.proofs.BoundaryLaws.{boundary-end, front-end, back-end, bytes-front, bytes-back, front-text, back-text}
 use Rattle.arraystring_core.specs.Stored.{Stored, stored, IsStored}
 use Rattle.arraystring_core.specs.GhostProofs.{stored-utf8}
-use Rattle.arraystring_core.proofs.StoredLaws.{opened-bytes, opened-size, opened-within}
+use Rattle.arraystring_core.proofs.StoredLaws.{opened-bytes, opened-size, opened-within, opened-text}
 use Rattle.arraystring_core.proofs.GapLemmas.{gap-filled, written-length, written-from-zero, tail-from-zero, shift-before, shift-moved, shift-length}
 
 -- the n bytes of the array from the offset p on are the text t, and end within the capacity
@@ -22,7 +22,7 @@ pub spliced : {array_size : ℕ} {array : List ℕ} {p n : ℕ} → IsStored arr
 spliced is e d u = (opened-size is e, opened-within is e _ d, size-borrowed u)
 
 -- xs shows the text t in its first n bytes; `new` shows it with `given` instead of the part from start to end
-module _ (t xs : List ℕ) (n : ℕ) (is : bytes t ≡ take n xs) (u : IsUtf8 (take n xs)) (given : List ℕ) (g : IsUtf8 given)
+module _ (t xs : List ℕ) (n : ℕ) (is : bytes t ≡ take n xs) (text : IsText t) (given : List ℕ) (g : IsUtf8 given)
     (start end : ℕ) (low : start ≤ n) (high : end ≤ n) (b : boundary t start ≡ true) (d : boundary t end ≡ true)
     (new : List ℕ) (written : new ≡ take start xs ++ (given ++ take (n - end) (drop end xs))) where
   shown-front : take start xs ≡ bytes (front t start)
@@ -33,22 +33,14 @@ module _ (t xs : List ℕ) (n : ℕ) (is : bytes t ≡ take n xs) (u : IsUtf8 (t
       let whole : end + (n - end) ≡ n = omega arith in
       sym (drop-take end (n - end) xs) ∙ ap (λ k. drop end (take k xs)) whole ∙ ap (drop end) (sym is) ∙ bytes-back t end d
 
-  text-utf8 : IsUtf8 (bytes t)
-  text-utf8 = rw is u
-
-  front-utf8 : IsUtf8 (bytes (front t start))
-  front-utf8 = rw (← bytes-front t start b) (IsUtf8-take (bytes t) start text-utf8 (boundary-to_bytes t (bytes t) start text-utf8 refl b))
-
-  back-utf8 : IsUtf8 (bytes (back t end))
-  back-utf8 = rw (← bytes-back t end d) (IsUtf8-drop (bytes t) end text-utf8 (boundary-to_bytes t (bytes t) end text-utf8 refl d))
-
   new-bytes : new ≡ bytes (front t start) ++ (given ++ bytes (back t end))
   new-bytes = written ∙ ap (λ f. f ++ (given ++ take (n - end) (drop end xs))) shown-front
       ∙ ap (λ l. bytes (front t start) ++ (given ++ l)) shown-back
 
   restored-utf8 : IsUtf8 new
   restored-utf8 =
-      rw new-bytes (IsUtf8-append (bytes (front t start)) (given ++ bytes (back t end)) front-utf8 (IsUtf8-append given (bytes (back t end)) g back-utf8))
+      rw new-bytes (IsUtf8-append (bytes (front t start)) (given ++ bytes (back t end)) (bytes-utf8 _ (front-text t start text))
+      (IsUtf8-append given (bytes (back t end)) g (bytes-utf8 _ (back-text t end text))))
 
   replaced-text : chars new ≡ front t start ++ (chars given ++ back t end)
   replaced-text =
@@ -73,10 +65,9 @@ module _ {array_size : ℕ} {array : List ℕ} {p n : ℕ} (is : IsStored array_
     replaced =
         let low : start ≤ n = omega (arith, opened-within is e end d) in
         let old = opened-bytes is e in
-        let old_utf8 = stored-utf8 is in
         record {
-          held = record { within = held; length = long; utf8 = ∣ restored-utf8 v.text (drop p array) n old old_utf8 given u start end low (opened-within is e end d) b d _ written ∣₁ };
-          shown = replaced-text v.text (drop p array) n old old_utf8 given u start end low (opened-within is e end d) b d _ written;
+          held = record { within = held; length = long; utf8 = ∣ restored-utf8 v.text (drop p array) n old (opened-text is e) given u start end low (opened-within is e end d) b d _ written ∣₁ };
+          shown = replaced-text v.text (drop p array) n old (opened-text is e) given u start end low (opened-within is e end d) b d _ written;
         }
 
   -- the text was moved to offset q, and `given` was written into the gap
@@ -225,9 +216,6 @@ module _ {array_size : ℕ} {array : List ℕ} {p n : ℕ} (is : IsStored array_
 -- the part before the boundary m is dropped
 module _ {array_size : ℕ} {array : List ℕ} {p n : ℕ} (is : IsStored array_size array p n) {v : Stored} (e : stored array p n ≡ v)
     (m : ℕ) (b : boundary v.text m ≡ true) where
-  whole-utf8 : IsUtf8 (bytes v.text)
-  whole-utf8 = rw (opened-bytes is e) (stored-utf8 is)
-
   dropped-bytes : take (n - m) (drop (p + m) array) ≡ bytes (back v.text m)
   dropped-bytes =
       let whole : m + (n - m) ≡ n = omega (arith, opened-within is e m b) in
@@ -235,8 +223,7 @@ module _ {array_size : ℕ} {array : List ℕ} {p n : ℕ} (is : IsStored array_
       ∙ ap (λ k. drop m (take k (drop p array))) whole ∙ ap (drop m) (sym (opened-bytes is e)) ∙ bytes-back v.text m b
 
   dropped-utf8 : IsUtf8 (take (n - m) (drop (p + m) array))
-  dropped-utf8 =
-      rw (dropped-bytes, ← bytes-back v.text m b) (IsUtf8-drop (bytes v.text) m whole-utf8 (boundary-to_bytes v.text (bytes v.text) m whole-utf8 refl b))
+  dropped-utf8 = rw dropped-bytes (bytes-utf8 (back v.text m) (back-text v.text m (opened-text is e)))
 
   pub dropped : Lies array_size array (p + m) (n - m) (back v.text m)
   dropped = record {
@@ -252,9 +239,7 @@ module _ {array_size : ℕ} {array : List ℕ} {p n : ℕ} (is : IsStored array_
       sym (take-take m n (drop p array) (opened-within is e m b)) ∙ ap (take m) (sym (opened-bytes is e)) ∙ bytes-front v.text m b
 
   kept-utf8 : IsUtf8 (take m (drop p array))
-  kept-utf8 =
-      let u : IsUtf8 (bytes v.text) = rw (opened-bytes is e) (stored-utf8 is) in
-      rw (kept-bytes, ← bytes-front v.text m b) (IsUtf8-take (bytes v.text) m u (boundary-to_bytes v.text (bytes v.text) m u refl b))
+  kept-utf8 = rw kept-bytes (bytes-utf8 (front v.text m) (front-text v.text m (opened-text is e)))
 
   pub kept : Lies array_size array p m (front v.text m)
   kept = record {
