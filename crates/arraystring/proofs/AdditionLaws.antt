@@ -43,7 +43,7 @@ module _ {t : List ℕ} (given : List ℕ) (n : ℕ) {new : List ℕ} {result : 
   -- all of it, if it fits
   pub addition_of_cut-fits : size t + size given ≤ n → Makes (addition_of_cut t given n) t result new → new ≡ t ++ given
   addition_of_cut-fits fits m =
-      (edit-makes refl m).1 ∙ ap (λ l. t ++ l) (cut-all {t = given} {n = n - size t} (omega (arith, fits)))
+      (edit-makes refl m).1 ∙ ap (λ l. t ++ l) (cut-all {t = given} {n = n - size t} (omega arith))
 
   -- the text after is the cut of both, if the text before fits
   pub addition_of_cut-cuts : size t ≤ n → Makes (addition_of_cut t given n) t result new → new ≡ cut (t ++ given) n
@@ -134,7 +134,7 @@ module _ {t : List ℕ} (i : ℕ) (given : List ℕ) (n : ℕ) {new : List ℕ} 
   -- all of it, if it fits
   pub insertion_of_cut-fits : size t + size given ≤ n → Makes (insertion_of_cut t i given n) t (Ok tt) new
       → new ≡ front t i ++ (given ++ back t i)
-  insertion_of_cut-fits fits m = m.ok ∙ ap (λ l. front t i ++ (l ++ back t i)) (cut-all {t = given} {n = n - size t} (omega (arith, fits)))
+  insertion_of_cut-fits fits m = m.ok ∙ ap (λ l. front t i ++ (l ++ back t i)) (cut-all {t = given} {n = n - size t} (omega arith))
 
   -- one that returned `Err`: the index is past the text, or inside a character
   pub insertion_of_cut-refused : {error : Error} → Makes (insertion_of_cut t i given n) t (Err error) new

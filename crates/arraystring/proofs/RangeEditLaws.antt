@@ -23,7 +23,7 @@ module _ {t : List ℕ} (start end : ℕ) {new : List ℕ} where
       let none = edit-none_held m in
       let order : start ≤ end = ltb-false end start none.0 in
       let within = past-failed t end none.1.0 in
-      let starts = inside-failed t start (omega (arith, order, within)) none.1.1.0 in
+      let starts = inside-failed t start (omega arith) none.1.1.0 in
       (order, within, starts, inside-failed t end within none.1.1.1.0, was.1, was.2)
 
   -- one that returned `Err`: by the first test that holds
@@ -47,7 +47,7 @@ module _ {t : List ℕ} (start end : ℕ) {new : List ℕ} where
       go (inr (near, inr (none, inr (out, inl (inner, is))))) e =
           let order : start ≤ end = ltb-false end start near in
           let within = past-failed t end none in
-          inr (inr (inr (order, within, inside-failed t start (omega (arith, order, within)) out, (inside-held t end inner).1, e ∙ ap error_of is)))
+          inr (inr (inr (order, within, inside-failed t start (omega arith) out, (inside-held t end inner).1, e ∙ ap error_of is)))
       go (inr (near, inr (none, inr (out, inr (ends, nothing))))) e = absurd nothing
 
 module _ {t : List ℕ} (start end : ℕ) {new : List ℕ} {result : Result (List ℕ) Error} where
@@ -81,7 +81,7 @@ module _ {t : List ℕ} (start end : ℕ) (given : List ℕ) (n : ℕ) {new : Li
       let none = edit-none_held m in
       let order : start ≤ end = ltb-false end start none.0 in
       let within = past-failed t end none.1.0 in
-      let starts = inside-failed t start (omega (arith, order, within)) none.1.1.1.0 in
+      let starts = inside-failed t start (omega arith) none.1.1.1.0 in
       (order, within, ltb-false n _ none.1.1.0, starts, inside-failed t end within none.1.1.1.1.0, m.ok)
 
   -- one that returned `Err`: by the first test that holds
@@ -111,7 +111,7 @@ module _ {t : List ℕ} (start end : ℕ) (given : List ℕ) (n : ℕ) {new : Li
       go (inr (near, inr (none, inr (fits, inr (out, inl (inner, is)))))) e =
           let order : start ≤ end = ltb-false end start near in
           let within = past-failed t end none in
-          let starts = inside-failed t start (omega (arith, order, within)) out in
+          let starts = inside-failed t start (omega arith) out in
           inr (inr (inr (inr (order, within, ltb-false n _ fits, starts, (inside-held t end inner).1, e ∙ ap error_of is))))
       go (inr (near, inr (none, inr (fits, inr (out, inr (ends, nothing)))))) e = absurd nothing
 

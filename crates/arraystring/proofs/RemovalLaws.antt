@@ -96,12 +96,12 @@ module _ {t : List ℕ} (i : ℕ) {new : List ℕ} where
       let was = edit-made m in
       let none = edit-none_held m in
       let under : i < size t = leb-false (size t) i none.0 in
-      let b = inside-failed t i (omega (arith, under)) none.1.0 in
-      (under, b, go (back t i) refl (omega (arith, under, back-size t i b)) was.1 was.2)
+      let b = inside-failed t i (omega arith) none.1.0 in
+      (under, b, go (back t i) refl (omega (arith, back-size t i b)) was.1 was.2)
     where
       go : (l : List ℕ) → back t i ≡ l → 0 < size l → c ≡ slice_index l 0 → new ≡ front t i ++ drop 1 l
           → (rest : List ℕ) × (back t i ≡ c ∷ rest) × (new ≡ front t i ++ rest)
-      go [] e some is same = absurd (omega (arith, some))
+      go [] e some is same = absurd (omega arith)
       go (d ∷ rest) e some is same = (rest, e ∙ ap (λ x. x ∷ rest) (sym is), same)
 
   -- one that returned `Err`: the index is not below the size of the text, or inside a character
@@ -131,7 +131,7 @@ module _ {t : List ℕ} (i : ℕ) {new : List ℕ} {result : Result ℕ Error} w
   -- then an index inside a character
   pub removal-inside : i < size t → boundary t i ≡ false → Makes (removal t i) t result new → (result ≡ Err Utf8) × (new ≡ t)
   removal-inside under b m =
-      edit-refuses {cause = Inside} (rw (lt-leb (size t) i under, inside-so t i (omega (arith, under)) b) refl) m
+      edit-refuses {cause = Inside} (rw (lt-leb (size t) i under, inside-so t i (omega arith) b) refl) m
 
 -- the part from `i` on is the result
 module _ {t : List ℕ} (i : ℕ) {new : List ℕ} where

@@ -47,7 +47,7 @@ inside-held t i holds =
 -- a boundary, or an index past the text, is not inside a character
 pub inside-fails : (t : List ℕ) (i : ℕ) → (i ≤ size t → boundary t i ≡ true) → (inside t i).holds ≡ false
 inside-fails t i b = elim (cases_lt (size t) i) [
-  | inl far ↦ inside-past t i (omega (arith, far))
+  | inl far ↦ inside-past t i (omega arith)
   | inr within ↦ inside-not t i (b within)
 ]
 
@@ -61,7 +61,7 @@ index-held t i (inr (near, inr (out, none))) e = absurd none
 -- if the range is in order and in the text, an end inside a character is found
 pub ends-held : (t : List ℕ) (start end : ℕ) → start ≤ end → end ≤ size t → (boundary t start ≡ false) ⊎ (boundary t end ≡ false)
     → first_cause (inside t start ∷ inside t end ∷ []) ≡ Some Inside
-ends-held t start end order within (inl b) = rw (inside-so t start (omega (arith, order, within)) b) refl
+ends-held t start end order within (inl b) = rw (inside-so t start (omega arith) b) refl
 ends-held t start end order within (inr d) = go (inside t start).holds (inside-so t end within d)
   where
     go : (b : Bool) → (inside t end).holds ≡ true → (if b then Some Inside else (if (inside t end).holds then Some Inside else None)) ≡ Some Inside

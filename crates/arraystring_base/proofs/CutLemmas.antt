@@ -25,7 +25,7 @@ cut-at bs n m u b le lt nearest =
     let head : q ≡ utf8 c ++ bytes es = sym (bytes-chars qu) ∙ ap bytes e in
     let next = boundary-past_char bs (bytes es) m c within qu head in
     elim (cases_lt n (m + width c)) [
-      | inl over ↦ omega (arith, over)
+      | inl over ↦ omega arith
       | inr under ↦ absurd (nearest (m + width c) (omega (arith, width-bounds c)) under next)
     ] in
     let is : cut (chars bs) n ≡ chars p =
@@ -41,13 +41,13 @@ near-by (c ∷ cs) bs n u e lt =
     let within : length bs ≡ width c + length (bytes cs) =
     ap length head ∙ length-append (utf8 c) (bytes cs) ∙ ap (λ k. k + length (bytes cs)) (length-utf8 c) in
     elim (cases_lt n (width c)) [
-      | inl inside ↦ (0, omega arith, omega (arith, wide), IsCharBoundary-start bs u)
+      | inl inside ↦ (0, omega arith, omega arith, IsCharBoundary-start bs u)
       | inr past ↦
           let rest : drop (width c) bs ≡ bytes cs =
           ap (drop (width c)) head ∙ drop_at (utf8 c) (bytes cs) (width c) (length-utf8 c) in
           let tail = IsUtf8-past_char bs (bytes cs) c u (head ∙ ap (λ l. l ++ bytes cs) (utf8-is c)) in
           let found = near-by cs (bytes cs) (n - width c) tail refl (omega arith) in
-          (width c + found.0, omega (arith, found.1), omega (arith, found.2), IsCharBoundary-from_rest bs (width c) found.0 (omega arith) (rw rest found.3))
+          (width c + found.0, omega arith, omega arith, IsCharBoundary-from_rest bs (width c) found.0 (omega arith) (rw rest found.3))
     ]
 
 -- a boundary is at most three bytes back

@@ -88,24 +88,24 @@ module _ {bs : List ℕ} (last : Last bs) {a : ℕ} (first : a ≡ from_end bs 1
   is-last k is = rw (← is.0) ((last.front, last.is, is.1), scalar-is last.c last.scalar)
 
   pub one : a < 0x80 → IsLast a 1
-  one lt = is-last 1 (omega (arith, last.ends))
+  one lt = is-last 1 (omega arith)
 
   pub two-long : 0x80 ≤ a → 2 ≤ length bs
-  two-long more = omega (arith, last.ends)
+  two-long more = omega arith
 
   module _ (more : 0x80 ≤ a) {b : ℕ} (second : b ≡ from_end bs 2) where
     pub two : 0xC0 ≤ b → IsLast ((b - 0xC0) * 64 + (a - 0x80)) 2
-    two lead = is-last 2 (omega (arith, last.ends))
+    two lead = is-last 2 (omega arith)
 
     pub three-long : b < 0xC0 → (3 ≤ length bs) × (0x80 ≤ b)
-    three-long back = omega (arith, last.ends)
+    three-long back = omega arith
 
     pub three : {d : ℕ} → b < 0xC0 → d ≡ from_end bs 3 → 0xC0 ≤ d → (0xE0 ≤ d) × IsLast ((d - 0xE0) * 4096 + (b - 0x80) * 64 + (a - 0x80)) 3
-    three back third lead = (omega (arith, last.ends), is-last 3 (omega (arith, last.ends)))
+    three back third lead = (omega arith, is-last 3 (omega arith))
 
     pub four-long : {d : ℕ} → b < 0xC0 → d ≡ from_end bs 3 → d < 0xC0 → (4 ≤ length bs) × (0x80 ≤ d)
-    four-long back third far = omega (arith, last.ends)
+    four-long back third far = omega arith
 
     pub four : {d f : ℕ} → b < 0xC0 → d ≡ from_end bs 3 → d < 0xC0 → f ≡ from_end bs 4
         → (0xF0 ≤ f) × IsLast ((f - 0xF0) * 262144 + (d - 0x80) * 4096 + (b - 0x80) * 64 + (a - 0x80)) 4
-    four back third far fourth = (omega (arith, last.ends), is-last 4 (omega (arith, last.ends)))
+    four back third far fourth = (omega arith, is-last 4 (omega arith))

@@ -58,7 +58,7 @@ module _ (src old half new first last : List ℕ) (from to k len : ℕ) (source 
 pub written-as-one : (old half new first second : List ℕ) (at k : ℕ) → at + (k + k) ≤ length old → length first ≡ k → half ≡ take at old ++ (first ++ drop (at + k) old) → new ≡ take (at + k) half ++ (second ++ drop (at + k + k) half) → new ≡ take at old ++ ((first ++ second) ++ drop (at + (k + k)) old)
 written-as-one old half new first second at k within is_long one two =
     let head = take at old ++ first in
-    let long : length head ≡ at + k = omega (arith, length-append (take at old) first, length-take-le at old (omega arith), is_long) in
+    let long : length head ≡ at + k = omega (arith, length-append (take at old) first, length-take-le at old (omega arith)) in
     let joined : half ≡ head ++ drop (at + k) old = one ∙ sym (append_assoc (take at old) first (drop (at + k) old)) in
     let front : take (at + k) half ≡ head = ap (take (at + k)) joined ∙ take_at head (drop (at + k) old) (at + k) long in
     let sum : at + k + k ≡ at + (k + k) = omega arith in

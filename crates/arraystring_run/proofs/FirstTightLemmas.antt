@@ -28,7 +28,7 @@ first-from k (d ∷ ds) t n = by_tight (tight d t n) refl (first-from (k + 1) ds
         → MatchOption o (NoneTight (d ∷ ds) t n) (IsFirstFrom k (d ∷ ds) t n)
     on_rest loose None none = none-cons d ds t n loose none
     on_rest loose (Some j) (before, c, later, parts, at, is, none) =
-        (d ∷ before, c, later, ap (λ l. d ∷ l) parts, omega (arith, at), is, none-cons d before t n loose none)
+        (d ∷ before, c, later, ap (λ l. d ∷ l) parts, omega arith, is, none-cons d before t n loose none)
 
     by_tight : (b : Bool) → tight d t n ≡ b
         → MatchOption (first_tight_from (k + 1) ds (edit d t n).text n) (NoneTight ds (edit d t n).text n) (IsFirstFrom (k + 1) ds (edit d t n).text n)
@@ -41,4 +41,4 @@ first-tight cs t n = from_start (first_tight_from 0 cs t n) (first-from 0 cs t n
   where
     from_start : (o : Option ℕ) → MatchOption o (NoneTight cs t n) (IsFirstFrom 0 cs t n) → MatchOption o (NoneTight cs t n) (IsFirstTight cs t n)
     from_start None none = none
-    from_start (Some k) (before, c, later, parts, at, is, none) = (before, c, later, parts, omega (arith, at), is, none)
+    from_start (Some k) (before, c, later, parts, at, is, none) = (before, c, later, parts, omega arith, is, none)

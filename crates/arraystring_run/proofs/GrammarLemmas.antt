@@ -55,7 +55,7 @@ letters-from_test (b ∷ bs) e =
 
 one-from_letters : (bs : List ℕ) → AreLetters bs → IsOneWord bs
 one-from_letters [] are = tt
-one-from_letters (b ∷ bs) are = (λ e. omega (arith, are.0), one-from_letters bs are.2)
+one-from_letters (b ∷ bs) are = (λ e. omega arith, one-from_letters bs are.2)
 
 pub one-word : (c : Command) → IsOneWord (word c)
 one-word c = one-from_letters (word c) (letters-from_test (word c) (word-letters c))
@@ -146,8 +146,8 @@ pub no-start : (rest : List ℕ) → ((n : ℕ) (behind : List ℕ) → IsNumber
     → 2 ≤ length (arguments c) → AreSpelled (space ∷ rest) (arguments c) → ⊥
 no-start rest bad c more spelled = start (arguments c) (kinds-numbers_first c) more spelled where
   start : (given : List Argument) → numbers_first (map kind given) ≡ true → 2 ≤ length given → AreSpelled (space ∷ rest) given → ⊥
-  start [] first more spelled = absurd (omega (arith, more))
-  start (a ∷ []) first more spelled = absurd (omega (arith, more))
+  start [] first more spelled = absurd (omega arith)
+  start (a ∷ []) first more spelled = absurd (omega arith)
   start (Number n ∷ b ∷ given) first more spelled = no-before rest bad (Number n ∷ b ∷ given, refl, spelled)
   start (Character c ∷ b ∷ given) first more spelled = absurd (true≢false (sym first))
   start (Text t ∷ b ∷ given) first more spelled = absurd (true≢false (sym first))
@@ -155,34 +155,34 @@ no-start rest bad c more spelled = start (arguments c) (kinds-numbers_first c) m
 -- the other words of two arguments or more take the ends of a range, and no more
 pub ranges : (c : Command) → 2 ≤ length (arguments c) → (word c ≡ codes "try_insert" → ⊥) → (word c ≡ codes "try_insert_str" → ⊥)
     → (word c ≡ codes "insert_str" → ⊥) → (word c ≡ codes "replace_range" → ⊥) → (m : ℕ) × (n : ℕ) × (arguments c ≡ Number m ∷ Number n ∷ [])
-ranges (command.TryPush c) more a b d e = absurd (omega (arith, more))
-ranges (command.TryPushStr given) more a b d e = absurd (omega (arith, more))
-ranges (command.PushStr given) more a b d e = absurd (omega (arith, more))
-ranges command.Pop more a b d e = absurd (omega (arith, more))
-ranges (command.Truncate i) more a b d e = absurd (omega (arith, more))
-ranges command.Trim more a b d e = absurd (omega (arith, more))
-ranges (command.Remove i) more a b d e = absurd (omega (arith, more))
-ranges (command.RetainNot c) more a b d e = absurd (omega (arith, more))
+ranges (command.TryPush c) more a b d e = absurd (omega arith)
+ranges (command.TryPushStr given) more a b d e = absurd (omega arith)
+ranges (command.PushStr given) more a b d e = absurd (omega arith)
+ranges command.Pop more a b d e = absurd (omega arith)
+ranges (command.Truncate i) more a b d e = absurd (omega arith)
+ranges command.Trim more a b d e = absurd (omega arith)
+ranges (command.Remove i) more a b d e = absurd (omega arith)
+ranges (command.RetainNot c) more a b d e = absurd (omega arith)
 ranges (command.TryInsert i c) more a b d e = absurd (a refl)
 ranges (command.TryInsertStr i given) more a b d e = absurd (b refl)
 ranges (command.InsertStr i given) more a b d e = absurd (d refl)
-ranges (command.SplitOff i) more a b d e = absurd (omega (arith, more))
-ranges command.Clear more a b d e = absurd (omega (arith, more))
+ranges (command.SplitOff i) more a b d e = absurd (omega arith)
+ranges command.Clear more a b d e = absurd (omega arith)
 ranges (command.Drain m n) more a b d e = (m, n, refl)
 ranges (command.DrainThrough m n) more a b d e = (m, n, refl)
 ranges (command.DrainBack m n) more a b d e = (m, n, refl)
 ranges (command.ReplaceRange m n given) more a b d e = absurd (e refl)
-ranges command.Upper more a b d e = absurd (omega (arith, more))
-ranges command.Lower more a b d e = absurd (omega (arith, more))
+ranges command.Upper more a b d e = absurd (omega arith)
+ranges command.Lower more a b d e = absurd (omega arith)
 ranges (command.Get m n) more a b d e = (m, n, refl)
-ranges command.Len more a b d e = absurd (omega (arith, more))
-ranges command.Capacity more a b d e = absurd (omega (arith, more))
-ranges command.AsStr more a b d e = absurd (omega (arith, more))
+ranges command.Len more a b d e = absurd (omega arith)
+ranges command.Capacity more a b d e = absurd (omega arith)
+ranges command.AsStr more a b d e = absurd (omega arith)
 
 -- digits have no space, so the number before the first space is one alone
 digits-one : (bs : List ℕ) → AreDigits bs → IsOneWord bs
 digits-one [] are = tt
-digits-one (b ∷ bs) are = (λ e. omega (arith, are.0, e), digits-one bs are.2)
+digits-one (b ∷ bs) are = (λ e. omega arith, digits-one bs are.2)
 
 pub number-one : (bs : List ℕ) (n : ℕ) → IsNumber bs n → IsOneWord bs
 number-one bs n number = digits-one bs number.digits
@@ -216,11 +216,11 @@ low-utf8 b bs low u = IsUtf8-append (b ∷ []) bs (IsUtf8-from_ascii (b ∷ []) 
 
 digits-utf8 : (bs : List ℕ) → AreDigits bs → IsUtf8 bs
 digits-utf8 [] are = IsUtf8-nil
-digits-utf8 (b ∷ bs) are = low-utf8 b bs (omega (arith, are.1)) (digits-utf8 bs are.2)
+digits-utf8 (b ∷ bs) are = low-utf8 b bs (omega arith) (digits-utf8 bs are.2)
 
 letters-utf8 : (bs : List ℕ) → AreLetters bs → IsUtf8 bs
 letters-utf8 [] are = IsUtf8-nil
-letters-utf8 (b ∷ bs) are = low-utf8 b bs (omega (arith, are.1)) (letters-utf8 bs are.2)
+letters-utf8 (b ∷ bs) are = low-utf8 b bs (omega arith) (letters-utf8 bs are.2)
 
 pub char-utf8 : (c : ℕ) → IsScalarValue c → IsUtf8 (utf8 c)
 char-utf8 c is = subst IsUtf8 (append-nil (utf8 c)) (bytes-utf8 (c ∷ []) (is, tt))
@@ -246,7 +246,7 @@ behind-space front rest u =
     let here : get_or line (length front) 0 ≡ space = get_or-append_seam front space rest 0 in
     let within : length front < length line = omega (arith, length-append front (space ∷ rest)) in
     let behind : drop (length front + 1) line ≡ rest = drop-append-add front (space ∷ rest) 1 in
-    utf8-well_formed {bs = rest} (subst IsUtf8 behind (IsUtf8-drop line (length front + 1) u (IsCharBoundary-after_ascii line (length front) u within (omega (arith, here)))))
+    utf8-well_formed {bs = rest} (subst IsUtf8 behind (IsUtf8-drop line (length front + 1) u (IsCharBoundary-after_ascii line (length front) u within (omega arith))))
 
 pub number-behind : (bs : List ℕ) (n : ℕ) (rest : List ℕ) → IsUtf8 bs → IsNumberBefore bs n rest → IsWellFormed rest
 number-behind bs n rest u (digits, number, e) = behind-space digits rest (subst IsUtf8 e u)
@@ -264,11 +264,11 @@ module _ {E : Type 0} (bs : List ℕ) (r : Result ℕ E) (parsed : ParsesUnsigne
     found : (o : Result ℕ E) → OkIff o (AreDigits bs × (0 < length bs) × (value_after 0 bs < 256)) (value_after 0 bs)
         → IfSome (result_ok o) (λ n. IsNumber bs n)
     found (Ok n) ((digits, some, small), is) = record {
-      some = omega (arith, some);
+      some = omega arith;
       short = short;
       digits = digits;
       value = is;
-      small = omega (arith, small, is);
+      small = omega arith;
     }
     found (Err e) h = tt
 
@@ -277,13 +277,13 @@ module _ {E : Type 0} (bs : List ℕ) (r : Result ℕ E) (parsed : ParsesUnsigne
     none : (o : Result ℕ E) → OkIff o (AreDigits bs × (0 < length bs) × (value_after 0 bs < 256)) (value_after 0 bs)
         → IfNone (result_ok o) ((n : ℕ) → IsNumber bs n → ⊥)
     none (Ok n) h = tt
-    none (Err e) bad = λ n is. bad (is.digits, omega (arith, is.some), omega (arith, is.small, is.value))
+    none (Err e) bad = λ n is. bad (is.digits, omega arith, omega arith)
 
 -- a number as it is printed
 decimal-number : (n : ℕ) → n ≤ 255 → IsNumber (decimal n) n
 decimal-number n small =
-    let fits : n < 2 ^ 64 = omega (arith, small) in
-    let below : n < 10 ^ 3 = omega (arith, small) in
+    let fits : n < 2 ^ 64 = omega arith in
+    let below : n < 10 ^ 3 = omega arith in
     record {
       some = decimal_nonempty n fits;
       short = length-decimal-le 3 n (omega arith) below fits;

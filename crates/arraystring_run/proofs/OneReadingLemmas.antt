@@ -31,17 +31,17 @@ argument-same (Character c) (Character d) bs e is also =
     let same = bytes_same {a = c ∷ []} {b = d ∷ []} (append-nil (utf8 c) ∙ sym is.1 ∙ also.1 ∙ sym (append-nil (utf8 d))) in
     ap Character (ap (λ l. get_or l 0 0) same)
 argument-same (Text s) (Text t) bs e is also = ap Text (sym is.1 ∙ also.1)
-argument-same (Number m) (Character d) bs e is also = absurd (omega (arith, e))
-argument-same (Number m) (Text t) bs e is also = absurd (omega (arith, e))
-argument-same (Character c) (Number n) bs e is also = absurd (omega (arith, e))
-argument-same (Character c) (Text t) bs e is also = absurd (omega (arith, e))
-argument-same (Text s) (Number n) bs e is also = absurd (omega (arith, e))
-argument-same (Text s) (Character d) bs e is also = absurd (omega (arith, e))
+argument-same (Number m) (Character d) bs e is also = absurd (omega arith)
+argument-same (Number m) (Text t) bs e is also = absurd (omega arith)
+argument-same (Character c) (Number n) bs e is also = absurd (omega arith)
+argument-same (Character c) (Text t) bs e is also = absurd (omega arith)
+argument-same (Text s) (Number n) bs e is also = absurd (omega arith)
+argument-same (Text s) (Character d) bs e is also = absurd (omega arith)
 
 spelled-one_word : (a : Argument) (bs : List ℕ) → kind a ≡ 0 → IsSpelled bs a → IsOneWord bs
 spelled-one_word (Number n) bs e is = number-one bs n is
-spelled-one_word (Character c) bs e is = absurd (omega (arith, e))
-spelled-one_word (Text t) bs e is = absurd (omega (arith, e))
+spelled-one_word (Character c) bs e is = absurd (omega arith)
+spelled-one_word (Text t) bs e is = absurd (omega arith)
 
 arguments-same : (given also : List Argument) (bs : List ℕ) → map kind given ≡ map kind also → numbers_first (map kind given) ≡ true
     → AreSpelled bs given → AreSpelled bs also → given ≡ also
@@ -122,4 +122,4 @@ pub one-bad : (all : List (List ℕ)) (j k : ℕ) → IsBadAt all j → IsBadAt 
 one-bad all j k at also =
     let same = same-position at.front also.front at.line also.line at.rest also.rest at.commands also.commands
     (sym at.whole ∙ also.whole) at.before also.before at.bad also.bad in
-    omega (arith, same, at.number, also.number)
+    omega arith

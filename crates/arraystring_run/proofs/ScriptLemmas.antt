@@ -62,7 +62,7 @@ module _ (bs : List ℕ) (start len : ℕ) where
       → ((i : ℕ) → i < len → slice_index rest i ≢ line_feed)
       → lines (drop start bs) ≡ slice_range bs start (start + len) ∷ lines (drop (start + len + 1) bs)
   line-from lt le ended one =
-      let some : 0 < length rest = omega (arith, lt, ap length rest-is, length-drop start bs) in
+      let some : 0 < length rest = omega (arith, ap length rest-is, length-drop start bs) in
       let size : start + len - start ≡ len = omega arith in
       let up : start + (len + 1) ≡ start + len + 1 = omega arith in
       let next : drop (len + 1) (drop start bs) ≡ drop (start + len + 1) bs = drop-drop (len + 1) start bs ∙ ap (λ k. drop k bs) up in
@@ -73,8 +73,8 @@ module _ (bs : List ℕ) (start len : ℕ) where
   pub after-line_feed : (len < length rest → slice_index rest len ≡ line_feed)
       → IsUtf8 bs → start + len + 1 < length bs → 128 ≤ slice_index bs (start + len + 1) → 192 ≤ slice_index bs (start + len + 1)
   after-line_feed ended u lt =
-      let at = subst (λ l. len < length l → slice_index l len ≡ line_feed) rest-is ended (omega (arith, lt, length-drop start bs)) in
-      lead_after_ascii bs (start + len) u (omega (arith, at, get_or-drop start bs len 0)) lt
+      let at = subst (λ l. len < length l → slice_index l len ≡ line_feed) rest-is ended (omega (arith, length-drop start bs)) in
+      lead_after_ascii bs (start + len) u (omega (arith, get_or-drop start bs len 0)) lt
 
 -- the first lines are read, and `left` are not
 pub record IsPartRead (all : List (List ℕ)) (done : List Command) (left : List (List ℕ)) (number : ℕ) : Type 0 where
@@ -98,7 +98,7 @@ pub read-more : (all : List (List ℕ)) (done : List Command) (line : List ℕ) 
 read-more all done line left number c way is = record {
   front = way.front ++ line ∷ [];
   whole = way.whole ∙ sym (append_assoc way.front (line ∷ []) left);
-  count = omega (arith, way.count, length-append way.front (line ∷ []));
+  count = omega (arith, length-append way.front (line ∷ []));
   read = more-lines way.front done line c way.read is;
 }
 
@@ -110,7 +110,7 @@ read-bad all done line left number way bad = record {
   line = line;
   rest = left;
   whole = way.whole;
-  number = omega (arith, way.count);
+  number = omega arith;
   before = way.read;
   bad = bad;
 }

@@ -41,14 +41,14 @@ module _ (word : Option (Bor (List ℕ))) (given old new errors_old errors_new :
       → IsServed word given old new errors_old errors_new SameInput SameOutput SameErrors 4
   served-cut quiet s = record {
     other_word = λ e. absurd (omega (arith, (s.other_word e).0));
-    played = if_some-all (capacity_named word) (λ n e. absurd (omega (arith, e)));
-    bad_line = if_some-all (capacity_named word) (λ n e. absurd (omega (arith, e)));
-    no_memory = λ e. absurd (omega (arith, e));
+    played = if_some-all (capacity_named word) (λ n e. absurd (omega arith));
+    bad_line = if_some-all (capacity_named word) (λ n e. absurd (omega arith));
+    no_memory = λ e. absurd (omega arith);
     failed = if_some-map (capacity_named word) (λ n p e. inr (
       if_some-map given (λ input q. (q.0, q.1, front-all old new _ q.2)) (p refl),
       no-front errors_old errors_new (fault_line Write) (quiet (s.quiet refl)),
     )) s.played;
-    quiet = λ e. absurd (omega (arith, e));
+    quiet = λ e. absurd (omega arith);
     unwritten = λ a b. absurd (b refl);
-    known = (omega arith, λ e. absurd (omega (arith, e)));
+    known = (omega arith, λ e. absurd (omega arith));
   }

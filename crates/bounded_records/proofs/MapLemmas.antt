@@ -118,8 +118,8 @@ module _ (m : finite.FinMap (slice_cmp nat_cmp) (List ℕ × List ℕ)) (t : Lis
 
   one_less : (b : Bool) → finite.contains_key m t ≡ b → finite.len (finite.remove m t) ≡ cond b (finite.len m - 1) (finite.len m)
       → finite.len (finite.remove m t) + (if b then 1 else 0) ≡ finite.len m
-  one_less true is left = omega (arith, has_one (finite.len m) refl is, left)
-  one_less false is left = omega (arith, left)
+  one_less true is left = omega (arith, has_one (finite.len m) refl is)
+  one_less false is left = omega arith
 
   -- a removal takes one if there is one
   pub len_removed : (o : Option User) → option_map texts o ≡ finite.get m t → finite.len (finite.remove m t) + (if is_some o then 1 else 0) ≡ finite.len m

@@ -70,8 +70,8 @@ returns-clause-last c =
 
 pub returns-then-second-ge192-clause-each : goal.returns-then-second-ge192-clause-each
 returns-then-second-ge192-clause-each c =
-    omega (arith, two-long (last_of c.as_bytes-all.ensures.value c.utf8.text c.requires.some) c.look-last.ensures.value c.if-last-lt128.false, c.as_bytes-all.ensures.len)
+    omega (arith, two-long (last_of c.as_bytes-all.ensures.value c.utf8.text c.requires.some) c.look-last.ensures.value c.if-last-lt128.false)
 
 pub returns-clause-each : goal.returns-clause-each
 returns-clause-each c =
-    omega (arith, four-long (last_of c.as_bytes-all.ensures.value c.utf8.text c.requires.some) c.look-last.ensures.value c.if-last-lt128.false c.look-second.ensures.value c.if-second-ge192.false c.look-third.ensures.value c.if-third-ge192.false, c.as_bytes-all.ensures.len)
+    omega (arith, four-long (last_of c.as_bytes-all.ensures.value c.utf8.text c.requires.some) c.look-last.ensures.value c.if-last-lt128.false c.look-second.ensures.value c.if-second-ge192.false c.look-third.ensures.value c.if-third-ge192.false)

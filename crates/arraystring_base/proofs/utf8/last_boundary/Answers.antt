@@ -24,7 +24,7 @@ loop-end-preserved c =
     ] in
     record {
       at_most = omega arith;
-      near = omega (arith, found.2, back);
+      near = omega arith;
       nearest = nearest;
       looks = omega arith;
       moves = search rules;
@@ -39,5 +39,5 @@ returns-else-limit-end-lt3-clause-boundary c =
       | inl over ↦ absurd (c.loop-end.invariant.nearest found.0 over found.1 found.3)
       | inr under ↦ under
     ] in
-    let same : found.0 ≡ end = omega (arith, found.2, back, c.if-limit-end-lt3.false, c.loop-end.invariant.at_most) in
+    let same : found.0 ≡ end = omega arith in
     subst (IsCharBoundary c.args.text.now) same found.3

@@ -6,6 +6,5 @@ use Rattle.arraystring_run.proofs.execute.part.Goals as goal
 
 pub from_str_unchecked-requires : goal.from_str_unchecked-requires
 from_str_unchecked-requires g c =
-    let found = part_in-fits c.args.text.now.text c.args.start c.args.end (chars c.in-Some.found.now) (at_own_bounds c.in-Some.ensures tt) in
-    let fits : size (chars c.in-Some.found.now) ≤ cap g.row.N = omega (arith, found, c.text_fits.ensures) in
+    let fits : size (chars c.in-Some.found.now) ≤ cap g.row.N = omega (arith, part_in-fits c.args.text.now.text c.args.start c.args.end (chars c.in-Some.found.now) (at_own_bounds c.in-Some.ensures tt)) in
     (search rules, fits)

@@ -8,7 +8,7 @@ pub push_unchecked-requires : goal.push_unchecked-requires
 push_unchecked-requires g c =
     let rest = c.next_back.new.self.left in
     let left : c.loop-ch.removed.left ≡ rest ++ c.in-Some.ch ∷ [] = c.in-Some.ensures.steps in
-    (search rules, omega (arith, c.loop-ch.invariant.fits, ap size left, size-append rest (c.in-Some.ch ∷ [])))
+    (search rules, omega (arith, ap size left, size-append rest (c.in-Some.ch ∷ [])))
 
 pub loop-ch-preserved : goal.loop-ch-preserved
 loop-ch-preserved g c =
@@ -19,5 +19,5 @@ loop-ch-preserved g c =
     record {
       reversed = ap (λ l. l ++ reverse rest) pushed
           ∙ one-back text c.loop-ch.removed.left rest (reverse c.args.removed.left) c.in-Some.ch left c.loop-ch.invariant.reversed;
-      fits = omega (arith, c.loop-ch.invariant.fits, ap size left, size-append rest (c.in-Some.ch ∷ []), ap size pushed, size-append text (c.in-Some.ch ∷ []));
+      fits = omega (arith, ap size left, size-append rest (c.in-Some.ch ∷ []), ap size pushed, size-append text (c.in-Some.ch ∷ []));
     }

@@ -8,7 +8,7 @@ use Rattle.arraystring_run.proofs.find.before_in_block.Goals as goal
 
 -- a block has 16 bytes
 long : (bytes : List ℕ) (at : ℕ) → at + 16 ≤ length bytes → length (take 16 (drop at bytes)) ≡ 16
-long bytes at le = omega (arith, le, length-take 16 (drop at bytes), length-drop at bytes)
+long bytes at le = omega (arith, length-take 16 (drop at bytes), length-drop at bytes)
 
 -- the mask of a block counts the bytes before the first that is wanted
 counted : (bytes : List ℕ) (at wanted : ℕ) (found : ℕ) → at + 16 ≤ length bytes → found ≡ mask_l (map (λ x. eqb x wanted) (take 16 (drop at bytes))) → found ≢ 0

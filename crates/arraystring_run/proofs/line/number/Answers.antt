@@ -11,7 +11,7 @@ no_plus c = λ is.
 
 pub returns-clause-some : goal.returns-clause-some
 returns-clause-some c =
-    let short : length c.args.text.now ≤ 3 = omega (arith, c.if-text-gt3.false) in
+    let short : length c.args.text.now ≤ 3 = omega arith in
     rw c.ok.ensures.value (parsed-some c.args.text.now c.parse.result c.parse.ensures.value.0 (no_plus c) short)
 
 pub returns-clause-none : goal.returns-clause-none

@@ -9,27 +9,27 @@ returns-then-end-text-clause-none c =
     let bs = c.args.text.now in
     let end = c.find_byte-end.result in
     let before = subst (λ l. (i : ℕ) → i < end → slice_index l i ≢ space) c.as_bytes.ensures.value c.find_byte-end.ensures.before in
-    subst IsOneWord (take_all (length bs) bs (omega arith)) (word-before bs (length bs) (omega arith) (λ i lt. before i (omega (arith, c.if-end-text.true))))
+    subst IsOneWord (take_all (length bs) bs (omega arith)) (word-before bs (length bs) (omega arith) (λ i lt. before i (omega arith)))
 
 pub range_from-requires : goal.range_from-requires
 range_from-requires c =
     let bs = c.args.text.now in
     let end = c.find_byte-end.result in
     let found = c.find_byte-end.ensures in
-    let within : end < length bs = omega (arith, found.at_most, ap length c.as_bytes.ensures.value, c.if-end-text.false) in
+    let within : end < length bs = omega (arith, ap length c.as_bytes.ensures.value) in
     let is = subst (λ l. end < length l → slice_index l end ≡ space) c.as_bytes.ensures.value found.found within in
-    λ _. (omega (arith, within), lead_after_ascii bs end c.utf8.text (omega (arith, is)))
+    λ _. (omega arith, lead_after_ascii bs end c.utf8.text (omega arith))
 
 pub returns-clause-some : goal.returns-clause-some
 returns-clause-some c =
     let bs = c.args.text.now in
     let end = c.find_byte-end.result in
     let found = c.find_byte-end.ensures in
-    let within : end < length bs = omega (arith, found.at_most, ap length c.as_bytes.ensures.value, c.if-end-text.false) in
+    let within : end < length bs = omega (arith, ap length c.as_bytes.ensures.value) in
     let is = subst (λ l. end < length l → slice_index l end ≡ space) c.as_bytes.ensures.value found.found within in
     let before = subst (λ l. (i : ℕ) → i < end → slice_index l i ≢ space) c.as_bytes.ensures.value found.before in
     let front : slice_range bs 0 end ≡ take end bs = grind arith in
     rw (c.range.ensures.value, front, c.range_from.ensures.value) (
       around-space bs end within is,
-      word-before bs end (omega (arith, within)) before,
+      word-before bs end (omega arith) before,
     )

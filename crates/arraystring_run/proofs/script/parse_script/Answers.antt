@@ -47,8 +47,8 @@ loop-start-preserved c =
     let is : IsLineOf line c.in-Some.command = c.in-Some.ensures.some in
     let pushed : c.push.new.self.items ≡ done ++ c.in-Some.command ∷ [] = search rules in
     record {
-      short = omega (arith, way.short);
-      within = omega (arith, found.at_most, length-take (length bs - start) (drop start bs), length-drop start bs, c.loop-start-test.true);
+      short = omega arith;
+      within = omega (arith, length-take (length bs - start) (drop start bs), length-drop start bs);
       read = rw pushed (read-more all done line (lines (drop (start + size + 1) bs)) number c.in-Some.command here is);
       text = way.text;
       boundary = after-line_feed bs start size found.found;

@@ -32,11 +32,10 @@ returns-clause-text c =
     let t = c.try_insert_str.new.self.text in
     let same : t ≡ codes "@" ++ chars c.args.name.now =
     put.1 ∙ ap (λ l. l ++ c.in_ok-greeting.greeting.text) at_sign ∙ ap (λ l. codes "@" ++ l) c.in_ok-greeting.ensures.1 in
-    let fits : size t ≤ 20 = omega (arith, put.0, ap size same, ap size at_sign, one_byte, ap size c.in_ok-greeting.ensures.1) in
+    let fits : size t ≤ 20 = omega (arith, ap size same, ap size at_sign, one_byte, ap size c.in_ok-greeting.ensures.1) in
     addition_of_cut-cuts _ 20 fits c.push_str.ensures ∙ ap (λ l. cut (t ++ l) 20) message
     ∙ ap (λ l. cut (l ++ codes ", welcome back") 20) same
 
 pub returns-clause-fits : goal.returns-clause-fits
 returns-clause-fits c =
-    let put = insertion_at_start-made _ 20 c.in_ok-try_insert_str.ensures in
-    (λ _. omega (arith, put.0, ap size at_sign, one_byte, ap size c.in_ok-greeting.ensures.1), λ _. refl)
+    (λ _. omega (arith, insertion_at_start-made _ 20 c.in_ok-try_insert_str.ensures, ap size at_sign, one_byte, ap size c.in_ok-greeting.ensures.1), λ _. refl)

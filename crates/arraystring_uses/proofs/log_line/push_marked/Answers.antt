@@ -14,7 +14,7 @@ mark_width = refl
 pub overflow_sub-len : goal.overflow_sub-len
 overflow_sub-len c =
     let kept = c.in-Err.ensures.err in
-    omega (arith, c.requires, c.len.ensures.value, ap size kept)
+    omega (arith, ap size kept)
 
 -- and then takes the part that fits into the bytes left
 module _ (line text part_bytes : List ℕ) (room : ℕ) (within : size line ≤ 61) (left : room ≡ 61 - size line)
@@ -23,7 +23,7 @@ module _ (line text part_bytes : List ℕ) (room : ℕ) (within : size line ≤ 
   part_is = chars-bytes spelled is
 
   together-fits : size line + size (chars part_bytes) ≤ 61
-  together-fits = omega (arith, within, left, ap size part_is, cut-fits text room)
+  together-fits = omega (arith, ap size part_is, cut-fits text room)
 
   together : line ++ chars part_bytes ≡ cut (line ++ text) 61
   together = ap (λ l. line ++ l) part_is ∙ ap (λ n. line ++ cut text n) left ∙ sym (cut-past_part line text 61 within)
@@ -31,29 +31,27 @@ module _ (line text part_bytes : List ℕ) (room : ℕ) (within : size line ≤ 
 pub push_str_unchecked-requires : goal.push_str_unchecked-requires
 push_str_unchecked-requires c =
     let kept = c.in-Err.ensures.err in
-    let left : 61 - c.len.result ≡ 61 - size c.args.line.now.text = omega (arith, c.len.ensures.value, ap size kept) in
-    let enough = together-fits c.args.line.now.text (chars c.args.text.now) _ _ c.requires left c.truncate_str.utf8 c.truncate_str.ensures in
-    let room : size c.try_push_str.new.self.text + size (chars c.truncate_str.result.now) ≤ 64 = omega (arith, enough, ap size kept) in
+    let left : 61 - c.len.result ≡ 61 - size c.args.line.now.text = omega (arith, ap size kept) in
+    let room : size c.try_push_str.new.self.text + size (chars c.truncate_str.result.now) ≤ 64 = omega (arith, together-fits c.args.line.now.text (chars c.args.text.now) _ _ c.requires left c.truncate_str.utf8 c.truncate_str.ensures, ap size kept) in
     (search rules, room)
 
 pub push_unchecked-requires : goal.push_unchecked-requires
 push_unchecked-requires c =
     let kept = c.in-Err.ensures.err in
-    let left : 61 - c.len.result ≡ 61 - size c.args.line.now.text = omega (arith, c.len.ensures.value, ap size kept) in
-    let enough = together-fits c.args.line.now.text (chars c.args.text.now) _ _ c.requires left c.truncate_str.utf8 c.truncate_str.ensures in
+    let left : 61 - c.len.result ≡ 61 - size c.args.line.now.text = omega (arith, ap size kept) in
     let room : size c.push_str_unchecked.new.self.text + width 0x2026 ≤ 64 =
-    omega (arith, enough, mark_width, ap size kept, ap size c.push_str_unchecked.ensures, size-append c.try_push_str.new.self.text (chars c.truncate_str.result.now)) in
+    omega (arith, together-fits c.args.line.now.text (chars c.args.text.now) _ _ c.requires left c.truncate_str.utf8 c.truncate_str.ensures, mark_width, ap size kept, ap size c.push_str_unchecked.ensures, size-append c.try_push_str.new.self.text (chars c.truncate_str.result.now)) in
     (search rules, room)
 
 pub returns-in-Err-clause-whole : goal.returns-in-Err-clause-whole
 returns-in-Err-clause-whole c fits =
     let over = (addition-refused _ 64 c.in-Err.ensures).0 in
-    absurd (omega (arith, fits, over, size-append c.args.line.now.text (chars c.args.text.now)))
+    absurd (omega (arith, size-append c.args.line.now.text (chars c.args.text.now)))
 
 pub returns-in-Err-clause-cut : goal.returns-in-Err-clause-cut
 returns-in-Err-clause-cut c over =
     let kept = c.in-Err.ensures.err in
-    let left : 61 - c.len.result ≡ 61 - size c.args.line.now.text = omega (arith, c.len.ensures.value, ap size kept) in
+    let left : 61 - c.len.result ≡ 61 - size c.args.line.now.text = omega (arith, ap size kept) in
     c.push_unchecked.ensures
     ∙ ap (λ l. l ++ 0x2026 ∷ []) (c.push_str_unchecked.ensures ∙ ap (λ l. l ++ chars c.truncate_str.result.now) kept
     ∙ together c.args.line.now.text (chars c.args.text.now) _ _ c.requires left c.truncate_str.utf8 c.truncate_str.ensures)
@@ -64,4 +62,4 @@ returns-in_default-clause-whole c _ = c.in_default.ensures.ok
 pub returns-in_default-clause-cut : goal.returns-in_default-clause-cut
 returns-in_default-clause-cut c over =
     let fits = (addition-made _ 64 c.in_default.ensures).0 in
-    absurd (omega (arith, fits, over, size-append c.args.line.now.text (chars c.args.text.now)))
+    absurd (omega (arith, size-append c.args.line.now.text (chars c.args.text.now)))

@@ -20,7 +20,7 @@ use Rattle.arraystring_uses.proofs.scores.record.Goals as goal
 ascending : (scores : BTreeMap Stored ℕ) → IsOrdered (λ a b. slice_cmp nat_cmp a.text b.text) scores → AllPairs IsBefore (names scores)
 ascending scores is i j d lt within =
     let key : Stored = record { text = d; spare = [] } in
-    let inside : j < length (keys scores) = omega (arith, within, length-map (keys scores) (λ (k : Stored). k.text)) in
+    let inside : j < length (keys scores) = omega (arith, length-map (keys scores) (λ (k : Stored). k.text)) in
     let less = Less-from_sorted (λ (a b : Stored). slice_cmp nat_cmp a.text b.text) (keys scores) i j key is lt inside in
     rw (get_or-map (λ (k : Stored). k.text) (keys scores) i key, get_or-map (λ (k : Stored). k.text) (keys scores) j key)
     (order-says _ _ Less (sym less))

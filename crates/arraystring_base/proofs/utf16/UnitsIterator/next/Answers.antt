@@ -9,13 +9,12 @@ returns-then-unit-lt55296-clause-steps c =
     let first = c.in_ok-first.first.now in
     let left = c.in_ok-first.rest.now in
     sym c.self.view_is ∙ ap reading c.in_ok-first.ensures.cases.0
-    ∙ reading-single first left (λ low more e high lower. omega (arith, high.0, c.if-unit-lt55296.true))
+    ∙ reading-single first left (λ low more e high lower. omega arith)
     ∙ ap (λ item. item ∷ reading left) (sym c.single_item.ensures)
 
 pub returns-then-unit-lt55296-clause-goes : goal.returns-then-unit-lt55296-clause-goes
 returns-then-unit-lt55296-clause-goes c =
-    let fewer = ap length (returns-then-unit-lt55296-clause-steps c) in
-    record { on = λ _. (tt, tt, omega (arith, fewer)); keeps = tt; rests = λ _. tt }
+    record { on = λ _. (tt, tt, omega (arith, ap length (returns-then-unit-lt55296-clause-steps c))); keeps = tt; rests = λ _. tt }
 
 pub returns-in-Some-clause-steps : goal.returns-in-Some-clause-steps
 returns-in-Some-clause-steps c =
@@ -28,8 +27,7 @@ returns-in-Some-clause-steps c =
 
 pub returns-in-Some-clause-goes : goal.returns-in-Some-clause-goes
 returns-in-Some-clause-goes c =
-    let fewer = ap length (returns-in-Some-clause-steps c) in
-    record { on = λ _. (tt, tt, omega (arith, fewer)); keeps = tt; rests = λ _. tt }
+    record { on = λ _. (tt, tt, omega (arith, ap length (returns-in-Some-clause-steps c))); keeps = tt; rests = λ _. tt }
 
 pub returns-clause-steps : goal.returns-clause-steps
 returns-clause-steps c =
@@ -40,5 +38,4 @@ returns-clause-steps c =
 
 pub returns-clause-goes : goal.returns-clause-goes
 returns-clause-goes c =
-    let fewer = ap length (returns-clause-steps c) in
-    record { on = λ _. (tt, tt, omega (arith, fewer)); keeps = tt; rests = λ _. tt }
+    record { on = λ _. (tt, tt, omega (arith, ap length (returns-clause-steps c))); keeps = tt; rests = λ _. tt }
