@@ -5,7 +5,7 @@ use Rattle.std.proofs.lemmas.Fmt.{contents_after_writes}
 use Rattle.std.specs.Fmt.{WritesText, option_append}
 use Rattle.arraystring_run.specs.Runs.{Said, said}
 use Rattle.arraystring_run.specs.declared.commands.Reply.{Reply}
-use Rattle.std.proofs.KnownBytes.{Appends-nil, Appends-trans, Appends-kept}
+use Rattle.std.proofs.KnownBytes.{Appends-trans, Appends-kept}
 use Rattle.std.specs.Io.KnownBytes.{Appends, Keeps}
 use Rattle.arraystring_run.proofs.RunLemmas.{is_empty-none}
 use Rattle.arraystring_run.specs.Script.{line_feed, ended, printed, replies_printed, AppendsPrefix}
@@ -27,9 +27,6 @@ printed-parts rs i =
     ∙ printed-both (map said (take i rs)) (map said (drop i rs))
 
 -- ---- a prefix of what was to be appended
-
-pub front-none : (a : Option (List ℕ)) (bs : List ℕ) → AppendsPrefix a a bs
-front-none a bs = record { done = []; later = bs; whole = refl; appended = Appends-nil a }
 
 pub front-all : (a b : Option (List ℕ)) (bs : List ℕ) → Appends a b bs → AppendsPrefix a b bs
 front-all a b bs p = record { done = bs; later = []; whole = sym (append-nil bs); appended = p }
