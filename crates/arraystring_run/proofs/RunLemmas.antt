@@ -70,14 +70,14 @@ module _ (cs : List Command) (t₀ : List ℕ) (n : ℕ) where
         way.tight ∙ ap (λ d. earlier_of first (first_tight_from i d t n)) none ∙ earlier_of-none first,
       )
 
-  pub one-more : (i : ℕ) (done : List Said) (t : List ℕ) (first : Option ℕ) (command : Command) → i < length cs
-      → command ≡ get_or cs i command → IsPartWay cs t₀ n i done t first
-      → IsPartWay cs t₀ n (i + 1) (done ++ (edit command t n).reply ∷ []) (edit command t n).text
+  -- the next command is done
+  pub one-more : (i : ℕ) (done : List Said) (t : List ℕ) (first : Option ℕ) (d : Command) → i < length cs → IsPartWay cs t₀ n i done t first
+      → let command = get_or cs i d in IsPartWay cs t₀ n (i + 1) (done ++ (edit command t n).reply ∷ []) (edit command t n).text
       (earlier_of first (if tight command t n then Some i else None))
-  one-more i done t first command lt is way =
+  one-more i done t first d lt way =
+      let command = get_or cs i d in
       let up : suc i ≡ i + 1 = omega arith in
-      let next : drop i cs ≡ command ∷ drop (i + 1) cs =
-      drop-cons cs i command lt ∙ ap (λ x. x ∷ drop (suc i) cs) (sym is) ∙ ap (λ k. command ∷ drop k cs) up in
+      let next : drop i cs ≡ command ∷ drop (i + 1) cs = drop-cons cs i d lt ∙ ap (λ k. command ∷ drop k cs) up in
       let rest = after (drop (i + 1) cs) (edit command t n).text n in record {
         replies = way.replies ∙ ap (λ d. done ++ (after d t n).replies) next
             ∙ sym (append_assoc done ((edit command t n).reply ∷ []) rest.replies);

@@ -1,8 +1,8 @@
 //! Runs of commands, over one string and over two.
-ghost use Rattle.std.specs.Prelude.{◌≡◌, ◌≤◌, [], length, map, vec_len, vec_capacity, if◌then◌else◌, IfOk, IsOk, OnOk, OnErr, Some, None};
+ghost use Rattle.std.specs.Prelude.{◌≡◌, ◌+◌, ◌<◌, ◌≤◌, [], ◌∷◌, ◌++◌, length, map, vec_len, vec_capacity, if◌then◌else◌, IfOk, IsOk, OnOk, OnErr, Some, None};
 ghost use Rattle.std.specs.Vec.{vec_ptr};
 ghost use Rattle.arraystring.specs.Text.{cap, size};
-ghost use Rattle.arraystring_run.specs.Runs.{said, after, first_tight_from, earlier_of};
+ghost use Rattle.arraystring_run.specs.Runs.{said, edit, tight, after, first_tight_from, earlier_of};
 ghost use Rattle.arraystring_run.specs.Agreement.{untight, AllAgree, IsNoSooner};
 
 use crate::execute::execute;
@@ -73,11 +73,30 @@ fn fill<const N: usize>(
 {
     let mut first_tight = None;
     for (position, command) in commands.iter().enumerate() {
-        let (reply, is_tight) = execute(text, *command);
+        let is_tight = add_reply(text, *command, replies);
         first_tight = earlier(first_tight, is_tight, position);
-        replies.push_reserved(reply);
     }
     first_tight
+}
+
+/// Executes a command, and adds the reply to a list that has room for it and is not moved. Returns
+/// whether the command is tight.
+fn add_reply<const N: usize>(
+    text: &mut ArrayString<N>,
+    command: Command<'_>,
+    replies: &mut Vec<Reply<N>>,
+) -> bool
+    requires { vec_len replies.old < vec_capacity replies.old }
+    ensures reply { map said replies.new.items ≡ map said replies.old.items ++ (edit command.entry text.old.text (cap N)).reply ∷ [] }
+    ensures one_more { vec_len replies.new ≡ vec_len replies.old + 1 }
+    ensures room { vec_capacity replies.new ≡ vec_capacity replies.old }
+    ensures in_place { vec_ptr replies.new ≡ vec_ptr replies.old }
+    ensures text { text.new.text ≡ (edit command.entry text.old.text (cap N)).text }
+    ensures tight { result ≡ tight command.entry text.old.text (cap N) }
+{
+    let (reply, is_tight) = execute(text, command);
+    replies.push_reserved(reply);
+    is_tight
 }
 
 /// Executes the same commands on two strings, as `run` does on each.

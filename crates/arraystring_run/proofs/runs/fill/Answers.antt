@@ -1,8 +1,8 @@
-use Rattle.std.proofs.Common.{◌∙◌, map, refl, subst, sym, None}
+use Rattle.std.proofs.Common.{◌∙◌, map, refl, rules, subst, sym, None}
 use Rattle.std.proofs.lemmas.List.{nil_from_length}
 use Rattle.arraystring.specs.Text.{cap}
 use Rattle.arraystring_run.specs.Runs.{said}
-use Rattle.arraystring_run.proofs.RunLemmas.{IsPartWay, at-start, at-end}
+use Rattle.arraystring_run.proofs.RunLemmas.{IsPartWay, at-start, one-more, at-end}
 use Rattle.arraystring_run.proofs.runs.fill.Goals as goal
 
 pub returns-clause-replies : goal.returns-clause-replies
@@ -24,4 +24,16 @@ loop-position-init g c =
       one_each = c.requires.empty;
       reserved = c.requires.room;
       in_place = refl;
+    }
+
+pub loop-position-preserved : goal.loop-position-preserved
+loop-position-preserved g c =
+    let l = c.loop-position in
+    let added = c.add_reply-is_tight.ensures in
+    let next = one-more _ _ _ l.position (map said l.replies.items) l.text.text l.first_tight _ c.loop-position-test.true l.invariant.way in
+    record {
+      way = rw (added.reply, added.text, c.earlier-first_tight.ensures, added.tight) next;
+      one_each = search rules;
+      reserved = search rules;
+      in_place = search rules;
     }
