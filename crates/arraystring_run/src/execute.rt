@@ -1,9 +1,9 @@
 //! One command, executed on a string.
-ghost use Rattle.std.specs.Prelude.{◌≡◌, ◌∷◌, [], ◌&&◌, chars, false, is_err, reverse};
+ghost use Rattle.std.specs.Prelude.{◌≡◌, ◌∷◌, [], ◌&&◌, chars, true, false, is_err, reverse};
 ghost use Rattle.arraystring.specs.Text.{cap};
 ghost use Rattle.arraystring.specs.Edits.{from_out_of_bounds, from_utf8_error, with_text, insertion, insertion_of_cut, replacement, addition_of_cut, part_in};
 ghost use Rattle.arraystring.specs.Drained.{with_left};
-ghost use Rattle.arraystring_run.specs.Runs.{said, said_of, char_or_none, text_or_none, Done, Char, Text, done, edit, tight, adds_less, lacks_room, is_made, is_out_of_bounds, without};
+ghost use Rattle.arraystring_run.specs.Runs.{said, said_of, char_or_none, text_or_none, Done, Char, Text, done, edit, tight, adds_less, lacks_room, is_made, is_out_of_bounds, is_refusable, without};
 
 use crate::{Command, Reply};
 use arraystring::error::{Error, OutOfBounds, Utf8};
@@ -21,32 +21,20 @@ pub(crate) fn execute<const N: usize>(
     ensures tight { result.1 ≡ tight command.entry text.old.text (cap N) }
 {
     match command {
-        Command::TryPush(ch) => added(text.try_push(ch)),
-        Command::TryPushStr(given) => added(text.try_push_str(given)),
         Command::PushStr(given) => push_cut(text, given),
         Command::Pop => not_tight(popped(text.pop())),
-        Command::Truncate(size) => not_tight(truncated(text.truncate(size))),
         Command::Trim => {
             text.trim();
             not_tight(Reply::Done)
         }
-        Command::Remove(index) => not_tight(removed(text.remove(index))),
         Command::RetainNot(unwanted) => {
             retain_not(text, unwanted);
             not_tight(Reply::Done)
         }
-        Command::TryInsert(index, ch) => insert_char(text, index, ch),
-        Command::TryInsertStr(index, given) => insert_all(text, index, given),
-        Command::InsertStr(index, given) => insert_cut(text, index, given),
-        Command::SplitOff(at) => not_tight(split(text.split_off(at))),
         Command::Clear => {
             text.clear();
             not_tight(Reply::Done)
         }
-        Command::Drain { start, end } => not_tight(drained(text.drain(start..end))),
-        Command::DrainThrough { start, last } => not_tight(drained(text.drain(start..=last))),
-        Command::DrainBack { start, end } => not_tight(drained_back(text.drain(start..end))),
-        Command::ReplaceRange { start, end, given } => replace(text, start, end, given),
         Command::Upper => {
             text.make_ascii_uppercase();
             not_tight(Reply::Done)
@@ -59,6 +47,34 @@ pub(crate) fn execute<const N: usize>(
         Command::Len => not_tight(Reply::Number(text.len())),
         Command::Capacity => not_tight(Reply::Number(ArrayString::<N>::capacity())),
         Command::AsStr => not_tight(Reply::Text(*text)),
+        _ => execute_refusable(text, command),
+    }
+}
+
+/// The same of a command that some text refuses.
+fn execute_refusable<const N: usize>(
+    text: &mut ArrayString<N>,
+    command: Command<'_>,
+) -> (Reply<N>, bool)
+    requires { is_refusable command ≡ true }
+    ensures reply { said result.0 ≡ (edit command.entry text.old.text (cap N)).reply }
+    ensures text { text.new.text ≡ (edit command.entry text.old.text (cap N)).text }
+    ensures tight { result.1 ≡ tight command.entry text.old.text (cap N) }
+{
+    match command {
+        Command::TryPush(ch) => added(text.try_push(ch)),
+        Command::TryPushStr(given) => added(text.try_push_str(given)),
+        Command::Truncate(size) => not_tight(truncated(text.truncate(size))),
+        Command::Remove(index) => not_tight(removed(text.remove(index))),
+        Command::TryInsert(index, ch) => insert_char(text, index, ch),
+        Command::TryInsertStr(index, given) => insert_all(text, index, given),
+        Command::InsertStr(index, given) => insert_cut(text, index, given),
+        Command::SplitOff(at) => not_tight(split(text.split_off(at))),
+        Command::Drain { start, end } => not_tight(drained(text.drain(start..end))),
+        Command::DrainThrough { start, last } => not_tight(drained(text.drain(start..=last))),
+        Command::DrainBack { start, end } => not_tight(drained_back(text.drain(start..end))),
+        Command::ReplaceRange { start, end, given } => replace(text, start, end, given),
+        _ => unreachable!(),
     }
 }
 

@@ -73,7 +73,7 @@ fn fill<const N: usize>(
 {
     let mut first_tight = None;
     for (position, command) in commands.iter().enumerate() {
-        let is_tight = add_reply(text, *command, replies);
+        let is_tight = add_reply(text, command, replies);
         first_tight = earlier(first_tight, is_tight, position);
     }
     first_tight
@@ -83,18 +83,18 @@ fn fill<const N: usize>(
 /// whether the command is tight.
 fn add_reply<const N: usize>(
     text: &mut ArrayString<N>,
-    command: Command<'_>,
+    command: &Command<'_>,
     replies: &mut Vec<Reply<N>>,
 ) -> bool
     requires { vec_len replies.old < vec_capacity replies.old }
-    ensures reply { map said replies.new.items ≡ map said replies.old.items ++ (edit command.entry text.old.text (cap N)).reply ∷ [] }
+    ensures reply { map said replies.new.items ≡ map said replies.old.items ++ (edit command.now text.old.text (cap N)).reply ∷ [] }
     ensures one_more { vec_len replies.new ≡ vec_len replies.old + 1 }
     ensures room { vec_capacity replies.new ≡ vec_capacity replies.old }
     ensures in_place { vec_ptr replies.new ≡ vec_ptr replies.old }
-    ensures text { text.new.text ≡ (edit command.entry text.old.text (cap N)).text }
-    ensures tight { result ≡ tight command.entry text.old.text (cap N) }
+    ensures text { text.new.text ≡ (edit command.now text.old.text (cap N)).text }
+    ensures tight { result ≡ tight command.now text.old.text (cap N) }
 {
-    let (reply, is_tight) = execute(text, command);
+    let (reply, is_tight) = execute(text, *command);
     replies.push_reserved(reply);
     is_tight
 }
