@@ -26,6 +26,7 @@ loop-position-init g c =
       in_place = refl;
     }
 
+-- one more command is done, as add_reply says
 pub loop-position-preserved : goal.loop-position-preserved
 loop-position-preserved g c =
     let l = c.loop-position in
