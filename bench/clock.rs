@@ -12,7 +12,6 @@ use crate::edges::EDGES;
 use crate::peers::{self, Peer};
 use crate::short;
 use crate::string::Limited;
-use crate::port::{Linked, linked};
 
 const STRINGS: usize = 64;
 const NO_CALL: u8 = 255;
@@ -138,34 +137,40 @@ impl Least {
     }
 }
 
+/// Rounds of a peer on strings that hold the same.
+pub fn in_turn<P: Peer>() -> impl FnMut(u8, &Case) -> u64 {
+    let mut strings: Vec<P> = (0..STRINGS).map(|_| P::new()).collect();
+    move |call, case| round(call, &mut strings, case)
+}
+
+/// Rounds of a peer on one string at a time.
+pub fn waiting<P: Peer>() -> impl FnMut(u8, &Case) -> u64 {
+    let mut strings: [P; 2] = [P::new(), P::new()];
+    move |call, case| waiting_round(call, &mut strings, case)
+}
+
 /// Prints a line for each operation: its title, and the nanoseconds of the port, of `String` and of arrayvec.
-pub fn tell<const N: usize>(port: Linked, rounds: u32) {
+pub fn tell<const N: usize>(port: impl FnMut(u8, &Case) -> u64, rounds: u32) {
     let operations = operations(N).into_iter().map(|(title, call, case)| (title.to_string(), call, case)).collect();
-    let mut strings: Vec<Limited<N>> = (0..STRINGS).map(|_| Peer::new()).collect();
-    #[cfg(has_arrayvec)]
-    let mut arrays: Vec<arrayvec::ArrayString<N>> = (0..STRINGS).map(|_| Peer::new()).collect();
     tell_of::<N>(
         black_box(operations),
         rounds,
-        |call, case| linked(port, call, case),
-        |call, case| round(call, &mut strings, case),
+        port,
+        in_turn::<Limited<N>>(),
         #[cfg(has_arrayvec)]
-        |call, case| round(call, &mut arrays, case),
+        in_turn::<arrayvec::ArrayString<N>>(),
     );
 }
 
 /// The same of one string at a time.
-pub fn tell_waiting<const N: usize>(port: Linked, rounds: u32) {
-    let mut strings: [Limited<N>; 2] = [Peer::new(), Peer::new()];
-    #[cfg(has_arrayvec)]
-    let mut arrays: [arrayvec::ArrayString<N>; 2] = [Peer::new(), Peer::new()];
+pub fn tell_waiting<const N: usize>(port: impl FnMut(u8, &Case) -> u64, rounds: u32) {
     tell_of::<N>(
         black_box(waiting_operations(N)),
         rounds,
-        |call, case| linked(port, call, case),
-        |call, case| waiting_round(call, &mut strings, case),
+        port,
+        waiting::<Limited<N>>(),
         #[cfg(has_arrayvec)]
-        |call, case| waiting_round(call, &mut arrays, case),
+        waiting::<arrayvec::ArrayString<N>>(),
     );
 }
 

@@ -4,13 +4,12 @@
 //!
 //! Arguments: the capacity, `ascii` or `mixed`, `front`, `middle`, `edges`, `short`, `lookup` or a clock, and how often each
 //! call is made. All sides have to give the same answer and to leave the same text. `edges`, `short` and `lookup` print the
-//! title of each case, and the clocks of the static library, `in_turn` and `waiting`, what they timed.
+//! title of each case, and the clocks, `in_turn` and `waiting`, what they timed.
 #![cfg_attr(erased, allow(dead_code))]
 
 #[cfg(has_arrayvec)]
 mod arrayvec;
 mod cases;
-#[cfg(not(erased))]
 mod clock;
 mod edges;
 mod lookup;
@@ -103,7 +102,6 @@ fn make_lookups(capacity: usize) {
     }
 }
 
-#[cfg(not(erased))]
 fn tell_clock(capacity: usize, place: &str, rounds: u32) {
     match (place, capacity) {
         ("in_turn", 23) => port::tell_clock::<23>(rounds),
@@ -125,7 +123,6 @@ fn main() {
         "edges" => return make_edges(capacity, times),
         "short" => return make_short(capacity, times),
         "lookup" => return make_lookups(capacity),
-        #[cfg(not(erased))]
         "in_turn" | "waiting" => return tell_clock(capacity, place, times),
         _ => {}
     }

@@ -4,7 +4,7 @@ use crate::cases::{CALLS_OF_ARRAYVEC, COUNTED, Case};
 use crate::clock;
 
 /// The calls of the static library at a capacity. A slice is a pointer and a length.
-pub type Linked = unsafe extern "C" fn(
+type Linked = unsafe extern "C" fn(
     call: u8,
     held: *const u8,
     held_len: usize,
@@ -54,7 +54,7 @@ macro_rules! lookup {
 
 lookup!(lookup_port_23 lookup_port_63 lookup_port_255 lookup_kit_23 lookup_kit_63 lookup_kit_255 lookup_string);
 
-pub fn linked(at: Linked, call: u8, case: &Case) -> u64 {
+fn linked(at: Linked, call: u8, case: &Case) -> u64 {
     let (held, given, units) = (case.held.as_bytes(), case.given.as_bytes(), &case.units);
     unsafe {
         at(
@@ -112,9 +112,11 @@ pub fn make_more(capacity: usize, place: &str, mixed: bool, times: u32) {
 }
 
 pub fn tell_clock<const N: usize>(rounds: u32) {
-    clock::tell::<N>(at(N, &[(23, port_timed_23 as Linked), (63, port_timed_63), (255, port_timed_255)]), rounds);
+    let port = at(N, &[(23, port_timed_23 as Linked), (63, port_timed_63), (255, port_timed_255)]);
+    clock::tell::<N>(|call, case| linked(port, call, case), rounds);
 }
 
 pub fn tell_waiting_clock<const N: usize>(rounds: u32) {
-    clock::tell_waiting::<N>(at(N, &[(23, port_waiting_23 as Linked), (63, port_waiting_63), (255, port_waiting_255)]), rounds);
+    let port = at(N, &[(23, port_waiting_23 as Linked), (63, port_waiting_63), (255, port_waiting_255)]);
+    clock::tell_waiting::<N>(|call, case| linked(port, call, case), rounds);
 }

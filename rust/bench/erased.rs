@@ -4,6 +4,7 @@
 use arraystring::ArrayString;
 
 use crate::cases::{CALLS, Case};
+use crate::clock;
 use crate::lookup;
 use crate::peers::{self, Peer};
 
@@ -18,6 +19,14 @@ pub fn answer<const N: usize>(call: u8, case: &Case, answers: &mut Vec<u64>) {
 /// What the port finds in std's map.
 pub fn found<const N: usize>(names: &[String], asked: &[String]) -> Vec<u64> {
     vec![lookup::answer::<ArrayString<N>>(names, asked)]
+}
+
+pub fn tell_clock<const N: usize>(rounds: u32) {
+    clock::tell::<N>(clock::in_turn::<ArrayString<N>>(), rounds);
+}
+
+pub fn tell_waiting_clock<const N: usize>(rounds: u32) {
+    clock::tell_waiting::<N>(clock::waiting::<ArrayString<N>>(), rounds);
 }
 
 impl<const N: usize> Peer for ArrayString<N> {
