@@ -1,7 +1,13 @@
 """What a change has to pass before anything is proved: the tests of the tools; specs/ has definitions alone and the page has
 them; the pages are as the files that they quote, name each public call and trait of the string and have no long sentence; a
 wrong body touches each public function and impl; and each control is as it was when it proved.
+
+tools/run check             writes nothing
+tools/run check --write     first lays out each crate by `rt fmt`, makes the Rust crate by rust/erase/run where cargo is there,
+                            and writes lines and counts into the pages by `quotes --write`
 """
+import shutil
+import subprocess
 import unittest
 from pathlib import Path
 
@@ -9,6 +15,7 @@ import calls
 import controls
 import evidence
 import quotes
+import repository
 import sentences
 import trusted
 
@@ -19,8 +26,19 @@ def tests_fail():
     return not result.wasSuccessful() or result.testsRun == 0
 
 
+def write(root):
+    """Writes what commands can write; whether one of them fails."""
+    commands = [(["rt", "fmt"], root / "crates" / it) for it in repository.crates(root)]
+    if shutil.which("cargo"):
+        commands.append((["rust/erase/run"], root))
+    failed = [subprocess.run(words, cwd=folder, stdout=subprocess.DEVNULL).returncode for words, folder in commands]
+    quotes.main(["--write"], root)
+    return any(failed)
+
+
 def main(arguments, root):
-    failed = tests_fail()
+    failed = arguments == ["--write"] and write(root)
+    failed = tests_fail() or failed
     for command, words in ((trusted, []), (quotes, []), (calls, []), (sentences, []), (evidence, []), (controls, ["--check"])):
         failed = bool(command.main(words, root)) or failed
     return failed

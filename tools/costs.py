@@ -1,12 +1,12 @@
 """Prints what the wrong bodies of crates cost: the processor seconds of the check of each, and what refuses it; at last the dearest.
 
-tools/run costs CRATE.. [--top N]     N is 10 if it is not given
+tools/run costs CRATE.. [--only FUNCTION] [--top N]     N is 10 if it is not given; with FUNCTION those of its name alone
 
 Each crates/CRATE/must-fail/NAME.edit is put into a copy of the repository among the temporary files, and checked there by one job
 over what earlier checks kept in out/, so the crate should be proved already. What its check keeps is taken out again, so each
 begins with the same. A check that has nothing to prove comes first: each wrong body takes so much and what it costs itself.
 What refuses one is a goal of src/ that stays open, or else the first message, as of a stored answer in proofs/ that does not
-fit. It fails where a wrong body is NOT REFUSED or cannot be tried. No other `rt` may write in out/ while the copy is made.
+fit. It fails where a wrong body is NOT REFUSED or cannot be tried, and where there is none. No other `rt` may write in out/ while the copy is made.
 """
 import os
 import re
@@ -17,7 +17,7 @@ from contextlib import contextmanager
 import edits
 import repository
 import rt
-from profile import dearest, names_and_top
+from profile import dearest, taken
 
 
 def link_or_copy(one, other):
@@ -67,8 +67,8 @@ def tried(edit, folder):
     return seconds, "NOT REFUSED" if is_proved else refusal(said), not is_proved
 
 
-def costs(folder, top):
-    """Prints what each wrong body of the crate in this folder costs; whether one of them is not refused."""
+def costs(folder, function, top):
+    """Prints what each wrong body of a function, or of any, costs in the crate in this folder; whether one is not refused."""
     _, is_proved, said = timed_check(folder)
     if not is_proved:
         print(f"{folder.name} is not proved: {rt.first_message(said)}")
@@ -76,19 +76,20 @@ def costs(folder, top):
     bare, _, _ = timed_check(folder)
     print(f"{folder.name}: {bare:.1f} s for a check that has nothing to prove", flush=True)
     table, failed = [], False
-    for edit in sorted(folder.glob("must-fail/*.edit")):
+    for edit in sorted(folder.glob(f"must-fail/{function}*.edit")):
         seconds, said, is_refused = tried(edit, folder)
         table.append((seconds, f"{edit.stem}: {said}"))
         failed = failed or not is_refused
         print(dearest(table[-1:], 1), flush=True)
     print(f"{sum(seconds for seconds, _ in table):.0f} s together, of {len(table)}; the dearest:\n{dearest(table, top)}", flush=True)
-    return failed
+    return failed or not table
 
 
 def main(arguments, root):
-    names, top = names_and_top(arguments)
+    function, others = taken(arguments, "--only", "")
+    top, names = taken(others, "--top", 10)
     fault = repository.unknown_crate(root, names) if names else "name a crate"
     if fault:
         return fault
     with repository.copied(root) as copy:
-        return any([costs(copy / "crates" / it, top) for it in names])
+        return any([costs(copy / "crates" / it, function and f"{function}.", int(top)) for it in names])

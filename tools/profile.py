@@ -90,18 +90,18 @@ def profile(copy, crate, top):
     return None
 
 
-def names_and_top(arguments):
-    """The names of crates that a call gives, and how many lines it wants of a table."""
-    if "--top" not in arguments:
-        return arguments, 10
-    at = arguments.index("--top")
-    return arguments[:at] + arguments[at + 2:], int(arguments[at + 1])
+def taken(arguments, option, default):
+    """What a call gives by an option, or the default, and its other arguments."""
+    if option not in arguments:
+        return default, arguments
+    at = arguments.index(option)
+    return arguments[at + 1], arguments[:at] + arguments[at + 2:]
 
 
 def main(arguments, root):
-    names, top = names_and_top(arguments)
+    top, names = taken(arguments, "--top", 10)
     fault = repository.unknown_crate(root, names) if names else "name a crate"
     if fault:
         return fault
     with repository.copied(root, "out") as copy:
-        return next(filter(None, (profile(copy, crate, top) for crate in names)), None)
+        return next(filter(None, (profile(copy, crate, int(top)) for crate in names)), None)

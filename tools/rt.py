@@ -17,6 +17,6 @@ def check(folder, *flags):
 
 
 def first_message(said):
-    """The first line of a check that names a place, or else the last line."""
+    """The first line of a check that names a place, and is no advice on the proof there, or else the last line."""
     lines = said.strip().splitlines() or ["nothing was said"]
-    return next((line for line in lines if re.match(r"(note: )?\S+:\d+:\d+:", line)), lines[-1])[:200]
+    return next((line for line in lines if re.match(r"(note: )?\S+:\d+:\d+:(?! note:)", line)), lines[-1])[:200]

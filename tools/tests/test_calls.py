@@ -49,3 +49,11 @@ class Calls(TreeTest):
         self.assert_fails("README.md does not name From<&str>", calls)
         self.replace("README.md", "`Copy`, ", "")
         self.assert_fails("README.md does not name Copy", calls)
+
+    def test_no_call_and_no_trait_is_a_fault(self):
+        self.write("crates/arraystring_core/src/array_string.rt", "")
+        self.assert_fails("1 public calls and 0 traits", calls)
+        self.write("crates/arraystring_core/src/array_string.rt", STRING)
+        self.write("crates/arraystring/src/lib.rt", "")
+        self.replace("crates/arraystring_core/src/array_string.rt", "    pub fn", "    fn")
+        self.assert_fails("0 public calls and 3 traits", calls)

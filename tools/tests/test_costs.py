@@ -6,6 +6,7 @@ import rt
 from tests.trees import TreeTest
 
 EDIT = "file: src/lib.rt\nold:     value + value\nnew:     {}\n"
+ADVICE = "./proofs/other/Answers.antt:2:1: note: large solution\n"
 BEGINNING = {"numbers.oantt": "a module", "last-used": "a day"}
 
 
@@ -25,7 +26,7 @@ class Costs(TreeTest):
         self.checks = {
             "value + value\n": (2.0, True, "logic=proved\n"),
             "value + 0\n": (5.5, False, "note: ./proofs/twice/Answers.antt:3:1: no\nsrc/lib.rt:1:1: error: open\n"),
-            "value + value + value\n": (31.25, False, "read\nnote: ./proofs/twice/Answers.antt:3:1: no\nlogic=not-proved\n"),
+            "value + value + value\n": (31.25, False, f"read\n{ADVICE}note: ./proofs/twice/Answers.antt:3:1: no\nlogic=not-proved\n"),
         }
         for where, name, stand_in in ((rt, "check", self.check), (costs, "seconds_spent", lambda: self.spent)):
             patch = mock.patch.object(where, name, stand_in)
@@ -53,6 +54,12 @@ class Costs(TreeTest):
         head = "numbers: 2.0 s for a check that has nothing to prove\n"
         self.assertEqual(printed, head + once + thrice + "37 s together, of 2; the dearest:\n" + thrice + once)
         self.assertTrue(self.assert_passes(costs, "numbers", "--top", "1").endswith("the dearest:\n" + thrice))
+
+    def test_those_of_one_function_are_told_alone(self):
+        self.write("crates/numbers/must-fail/twice_more.is_once.edit", EDIT.format("value + 0"))
+        printed = self.assert_passes(costs, "numbers", "--only", "twice_more", "--top", "2")
+        self.assertIn("  5.5 s  twice_more.is_once: src/lib.rt:1:1: error: open\n6 s together, of 1;", printed)
+        self.assert_fails("0 s together, of 0;", costs, "numbers", "--only", "twice")
 
     def test_one_that_proves_fails(self):
         self.checks["value + 0\n"] = 3.0, True, "logic=proved\n"

@@ -92,3 +92,8 @@ class Evidence(TreeTest):
         self.write("crates.txt", "numbers:\nprogram:\n")
         self.write("crates/program/src/main.rt", "fn main() {\n    print()\n}\n\nfn print() {\n    1\n}\n")
         self.assert_fails("no wrong body of program print", evidence)
+
+    def test_no_function_is_a_fault(self):
+        for path in ("src/lib.rt", "src/tests.rt", "must-fail/doubled.is_once.edit", "must-fail/default.is_one.edit"):
+            (self.root / "crates/numbers" / path).unlink()
+        self.assert_fails("wrong bodies try 0 functions", evidence)

@@ -61,6 +61,11 @@ class Quotes(TreeTest):
         self.write("page.md", PAGE.replace("fn add(&mut self) -> u8", "fn sub(&mut self) -> u8"))
         self.assert_told("not in the source: fn sub(&mut self) -> u8")
 
+    def test_clauses_stand_in_the_order_of_the_source(self):
+        clauses = ["    requires: S ≡ []", "    ensures: S' ≡ S"]
+        self.replace("page.md", "\n".join(clauses), "\n".join(reversed(clauses)))
+        self.assert_told("not in the source:     requires: S ≡ []")
+
     def test_a_definition_stands_at_its_line(self):
         self.replace("page.md", "|4|", "|5|")
         self.assert_told("would write: |`IsShort t`|4|short|")

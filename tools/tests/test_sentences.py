@@ -43,3 +43,8 @@ class Sentences(TreeTest):
         self.known_to_git()
         self.write("docs/page.md", LONG)
         self.assert_passes(sentences)
+
+    def test_no_page_is_a_fault(self):
+        (self.root / "README.md").unlink()
+        self.known_to_git()
+        self.assert_fails("no sentence of 0 pages", sentences)

@@ -1,0 +1,66 @@
+"""What `tools/run check` asks for, and that each part of it is enough to fail."""
+import shutil
+import subprocess
+import sys
+from contextlib import ExitStack
+from unittest import mock
+
+import check
+from repository import ROOT
+from tests.trees import TreeTest
+
+TEST = "import unittest\n\n\nclass Sums(unittest.TestCase):\n    def test_a_sum(self):\n        self.assertEqual(1 + 1, {})\n"
+
+
+class Check(TreeTest):
+    PARTS = ["trusted", "quotes", "calls", "sentences", "evidence", "controls"]
+
+    FILES = {"crates.txt": "numbers:\nletters: numbers\n"}
+
+    def outcome(self, failing="", words=()):
+        """Whether it fails where this part does, and each part is asked."""
+        with ExitStack() as stack:
+            stack.enter_context(mock.patch.object(check, "tests_fail", lambda: failing == "tests"))
+            asked = [stack.enter_context(mock.patch.object(getattr(check, it), "main", return_value=failing == it)) for it in self.PARTS]
+            failed = check.main(list(words), self.root)
+        self.assertTrue(all(it.called for it in asked))
+        return failed
+
+    def test_each_part_is_enough_to_fail(self):
+        self.assertFalse(self.outcome())
+        for part in ["tests", *self.PARTS]:
+            self.assertTrue(self.outcome(part), part)
+
+    def written(self, failing=""):
+        """Whether it fails where this command does, and what is written by which command."""
+        commands = []
+
+        def run(words, cwd, stdout):
+            commands.append((" ".join(words), cwd.relative_to(self.root).as_posix()))
+            return subprocess.CompletedProcess(words, int(words[0] == failing))
+
+        with mock.patch.object(check.subprocess, "run", run), mock.patch.object(check.shutil, "which", lambda name: name):
+            failed = self.outcome(words=["--write"])
+        self.assertEqual(commands, [("rt fmt", "crates/numbers"), ("rt fmt", "crates/letters"), ("rust/erase/run", ".")])
+        return failed
+
+    def test_what_cannot_be_written_is_a_fault(self):
+        self.assertFalse(self.written())
+        self.assertTrue(self.written("rt"))
+        self.assertTrue(self.written("rust/erase/run"))
+
+    def is_refused(self):
+        """Whether the tests fail that stand beside a copy of the tools."""
+        code = "import sys; sys.dont_write_bytecode = True; import check; sys.exit(check.tests_fail())"
+        run = subprocess.run([sys.executable, "-c", code], cwd=self.root, stderr=subprocess.DEVNULL)
+        return run.returncode != 0
+
+    def test_a_test_that_fails_is_a_fault_and_no_test_is_one(self):
+        for file in (ROOT / "tools").glob("*.py"):
+            shutil.copy(file, self.root)
+        self.write("tests/__init__.py", "")
+        self.assertTrue(self.is_refused())
+        self.write("tests/test_sums.py", TEST.format(2))
+        self.assertFalse(self.is_refused())
+        self.write("tests/test_sums.py", TEST.format(3))
+        self.assertTrue(self.is_refused())
