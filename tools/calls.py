@@ -1,4 +1,4 @@
-"""Fails where no page names a public call of the string, or a trait by which it is called.
+"""Fails where no page names a public call of the string, or a trait by which it is called, and where PROGRAM does not make one.
 
 The calls are each `pub fn` of crates/arraystring, and of the `impl ArrayString` blocks in crates/arraystring_core. Names are the
 words in inline code of LIST, the section of README.md, and of PAGES. A call whose name ends in one of the SUFFIXES is named by the
@@ -6,6 +6,8 @@ suffix rule, inline code such as `.._counted`, too.
 
 The traits are those that TYPES have by an impl or a derive, in the same crates, but for UNCALLED. LIST alone has to name each, and
 one with arguments whole, such as `From<&str>`.
+
+PROGRAM, which links only if no call can panic, makes each call of `ArrayString` that is safe in Rust, but for UNMADE.
 """
 import re
 
@@ -17,6 +19,9 @@ PAGES = ["crates/arraystring/CALLING.md", "crates/arraystring/LAWS.md", "crates/
 SUFFIXES = ["_counted", "_unchecked"]
 TYPES = ["ArrayString", "CacheString", "Drain"]
 UNCALLED = {"Model"}  # what contracts see of a type
+PROGRAM = "rust/no_panic/src/main.rs"
+# (calls that panic as those of `str` do, and those of JSON, which the Rust crate lacks)
+UNMADE = {"slice", "make_ascii_uppercase_in", "make_ascii_lowercase_in", "to_value", "from_value", "try_from_value"}
 
 FUNCTION = re.compile(r"(?m)^ *pub (?:const |unsafe )*fn (\w+)")
 STRING = re.compile(r"(?ms)^impl<[^>]*> ArrayString<\w+> \{$.*?^\}$")
@@ -29,10 +34,21 @@ def texts_of(root, crate):
     return [read(it) for it in sorted((root / "crates" / crate / "src").glob("**/*.rt"))]
 
 
-def public_calls(root):
-    """The names of the public calls of the string."""
-    blocks = [block for text in texts_of(root, "arraystring_core") for block in STRING.findall(text)]
-    return {name for text in [*texts_of(root, "arraystring"), *blocks] for name in FUNCTION.findall(text)}
+def calls_of(texts):
+    """The names of the public functions in some texts."""
+    return {name for text in texts for name in FUNCTION.findall(text)}
+
+
+def string_calls(root):
+    """The names of the public calls of `ArrayString`."""
+    return calls_of(block for text in texts_of(root, "arraystring_core") for block in STRING.findall(text))
+
+
+def unmade(root):
+    """Those that PROGRAM does not make, though they are safe in Rust."""
+    program = read(root / PROGRAM)
+    asked = {it for it in string_calls(root) - UNMADE if not it.endswith("_unchecked")}
+    return sorted(it for it in asked if not re.search(rf"\b{it}\(", program))
 
 
 def traits(root):
@@ -53,8 +69,9 @@ def main(arguments, root):
     page, heading = LIST
     listed = pages.inline_code(pages.section(read(root / page), heading))
     code = [*listed, *(it for other in PAGES for it in pages.inline_code(read(root / other)))]
-    calls, called_by = sorted(public_calls(root)), sorted(traits(root))
+    calls, called_by = sorted(string_calls(root) | calls_of(texts_of(root, "arraystring"))), sorted(traits(root))
     faults = [f"no page names {call}" for call in calls if not is_named(call, code)]
     faults += [f"{page} does not name {trait}" for trait in called_by if trait not in listed]
+    faults += [f"{PROGRAM} does not make {call}" for call in unmade(root)]
     print("\n".join(faults) or f"the pages name {len(calls)} public calls and {len(called_by)} traits")
     return bool(faults) or not calls or not called_by

@@ -31,6 +31,7 @@ class Calls(TreeTest):
         "crates/arraystring/CALLING.md": "`capacity()`\n",
         "crates/arraystring/LAWS.md": "",
         "crates/bounded_records/CALLING.md": "",
+        calls.PROGRAM: "string.pop();\nstring.pop_counted(steps);\n",
     }
 
     def test_each_call_and_trait_is_named(self):
@@ -49,6 +50,16 @@ class Calls(TreeTest):
         self.assert_fails("README.md does not name From<&str>", calls)
         self.replace("README.md", "`Copy`, ", "")
         self.assert_fails("README.md does not name Copy", calls)
+
+    def test_the_program_without_panics_makes_each_safe_call(self):
+        self.replace(calls.PROGRAM, "string.pop();\n", "")
+        self.assert_fails(f"{calls.PROGRAM} does not make pop\n", calls)
+        self.replace("crates/arraystring_core/src/array_string.rt", "pop(", "slice(")
+        self.replace("README.md", "`pop`", "`slice`")
+        self.assert_passes(calls)
+        self.replace("crates/arraystring_core/src/array_string.rt", "slice(", "pop_unchecked(")
+        self.replace("README.md", "`slice`", "`pop_unchecked`")
+        self.assert_passes(calls)
 
     def test_no_call_and_no_trait_is_a_fault(self):
         self.write("crates/arraystring_core/src/array_string.rt", "")

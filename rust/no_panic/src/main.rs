@@ -14,7 +14,9 @@ use core::panic::PanicInfo;
 
 use arraystring::error::{OutOfBounds, Utf8, Utf16};
 use arraystring::utf16::Units;
-use arraystring::utils::{Steps, is_char_boundary, is_inside_boundary, truncate_str, truncate_str_counted};
+use arraystring::utils::{
+    Steps, is_boundary, is_char_boundary, is_inside_boundary, truncate_str, truncate_str_counted,
+};
 use arraystring::{ArrayString, CacheString, Error};
 
 #[link(name = "c")]
@@ -59,7 +61,7 @@ fn shown<const N: usize>(string: &Text<N>, other: &Text<N>, at: u8, end: u8) -> 
     let beside = *string < *other.as_str() || other.as_str() < string || other.as_str() == *string || string.is_full();
     is_text
         || beside
-        || string.remaining_capacity() == 7
+        || string.remaining_capacity() == Text::<N>::capacity()
         || order
         || is_part
         || string == other
@@ -187,7 +189,8 @@ fn of_no_string(text: &str, units: &[u16], at: u8, steps: &mut Steps) -> usize {
     let cut = truncate_str(text, at).len() + truncate_str_counted(text, at, steps).len();
     let walk = Units::new(units);
     let lone = walk.clone().count() + walk.count();
-    cut + lone + usize::from(is_inside_boundary(at, 7u8).is_ok())
+    let is_told = is_inside_boundary(at, 7u8).is_ok() || is_boundary(text, lone) || steps.looked() == steps.moved();
+    cut + lone + usize::from(is_told)
 }
 
 #[inline(never)]
