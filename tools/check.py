@@ -1,6 +1,7 @@
 """What a change has to pass before anything is proved: the tests of the tools; specs/ has definitions alone and the page has
-them; the pages are as the files that they quote, name each public call and trait of the string and have no long sentence; a
-wrong body touches each public function and impl; and each control is as it was when it proved.
+them; something cites each lemma and uses each import of a proof; the pages are as the files that they quote, name each public
+call and trait of the string and have no long sentence; a wrong body touches each public function and impl; and each control is
+as it was when it proved.
 
 tools/run check             writes nothing
 tools/run check --write     first lays out each crate by `rt fmt`, makes the Rust crate by rust/erase/run where cargo is there,
@@ -13,6 +14,7 @@ from pathlib import Path
 
 import calls
 import controls
+import dead
 import evidence
 import quotes
 import repository
@@ -39,6 +41,8 @@ def write(root):
 def main(arguments, root):
     failed = arguments == ["--write"] and write(root)
     failed = tests_fail() or failed
-    for command, words in ((trusted, []), (quotes, []), (calls, []), (sentences, []), (evidence, []), (controls, ["--check"])):
+    for command, words in (
+        (trusted, []), (dead, []), (quotes, []), (calls, []), (sentences, []), (evidence, []), (controls, ["--check"]),
+    ):
         failed = bool(command.main(words, root)) or failed
     return failed

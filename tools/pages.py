@@ -12,9 +12,14 @@ def section(text, heading):
     return found[1] if found else ""
 
 
+def prose(text):
+    """A page without its blocks of code."""
+    return re.sub(r"(?ms)^```.*?^```$", "", text)
+
+
 def inline_code(text):
     """What stands between backticks, without the blocks of code."""
-    return re.findall(r"`([^`\n]+)`", re.sub(r"(?ms)^```.*?^```$", "", text))
+    return re.findall(r"`([^`\n]+)`", prose(text))
 
 
 def fenced_blocks(text):

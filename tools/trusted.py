@@ -14,8 +14,9 @@ the tables of PAGE do not begin with the definitions of `run` in order, or lack 
 import re
 import sys
 
+from modules import NAME
 from repository import read
-from specs import NAME, Specs
+from specs import Specs
 
 LIBRARIES = ["arraystring_base", "arraystring_core", "arraystring", "arraystring_run", "bounded_records"]
 PAGE = "docs/definitions.md"

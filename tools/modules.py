@@ -1,0 +1,99 @@
+"""The modules of specs/ and proofs/, which are laid out as `rt fmt` does: their items, and what the names in them stand for."""
+import re
+
+from repository import read
+
+NAME = r"[^\s(){}\[\];,.]+"
+IMPORT = re.compile(r"(?m)^ *(?:pub |ghost )*use (Rattle[^\s{;]*?)(?:\.\{([^}]*)\})?(?: as ([^\s;]+))?;?$")
+
+
+def lines_of(file):
+    """The lines of a module with their numbers, without its imports, comments and blank lines, and what strings say."""
+    for number, line in enumerate(read(file).split("\n"), 1):
+        line = re.sub(r"(^|\s)--(\s.*)?$", "", re.sub('"[^"]*"', '""', line)).rstrip()
+        if line and not re.match(r"(pub )?(use|mod) ", line):
+            yield number, line
+
+
+class Item:
+    """An item of a module: its lines, and the blocks `module _ .. where` that it is in."""
+
+    def __init__(self, path, number, line, around, names):
+        kind, public, other, self.name = re.match(rf"\s*(abbrev |unfoldable )?(pub )?(data |record )?({NAME})", line).groups()
+        self.path, self.number, self.lines, self.around, self.names = path, number, [line], around, names
+        is_claim = kind and re.search("[≡≢≤<]", line.rpartition("→" if "→" in line else " : ")[2])
+        self.is_public = bool(public)
+        self.is_definition, self.is_data = bool(kind or other) and not is_claim, other == "data "
+        self.is_law = self.is_public and not self.is_definition and re.search("(Laws|GhostProofs)$", path.stem)
+        self.is_kept = path.parts[2] == "specs" and path.stem != "GhostProofs"
+
+    def terms(self):
+        """Its lines and those of the blocks around it."""
+        return "\n".join(line for it in [*self.around, self] for line in it.lines)
+
+    def __str__(self):
+        return f"{self.path}:{self.number}: {self.name}"
+
+
+class Modules:
+    """Some modules of a repository: all items in order, and by the path of a module what the names in it stand for."""
+
+    def __init__(self, root):
+        self.root, self.items, self.modules = root, [], {}
+
+    def read_module(self, file):
+        """Takes down the items of a module of specs/ or proofs/, and what the names in it stand for."""
+        path = file.relative_to(self.root)
+        names = self.modules["Rattle." + ".".join(path.with_suffix("").parts[1:])] = imports(read(file))
+        item, around = None, []
+        for number, line in lines_of(file):
+            indent = len(line) - len(line.lstrip())
+            around = around[: indent // 2]
+            if item and (indent > 2 * len(around) or line.split()[0] in (item.name, "unfolding") or line.lstrip()[0] in ")]}"):
+                item.lines.append(line)
+                case = re.match(rf"\s+({NAME}) :", line)
+                if item.is_data and case:
+                    names[case[1]] = item
+                continue
+            item = Item(path, number, line, around, names)
+            if item.name == "module":
+                around = [*around, item]
+            else:
+                self.items.append(item)
+                names[item.name] = item
+
+    def resolved(self, names, word):
+        """The item of the repository that a word stands for among these names, if it is one."""
+        first, _, rest = word.partition(".")
+        target = names.get(first)
+        if not isinstance(target, tuple):
+            return target
+        path, name = target
+        while path not in self.modules:
+            parent, _, last = path.rpartition(".")
+            if last not in self.modules.get(f"{parent}.Lib", {}):
+                return None
+            path, _ = self.modules[f"{parent}.Lib"][last]
+        return self.resolved(self.modules[path], name or rest.partition(".")[0])
+
+    def named(self, term, names):
+        """The items that a term names. Labels of clauses and of records are no words, nor are fields."""
+        term = re.sub(rf"(?m)\b(requires|ensures)( \w+)? \{{|(^ *|[{{;] |\blet ){NAME} = ", " ", term)
+        found = (self.resolved(names, word) for word in re.findall(rf"\.?{NAME}(?:\.{NAME})*", term) if word[0] != ".")
+        return {it for it in found if it}
+
+    def words(self, item):
+        """The items that an item names."""
+        return self.named(item.terms(), item.names)
+
+
+def imports(text):
+    """What a file imports: by each name the path of a module, and a word of it or nothing."""
+    names = {}
+    for path, listed, alias in IMPORT.findall(text):
+        if not listed:
+            names[alias or path.rpartition(".")[2]] = (path, "")
+        for word in re.findall(r"[^,\s][^,]*", listed):
+            word, _, other = word.partition(" as ")
+            names[other or word] = (path, word)
+    return names
