@@ -1,8 +1,8 @@
 -- Laws of boundaries, and of the parts of a text before one, from one on and between two.
-use Rattle.std.proofs.Common.{◌≡◌, ℕ, ◌+◌, ◌-◌, ◌≤◌, ◌↔◌, List, [], ◌∷◌, ◌++◌, take, drop, true, false, Bool, Some, None, arith, if◌then◌else◌, ap, ◌∙◌, refl}
+use Rattle.std.proofs.Common.{◌≡◌, ℕ, ◌-◌, ◌≤◌, ◌↔◌, List, [], ◌++◌, true, false, Bool, Some, None, arith, if◌then◌else◌, ap, ◌∙◌, refl}
 use Rattle.std.proofs.lemmas.Bool.{leb-true, and_parts}
 use Rattle.std.specs.Prelude.{nat_le, ◌&&◌}
-use Rattle.arraystring_base.specs.Text.{IsText, IsPrefix, width, size, bytes, front, back, boundary}
+use Rattle.arraystring_base.specs.Text.{IsPrefix, size, front, back, boundary}
 use Rattle.arraystring_base.proofs.TextLaws.{size-append}
 use Rattle.arraystring_base.proofs.BoundaryLaws as law
 use Rattle.arraystring_core.proofs.PartLaws as part_law
@@ -64,27 +64,6 @@ front-size = law.front-size
 pub back-size : (t : List ℕ) (i : ℕ) → boundary t i ≡ true → size (back t i) ≡ size t - i
 back-size = law.back-size
 
--- the first bytes of a text are those of the part before a boundary
-pub bytes-front : (t : List ℕ) (i : ℕ) → boundary t i ≡ true → take i (bytes t) ≡ bytes (front t i)
-bytes-front = law.bytes-front
-
--- and the others those of the part from it on
-pub bytes-back : (t : List ℕ) (i : ℕ) → boundary t i ≡ true → drop i (bytes t) ≡ bytes (back t i)
-bytes-back = law.bytes-back
-
--- after the character that begins at a boundary is the next boundary
-pub next-char : (t : List ℕ) (i : ℕ) → boundary t i ≡ true → (c : ℕ) (rest : List ℕ) → back t i ≡ c ∷ rest
-    → (boundary t (i + width c) ≡ true) × (back t (i + width c) ≡ rest) × (front t (i + width c) ≡ front t i ++ c ∷ [])
-next-char = law.next-char
-
--- the part before an index is a text if the whole is
-pub front-text : (t : List ℕ) (i : ℕ) → IsText t → IsText (front t i)
-front-text = law.front-text
-
--- and so is the part from it on
-pub back-text : (t : List ℕ) (i : ℕ) → IsText t → IsText (back t i)
-back-text = law.back-text
-
 -- the part from the start to the end is the text
 pub part-all : (t : List ℕ) → part t 0 (size t) ≡ t
 part-all t = ap (λ l. back l 0) (law.front-end t) ∙ law.back-start t
@@ -102,10 +81,6 @@ module _ (t : List ℕ) (start end : ℕ) (order : start ≤ end) where
   -- what is before a part, the part and what is after it are the text
   pub part-joined : front t start ++ (part t start end ++ back t end) ≡ t
   part-joined = part_law.part-joined t start end order
-
-  -- a boundary of the text is one of what is before the end
-  pub boundary-in_front : boundary t start ≡ true → boundary (front t end) start ≡ true
-  boundary-in_front = law.boundary-in_front t start end order
 
   -- the part has as many bytes as lie between its ends
   pub part-size : boundary t start ≡ true → boundary t end ≡ true → size (part t start end) ≡ end - start

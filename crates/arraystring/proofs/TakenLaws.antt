@@ -1,12 +1,12 @@
 -- Laws of iterators that are passed in: what all their items are.
-use Rattle.std.proofs.Common.{◌≡◌, ℕ, ◌≤◌, List, ◌++◌, Option, map, Iter, IsUtf8, chars}
+use Rattle.std.proofs.Common.{◌≡◌, ℕ, ◌≤◌, List, Option, map, Iter, IsUtf8, chars}
 use Rattle.std.specs.Iterator.{AlwaysYields, YieldsFirst}
 use Rattle.std.specs.declared.iter.Copied.{Copied}
 use Rattle.std.specs.declared.str.Chars.{Chars}
 use Rattle.std.specs.Borrow.{Bor}
 use Rattle.std.proofs.iter.Yields.{copies, fronts}
 use Rattle.std.proofs.iter.TextItems.{spells}
-use Rattle.arraystring_base.specs.Text.{size, bytes}
+use Rattle.arraystring_base.specs.Text.{size}
 use Rattle.arraystring_core.specs.Drained.{Drained}
 use Rattle.arraystring_core.specs.Taken.{Fits, Gives, joined, joined_pieces, piece_text}
 use Rattle.arraystring_core.proofs.TakenLaws as law
@@ -23,14 +23,6 @@ slice-gives = law.slice-gives
 -- a `Drain` gives the characters that are left
 pub drain-gives : (s it : Drained) (left : List ℕ) → s.left ≡ left → it ≡ s → AlwaysYields (YieldsFirst (λ d. d.left)) (λ c. c) it left
 drain-gives = law.drain-gives
-
--- texts joined, of two lists of them
-pub joined-append : (a b : List (List ℕ)) → joined (a ++ b) ≡ joined a ++ joined b
-joined-append = law.joined-append
-
--- the bytes of joined texts are their bytes joined
-pub bytes-joined : (texts : List (List ℕ)) → bytes (joined texts) ≡ joined (map bytes texts)
-bytes-joined = law.bytes-joined
 
 -- if all characters that an iterator gives fit, whatever comes of it fits
 pub chars-fit : {U T : Type 0} (becomes : U → T → Type 0) (steps : T → Option ℕ → T → Type 0) (iter : U) (all : List ℕ)

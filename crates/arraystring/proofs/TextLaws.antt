@@ -1,5 +1,5 @@
 -- Laws of texts, their sizes and their UTF-8.
-use Rattle.std.proofs.Common.{◌≡◌, ℕ, ◌+◌, ◌≤◌, List, [], ◌++◌, length, IsUtf8, chars}
+use Rattle.std.proofs.Common.{◌≡◌, ℕ, ◌+◌, ◌≤◌, List, ◌++◌, length, IsUtf8, chars}
 use Rattle.std.specs.Char.{len_utf8, encode_utf8}
 use Rattle.arraystring_base.specs.Text.{IsText, IsWellFormed, width, utf8, size, bytes}
 use Rattle.arraystring_base.proofs.TextLaws as law
@@ -15,10 +15,6 @@ bytes-append = law.bytes-append
 -- the size of a text is the length of its bytes
 pub size-is : (t : List ℕ) → size t ≡ length (bytes t)
 size-is = law.size-is
-
--- only the empty text has size 0
-pub empty-size : {t : List ℕ} → size t ≡ 0 → t ≡ []
-empty-size none = law.empty-size none
 
 -- bytes spell one text
 pub bytes_same : {a b : List ℕ} → bytes a ≡ bytes b → a ≡ b
