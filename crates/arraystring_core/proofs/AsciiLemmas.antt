@@ -7,7 +7,8 @@ use Rattle.std.specs.Char.{to_ascii_uppercase, to_ascii_lowercase}
 use Rattle.arraystring_base.specs.Text.{IsScalarValue, IsText, size, utf8, bytes, cap, front, back, boundary}
 use Rattle.arraystring_base.proofs.TextLaws.{bytes-utf8, chars-bytes, size-borrowed}
 use Rattle.arraystring_base.proofs.BoundaryLaws.{bytes-part, front-text, back-text, front-start, front-end, back-start, back-end}
-use Rattle.arraystring_core.specs.Stored.{Stored, stored, IsStored}
+use Rattle.arraystring_core.specs.Stored.{Stored}
+use Rattle.arraystring_core.specs.Layout.{stored, IsStored}
 use Rattle.arraystring_core.proofs.StoredLaws.{opened-bytes, opened-size, opened-within, opened-text}
 use Rattle.arraystring_core.specs.Edits.{part}
 use Rattle.arraystring_core.proofs.GapLemmas.{written-length, written-parts}

@@ -6,7 +6,8 @@ use Rattle.std.proofs.Math.Seq.{take-add}
 use Rattle.arraystring_base.specs.Text.{IsText, size, bytes, cap, front, back, boundary}
 use Rattle.arraystring_base.proofs.TextLaws.{chars-bytes, bytes-chars, bytes-append, bytes-utf8, size-borrowed}
 use Rattle.arraystring_base.proofs.BoundaryLaws.{boundary-end, front-end, back-end, bytes-front, bytes-back, front-text, back-text}
-use Rattle.arraystring_core.specs.Stored.{Stored, stored, IsStored}
+use Rattle.arraystring_core.specs.Stored.{Stored}
+use Rattle.arraystring_core.specs.Layout.{stored, IsStored}
 use Rattle.arraystring_core.specs.GhostProofs.{stored-utf8}
 use Rattle.arraystring_core.proofs.StoredLaws.{opened-bytes, opened-size, opened-within, opened-text}
 use Rattle.arraystring_core.proofs.GapLemmas.{gap-filled, written-length, written-from-zero, tail-from-zero, shift-before, shift-moved, shift-length}

@@ -3,7 +3,8 @@ use Rattle.std.proofs.Common.{◌≡◌, ℕ, ◌+◌, ◌-◌, ◌≤◌, List,
 use Rattle.arraystring_base.specs.Text.{size, bytes, boundary, IsText}
 use Rattle.arraystring_base.proofs.TextLaws.{text-chars, chars-bytes, bytes-utf8}
 use Rattle.arraystring_base.proofs.BoundaryLaws.{boundary-within}
-use Rattle.arraystring_core.specs.Stored.{Stored, stored, IsStored, start_of}
+use Rattle.arraystring_core.specs.Stored.{Stored}
+use Rattle.arraystring_core.specs.Layout.{stored, IsStored, start_of}
 use Rattle.arraystring_core.specs.GhostProofs as ghost_proof
 
 -- how long the range is that is borrowed

@@ -2,7 +2,8 @@
 use Rattle.std.specs.Prelude.{ℕ, ◌++◌, List, [], ◌∷◌, Option, Some, None, Result, Ok, Err, IsTrue, drop}
 use Rattle.arraystring_base.specs.Text.{front, back, boundary}
 use Rattle.arraystring_base.specs.declared.error.Error.{Error}
-use Rattle.arraystring_core.specs.Stored.{Stored, stored, IsStored}
+use Rattle.arraystring_core.specs.Stored.{Stored}
+use Rattle.arraystring_core.specs.Layout.{stored, IsStored}
 use Rattle.arraystring_core.specs.Edits.{first_of, last_of, all_but_last}
 
 -- the characters that are left, those that were given from the front, and numbers that no public clause names

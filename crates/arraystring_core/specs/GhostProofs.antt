@@ -5,7 +5,8 @@ use Rattle.std.proofs.lemmas.Str.{IsUtf8-had}
 use Rattle.arraystring_base.specs.Text.{size, bytes}
 use Rattle.arraystring_base.proofs.TextLaws.{size-is, bytes-chars}
 use Rattle.arraystring_base.proofs.BoundaryLaws.{front-back, front-size}
-use Rattle.arraystring_core.specs.Stored.{Stored, stored, IsStored, array_of}
+use Rattle.arraystring_core.specs.Stored.{Stored}
+use Rattle.arraystring_core.specs.Layout.{stored, IsStored, array_of}
 use Rattle.arraystring_core.specs.Drained.{drained, IsDrained, removed_of}
 
 -- the text, and the array, of a string

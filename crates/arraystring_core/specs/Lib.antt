@@ -3,6 +3,7 @@ pub use Rattle.arraystring_base.specs.Utf16
 pub use Rattle.arraystring_base.specs.Counts
 pub use Rattle.arraystring_base.specs.Names
 pub mod Stored
+pub mod Layout
 pub mod Edits
 pub mod Construct
 pub mod Taken

@@ -3,7 +3,7 @@
 //! them out.
 ghost use Rattle.std.specs.Prelude.{◌≡◌, ◌+◌, ◌≤◌, ◌↔◌, [], IsTrue, length};
 ghost use Rattle.arraystring_base.specs.Text.{size, bytes, cap, boundary, IsText};
-ghost use Rattle.arraystring_core.specs.Stored.{start_of};
+ghost use Rattle.arraystring_core.specs.Layout.{start_of};
 
 use std::marker::Model;
 use std::str;
@@ -57,7 +57,8 @@ pub struct ArrayString<const N: usize> {
 
 impl<const N: usize> Model for ArrayString<N> {
     ghost use Rattle.arraystring_base.specs.Text.{size as text_size};
-    ghost use Rattle.arraystring_core.specs.Stored.{Stored, stored, IsStored, start_of, array_of};
+    ghost use Rattle.arraystring_core.specs.Stored.{Stored};
+    ghost use Rattle.arraystring_core.specs.Layout.{stored, IsStored, start_of, array_of};
     ghost use Rattle.arraystring_core.specs.GhostProofs.{stored-size, stored-all};
 
     ghost Value = { Stored };

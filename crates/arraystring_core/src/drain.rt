@@ -1,7 +1,7 @@
 //! `Drain`: the characters that were removed from a string, from both ends. `traits` has its impls of traits.
 ghost use Rattle.std.specs.Prelude.{◌≡◌, ◌≤◌};
 ghost use Rattle.arraystring_base.specs.Text.{bytes, cap, size, IsText};
-ghost use Rattle.arraystring_core.specs.Stored.{stored, IsStored};
+ghost use Rattle.arraystring_core.specs.Layout.{stored, IsStored};
 
 use std::marker::Model;
 use std::str;
@@ -37,7 +37,7 @@ pub struct Drain<const N: usize> {
 
 impl<const N: usize> Model for Drain<N> {
     ghost use Rattle.arraystring_base.specs.Text.{size as text_size};
-    ghost use Rattle.arraystring_core.specs.Stored.{stored, start_of, array_of};
+    ghost use Rattle.arraystring_core.specs.Layout.{stored, start_of, array_of};
     ghost use Rattle.arraystring_core.specs.Drained.{Drained, IsDrained, drained, removed_of};
     ghost use Rattle.arraystring_core.specs.GhostProofs.{drained-front, drained-array, drained-size};
 

@@ -4,7 +4,7 @@ ghost use Rattle.arraystring_base.specs.Text.{size, width, cap, cut};
 ghost use Rattle.arraystring_core.specs.Edits.{Makes, from_out_of_bounds, addition, addition_of_cut};
 ghost use Rattle.std.specs.Borrow.{Bor};
 ghost use Rattle.std.specs.Iterator.{IsFiniteIterable};
-ghost use Rattle.arraystring_core.specs.Stored.{stored, IsStored};
+ghost use Rattle.arraystring_core.specs.Layout.{stored, IsStored};
 ghost use Rattle.arraystring_core.specs.Taken.{Takes, Gives, joined, joined_pieces, piece_text};
 
 use crate::ArrayString;

@@ -2,7 +2,7 @@ use Rattle.std.proofs.Common.{◌≡◌, ◌-◌, ◌++◌, ◌∷◌, [], refl,
 use Rattle.std.proofs.iter.Next.{Yields-more}
 use Rattle.arraystring_base.specs.Text.{size, cap, cut}
 use Rattle.arraystring_base.proofs.TextLaws.{width-bounds}
-use Rattle.arraystring_core.specs.Stored.{stored}
+use Rattle.arraystring_core.specs.Layout.{stored}
 use Rattle.arraystring_core.specs.GhostProofs.{stored-size}
 use Rattle.arraystring_core.proofs.TakenLemmas.{cut-none, of_characters, added-all, added-more, added-past, added-none}
 use Rattle.arraystring_core.proofs.array_string.ArrayString.append_chars.Goals as goal

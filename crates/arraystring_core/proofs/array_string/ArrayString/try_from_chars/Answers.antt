@@ -2,7 +2,7 @@ use Rattle.std.proofs.Common.{arith, Ok}
 use Rattle.std.proofs.lemmas.Str.{chars-nil}
 use Rattle.arraystring_base.specs.Text.{cap}
 use Rattle.arraystring_core.specs.Edits.{from_out_of_bounds}
-use Rattle.arraystring_core.specs.Stored.{stored}
+use Rattle.arraystring_core.specs.Layout.{stored}
 use Rattle.arraystring_core.proofs.TakenLaws.{chars-made}
 use Rattle.arraystring_core.proofs.ConstructLaws.{refused-made, fresh-room, fresh-whole}
 use Rattle.arraystring_core.proofs.array_string.ArrayString.try_from_chars.Goals as goal

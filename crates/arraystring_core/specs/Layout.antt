@@ -1,0 +1,24 @@
+-- How the text of an `ArrayString` lies in its array.
+use Rattle.std.specs.Prelude.{◌≡◌, ℕ, ◌+◌, ◌≤◌, List, ◌∷◌, ◌++◌, length, take, drop, chars, slice_index, IsUtf8}
+use Rattle.arraystring_base.specs.Text.{bytes, cap}
+use Rattle.arraystring_core.specs.Stored.{Stored}
+
+-- the n bytes of the array from `start` on are the text; the spare numbers are the start and the bytes around them
+abbrev pub stored : List ℕ → ℕ → ℕ → Stored
+stored array start n = record {
+  text = chars (take n (drop start array));
+  spare = start ∷ (take start array ++ drop n (drop start array));
+}
+
+-- an array of `array_size` bytes, of which the n from `start` on are UTF-8 and end within the capacity
+pub record IsStored (array_size : ℕ) (array : List ℕ) (start n : ℕ) : Type 0 where
+  pub within : start + n ≤ cap array_size
+  pub length : length array ≡ array_size
+  pub utf8 : ∥ IsUtf8 (take n (drop start array)) ∥₁
+
+-- the start and the array, given back
+abbrev pub start_of : Stored → ℕ
+start_of v = slice_index v.spare 0
+
+abbrev pub array_of : Stored → List ℕ
+array_of v = take (start_of v) (drop 1 v.spare) ++ (bytes v.text ++ drop (start_of v) (drop 1 v.spare))
