@@ -10,3 +10,4 @@ pub mod RemovalLaws
 pub mod RangeEditLaws
 pub mod RangeEndLaws
 pub mod TakenLaws
+pub mod MapLaws

@@ -1,7 +1,11 @@
 -- What a contract sees of an `ArrayString`.
-use Rattle.std.specs.Prelude.{ℕ, List}
+use Rattle.std.specs.Prelude.{ℕ, List, []}
 
 -- the characters of the text, and the numbers that lie outside of it, which no public clause names
 pub record Stored : Type 0 where
   pub text : List ℕ
   pub spare : List ℕ
+
+-- some string of the text t, for what is said of each string by its text
+abbrev pub string_of : List ℕ → Stored
+string_of t = record { text = t; spare = [] }

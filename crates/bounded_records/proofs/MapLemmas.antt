@@ -1,34 +1,25 @@
 -- A map from strings to users, read by the texts of both.
 use Rattle.std.proofs.Common.{◌≡◌, ◌≢◌, ℕ, List, [], ◌∷◌, map, Bool, true, false, cond, Option, Some, None, length, zero, suc, ◌+◌, ◌-◌, ◌<◌, is_some, if◌then◌else◌, arith, true≢false, refl, sym, ap, ◌∙◌}
-use Rattle.std.specs.List.{AllByRecursion, AllPairs}
 use Rattle.std.specs.List.Sorted.{IsStrictlySortedBy}
 use Rattle.std.specs.Option.{option_map}
 use Rattle.std.specs.Ordering.{nat_cmp, eq_by_cmp}
-use Rattle.std.specs.declared.cmp.Ordering.TheVariants.{Less}
 use Rattle.std.specs.Cmp.{eq_by_cmp_equiv}
 use Rattle.std.specs.Cmp.Lexicographic.{slice_cmp, nat_list_cmp_total}
-use Rattle.std.specs.BTreeMap.{is_at}
 use Rattle.std.specs.Map.{lookup, keys_of, values_of}
 use Rattle.std.specs.FinMap as finite
 use Rattle.std.specs.FinMap.{find, put}
 use Rattle.std.proofs.lemmas.Bool.{false_from_ne_true}
 use Rattle.std.proofs.lemmas.List.{nil_from_length, length-map}
-use Rattle.std.proofs.lemmas.Map.Keys.{Less-from_sorted}
 use Rattle.std.proofs.lemmas.Map.Lookups.{exact_bytes}
 use Rattle.std.proofs.lemmas.Map.Views.{tells_apart}
 use Rattle.arraystring.specs.Stored.{Stored}
-use Rattle.arraystring.specs.Text.{IsBefore}
-use Rattle.arraystring.proofs.OrderLaws.{order-says}
+use Rattle.arraystring.proofs.MapLaws.{has_text, updated-text}
 use Rattle.bounded_records.specs.declared.user.User.{User}
 use Rattle.bounded_records.specs.Users.{by_text, texts}
 
 -- the map from the texts
 abbrev pub users_of : List (Stored × User) → finite.FinMap (slice_cmp nat_cmp) (List ℕ × List ℕ)
 users_of es = finite.from_entries (by_text es)
-
--- whether a key has the text q
-abbrev pub has_text : List ℕ → Stored → Bool
-has_text q = is_at (λ (k : Stored). slice_cmp nat_cmp q k.text)
 
 texts-cond : (b : Bool) (x y : Option User) → option_map texts (cond b x y) ≡ cond b (option_map texts x) (option_map texts y)
 texts-cond true x y = refl
@@ -49,8 +40,8 @@ pub insert_users : (old new : List (Stored × User)) (k : Stored) (u : User)
     → users_of new ≡ finite.insert (users_of old) k.text (texts u)
 insert_users old new k u is =
     finite.same_map nat_list_cmp_total exact_bytes (users_of new) (finite.insert (users_of old) k.text (texts u))
-    (λ q. get_users new q ∙ ap (option_map texts) (is (record { text = q; spare = [] }))
-    ∙ texts-cond (has_text k.text (record { text = q; spare = [] })) (Some u) (lookup (has_text q) old)
+    (λ q. get_users new q ∙ ap (option_map texts) (updated-text old new k.text (Some u) is q)
+    ∙ texts-cond (eq_by_cmp (slice_cmp nat_cmp) k.text q) (Some u) (lookup (has_text q) old)
     ∙ ap (λ b. cond b (Some (texts u)) (option_map texts (lookup (has_text q) old))) ((eq_by_cmp_equiv nat_list_cmp_total).symm k.text q)
     ∙ ap (cond (eq_by_cmp (slice_cmp nat_cmp) q k.text) (Some (texts u))) (sym (get_users old q))
     ∙ sym (finite.get-insert nat_list_cmp_total (users_of old) k.text (texts u) q))
@@ -67,8 +58,8 @@ pub remove_users : (old new : List (Stored × User)) (t : List ℕ)
     → users_of new ≡ finite.remove (users_of old) t
 remove_users old new t is =
     finite.same_map nat_list_cmp_total exact_bytes (users_of new) (finite.remove (users_of old) t)
-    (λ q. get_users new q ∙ ap (option_map texts) (is (record { text = q; spare = [] }))
-    ∙ texts-cond (has_text t (record { text = q; spare = [] })) None (lookup (has_text q) old)
+    (λ q. get_users new q ∙ ap (option_map texts) (updated-text old new t None is q)
+    ∙ texts-cond (eq_by_cmp (slice_cmp nat_cmp) t q) None (lookup (has_text q) old)
     ∙ ap (λ b. cond b None (option_map texts (lookup (has_text q) old))) ((eq_by_cmp_equiv nat_list_cmp_total).symm t q)
     ∙ ap (cond (eq_by_cmp (slice_cmp nat_cmp) q t) None) (sym (get_users old q))
     ∙ sym (finite.get-remove nat_list_cmp_total (users_of old) t q))
@@ -126,24 +117,9 @@ module _ (m : finite.FinMap (slice_cmp nat_cmp) (List ℕ × List ℕ)) (t : Lis
   len_removed None is = one_less false (ap is_some (sym is)) (finite.len-remove nat_list_cmp_total m t ∙ ap (λ b. cond b (finite.len m - 1) (finite.len m)) (ap is_some (sym is)))
   len_removed (Some u) is = one_less true (ap is_some (sym is)) (finite.len-remove nat_list_cmp_total m t ∙ ap (λ b. cond b (finite.len m - 1) (finite.len m)) (ap is_some (sym is)))
 
--- the texts ascend as the keys do
+-- the texts of keys
 abbrev pub key_texts : List Stored → List (List ℕ)
 key_texts ks = map (λ k. k.text) ks
-
-below-texts : (t : List ℕ) (ks : List Stored) → AllByRecursion (λ k. slice_cmp nat_cmp t k.text ≡ Less) ks
-    → AllByRecursion (λ x. slice_cmp nat_cmp t x ≡ Less) (key_texts ks)
-below-texts t [] is = tt
-below-texts t (k ∷ ks) is = (is.0, below-texts t ks is.1)
-
-sorted-texts : (ks : List Stored) → IsStrictlySortedBy (λ a b. slice_cmp nat_cmp a.text b.text) ks
-    → IsStrictlySortedBy (slice_cmp nat_cmp) (key_texts ks)
-unfolding IsStrictlySortedBy
-sorted-texts [] is = tt
-sorted-texts (k ∷ ks) is = (below-texts k.text ks is.0, sorted-texts ks is.1)
-
-pub ascending_texts : (ks : List Stored) → IsStrictlySortedBy (λ a b. slice_cmp nat_cmp a.text b.text) ks → AllPairs IsBefore (key_texts ks)
-ascending_texts ks is i j d lt within =
-    order-says _ _ Less (sym (Less-from_sorted (slice_cmp nat_cmp) (key_texts ks) i j d (sorted-texts ks is) lt within))
 
 -- the map's keys are these texts
 entries-empty : finite.entries (finite.empty {X = List ℕ × List ℕ} {R = slice_cmp nat_cmp}) ≡ []

@@ -13,9 +13,10 @@ use Rattle.std.proofs.lemmas.List.Elements.{All-head, All-tail, All-map, All-wea
 use Rattle.std.proofs.lemmas.Map.Lookups.{exact_bytes}
 use Rattle.std.proofs.lemmas.Map.Views.{All-found, tells_apart}
 use Rattle.arraystring.specs.Stored.{Stored}
+use Rattle.arraystring.proofs.MapLaws.{has_text}
 use Rattle.bounded_records.specs.declared.user.User.{User}
 use Rattle.bounded_records.specs.Users.{AreUnderTheirNames, names_of, texts}
-use Rattle.bounded_records.proofs.MapLemmas.{users_of, key_texts, has_text, get_users}
+use Rattle.bounded_records.proofs.MapLemmas.{users_of, key_texts, get_users}
 
 module _ (m n : finite.FinMap (slice_cmp nat_cmp) (List ℕ × List ℕ)) where
   pub own-map : n ≡ m → AreUnderTheirNames m → AreUnderTheirNames n

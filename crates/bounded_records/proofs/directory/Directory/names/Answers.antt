@@ -2,13 +2,14 @@ use Rattle.std.proofs.Common.{◌∙◌, ap, sym}
 use Rattle.std.specs.FinMap as finite
 use Rattle.std.proofs.lemmas.List.{length-map}
 use Rattle.bounded_records.specs.Walks.{name_text, stored_text}
-use Rattle.bounded_records.proofs.MapLemmas.{ascending_texts, len_users}
+use Rattle.arraystring.proofs.MapLaws.{keys-ascend}
+use Rattle.bounded_records.proofs.MapLemmas.{len_users}
 use Rattle.bounded_records.proofs.OwnNameLemmas.{names-found}
 use Rattle.bounded_records.proofs.WalkLemmas.{in_order, in_reverse, copies_in_order}
 use Rattle.bounded_records.proofs.directory.Directory.names.Goals as goal
 
 pub returns-clause-ascending : goal.returns-clause-ascending
-returns-clause-ascending c = rw c.keys.ensures.rest (ascending_texts _ c.keys.ensures.ordered)
+returns-clause-ascending c = rw c.keys.ensures.rest (keys-ascend _ c.keys.ensures.ordered)
 
 pub returns-clause-found : goal.returns-clause-found
 returns-clause-found c = rw (c.keys.ensures.rest, ← c.self.view_is) (names-found c.self.inside.users c.keys.ensures.ordered)
