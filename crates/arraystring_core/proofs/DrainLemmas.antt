@@ -6,9 +6,9 @@ use Rattle.std.proofs.lemmas.List.{get_or-take, get_or-drop}
 use Rattle.arraystring_base.specs.Text.{width, size, cap, bytes, front, back, boundary}
 use Rattle.arraystring_base.proofs.TextLaws.{size-is, size-append, size-borrowed, chars-bytes, empty-size}
 use Rattle.arraystring_base.proofs.BoundaryLaws.{front-back, front-is, back-is, front-size, back-size, boundary-is, bytes-back, next-char}
-use Rattle.arraystring_core.specs.Layout.{stored, IsStored}
+use Rattle.arraystring_core.specs.Layout.{stored, IsStored, IsDrained}
 use Rattle.arraystring_core.specs.GhostProofs.{stored-utf8, stored-size, stored-bytes}
-use Rattle.arraystring_core.specs.Drained.{Drained, drained, IsDrained}
+use Rattle.arraystring_core.specs.Drained.{Drained, drained}
 use Rattle.arraystring_core.proofs.StoredLaws.{opened-within}
 use Rattle.arraystring_core.proofs.SpanLemmas.{dropped as dropped_part, kept as kept_part}
 use Rattle.arraystring_core.proofs.EndLemmas.{first-low, last-low}

@@ -1,9 +1,8 @@
 -- What a contract sees of a `Drain`.
-use Rattle.std.specs.Prelude.{ℕ, ◌++◌, List, [], ◌∷◌, Option, Some, None, Result, Ok, Err, IsTrue, drop}
-use Rattle.arraystring_base.specs.Text.{front, back, boundary}
+use Rattle.std.specs.Prelude.{ℕ, ◌++◌, List, [], ◌∷◌, Option, Some, None, Result, Ok, Err, drop}
+use Rattle.arraystring_base.specs.Text.{front, back}
 use Rattle.arraystring_base.specs.declared.error.Error.{Error}
 use Rattle.arraystring_core.specs.Stored.{Stored}
-use Rattle.arraystring_core.specs.Layout.{stored, IsStored}
 use Rattle.arraystring_core.specs.Edits.{first_of, last_of, all_but_last}
 
 -- the characters that are left, those that were given from the front, and numbers that no public clause names
@@ -24,11 +23,6 @@ removed_of d = record { text = d.yielded ++ d.left; spare = d.spare }
 abbrev pub with_left : Result Drained Error → Result (List ℕ) Error
 with_left (Ok d) = Ok d.left
 with_left (Err e) = Err e
-
--- the n bytes of the array from `start` on are the text that was removed, and i is a boundary of it
-pub record IsDrained (array_size : ℕ) (array : List ℕ) (start n i : ℕ) : Type 0 where
-  pub held : IsStored array_size array start n
-  pub at : IsTrue (boundary (stored array start n).text i)
 
 -- the end from which a character is taken
 pub data End : Type 0 where

@@ -6,8 +6,8 @@ use Rattle.arraystring_base.specs.Text.{size, bytes}
 use Rattle.arraystring_base.proofs.TextLaws.{size-is, bytes-chars}
 use Rattle.arraystring_base.proofs.BoundaryLaws.{front-back, front-size}
 use Rattle.arraystring_core.specs.Stored.{Stored}
-use Rattle.arraystring_core.specs.Layout.{stored, IsStored, array_of}
-use Rattle.arraystring_core.specs.Drained.{drained, IsDrained, removed_of}
+use Rattle.arraystring_core.specs.Layout.{stored, IsStored, IsDrained, array_of}
+use Rattle.arraystring_core.specs.Drained.{drained, removed_of}
 
 -- the text, and the array, of a string
 module _ {array_size : ℕ} {array : List ℕ} {start n : ℕ} (is : IsStored array_size array start n) where

@@ -1,6 +1,6 @@
--- How the text of an `ArrayString` lies in its array.
-use Rattle.std.specs.Prelude.{◌≡◌, ℕ, ◌+◌, ◌≤◌, List, ◌∷◌, ◌++◌, length, take, drop, chars, slice_index, IsUtf8}
-use Rattle.arraystring_base.specs.Text.{bytes, cap}
+-- How a text lies in the array of an `ArrayString` or a `Drain`.
+use Rattle.std.specs.Prelude.{◌≡◌, ℕ, ◌+◌, ◌≤◌, List, ◌∷◌, ◌++◌, length, take, drop, chars, slice_index, IsUtf8, IsTrue}
+use Rattle.arraystring_base.specs.Text.{bytes, cap, boundary}
 use Rattle.arraystring_core.specs.Stored.{Stored}
 
 -- the n bytes of the array from `start` on are the text; the spare numbers are the start and the bytes around them
@@ -15,6 +15,11 @@ pub record IsStored (array_size : ℕ) (array : List ℕ) (start n : ℕ) : Type
   pub within : start + n ≤ cap array_size
   pub length : length array ≡ array_size
   pub utf8 : ∥ IsUtf8 (take n (drop start array)) ∥₁
+
+-- the n bytes of the array from `start` on are the text that was removed, and i is a boundary of it
+pub record IsDrained (array_size : ℕ) (array : List ℕ) (start n i : ℕ) : Type 0 where
+  pub held : IsStored array_size array start n
+  pub at : IsTrue (boundary (stored array start n).text i)
 
 -- the start and the array, given back
 abbrev pub start_of : Stored → ℕ

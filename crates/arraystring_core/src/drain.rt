@@ -37,8 +37,8 @@ pub struct Drain<const N: usize> {
 
 impl<const N: usize> Model for Drain<N> {
     ghost use Rattle.arraystring_base.specs.Text.{size as text_size};
-    ghost use Rattle.arraystring_core.specs.Layout.{stored, start_of, array_of};
-    ghost use Rattle.arraystring_core.specs.Drained.{Drained, IsDrained, drained, removed_of};
+    ghost use Rattle.arraystring_core.specs.Layout.{stored, IsDrained, start_of, array_of};
+    ghost use Rattle.arraystring_core.specs.Drained.{Drained, drained, removed_of};
     ghost use Rattle.arraystring_core.specs.GhostProofs.{drained-front, drained-array, drained-size};
 
     ghost Value = { Drained };

@@ -586,7 +586,7 @@ pub const INVARIANTS: &[&str] = &[
 
 /// The records by which invariants are read, with their file in the folder of crates.
 pub const DEFINITIONS: &[(&str, &str)] =
-    &[("arraystring_core/specs/Layout.antt", "IsStored"), ("arraystring_core/specs/Drained.antt", "IsDrained")];
+    &[("arraystring_core/specs/Layout.antt", "IsStored"), ("arraystring_core/specs/Layout.antt", "IsDrained")];
 
 /// A file in which std does what a function of the source does.
 pub struct ByStd {
