@@ -1,10 +1,10 @@
 """Fails at a lemma or law of proofs/ that nothing cites, and at an import there that its file does not use.
 
-A lemma is cited if one of these reaches it, directly or by other lemmas: an answer, which is what is `pub` in the folder of a
-function, since the check calls it by the name of a goal; what stands in specs/; a file of src/; a page for callers. What a comment
-names is not cited, nor what cites itself alone. A helper below a `where` is cited if another line of its lemma names it.
+A lemma is cited if one of these reaches it, directly or by other lemmas: an answer, which is what is `pub` in the folder of
+a function, since the check calls it by the name of a goal; what stands in specs/; a file of src/; a page for callers. What a
+comment names is not cited, nor what cites itself alone. A helper below a `where` is cited if another line of its lemma names it.
 
-A page for callers is a Markdown file of a crate. It cites the laws of that crate that its inline code names. It names families so:
+A page for callers is a Markdown file of a crate. It cites the laws of that crate that its inline code names, and families:
 - `-made`, or a law that ends so, as `insertion-made`, names what ends so of each row of the table of edits, as `split-made`;
 - `front-` and `back-` with `start t` and `end t` names `front-start`, `front-end`, `back-start` and `back-end`.
 """
