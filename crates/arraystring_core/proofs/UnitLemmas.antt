@@ -1,12 +1,14 @@
 -- A run of ASCII in front of units of UTF-16: its bytes, and how it is read.
-use Rattle.std.proofs.Common.{◌≡◌, ℕ, ◌+◌, ◌<◌, List, [], ◌∷◌, ◌++◌, suc, zero, map, length, take, drop, get_or, slice_set, take_all, refl, sym, ap, ◌∙◌, arith, inl, append_assoc, length-append, length-take-le, length-drop, ◌-◌}
+use Rattle.std.proofs.Common.{◌≡◌, ℕ, ◌+◌, ◌<◌, ◌≤◌, List, [], ◌∷◌, ◌++◌, suc, zero, map, length, take, take_at, drop, get_or, slice_set, take_all, refl, sym, ap, ◌∙◌, arith, inl, append_assoc, length-append, length-take-le, length-drop, ◌-◌}
 use Rattle.std.proofs.lemmas.Bool.{lt-ltb}
 use Rattle.std.proofs.lemmas.List.Elements.{All-cons}
 use Rattle.std.proofs.lemmas.Str.{IsUtf8-from_ascii, chars-IsAscii}
 use Rattle.std.specs.Prelude.{IsUtf8, chars, IsAscii}
+use Rattle.arraystring_base.specs.Text.{cap}
 use Rattle.arraystring_base.specs.declared.utf16.Unit16.{Unit16}
 use Rattle.arraystring_base.specs.declared.utf16.Unit16.TheVariants.{Char, Lone}
 use Rattle.arraystring_base.specs.Utf16.{IsHigh, IsLow, utf16, joined_units, lossy_text, IsItem, NoPairApart, IsReading}
+use Rattle.arraystring_core.proofs.SpanLemmas.{Lies}
 
 abbrev pub AreAscii : List ℕ → ℕ → Type 0
 AreAscii units n = (i : ℕ) → i < n → get_or units i 0 < 0x80
@@ -66,25 +68,32 @@ take-one_more [] i within = absurd (omega arith)
 take-one_more (y ∷ l) zero within = refl
 take-one_more (y ∷ l) (suc i) within = ap (λ r. y ∷ r) (take-one_more l i (omega arith))
 
-pub run-longer : (array units : List ℕ) (at n : ℕ) (now : List ℕ) → at + n < length array → n < length units
-    → now ≡ take at array ++ (take n units ++ drop (at + n) array)
-    → slice_set now (at + n) (get_or units n 0) ≡ take at array ++ (take (n + 1) units ++ drop (at + (n + 1)) array)
-run-longer array units at n now in_array in_units is =
-    let front = take at array ++ take n units in
-    let rest = drop (suc (at + n)) array in
+pub run-longer : (array units : List ℕ) (n : ℕ) (now : List ℕ) → n < length array → n < length units → now ≡ take n units ++ drop n array
+    → slice_set now n (get_or units n 0) ≡ take (n + 1) units ++ drop (n + 1) array
+run-longer array units n now in_array in_units is =
+    let front = take n units in
+    let rest = drop (suc n) array in
     let x = get_or units n 0 in
-    let y = get_or array (at + n) 0 in
-    let long : at + n ≡ length front = omega (arith, length-append (take at array) (take n units), length-take-le at array (omega (arith, in_array)), length-take-le n units (omega (arith, in_units))) in
+    let y = get_or array n 0 in
+    let long : n ≡ length front = omega (arith, length-take-le n units (omega (arith, in_units))) in
     let next : suc n ≡ n + 1 = omega arith in
-    let behind : suc (at + n) ≡ at + (n + 1) = omega arith in
-    let parts : now ≡ front ++ y ∷ rest =
-    is ∙ ap (λ l. take at array ++ (take n units ++ l)) (split-at array (at + n) in_array) ∙ sym (append_assoc (take at array) (take n units) (y ∷ rest)) in
-    ap (λ l. slice_set l (at + n) x) parts ∙ ap (λ k. slice_set (front ++ y ∷ rest) k x) long ∙ set-behind front y x rest
-    ∙ append_assoc (take at array) (take n units) (x ∷ rest)
-    ∙ ap (λ l. take at array ++ l) (sym (append_assoc (take n units) (x ∷ []) rest))
-    ∙ ap (λ l. take at array ++ (l ++ rest)) (sym (take-one_more units n in_units))
-    ∙ ap (λ k. take at array ++ (take k units ++ rest)) next
-    ∙ ap (λ k. take at array ++ (take (n + 1) units ++ drop k array)) behind
+    let parts : now ≡ front ++ y ∷ rest = is ∙ ap (λ l. front ++ l) (split-at array n in_array) in
+    ap (λ l. slice_set l n x) parts ∙ ap (λ k. slice_set (front ++ y ∷ rest) k x) long ∙ set-behind front y x rest
+    ∙ sym (append_assoc front (x ∷ []) rest)
+    ∙ ap (λ l. l ++ rest) (sym (take-one_more units n in_units))
+    ∙ ap (λ k. take k units ++ drop k array) next
+
+-- a run at the start of an array is the text of its bytes
+pub run-lies : (array_size : ℕ) (array units : List ℕ) (n : ℕ) (after : List ℕ) → length array ≡ array_size → n ≤ cap array_size → n ≤ length units
+    → AreAscii units n → after ≡ take n units ++ drop n array → Lies array_size after 0 n (take n units)
+run-lies array_size array units n after long room within ascii is =
+    let run : length (take n units) ≡ n = length-take-le n units within in
+    let first : take n after ≡ take n units = ap (take n) is ∙ take_at (take n units) (drop n array) n run in
+    let same : length after ≡ array_size = ap length is ∙ omega (arith, length-append (take n units) (drop n array), length-drop n array, run, long, room) in
+    record {
+      held = (omega (arith, room), same, ∣ rw first (run-utf8 n units ascii) ∣₁);
+      shown = ap chars first ∙ run-chars n units ascii;
+    }
 
 rest-whole : (n : ℕ) (units : List ℕ) → take (length units - n) (drop n units) ≡ drop n units
 rest-whole n units = take_all (length units - n) (drop n units) (omega (arith, length-drop n units))

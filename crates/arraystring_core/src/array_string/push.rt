@@ -290,7 +290,7 @@ impl<const N: usize> ArrayString<N> {
     /// Whether there is room for `ch` after `len` bytes. ASCII has a test of its own, which the
     /// compiler joins with that of `encode`. The width of others is not tested if four more fit.
     #[inline(always)]
-    fn has_room(len: usize, ch: char) -> bool
+    pub(super) fn has_room(len: usize, ch: char) -> bool
         requires { len ≤ 255 }
         ensures { IsTrue result ↔ (len + width ch ≤ cap N) }
     {

@@ -1,15 +1,16 @@
 //! Strings from UTF-16.
-ghost use Rattle.std.specs.Prelude.{◌≡◌, ◌+◌, ◌<◌, ◌≤◌, ◌++◌, [], ℕ, List, length, take, drop, slice_index};
+ghost use Rattle.std.specs.Prelude.{◌≡◌, ◌+◌, ◌<◌, ◌≤◌, ◌∷◌, ◌++◌, [], ℕ, List, MatchOption, length, take, slice_index};
 ghost use Rattle.arraystring_base.specs.declared.utf16.Unit16.{Unit16};
-ghost use Rattle.arraystring_base.specs.Text.{cap, cut};
+ghost use Rattle.arraystring_base.specs.Text.{cap, cut, size};
 ghost use Rattle.arraystring_base.specs.Utf16.{IsReading, first_stop, shown, lossy_text};
 ghost use Rattle.arraystring_core.specs.FromUtf16.{GivesWhole, GivesPrefix, stop_at};
+ghost use Rattle.arraystring_core.specs.Stored.{stored, IsStored};
 
 use super::ArrayString;
-use crate::laws::text_fits;
 use arraystring_base::error::{Error, Utf16};
 use arraystring_base::laws::only_reading;
 use arraystring_base::utf16::{Unit16, Units};
+use arraystring_base::utils::encode;
 use std::char;
 
 impl<const N: usize> ArrayString<N> {
@@ -34,9 +35,14 @@ impl<const N: usize> ArrayString<N> {
     pub fn try_from_utf16(units: &[u16]) -> Result<Self, Error>
         ensures { (items : List Unit16) → IsReading units.now items → GivesWhole (first_stop items (cap N)) result }
     {
-        let mut prefix = Self::new();
-        match add_prefix(&mut prefix, units) {
-            None => Ok(prefix),
+        let mut array = [0; N];
+        let (end, after) = write_prefix(&mut array, units);
+        match after {
+            None => Ok(ArrayString {
+                array,
+                start: 0,
+                size: end as u8,
+            }),
             Some(Unit16::Lone(_)) => Err(Error::Utf16),
             Some(Unit16::Char(_)) => Err(Error::OutOfBounds),
         }
@@ -62,10 +68,15 @@ impl<const N: usize> ArrayString<N> {
     pub fn from_utf16(units: &[u16]) -> Result<Self, Utf16>
         ensures { (items : List Unit16) → IsReading units.now items → GivesPrefix (first_stop items (cap N)) result }
     {
-        let mut prefix = Self::new();
-        match add_prefix(&mut prefix, units) {
+        let mut array = [0; N];
+        let (end, after) = write_prefix(&mut array, units);
+        match after {
             Some(Unit16::Lone(_)) => Err(Utf16),
-            _ => Ok(prefix),
+            _ => Ok(ArrayString {
+                array,
+                start: 0,
+                size: end as u8,
+            }),
         }
     }
 
@@ -83,73 +94,82 @@ impl<const N: usize> ArrayString<N> {
         ensures { (items : List Unit16) → IsReading units.now items → result.text ≡ cut (lossy_text items) (cap N) }
     {
         only_reading(units);
-        let mut text = Self::new();
-        let run = text.push_ascii_units(units);
-        text_fits(&text);
+        let mut array = [0; N];
+        let run = write_ascii(&mut array, units);
+        let mut end = run;
         for item in Units::new(&units[run..]) {
-            match text.try_push(shown(item)) {
-                Ok(()) => {}
-                Err(_) => return text,
+            match write_char(&mut array, end, shown(item)) {
+                Some(next) => {
+                    end = next;
+                }
+                None => break,
             }
         }
-        text
-    }
-
-    /// Appends the units before the first that is not ASCII, as far as there is room behind the
-    /// text. Returns how many.
-    #[inline(always)]
-    fn push_ascii_units(&mut self, units: &[u16]) -> usize
-        ensures within { result ≤ length units.now }
-        ensures text { self.new.text ≡ self.old.text ++ take result units.now }
-        ensures ascii { (i : ℕ) → i < result → slice_index units.now i < 0x80 }
-    {
-        let end = self.end();
-        let run = write_ascii(&mut self.array, end, units);
-        self.size = (self.size as usize + run) as u8;
-        run
+        ArrayString {
+            array,
+            start: 0,
+            size: end as u8,
+        }
     }
 }
 
-/// Writes the units before the first that is not ASCII as bytes into the array, from `at` on, as far
-/// as there is room. Returns how many.
+/// Writes the units before the first that is not ASCII as bytes at the start of the array, as far as
+/// there is room. Returns how many: so many bytes are then a text.
 #[inline(always)]
-fn write_ascii<const N: usize>(array: &mut [u8; N], at: usize, units: &[u16]) -> usize
-    requires { at ≤ cap N }
+fn write_ascii<const N: usize>(array: &mut [u8; N], units: &[u16]) -> usize
     ensures within { result ≤ length units.now }
-    ensures room { at + result ≤ cap N }
     ensures ascii { (i : ℕ) → i < result → slice_index units.now i < 0x80 }
-    ensures bytes { array.new ≡ take at array.old ++ (take result units.now ++ drop (at + result) array.old) }
+    ensures held { IsStored N array.new 0 result }
+    ensures text { (stored array.new 0 result).text ≡ take result units.now }
 {
-    let most = units.len().min(ArrayString::<N>::capacity() as usize - at);
+    let most = units.len().min(ArrayString::<N>::capacity() as usize);
     let mut run = 0;
     while run < most && units[run] < 0x80 {
-        prove!(at + run < N);
-        array[at + run] = units[run] as u8;
+        prove!(run < N);
+        array[run] = units[run] as u8;
         run += 1;
     }
     run
 }
 
-/// Adds to an empty string the longest prefix of characters of `units` that fits, and returns the
-/// item right after it.
-fn add_prefix<const N: usize>(prefix: &mut ArrayString<N>, units: &[u16]) -> Option<Unit16>
-    requires { prefix.old.text ≡ [] }
-    ensures { (items : List Unit16) → IsReading units.now items → first_stop items (cap N) ≡ stop_at result prefix.new.text }
+/// Appends `ch` to the text that the first `end` bytes of the array are, and returns where it ends
+/// then. Returns `None` if it does not fit.
+#[inline(always)]
+fn write_char<const N: usize>(array: &mut [u8; N], end: usize, ch: char) -> Option<usize>
+    requires { IsStored N array.old 0 end }
+    ensures { let t = (stored array.old 0 end).text in
+        MatchOption result ((cap N < size t + size (ch ∷ [])) × (array.new ≡ array.old))
+        (λ next. IsStored N array.new 0 next × ((stored array.new 0 next).text ≡ t ++ ch ∷ [])) }
+{
+    if !ArrayString::<N>::has_room(end, ch) {
+        return None;
+    }
+    Some(end + encode(ch, array, end))
+}
+
+/// Writes the longest prefix of characters of `units` that fits at the start of the array. Returns
+/// where it ends, and the item right after it.
+#[inline(always)]
+fn write_prefix<const N: usize>(array: &mut [u8; N], units: &[u16]) -> (usize, Option<Unit16>)
+    ensures held { IsStored N array.new 0 result.0 }
+    ensures stop { (items : List Unit16) → IsReading units.now items → first_stop items (cap N) ≡ stop_at result.1 (stored array.new 0 result.0).text }
 {
     only_reading(units);
     // A run of ASCII first, at once: its units are its bytes.
-    let run = prefix.push_ascii_units(units);
-    text_fits(prefix);
+    let run = write_ascii(array, units);
+    let mut end = run;
     for item in Units::new(&units[run..]) {
         match item {
-            Unit16::Char(ch) => match prefix.try_push(ch) {
-                Ok(()) => {}
-                Err(_) => return Some(item),
+            Unit16::Char(ch) => match write_char(array, end, ch) {
+                Some(next) => {
+                    end = next;
+                }
+                None => return (end, Some(item)),
             },
-            Unit16::Lone(_) => return Some(item),
+            Unit16::Lone(_) => return (end, Some(item)),
         }
     }
-    None
+    (end, None)
 }
 
 /// An item as a character, with U+FFFD for a lone surrogate.

@@ -2,52 +2,65 @@ use Rattle.std.proofs.Common.{◌≡◌, ◌+◌, ◌≤◌, ◌<◌, [], ◌∷
 use Rattle.arraystring_core.proofs.UnitLemmas.{whole-reading, lossy-behind}
 use Rattle.arraystring_base.specs.declared.utf16.Unit16.TheVariants.{Char}
 use Rattle.arraystring_base.specs.Text.{cap, cut, size, width}
-use Rattle.arraystring_base.proofs.TextLaws.{size-append}
 use Rattle.arraystring_base.proofs.CutLaws.{cut-is, cut-all}
 use Rattle.arraystring_base.specs.Utf16.{lossy_text}
-use Rattle.arraystring_core.proofs.EditLaws.{addition-made, addition-refused}
+use Rattle.arraystring_core.specs.GhostProofs.{stored-size}
+use Rattle.arraystring_core.specs.Stored.{stored}
 use Rattle.arraystring_core.proofs.array_string.ArrayString.from_utf16_lossy.Goals as goal
+use Rattle.arraystring_core.proofs.array_string.ArrayString.from_utf16_lossy.Goals.{in-None, in-Some+in-None-write_char}
 
 pub loop-item-init : goal.loop-item-init
 loop-item-init g c =
-    let run = take c.push_ascii_units-run.result c.args.units.now in
-    let whole = c.push_ascii_units-run.ensures.text ∙ ap (λ t. t ++ run) c.new-text.ensures in (
-      omega arith,
-      lossy-behind run c.into_iter-item-iterator.result ∙ ap (λ t. t ++ lossy_text c.into_iter-item-iterator.result) (sym whole),
-    )
+    let run = take c.write_ascii-run.result c.args.units.now in
+    let left = lossy_text c.into_iter-item-iterator.result in
+    record {
+      held = c.write_ascii-run.ensures.held;
+      read = lossy-behind run c.into_iter-item-iterator.result ∙ ap (λ t. t ++ left) (sym c.write_ascii-run.ensures.text);
+    }
 
 pub loop-item-preserved : goal.loop-item-preserved
 loop-item-preserved g c =
     let inv = c.loop-item.invariant in
-    let run = c.loop-item.text.text in
+    let text = (stored c.loop-item.array 0 c.loop-item.end).text in
     let ch = c.shown.result in
     let left = lossy_text c.next.new.self in
-    let added = addition-made (ch ∷ []) (cap g.row.N) c.in-Ok.ensures in
+    let added = c.in-Some-write_char.ensures in
     let first = ap lossy_text c.in-Some.ensures.steps ∙ ap (λ d. d ∷ left) (sym c.shown.ensures) in
-    let fits : size (run ++ ch ∷ []) ≤ cap g.row.N = omega (arith, size-append run (ch ∷ [])) in (
-      rw added.1 fits,
-      inv.1 ∙ ap (λ l. run ++ l) first ∙ sym (append_assoc run (ch ∷ []) left) ∙ ap (λ l. l ++ left) (sym added.1),
-    )
+    record {
+      held = added.0;
+      read = inv.read ∙ ap (λ l. text ++ l) first ∙ sym (append_assoc text (ch ∷ []) left) ∙ ap (λ l. l ++ left) (sym added.1);
+    }
 
-pub returns-in-Err : goal.returns-in-Err
-returns-in-Err g c = λ items is.
-    let inv = c.loop-item.invariant in
-    let run = c.loop-item.text.text in
-    let ch = c.shown.result in
-    let left = lossy_text c.next.new.self in
-    let refused = addition-refused (ch ∷ []) (cap g.row.N) c.in-Err.ensures in
-    let past : cap g.row.N < size run + width ch = omega arith in
-    let first = ap lossy_text c.in-Some.ensures.steps ∙ ap (λ d. d ∷ left) (sym c.shown.ensures) in
-    let same = ap lossy_text (whole-reading c.push_ascii_units-run.result c.args.units.now c.push_ascii_units-run.ensures.ascii c.new-item-items.ensures c.into_iter-item-iterator.ensures.into_iter_gives
-    c.only_reading.ensures.only is) ∙ inv.1 ∙ ap (λ l. run ++ l) first in
-    let ends = cut-is run (ch ∷ left) (cap g.row.N) inv.0 (λ d es e. let one : ch ≡ d = cc in rw (← one) past) in
-    refused.2 ∙ sym (ap (λ l. cut l (cap g.row.N)) same ∙ ends)
+pub invariant_of-result : goal.invariant_of-result
+invariant_of-result g c =
+    let same : c.match-next.array ≡ c.loop-item.array = elim c.match-next.branch [
+      | in-None w ↦ w.array-is
+      | in-Some+in-None-write_char w ↦ w.array-is ∙ w.in-None-write_char.ensures.1
+    ] in
+    rw same c.loop-item.invariant.held
 
 pub returns : goal.returns
 returns g c = λ items is.
     let inv = c.loop-item.invariant in
-    let run = c.loop-item.text.text in
-    let same = ap lossy_text (whole-reading c.push_ascii_units-run.result c.args.units.now c.push_ascii_units-run.ensures.ascii c.new-item-items.ensures c.into_iter-item-iterator.ensures.into_iter_gives
-    c.only_reading.ensures.only is) ∙ inv.1 in
-    let whole = ap (λ l. run ++ lossy_text l) c.in-None.ensures.steps.0 ∙ append-nil run in
-    sym (ap (λ l. cut l (cap g.row.N)) (same ∙ whole) ∙ cut-all inv.0)
+    let n = cap g.row.N in
+    let text = (stored c.loop-item.array 0 c.loop-item.end).text in
+    let run = c.write_ascii-run.result in
+    let units = c.args.units.now in
+    let long = stored-size g.row.N c.loop-item.array 0 c.loop-item.end inv.held in
+    let room : size text ≤ n = omega (arith, long, inv.held.0) in
+    let same = ap lossy_text (whole-reading run units c.write_ascii-run.ensures.ascii c.new-item-items.ensures c.into_iter-item-iterator.ensures.into_iter_gives
+    c.only_reading.ensures.only is) ∙ inv.read in
+    elim c.match-next.branch [
+      | in-None w ↦
+          let whole = ap (λ l. text ++ lossy_text l) w.in-None.ensures.steps.0 ∙ append-nil text in
+          ap (λ a. (stored a 0 c.loop-item.end).text) w.array-is ∙ sym (ap (λ l. cut l n) (same ∙ whole) ∙ cut-all room)
+      | in-Some+in-None-write_char w ↦
+          let ch = w.shown.result in
+          let left = lossy_text c.next.new.self in
+          let refused = w.in-None-write_char.ensures in
+          let past : n < size text + width ch = omega (arith, refused.0) in
+          let first = ap lossy_text w.in-Some.ensures.steps ∙ ap (λ d. d ∷ left) (sym w.shown.ensures) in
+          let ends = cut-is text (ch ∷ left) n room (λ d es e. let one : ch ≡ d = cc in rw (← one) past) in
+          ap (λ a. (stored a 0 c.loop-item.end).text) (w.array-is ∙ refused.1)
+          ∙ sym (ap (λ l. cut l n) (same ∙ ap (λ l. text ++ l) first) ∙ ends)
+    ]

@@ -1,20 +1,58 @@
-use Rattle.std.proofs.Common.{◌≡◌, ◌<◌, inl, inr, subst, arith, slice_index_or}
+use Rattle.std.proofs.Common.{◌≡◌, ◌<◌, ◌≤◌, length, inl, inr, subst, arith, slice_index_or}
+use Rattle.arraystring_base.specs.Text.{cap}
 use Rattle.std.proofs.lemmas.Bool.{cases_lt}
-use Rattle.arraystring_core.proofs.UnitLemmas.{run-longer}
+use Rattle.arraystring_core.proofs.UnitLemmas.{run-longer, run-lies}
 use Rattle.arraystring_core.proofs.array_string.utf16.write_ascii.Goals as goal
 
 pub loop-run-preserved : goal.loop-run-preserved
 loop-run-preserved g c =
     let l = c.loop-run in
-    let units = c.args.units.now in (
-      omega arith,
-      λ i lt. elim (cases_lt i l.run) [
-        | inl less ↦ l.invariant.1 i less
+    let units = c.args.units.now in
+    record {
+      within = omega (arith, c.loop-run-test.true);
+      ascii = λ i lt. elim (cases_lt i l.run) [
+        | inl less ↦ l.invariant.ascii i less
         | inr past ↦
             let same : l.run ≡ i = omega arith in
             subst (λ k. slice_index_or units k 0 < 128) same c.if-units-run-lt128.true
-      ],
-      run-longer c.args.array.now units c.args.at l.run l.array
-          (omega arith)
-          (omega arith) l.invariant.2,
-    )
+      ];
+      bytes = run-longer c.args.array.now units l.run l.array
+          (omega (arith, c.loop-run-test.true, c.min-most.ensures, c.capacity.ensures, c.told-array))
+          (omega (arith, c.loop-run-test.true, c.min-most.ensures)) l.invariant.bytes;
+    }
+
+pub returns-else-units-run-lt128-clause-held : goal.returns-else-units-run-lt128-clause-held
+returns-else-units-run-lt128-clause-held g c =
+    let inv = c.loop-run.invariant in
+    let run = c.loop-run.run in
+    let units = c.args.units.now in
+    let room : run ≤ cap g.row.N = omega (arith, inv.within, c.min-most.ensures, c.capacity.ensures) in
+    let within : run ≤ length units = omega (arith, inv.within, c.min-most.ensures) in
+    (run-lies g.row.N c.args.array.now units run c.loop-run.array c.told-array room within inv.ascii inv.bytes).held
+
+pub returns-else-units-run-lt128-clause-text : goal.returns-else-units-run-lt128-clause-text
+returns-else-units-run-lt128-clause-text g c =
+    let inv = c.loop-run.invariant in
+    let run = c.loop-run.run in
+    let units = c.args.units.now in
+    let room : run ≤ cap g.row.N = omega (arith, inv.within, c.min-most.ensures, c.capacity.ensures) in
+    let within : run ≤ length units = omega (arith, inv.within, c.min-most.ensures) in
+    (run-lies g.row.N c.args.array.now units run c.loop-run.array c.told-array room within inv.ascii inv.bytes).shown
+
+pub returns-after-loop-run-clause-held : goal.returns-after-loop-run-clause-held
+returns-after-loop-run-clause-held g c =
+    let inv = c.loop-run.invariant in
+    let run = c.loop-run.run in
+    let units = c.args.units.now in
+    let room : run ≤ cap g.row.N = omega (arith, inv.within, c.min-most.ensures, c.capacity.ensures) in
+    let within : run ≤ length units = omega (arith, inv.within, c.min-most.ensures) in
+    (run-lies g.row.N c.args.array.now units run c.loop-run.array c.told-array room within inv.ascii inv.bytes).held
+
+pub returns-after-loop-run-clause-text : goal.returns-after-loop-run-clause-text
+returns-after-loop-run-clause-text g c =
+    let inv = c.loop-run.invariant in
+    let run = c.loop-run.run in
+    let units = c.args.units.now in
+    let room : run ≤ cap g.row.N = omega (arith, inv.within, c.min-most.ensures, c.capacity.ensures) in
+    let within : run ≤ length units = omega (arith, inv.within, c.min-most.ensures) in
+    (run-lies g.row.N c.args.array.now units run c.loop-run.array c.told-array room within inv.ascii inv.bytes).shown

@@ -1,0 +1,10 @@
+use Rattle.std.proofs.Common.{◌≡◌, map, take, ◌++◌}
+use Rattle.arraystring_base.specs.declared.utf16.Unit16.TheVariants.{Char}
+use Rattle.arraystring_core.specs.Stored.{stored, IsStored}
+use Rattle.arraystring_core.proofs.array_string.utf16.write_prefix.Given as goal
+
+abbrev pub invariant-loop-item : goal.invariant-loop-item
+invariant-loop-item g l = record {
+  held : IsStored g.row.N l.array 0 l.end;
+  read : map Char (take l.run l.units) ++ l.initial.item-iterator ≡ map Char (stored l.array 0 l.end).text ++ l.item-iterator;
+}
