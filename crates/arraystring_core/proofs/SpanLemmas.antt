@@ -145,11 +145,9 @@ module _ {array_size : ℕ} {array : List ℕ} {p n : ℕ} (is : IsStored array_
         ∙ ap (λ l. v.text ++ (chars given ++ l)) (back-end v.text) ∙ ap (λ l. v.text ++ l) (append-nil (chars given));
   }
 
--- the text was moved to offset 0, and `given` was written after it
-module _ {array_size : ℕ} {array : List ℕ} {p n : ℕ} (is : IsStored array_size array p n) {v : Stored} (e : stored array p n ≡ v)
-    {given : List ℕ} (u : IsUtf8 given) (room : n + length given ≤ cap array_size) {compact after : List ℕ}
-    (moved : compact ≡ take 0 array ++ (take n (drop p array) ++ drop (0 + n) array))
-    (written : after ≡ take n compact ++ (given ++ drop (n + length given) compact)) where
+-- the text was moved to offset 0
+module _ {array_size : ℕ} {array : List ℕ} {p n : ℕ} (is : IsStored array_size array p n) {compact : List ℕ}
+    (moved : compact ≡ take 0 array ++ (take n (drop p array) ++ drop (0 + n) array)) where
   compact-source : p + n ≤ length array
   compact-source = omega arith
 
@@ -159,18 +157,26 @@ module _ {array_size : ℕ} {array : List ℕ} {p n : ℕ} (is : IsStored array_
   compact-bytes : take n (drop 0 compact) ≡ take n (drop p array)
   compact-bytes = shift-moved array compact p 0 n compact-source compact-target moved
 
-  compact-stored : IsStored array_size compact 0 n
+  pub compact-stored : IsStored array_size compact 0 n
   compact-stored = record {
     within = omega arith;
     length = shift-length array compact p 0 n compact-source compact-target moved ∙ is.length;
     utf8 = ∣ rw compact-bytes (stored-utf8 is) ∣₁;
   }
 
+  pub compact-text : (stored compact 0 n).text ≡ (stored array p n).text
+  compact-text = ap chars compact-bytes
+
+-- and `given` was written after it
+module _ {array_size : ℕ} {array : List ℕ} {p n : ℕ} (is : IsStored array_size array p n) {v : Stored} (e : stored array p n ≡ v)
+    {given : List ℕ} (u : IsUtf8 given) (room : n + length given ≤ cap array_size) {compact after : List ℕ}
+    (moved : compact ≡ take 0 array ++ (take n (drop p array) ++ drop (0 + n) array))
+    (written : after ≡ take n compact ++ (given ++ drop (n + length given) compact)) where
   pub appended_at_start : Lies array_size after 0 (n + length given) (v.text ++ chars given)
   appended_at_start =
-      let text : (stored compact 0 n).text ≡ v.text = ap chars compact-bytes ∙ ap (λ w. w.text) e in
+      let text : (stored compact 0 n).text ≡ v.text = compact-text is moved ∙ ap (λ w. w.text) e in
       rw text at
-      (appended compact-stored refl u (omega arith) (written-from-zero compact after given n written))
+      (appended (compact-stored is moved) refl u (omega arith) (written-from-zero compact after given n written))
 
 -- the bytes from the boundary `end` on were moved to the boundary `start`
 module _ {array_size : ℕ} {array : List ℕ} {p n : ℕ} (is : IsStored array_size array p n) {v : Stored} (e : stored array p n ≡ v)

@@ -84,14 +84,17 @@ run-longer array units n now in_array in_units is =
     ∙ ap (λ k. take k units ++ drop k array) next
 
 -- a run at the start of an array is the text of its bytes
-pub run-lies : (array_size : ℕ) (array units : List ℕ) (n : ℕ) (after : List ℕ) → length array ≡ array_size → n ≤ cap array_size → n ≤ length units
+pub run-lies : {array_size : ℕ} (array units : List ℕ) (n : ℕ) {after : List ℕ} → length array ≡ array_size → n ≤ cap array_size → n ≤ length units
     → AreAscii units n → after ≡ take n units ++ drop n array → Lies array_size after 0 n (take n units)
-run-lies array_size array units n after long room within ascii is =
+run-lies {array_size} array units n {after} long room within ascii is =
     let run : length (take n units) ≡ n = length-take-le n units within in
     let first : take n after ≡ take n units = ap (take n) is ∙ take_at (take n units) (drop n array) n run in
-    let same : length after ≡ array_size = ap length is ∙ omega (arith, length-append (take n units) (drop n array), length-drop n array, run, long, room) in
     record {
-      held = (omega (arith, room), same, ∣ rw first (run-utf8 n units ascii) ∣₁);
+      held = record {
+        within = omega arith;
+        length = ap length is ∙ omega (arith, length-append (take n units) (drop n array), length-drop n array);
+        utf8 = ∣ rw first (run-utf8 n units ascii) ∣₁;
+      };
       shown = ap chars first ∙ run-chars n units ascii;
     }
 

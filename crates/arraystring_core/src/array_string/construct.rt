@@ -11,7 +11,7 @@ use crate::ArrayString;
 use crate::array_string::fill::{fill, try_fill};
 use crate::fast::well_formed::read_utf8;
 use arraystring_base::error::{Error, OutOfBounds, Utf8};
-use arraystring_base::utils::truncate_str;
+use arraystring_base::utils::{truncate_str, write_over};
 use std::str;
 
 impl<const N: usize> ArrayString<N> {
@@ -104,9 +104,10 @@ impl<const N: usize> ArrayString<N> {
         ensures whole { (all : List (List ℕ)) → Gives I.into_iter_gives I.IntoIter.next_gives piece_text pieces all
             → IsWholeOrRefused (joined all) (cap N) (from_out_of_bounds result) }
     {
-        let mut made = Self::new();
-        made.add_strs(pieces)?;
-        Ok(made)
+        let mut array = [0; N];
+        let (mut start, mut size) = (0, 0);
+        Self::append_strs(&mut array, &mut start, &mut size, pieces)?;
+        Ok(ArrayString { array, start, size })
     }
 
     /// Creates a string from the longest prefix of whole characters of the joined pieces that
@@ -129,9 +130,10 @@ impl<const N: usize> ArrayString<N> {
         ensures whole { (all : List (List ℕ)) → Gives I.into_iter_gives I.IntoIter.next_gives piece_text pieces all
             → result.text ≡ cut (joined all) (cap N) }
     {
-        let mut made = Self::new();
-        made.extend_strs(pieces);
-        made
+        let mut array = [0; N];
+        let (mut start, mut size) = (0, 0);
+        let _ = Self::append_strs(&mut array, &mut start, &mut size, pieces);
+        ArrayString { array, start, size }
     }
 
     /// Creates a string from all pieces, joined.
@@ -147,11 +149,17 @@ impl<const N: usize> ArrayString<N> {
         ensures whole { (all : List (List ℕ)) → Gives I.into_iter_gives I.IntoIter.next_gives piece_text pieces all
             → result.text ≡ joined all }
     {
-        let mut made = Self::new();
+        let mut array = [0; N];
+        let mut end = 0;
         for piece in pieces {
-            made.push_str_unchecked(piece);
+            write_over(&mut array, end, piece.as_bytes());
+            end += piece.len();
         }
-        made
+        ArrayString {
+            array,
+            start: 0,
+            size: end as u8,
+        }
     }
 
     /// Creates a string from all characters.

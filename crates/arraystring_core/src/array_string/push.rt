@@ -8,7 +8,6 @@ ghost use Rattle.arraystring_core.specs.Layout.{stored, IsStored};
 ghost use Rattle.arraystring_core.specs.Taken.{Takes, Gives, joined, joined_pieces, piece_text};
 
 use crate::ArrayString;
-use crate::laws::text_fits;
 use arraystring_base::error::OutOfBounds;
 use arraystring_base::utils::{Steps, encode, move_run, truncate_str, write_over};
 
@@ -193,14 +192,91 @@ impl<const N: usize> ArrayString<N> {
             × MatchResult result (λ _. size (joined_pieces taken) ≤ cap N - size self.old.text) (λ _. cap N - size self.old.text < size (joined_pieces taken))
             × (self.new.text ≡ self.old.text ++ cut (joined_pieces taken) (cap N - size self.old.text)) }
     {
-        text_fits(self);
+        Self::append_strs(&mut self.array, &mut self.start, &mut self.size, pieces)
+    }
+
+    /// Appends the pieces before the first that does not fit to a text of the array, the `len` bytes from
+    /// `start` on, and of that one what fits. Refuses if there is such a one. As in `append_chars`, the
+    /// loop knows where the text ends, and `len` is right whenever the iterator is called.
+    #[inline(always)]
+    pub(super) fn append_strs<'a, I: IntoIterator<Item = &'a str> + Drop>(
+        array: &mut [u8; N],
+        start: &mut u8,
+        len: &mut u8,
+        pieces: I,
+    ) -> Result<(), OutOfBounds>
+        requires held { IsStored N array.old start.old len.old }
+        requires ends { IsFiniteIterable I.into_iter_gives I.IntoIter.can_next I.IntoIter.remaining pieces }
+        ensures held { IsStored N array.new start.new len.new }
+        ensures taken { let t = (stored array.old start.old len.old).text in
+            (taken : List (Bor (List ℕ))) × Takes I.into_iter_gives I.IntoIter.next_gives joined_pieces pieces (cap N - size t) taken
+            × MatchResult result (λ _. size (joined_pieces taken) ≤ cap N - size t) (λ _. cap N - size t < size (joined_pieces taken))
+            × ((stored array.new start.new len.new).text ≡ t ++ cut (joined_pieces taken) (cap N - size t)) }
+    {
+        let mut end = *start as usize + *len as usize;
         for piece in pieces {
-            if let Err(refusal) = self.try_push_str(piece) {
-                self.push_str(piece);
-                return Err(refusal);
+            match Self::append_str(array, start, len, end, piece) {
+                Some(next) => {
+                    end = next;
+                }
+                None => return Err(OutOfBounds),
             }
         }
         Ok(())
+    }
+
+    /// Appends `string` to a text of the array that ends at `end`, and returns where it ends then. If not
+    /// all of it fits, appends what does and returns `None`.
+    #[inline(always)]
+    fn append_str(
+        array: &mut [u8; N],
+        start: &mut u8,
+        len: &mut u8,
+        end: usize,
+        string: &str,
+    ) -> Option<usize>
+        requires held { IsStored N array.old start.old len.old }
+        requires end { end ≡ start.old + len.old }
+        ensures held { IsStored N array.new start.new len.new }
+        ensures end { IfSome result (λ next. next ≡ start.new + len.new) }
+        ensures text { let t = (stored array.old start.old len.old).text in let new = (stored array.new start.new len.new).text in
+            MatchOption result ((cap N < size t + size (chars string.now)) × (new ≡ t ++ cut (chars string.now) (cap N - size t)))
+            (λ _. (size t + size (chars string.now) ≤ cap N) × (new ≡ t ++ chars string.now)) }
+    {
+        let next = end + string.len();
+        if next > Self::capacity() as usize {
+            return Self::append_past_end(array, start, len, string);
+        }
+        *len += string.len() as u8;
+        write_over(array, end, string.as_bytes());
+        Some(next)
+    }
+
+    /// The same if there is no room for `string` behind the text.
+    #[cold]
+    #[inline(never)]
+    fn append_past_end(
+        array: &mut [u8; N],
+        start: &mut u8,
+        len: &mut u8,
+        string: &str,
+    ) -> Option<usize>
+        requires { IsStored N array.old start.old len.old }
+        ensures held { IsStored N array.new start.new len.new }
+        ensures end { IfSome result (λ next. next ≡ start.new + len.new) }
+        ensures text { let t = (stored array.old start.old len.old).text in let new = (stored array.new start.new len.new).text in
+            MatchOption result ((cap N < size t + size (chars string.now)) × (new ≡ t ++ cut (chars string.now) (cap N - size t)))
+            (λ _. (size t + size (chars string.now) ≤ cap N) × (new ≡ t ++ chars string.now)) }
+    {
+        let part = truncate_str(string, Self::capacity() - *len);
+        make_room(array, start, *len as usize, part.len());
+        let end = *start as usize + *len as usize;
+        *len += part.len() as u8;
+        write_over(array, end, part.as_bytes());
+        if part.len() < string.len() {
+            return None;
+        }
+        Some(end + part.len())
     }
 
     /// Appends the characters before the first that does not fit to a text of the array, the `len` bytes
@@ -263,6 +339,22 @@ impl<const N: usize> ArrayString<N> {
         let next = end + encode(ch, array, end);
         *len = (next - *start as usize) as u8;
         Some(next)
+    }
+}
+
+/// Moves a text to the start of the array if there is no room for `more` bytes behind it.
+#[inline(always)]
+fn make_room<const N: usize>(array: &mut [u8; N], start: &mut u8, size: usize, more: usize)
+    requires held { IsStored N array.old start.old size }
+    requires fits { size + more ≤ cap N }
+    ensures held { IsStored N array.new start.new size }
+    ensures room { start.new + size + more ≤ cap N }
+    ensures text { (stored array.new start.new size).text ≡ (stored array.old start.old size).text }
+{
+    let from = *start as usize;
+    if from + size + more > ArrayString::<N>::capacity() as usize {
+        *start = 0;
+        move_run(array, from, 0, size);
     }
 }
 

@@ -1,12 +1,25 @@
+use Rattle.std.proofs.Common.{◌∙◌, subst}
+use Rattle.std.proofs.lemmas.Str.{chars-nil}
 use Rattle.arraystring_base.specs.Text.{cap}
-use Rattle.arraystring_core.specs.Taken.{joined_pieces}
+use Rattle.arraystring_core.specs.Taken.{joined_pieces, Takes}
+use Rattle.arraystring_core.proofs.TakenLaws.{pieces-cut}
 use Rattle.arraystring_core.proofs.ConstructLaws.{fresh-room, fresh-cut}
 use Rattle.arraystring_core.proofs.array_string.ArrayString.from_iterator.Goals as goal
 
 pub returns-clause-taken : goal.returns-clause-taken
 returns-clause-taken g c =
-    let ensured = c.extend_strs.ensures.taken in (
-      ensured.0,
-      rw (fresh-room c.new-made.result.text (cap g.row.N) c.new-made.ensures) at ensured.1,
-      fresh-cut c.new-made.result.text (joined_pieces ensured.0) (cap g.row.N) c.new-made.ensures c.extend_strs.new.self.text ensured.2.ok,
-    )
+    let ensured = c.append_strs.ensures.taken in
+    let becomes = g.I.IntoIterator.into_iter_gives in
+    let steps = g.I.IntoIter.Iterator.next_gives in
+    let n = cap g.row.N in
+    let takes = subst (λ k. Takes becomes steps joined_pieces c.args.pieces k ensured.0) (fresh-room _ (joined_pieces ensured.0) n chars-nil) ensured.1 in
+    (ensured.0, takes, fresh-cut _ (joined_pieces ensured.0) n chars-nil _ ensured.3)
+
+pub returns-clause-whole : goal.returns-clause-whole
+returns-clause-whole g c = λ all gives.
+    let ensured = c.append_strs.ensures.taken in
+    let becomes = g.I.IntoIterator.into_iter_gives in
+    let steps = g.I.IntoIter.Iterator.next_gives in
+    let n = cap g.row.N in
+    let takes = subst (λ k. Takes becomes steps joined_pieces c.args.pieces k ensured.0) (fresh-room _ (joined_pieces ensured.0) n chars-nil) ensured.1 in
+    fresh-cut _ (joined_pieces ensured.0) n chars-nil _ ensured.3 ∙ pieces-cut becomes steps c.args.pieces all gives ensured.0 n takes

@@ -46,10 +46,11 @@ returns g c = λ items is.
     let text = (stored c.loop-item.array 0 c.loop-item.end).text in
     let run = c.write_ascii-run.result in
     let units = c.args.units.now in
-    let long = stored-size g.row.N c.loop-item.array 0 c.loop-item.end inv.held in
-    let room : size text ≤ n = omega (arith, long, inv.held.0) in
-    let same = ap lossy_text (whole-reading run units c.write_ascii-run.ensures.ascii c.new-item-items.ensures c.into_iter-item-iterator.ensures.into_iter_gives
-    c.only_reading.ensures.only is) ∙ inv.read in
+    let long = stored-size inv.held in
+    let room : size text ≤ n = omega arith in
+    let same = ap lossy_text (c.only_reading.ensures.only items _ is
+    (run-reads run units _ c.write_ascii-run.ensures.ascii (rw (rest-whole run units) at c.new-item-items.ensures))
+    ∙ ap (λ l. map Char (take run units) ++ l) (sym c.into_iter-item-iterator.ensures.into_iter_gives)) ∙ inv.read in
     elim c.match-next.branch [
       | in-None w ↦
           let whole = ap (λ l. text ++ lossy_text l) w.in-None.ensures.steps.0 ∙ append-nil text in

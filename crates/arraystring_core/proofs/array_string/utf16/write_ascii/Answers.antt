@@ -9,7 +9,7 @@ loop-run-preserved g c =
     let l = c.loop-run in
     let units = c.args.units.now in
     record {
-      within = omega (arith, c.loop-run-test.true);
+      within = omega arith;
       ascii = λ i lt. elim (cases_lt i l.run) [
         | inl less ↦ l.invariant.ascii i less
         | inr past ↦
@@ -17,8 +17,8 @@ loop-run-preserved g c =
             subst (λ k. slice_index_or units k 0 < 128) same c.if-units-run-lt128.true
       ];
       bytes = run-longer c.args.array.now units l.run l.array
-          (omega (arith, c.loop-run-test.true, c.min-most.ensures, c.capacity.ensures, c.told-array))
-          (omega (arith, c.loop-run-test.true, c.min-most.ensures)) l.invariant.bytes;
+          (omega arith)
+          (omega arith) l.invariant.bytes;
     }
 
 pub returns-else-units-run-lt128-clause-held : goal.returns-else-units-run-lt128-clause-held
@@ -26,33 +26,33 @@ returns-else-units-run-lt128-clause-held g c =
     let inv = c.loop-run.invariant in
     let run = c.loop-run.run in
     let units = c.args.units.now in
-    let room : run ≤ cap g.row.N = omega (arith, inv.within, c.min-most.ensures, c.capacity.ensures) in
-    let within : run ≤ length units = omega (arith, inv.within, c.min-most.ensures) in
-    (run-lies g.row.N c.args.array.now units run c.loop-run.array c.told-array room within inv.ascii inv.bytes).held
+    let room : run ≤ cap g.row.N = omega arith in
+    let within : run ≤ length units = omega arith in
+    (run-lies c.args.array.now units run c.told-array room within inv.ascii inv.bytes).held
 
 pub returns-else-units-run-lt128-clause-text : goal.returns-else-units-run-lt128-clause-text
 returns-else-units-run-lt128-clause-text g c =
     let inv = c.loop-run.invariant in
     let run = c.loop-run.run in
     let units = c.args.units.now in
-    let room : run ≤ cap g.row.N = omega (arith, inv.within, c.min-most.ensures, c.capacity.ensures) in
-    let within : run ≤ length units = omega (arith, inv.within, c.min-most.ensures) in
-    (run-lies g.row.N c.args.array.now units run c.loop-run.array c.told-array room within inv.ascii inv.bytes).shown
+    let room : run ≤ cap g.row.N = omega arith in
+    let within : run ≤ length units = omega arith in
+    (run-lies c.args.array.now units run c.told-array room within inv.ascii inv.bytes).shown
 
 pub returns-after-loop-run-clause-held : goal.returns-after-loop-run-clause-held
 returns-after-loop-run-clause-held g c =
     let inv = c.loop-run.invariant in
     let run = c.loop-run.run in
     let units = c.args.units.now in
-    let room : run ≤ cap g.row.N = omega (arith, inv.within, c.min-most.ensures, c.capacity.ensures) in
-    let within : run ≤ length units = omega (arith, inv.within, c.min-most.ensures) in
-    (run-lies g.row.N c.args.array.now units run c.loop-run.array c.told-array room within inv.ascii inv.bytes).held
+    let room : run ≤ cap g.row.N = omega arith in
+    let within : run ≤ length units = omega arith in
+    (run-lies c.args.array.now units run c.told-array room within inv.ascii inv.bytes).held
 
 pub returns-after-loop-run-clause-text : goal.returns-after-loop-run-clause-text
 returns-after-loop-run-clause-text g c =
     let inv = c.loop-run.invariant in
     let run = c.loop-run.run in
     let units = c.args.units.now in
-    let room : run ≤ cap g.row.N = omega (arith, inv.within, c.min-most.ensures, c.capacity.ensures) in
-    let within : run ≤ length units = omega (arith, inv.within, c.min-most.ensures) in
-    (run-lies g.row.N c.args.array.now units run c.loop-run.array c.told-array room within inv.ascii inv.bytes).shown
+    let room : run ≤ cap g.row.N = omega arith in
+    let within : run ≤ length units = omega arith in
+    (run-lies c.args.array.now units run c.told-array room within inv.ascii inv.bytes).shown

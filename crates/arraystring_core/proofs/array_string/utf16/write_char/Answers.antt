@@ -8,14 +8,14 @@ use Rattle.arraystring_core.proofs.array_string.utf16.write_char.Goals as goal
 
 pub returns-then-not-has_room : goal.returns-then-not-has_room
 returns-then-not-has_room g c =
-    let long = stored-size g.row.N c.args.array.now 0 c.args.end c.requires in
+    let long = stored-size c.requires in
     let over : cap g.row.N < c.args.end + width c.args.ch = lt_of_not-le (iff_false c.has_room.ensures c.if-not-has_room.true) in
-    (omega (arith, over, long), refl)
+    (omega arith, refl)
 
 pub returns : goal.returns
 returns g c =
     let zero : 0 + c.args.end ≡ c.args.end = omega arith in
     let room : 0 + c.args.end + width c.args.ch ≤ cap g.row.N = omega (arith, c.if-not-has_room.ensures.0 refl) in
-    let lies = char-appended g.row.N c.args.array.now 0 c.args.end c.requires c.args.ch (search rules) c.encode.new.array room (rw zero c.encode.ensures.bytes) in
+    let lies = char-appended c.requires c.args.ch (search rules) room (rw zero c.encode.ensures.bytes) in
     let lies = rw (← c.encode.ensures.width) at lies in
     (lies.held, lies.shown)

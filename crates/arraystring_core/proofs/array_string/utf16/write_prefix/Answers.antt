@@ -43,8 +43,8 @@ returns-in-None-write_char-clause-stop g c = λ items is.
     let ch = c.in-Char.ch in
     let left = c.next.new.self in
     let refused = c.in-None-write_char.ensures in
-    let long = stored-size g.row.N c.loop-item.array 0 c.loop-item.end inv.held in
-    let room : size prefix ≤ cap g.row.N = omega (arith, long, inv.held.0) in
+    let long = stored-size inv.held in
+    let room : size prefix ≤ cap g.row.N = omega arith in
     let past : cap g.row.N < size prefix + width ch = omega (arith, refused.0) in
     let same = whole-reading c.write_ascii-run.result c.args.units.now c.write_ascii-run.ensures.ascii c.new-item-items.ensures c.into_iter-item-iterator.ensures.into_iter_gives
     c.only_reading.ensures.only is ∙ inv.read in
@@ -58,10 +58,11 @@ returns-in-Lone-clause-stop g c = λ items is.
     let prefix = (stored c.loop-item.array 0 c.loop-item.end).text in
     let unit = c.in-Lone.field-0 in
     let left = c.next.new.self in
-    let long = stored-size g.row.N c.loop-item.array 0 c.loop-item.end inv.held in
-    let room : size prefix ≤ cap g.row.N = omega (arith, long, inv.held.0) in
-    let same = whole-reading c.write_ascii-run.result c.args.units.now c.write_ascii-run.ensures.ascii c.new-item-items.ensures c.into_iter-item-iterator.ensures.into_iter_gives
-    c.only_reading.ensures.only is ∙ inv.read in
+    let long = stored-size inv.held in
+    let room : size prefix ≤ cap g.row.N = omega arith in
+    let same = c.only_reading.ensures.only items _ is
+    (run-reads c.write_ascii-run.result c.args.units.now _ c.write_ascii-run.ensures.ascii (rw (rest-whole c.write_ascii-run.result c.args.units.now) at c.new-item-items.ensures))
+    ∙ ap (λ l. map Char (take c.write_ascii-run.result c.args.units.now) ++ l) (sym c.into_iter-item-iterator.ensures.into_iter_gives) ∙ inv.read in
     let first = c.in-Some.ensures.steps ∙ ap (λ item. item ∷ left) c.in-Lone.is in
     stop-is items (cap g.row.N) (Fault prefix) (unit, left, same ∙ ap (λ l. map Char prefix ++ l) first, room)
     ∙ ap (λ item. stop_at (Some item) prefix) (sym c.in-Lone.is)
@@ -70,9 +71,10 @@ pub returns-clause-stop : goal.returns-clause-stop
 returns-clause-stop g c = λ items is.
     let inv = c.loop-item.invariant in
     let prefix = (stored c.loop-item.array 0 c.loop-item.end).text in
-    let long = stored-size g.row.N c.loop-item.array 0 c.loop-item.end inv.held in
-    let room : size prefix ≤ cap g.row.N = omega (arith, long, inv.held.0) in
-    let same = whole-reading c.write_ascii-run.result c.args.units.now c.write_ascii-run.ensures.ascii c.new-item-items.ensures c.into_iter-item-iterator.ensures.into_iter_gives
-    c.only_reading.ensures.only is ∙ inv.read in
+    let long = stored-size inv.held in
+    let room : size prefix ≤ cap g.row.N = omega arith in
+    let same = c.only_reading.ensures.only items _ is
+    (run-reads c.write_ascii-run.result c.args.units.now _ c.write_ascii-run.ensures.ascii (rw (rest-whole c.write_ascii-run.result c.args.units.now) at c.new-item-items.ensures))
+    ∙ ap (λ l. map Char (take c.write_ascii-run.result c.args.units.now) ++ l) (sym c.into_iter-item-iterator.ensures.into_iter_gives) ∙ inv.read in
     let whole = ap (λ l. map Char prefix ++ l) c.in-None.ensures.steps.0 ∙ append-nil (map Char prefix) in
     stop-is items (cap g.row.N) (End prefix) (same ∙ whole, room)

@@ -1,0 +1,15 @@
+use Rattle.std.proofs.Common.{◌≡◌, ◌+◌, ◌≤◌, ◌++◌}
+use Rattle.arraystring_base.specs.Text.{size, cap}
+use Rattle.arraystring_core.specs.Stored.{stored, IsStored}
+use Rattle.arraystring_core.specs.Taken.{joined_pieces}
+use Rattle.arraystring_core.proofs.array_string.ArrayString.append_strs.Given as goal
+
+abbrev pub invariant-loop-piece : goal.invariant-loop-piece
+invariant-loop-piece g l = let old = (stored l.fn.array l.fn.start l.fn.len).text in record {
+  can : (goal.iterator-loop-piece g).can_next l.piece-iterator;
+  ends : (goal.iterator-loop-piece g).is_finite l.piece-iterator;
+  held : IsStored g.row.N l.array l.start l.len;
+  end : l.end ≡ l.start + l.len;
+  text : (stored l.array l.start l.len).text ≡ old ++ joined_pieces l.yielded;
+  fits : size old + size (joined_pieces l.yielded) ≤ cap g.row.N;
+}
