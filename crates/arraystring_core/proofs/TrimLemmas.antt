@@ -1,12 +1,16 @@
 -- The characters at the ends of a text that pass a test.
-use Rattle.std.proofs.Common.{◌≡◌, ℕ, List, [], ◌∷◌, ◌++◌, refl, sym, ap, subst, ◌∙◌, Bool, true, false, inl, inr}
-use Rattle.std.proofs.lemmas.Bool.{cases_Bool}
+use Rattle.std.proofs.Common.{◌≡◌, ℕ, ◌<◌, ◌≤◌, List, [], ◌∷◌, ◌++◌, suc, zero, length, take, get_or, refl, sym, ap, subst, ◌∙◌, arith, Bool, true, false, inl, inr}
+use Rattle.std.proofs.lemmas.Bool.{cases_Bool, cases_lt}
 use Rattle.std.proofs.lemmas.List.{append_assoc, reverse-append, reverse-reverse}
 use Rattle.std.proofs.lemmas.List.Elements.{All-nil, All-cons, All-head, All-tail, All-append}
 use Rattle.std.proofs.lemmas.List.Sums.{take_while-cons}
 use Rattle.std.specs.Prelude.{All, IfSome, take_while, reverse}
+use Rattle.arraystring_base.specs.Text.{utf8, bytes, size, width, back, boundary}
+use Rattle.arraystring_base.proofs.TextLaws.{utf8-one, utf8-two, utf8-three, utf8-four, length-utf8}
+use Rattle.arraystring_base.proofs.BoundaryLaws.{boundary-is, back-is}
 use Rattle.arraystring_core.specs.Edits.{first_of, last_of, without_leading, without_trailing}
 use Rattle.arraystring_core.proofs.EditLaws.{last_of-push}
+use Rattle.arraystring_core.proofs.UnitLemmas.{AreAscii, take-one_more}
 
 -- the characters that pass, and those from the first that does not
 split-leading : (p : ℕ → Bool) (t : List ℕ) → take_while p t ++ without_leading p t ≡ t
@@ -97,3 +101,77 @@ module _ (p : ℕ → Bool) (t : List ℕ) where
       last-bare P (take_while p kept) (without_leading p kept)
       (subst (λ l. IfSome (last_of l) P) (sym (split-leading p kept))
       (subst (λ o. IfSome o P) (sym (last_of-reverse (without_leading p (reverse t)))) (leading-bare P p of_false (reverse t))))
+
+-- a character whose first byte is of ASCII is that byte
+first-ascii : (c : ℕ) (rest : List ℕ) → get_or (utf8 c ++ rest) 0 0 < 0x80 → c < 0x80
+first-ascii c rest low = elim (cases_lt c 0x80) [
+  | inl lt ↦ lt
+  | inr one ↦ elim (cases_lt c 0x800) [
+    | inl lt ↦ let e = utf8-two c one lt in absurd (omega (arith, rw e at low))
+    | inr two ↦ elim (cases_lt c 0x1_0000) [
+      | inl lt ↦ let e = utf8-three c two lt in absurd (omega (arith, rw e at low))
+      | inr three ↦ let e = utf8-four c three in absurd (omega (arith, rw e at low))
+    ]
+  ]
+]
+
+-- a text that begins with bytes of ASCII begins with these as characters
+pub record Begins (text run : List ℕ) (n : ℕ) : Type 0 where
+  pub rest : List ℕ
+  pub parts : text ≡ run ++ rest
+  pub long : size run ≡ n
+
+ascii-begins : (text : List ℕ) (n : ℕ) → n ≤ length (bytes text) → AreAscii (bytes text) n → Begins text (take n (bytes text)) n
+ascii-begins text zero within ascii = record { rest = text; parts = refl; long = refl }
+ascii-begins [] (suc n) within ascii = absurd (omega (arith, within))
+ascii-begins (c ∷ cs) (suc n) within ascii =
+    let low : c < 0x80 = first-ascii c (bytes cs) (ascii 0 (omega arith)) in
+    let one : bytes (c ∷ cs) ≡ c ∷ bytes cs = ap (λ l. l ++ bytes cs) (utf8-one c low) in
+    let wide : width c ≡ 1 = sym (length-utf8 c) ∙ ap length (utf8-one c low) in
+    let less : n ≤ length (bytes cs) = omega (arith, within, ap length one) in
+    let next = ascii-begins cs n less (λ i lt. rw one at (ascii (suc i) (omega (arith, lt)))) in
+    record {
+      rest = next.rest;
+      parts = ap (λ l. c ∷ l) next.parts ∙ ap (λ b. take (suc n) b ++ next.rest) (sym one);
+      long = ap (λ b. size (take (suc n) b)) one ∙ omega (arith, wide, next.long);
+    }
+
+-- a run of which each passes is dropped
+run-dropped : (p : ℕ → Bool) (bs : List ℕ) (n : ℕ) (rest : List ℕ) → n ≤ length bs → ((i : ℕ) → i < n → p (get_or bs i 0) ≡ true)
+    → without_leading p (take n bs ++ rest) ≡ without_leading p rest
+run-dropped p bs zero rest within pass = refl
+run-dropped p [] (suc n) rest within pass = refl
+run-dropped p (b ∷ bs) (suc n) rest within pass =
+    without_leading-passes p b (take n bs ++ rest) (pass 0 (omega arith))
+    ∙ run-dropped p bs n rest (omega (arith, within)) (λ i lt. pass (suc i) (omega (arith, lt)))
+
+-- n bytes of ASCII at the start of a text, given as `bs`
+module _ (text : List ℕ) {bs : List ℕ} (is : bs ≡ bytes text) {n : ℕ} (within : n ≤ length bs) (ascii : AreAscii bs n) where
+  begins : Begins text (take n bs) n
+  begins = rw is (ascii-begins text n (rw is at within) (rw is at ascii))
+
+  pub run-boundary : boundary text n ≡ true
+  run-boundary = ap (λ t. boundary t n) begins.parts ∙ boundary-is (take n bs) begins.rest n begins.long
+
+  run-back : back text n ≡ begins.rest
+  run-back = ap (λ t. back t n) begins.parts ∙ back-is (take n bs) begins.rest n begins.long
+
+  pub run-passes : (p : ℕ → Bool) → ((i : ℕ) → i < n → p (get_or bs i 0) ≡ true) → without_leading p (back text n) ≡ without_leading p text
+  run-passes p pass =
+      ap (without_leading p) run-back ∙ sym (ap (without_leading p) begins.parts ∙ run-dropped p bs n begins.rest within pass)
+
+-- and one more, which does not pass
+pub run-stops : (text : List ℕ) {bs : List ℕ} (is : bs ≡ bytes text) {n : ℕ} (within : n < length bs) (ascii : AreAscii bs n) (p : ℕ → Bool)
+    → get_or bs n 0 < 0x80 → p (get_or bs n 0) ≡ false → without_leading p (back text n) ≡ back text n
+run-stops text {bs} is {n} within ascii p low stops =
+    let b = get_or bs n 0 in
+    let more : AreAscii bs (suc n) = λ i lt. elim (cases_lt i n) [
+      | inl less ↦ ascii i less
+      | inr past ↦ let same : n ≡ i = omega (arith, lt, past) in subst (λ k. get_or bs k 0 < 0x80) same low
+    ] in
+    let first = begins text is {n = n} (omega (arith, within)) ascii in
+    let next = begins text is {n = suc n} (omega (arith, within)) more in
+    let parts : text ≡ take n bs ++ (b ∷ next.rest) =
+        next.parts ∙ ap (λ l. l ++ next.rest) (take-one_more bs n within) ∙ append_assoc (take n bs) (b ∷ []) next.rest in
+    let left : back text n ≡ b ∷ next.rest = ap (λ t. back t n) parts ∙ back-is (take n bs) (b ∷ next.rest) n first.long in
+    without_leading-stops p (back text n) b next.rest left stops

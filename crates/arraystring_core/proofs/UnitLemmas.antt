@@ -63,7 +63,7 @@ split-at [] i within = absurd (omega arith)
 split-at (y ∷ l) zero within = refl
 split-at (y ∷ l) (suc i) within = split-at l i (omega arith)
 
-take-one_more : (l : List ℕ) (i : ℕ) → i < length l → take (suc i) l ≡ take i l ++ get_or l i 0 ∷ []
+pub take-one_more : (l : List ℕ) (i : ℕ) → i < length l → take (suc i) l ≡ take i l ++ get_or l i 0 ∷ []
 take-one_more [] i within = absurd (omega arith)
 take-one_more (y ∷ l) zero within = refl
 take-one_more (y ∷ l) (suc i) within = ap (λ r. y ∷ r) (take-one_more l i (omega arith))

@@ -4,8 +4,8 @@ use Rattle.arraystring_base.proofs.TextLaws.{utf8-is, width-is, width-bounds, em
 use Rattle.arraystring_base.proofs.BoundaryLaws.{boundary-is, back-is, back-start, first-char}
 use Rattle.arraystring_core.specs.Edits.{without_leading}
 use Rattle.arraystring_core.proofs.TrimLemmas.{without_leading-passes, without_leading-stops}
-use Rattle.arraystring_core.proofs.array_string.ArrayString.drop_leading.Goals as goal
-use Rattle.arraystring_core.proofs.array_string.ArrayString.drop_leading.Goals.{in-Some+then-not-drops, in_default}
+use Rattle.arraystring_core.proofs.array_string.ArrayString.drop_leading_decoded.Goals as goal
+use Rattle.arraystring_core.proofs.array_string.ArrayString.drop_leading_decoded.Goals.{in-Some+then-not-drops, in_default}
 
 -- a text that begins with the bytes of a character
 module _ (text borrowed rest : List ℕ) (ch : ℕ) (is : borrowed ≡ bytes text) (begins : borrowed ≡ utf8 ch ++ rest) where
