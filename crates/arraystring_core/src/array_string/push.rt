@@ -215,12 +215,10 @@ impl<const N: usize> ArrayString<N> {
     {
         let mut end = *start as usize + *len as usize;
         for piece in pieces {
-            match Self::append_str(array, start, len, end, piece) {
-                Some(next) => {
-                    end = next;
-                }
-                None => return Err(OutOfBounds),
-            }
+            let Some(next) = Self::append_str(array, start, len, end, piece) else {
+                return Err(OutOfBounds);
+            };
+            end = next;
         }
         Ok(())
     }

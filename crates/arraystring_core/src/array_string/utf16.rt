@@ -36,12 +36,12 @@ impl<const N: usize> ArrayString<N> {
         ensures { (items : List Unit16) → IsReading units.now items → GivesWhole (first_stop items (cap N)) result }
     {
         let mut array = [0; N];
-        let (end, after) = write_prefix(&mut array, units);
+        let (size, after) = write_prefix(&mut array, units);
         match after {
             None => Ok(ArrayString {
                 array,
                 start: 0,
-                size: end as u8,
+                size,
             }),
             Some(Unit16::Lone(_)) => Err(Error::Utf16),
             Some(Unit16::Char(_)) => Err(Error::OutOfBounds),
@@ -69,15 +69,15 @@ impl<const N: usize> ArrayString<N> {
         ensures { (items : List Unit16) → IsReading units.now items → GivesPrefix (first_stop items (cap N)) result }
     {
         let mut array = [0; N];
-        let (end, after) = write_prefix(&mut array, units);
-        match after {
-            Some(Unit16::Lone(_)) => Err(Utf16),
-            _ => Ok(ArrayString {
-                array,
-                start: 0,
-                size: end as u8,
-            }),
+        let (size, after) = write_prefix(&mut array, units);
+        if let Some(Unit16::Lone(_)) = after {
+            return Err(Utf16);
         }
+        Ok(ArrayString {
+            array,
+            start: 0,
+            size,
+        })
     }
 
     /// Creates a string from the longest prefix of the characters of `units` that fits. Each lone
@@ -148,9 +148,9 @@ fn write_char<const N: usize>(array: &mut [u8; N], end: usize, ch: char) -> Opti
 }
 
 /// Writes the longest prefix of characters of `units` that fits at the start of the array. Returns
-/// where it ends, and the item right after it.
+/// its size, and the item right after it.
 #[inline(always)]
-fn write_prefix<const N: usize>(array: &mut [u8; N], units: &[u16]) -> (usize, Option<Unit16>)
+fn write_prefix<const N: usize>(array: &mut [u8; N], units: &[u16]) -> (u8, Option<Unit16>)
     ensures held { IsStored N array.new 0 result.0 }
     ensures stop { (items : List Unit16) → IsReading units.now items → first_stop items (cap N) ≡ stop_at result.1 (stored array.new 0 result.0).text }
 {
@@ -164,12 +164,12 @@ fn write_prefix<const N: usize>(array: &mut [u8; N], units: &[u16]) -> (usize, O
                 Some(next) => {
                     end = next;
                 }
-                None => return (end, Some(item)),
+                None => return (end as u8, Some(item)),
             },
-            Unit16::Lone(_) => return (end, Some(item)),
+            Unit16::Lone(_) => return (end as u8, Some(item)),
         }
     }
-    (end, None)
+    (end as u8, None)
 }
 
 /// An item as a character, with U+FFFD for a lone surrogate.

@@ -41,15 +41,15 @@ loop-piece-preserved g c =
       fits = added-fits joined_pieces piece_text joined-more old now (cap g.row.N) xs inv.text inv.fits x done.0;
     }
 
-pub returns-in-None-append_str-clause-taken : goal.returns-in-None-append_str-clause-taken
-returns-in-None-append_str-clause-taken g c =
+pub returns-in_default-clause-taken : goal.returns-in_default-clause-taken
+returns-in_default-clause-taken g c =
     let inv = c.loop-piece.invariant in
     let x = c.in-Some.piece in
     let xs = c.loop-piece.yielded in
     let old = (stored c.args.array.now c.args.start.now c.args.len.now).text in
     let now = (stored c.loop-piece.array c.loop-piece.start c.loop-piece.len).text in
     let new = (stored c.append_str.new.array c.append_str.new.start c.append_str.new.len).text in
-    let refused = c.in-None-append_str.ensures.text in
+    let refused = c.in_default.ensures.text in
     let past = added-past joined_pieces piece_text joined-more old now (cap g.row.N) xs inv.text inv.fits x refused.0 in (
       xs ++ x ∷ [],
       (

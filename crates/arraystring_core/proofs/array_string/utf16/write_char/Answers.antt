@@ -16,6 +16,6 @@ pub returns : goal.returns
 returns g c =
     let zero : 0 + c.args.end ≡ c.args.end = omega arith in
     let room : 0 + c.args.end + width c.args.ch ≤ cap g.row.N = omega (arith, c.if-not-has_room.ensures.0 refl) in
-    let lies = char-appended c.requires c.args.ch (search rules) room (rw zero c.encode.ensures.bytes) in
+    let lies = char-appended c.requires c.args.ch (search rules) {after = c.encode.new.array} room (rw zero c.encode.ensures.bytes) in
     let lies = rw (← c.encode.ensures.width) at lies in
     (lies.held, lies.shown)
