@@ -123,17 +123,17 @@ pub record Begins (text run : List ℕ) (n : ℕ) : Type 0 where
 
 ascii-begins : (text : List ℕ) (n : ℕ) → n ≤ length (bytes text) → AreAscii (bytes text) n → Begins text (take n (bytes text)) n
 ascii-begins text zero within ascii = record { rest = text; parts = refl; long = refl }
-ascii-begins [] (suc n) within ascii = absurd (omega (arith, within))
+ascii-begins [] (suc n) within ascii = absurd (omega arith)
 ascii-begins (c ∷ cs) (suc n) within ascii =
     let low : c < 0x80 = first-ascii c (bytes cs) (ascii 0 (omega arith)) in
     let one : bytes (c ∷ cs) ≡ c ∷ bytes cs = ap (λ l. l ++ bytes cs) (utf8-one c low) in
     let wide : width c ≡ 1 = sym (length-utf8 c) ∙ ap length (utf8-one c low) in
-    let less : n ≤ length (bytes cs) = omega (arith, within, ap length one) in
-    let next = ascii-begins cs n less (λ i lt. rw one at (ascii (suc i) (omega (arith, lt)))) in
+    let less : n ≤ length (bytes cs) = omega (arith, ap length one) in
+    let next = ascii-begins cs n less (λ i lt. rw one at (ascii (suc i) (omega arith))) in
     record {
       rest = next.rest;
       parts = ap (λ l. c ∷ l) next.parts ∙ ap (λ b. take (suc n) b ++ next.rest) (sym one);
-      long = ap (λ b. size (take (suc n) b)) one ∙ omega (arith, wide, next.long);
+      long = ap (λ b. size (take (suc n) b)) one ∙ omega arith;
     }
 
 -- a run of which each passes is dropped
@@ -143,7 +143,7 @@ run-dropped p bs zero rest within pass = refl
 run-dropped p [] (suc n) rest within pass = refl
 run-dropped p (b ∷ bs) (suc n) rest within pass =
     without_leading-passes p b (take n bs ++ rest) (pass 0 (omega arith))
-    ∙ run-dropped p bs n rest (omega (arith, within)) (λ i lt. pass (suc i) (omega (arith, lt)))
+    ∙ run-dropped p bs n rest (omega arith) (λ i lt. pass (suc i) (omega arith))
 
 -- n bytes of ASCII at the start of a text, given as `bs`
 module _ (text : List ℕ) {bs : List ℕ} (is : bs ≡ bytes text) {n : ℕ} (within : n ≤ length bs) (ascii : AreAscii bs n) where
@@ -167,10 +167,10 @@ run-stops text {bs} is {n} within ascii p low stops =
     let b = get_or bs n 0 in
     let more : AreAscii bs (suc n) = λ i lt. elim (cases_lt i n) [
       | inl less ↦ ascii i less
-      | inr past ↦ let same : n ≡ i = omega (arith, lt, past) in subst (λ k. get_or bs k 0 < 0x80) same low
+      | inr past ↦ let same : n ≡ i = omega arith in subst (λ k. get_or bs k 0 < 0x80) same low
     ] in
-    let first = begins text is {n = n} (omega (arith, within)) ascii in
-    let next = begins text is {n = suc n} (omega (arith, within)) more in
+    let first = begins text is {n = n} (omega arith) ascii in
+    let next = begins text is {n = suc n} (omega arith) more in
     let parts : text ≡ take n bs ++ (b ∷ next.rest) =
         next.parts ∙ ap (λ l. l ++ next.rest) (take-one_more bs n within) ∙ append_assoc (take n bs) (b ∷ []) next.rest in
     let left : back text n ≡ b ∷ next.rest = ap (λ t. back t n) parts ∙ back-is (take n bs) (b ∷ next.rest) n first.long in

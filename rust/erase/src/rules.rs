@@ -486,16 +486,16 @@ pub const AGAIN: &[Again] = &[
         why: Why::Ensures("utf8::last_boundary", "end"),
     },
     Again {
-        call: "utf16::add_prefix",
+        call: "utf16::write_prefix",
         before: "for item in",
         clause: "within",
-        why: Why::Ensures("ArrayString::push_ascii_units", "run"),
+        why: Why::Ensures("utf16::write_ascii", "run"),
     },
     Again {
         call: "ArrayString::from_utf16_lossy",
         before: "for item in",
         clause: "within",
-        why: Why::Ensures("ArrayString::push_ascii_units", "run"),
+        why: Why::Ensures("utf16::write_ascii", "run"),
     },
 ];
 
@@ -722,6 +722,7 @@ pub const WIDER: &[Wider] = &[
     pieces("ArrayString::from_iterator_unchecked"),
     pieces("ArrayString::extend_strs"),
     pieces("ArrayString::add_strs"),
+    pieces("ArrayString::append_strs"),
     text("CacheString::try_from_str"),
     text("CacheString::from_str_truncate"),
     text("CacheString::from_str_unchecked"),

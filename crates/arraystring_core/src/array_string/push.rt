@@ -215,7 +215,8 @@ impl<const N: usize> ArrayString<N> {
     {
         let mut end = *start as usize + *len as usize;
         for piece in pieces {
-            let Some(next) = Self::append_str(array, start, len, end, piece) else {
+            let appended = Self::append_str(array, start, len, end, piece);
+            let Some(next) = appended else {
                 return Err(OutOfBounds);
             };
             end = next;

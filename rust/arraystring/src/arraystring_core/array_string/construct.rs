@@ -2,7 +2,7 @@
 //! The constructors: from a `&str`, from pieces, from characters and from bytes of UTF-8.
 
 use crate::arraystring_base::error::{Error, OutOfBounds, Utf8};
-use crate::arraystring_base::utils::truncate_str;
+use crate::arraystring_base::utils::{truncate_str, write_over};
 use crate::arraystring_core::ArrayString;
 use crate::arraystring_core::array_string::fill::{fill, try_fill};
 use crate::arraystring_core::fast::well_formed::read_utf8;
@@ -147,9 +147,11 @@ impl<const N: usize> ArrayString<N> {
     /// </details>
     #[inline]
     pub fn try_from_iterator<U: AsRef<str>, I: IntoIterator<Item = U>>(pieces: I) -> Result<Self, OutOfBounds> {
-        let mut made = Self::new();
-        made.add_strs(pieces)?;
-        Ok(made)
+        let mut array = [0; N];
+        let (mut start, mut size) = (0, 0);
+        // SAFETY: the proof of `try_from_iterator` in crates/arraystring_core/src/array_string/construct.rt shows `held` of `append_strs`.
+        unsafe { Self::append_strs(&mut array, &mut start, &mut size, pieces) }?;
+        Ok(ArrayString { array, start, size })
     }
 
     /// Creates a string from the longest prefix of whole characters of the joined pieces that
@@ -184,9 +186,11 @@ impl<const N: usize> ArrayString<N> {
     /// </details>
     #[inline]
     pub fn from_iterator<U: AsRef<str>, I: IntoIterator<Item = U>>(pieces: I) -> Self {
-        let mut made = Self::new();
-        made.extend_strs(pieces);
-        made
+        let mut array = [0; N];
+        let (mut start, mut size) = (0, 0);
+        // SAFETY: the proof of `from_iterator` in crates/arraystring_core/src/array_string/construct.rt shows `held` of `append_strs`.
+        let _ = unsafe { Self::append_strs(&mut array, &mut start, &mut size, pieces) };
+        ArrayString { array, start, size }
     }
 
     /// Creates a string from all pieces, joined.
@@ -221,13 +225,15 @@ impl<const N: usize> ArrayString<N> {
     /// </details>
     #[inline]
     pub unsafe fn from_iterator_unchecked<U: AsRef<str>, I: IntoIterator<Item = U>>(pieces: I) -> Self {
-        let mut made = Self::new();
+        let mut array = [0; N];
+        let mut end = 0;
         for piece in pieces {
             let piece = piece.as_ref();
-            // SAFETY: the proof of `from_iterator_unchecked` in crates/arraystring_core/src/array_string/construct.rt shows the precondition of `push_str_unchecked`.
-            unsafe { made.push_str_unchecked(piece) };
+            // SAFETY: the proof of `from_iterator_unchecked` in crates/arraystring_core/src/array_string/construct.rt shows the precondition of `write_over`.
+            unsafe { write_over(&mut array, end, piece.as_bytes()) };
+            end += piece.len();
         }
-        made
+        ArrayString { array, start: 0, size: end as u8 }
     }
 
     /// Creates a string from all characters.

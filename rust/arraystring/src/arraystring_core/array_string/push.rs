@@ -307,14 +307,122 @@ impl<const N: usize> ArrayString<N> {
     /// </details>
     #[inline]
     pub(super) fn add_strs<U: AsRef<str>, I: IntoIterator<Item = U>>(&mut self, pieces: I) -> Result<(), OutOfBounds> {
+        // SAFETY: the proof of `add_strs` in crates/arraystring_core/src/array_string/push.rt shows `held` of `append_strs`.
+        unsafe { Self::append_strs(&mut self.array, &mut self.start, &mut self.size, pieces) }
+    }
+
+    /// Appends the pieces before the first that does not fit to a text of the array, the `len` bytes from
+    /// `start` on, and of that one what fits. Refuses if there is such a one. As in `append_chars`, the
+    /// loop knows where the text ends, and `len` is right whenever the iterator is called.
+    ///
+    /// # Safety
+    ///
+    /// Each clause `requires` of the contract must hold, but for those on counts, on iterators and on closures.
+    ///
+    /// <details><summary>Contract</summary>
+    ///
+    /// ```text
+    /// requires held { IsStored N array.old start.old len.old }
+    /// requires ends { IsFiniteIterable I.into_iter_gives I.IntoIter.can_next I.IntoIter.remaining pieces }
+    /// ensures held { IsStored N array.new start.new len.new }
+    /// ensures taken { let t = (stored array.old start.old len.old).text in
+    ///     (taken : List (Bor (List ℕ))) × Takes I.into_iter_gives I.IntoIter.next_gives joined_pieces pieces (cap N - size t) taken
+    ///     × MatchResult result (λ _. size (joined_pieces taken) ≤ cap N - size t) (λ _. cap N - size t < size (joined_pieces taken))
+    ///     × ((stored array.new start.new len.new).text ≡ t ++ cut (joined_pieces taken) (cap N - size t)) }
+    /// ```
+    ///
+    /// [How to read a contract](crate::contracts)
+    ///
+    /// </details>
+    #[inline(always)]
+    pub(super) unsafe fn append_strs<U: AsRef<str>, I: IntoIterator<Item = U>>(
+        array: &mut [u8; N],
+        start: &mut u8,
+        len: &mut u8,
+        pieces: I,
+    ) -> Result<(), OutOfBounds> {
+        let mut end = *start as usize + *len as usize;
         for piece in pieces {
             let piece = piece.as_ref();
-            if let Err(refusal) = self.try_push_str(piece) {
-                self.push_str(piece);
-                return Err(refusal);
-            }
+            // SAFETY: the proof of `append_strs` in crates/arraystring_core/src/array_string/push.rt shows `held` and `end` of `append_str`.
+            let appended = unsafe { Self::append_str(array, start, len, end, piece) };
+            let Some(next) = appended else {
+                return Err(OutOfBounds);
+            };
+            end = next;
         }
         Ok(())
+    }
+
+    /// Appends `string` to a text of the array that ends at `end`, and returns where it ends then. If not
+    /// all of it fits, appends what does and returns `None`.
+    ///
+    /// # Safety
+    ///
+    /// Each clause `requires` of the contract must hold, but for those on counts, on iterators and on closures.
+    ///
+    /// <details><summary>Contract</summary>
+    ///
+    /// ```text
+    /// requires held { IsStored N array.old start.old len.old }
+    /// requires end { end ≡ start.old + len.old }
+    /// ensures held { IsStored N array.new start.new len.new }
+    /// ensures end { IfSome result (λ next. next ≡ start.new + len.new) }
+    /// ensures text { let t = (stored array.old start.old len.old).text in let new = (stored array.new start.new len.new).text in
+    ///     MatchOption result ((cap N < size t + size (chars string.now)) × (new ≡ t ++ cut (chars string.now) (cap N - size t)))
+    ///     (λ _. (size t + size (chars string.now) ≤ cap N) × (new ≡ t ++ chars string.now)) }
+    /// ```
+    ///
+    /// [How to read a contract](crate::contracts)
+    ///
+    /// </details>
+    #[inline(always)]
+    unsafe fn append_str(array: &mut [u8; N], start: &mut u8, len: &mut u8, end: usize, string: &str) -> Option<usize> {
+        let next = end + string.len();
+        if next > Self::capacity() as usize {
+            // SAFETY: the proof of `append_str` in crates/arraystring_core/src/array_string/push.rt shows the precondition of `append_past_end`.
+            return unsafe { Self::append_past_end(array, start, len, string) };
+        }
+        *len += string.len() as u8;
+        // SAFETY: the proof of `append_str` in crates/arraystring_core/src/array_string/push.rt shows the precondition of `write_over`.
+        unsafe { write_over(array, end, string.as_bytes()) };
+        Some(next)
+    }
+
+    /// The same if there is no room for `string` behind the text.
+    ///
+    /// # Safety
+    ///
+    /// Each clause `requires` of the contract must hold, but for those on counts, on iterators and on closures.
+    ///
+    /// <details><summary>Contract</summary>
+    ///
+    /// ```text
+    /// requires { IsStored N array.old start.old len.old }
+    /// ensures held { IsStored N array.new start.new len.new }
+    /// ensures end { IfSome result (λ next. next ≡ start.new + len.new) }
+    /// ensures text { let t = (stored array.old start.old len.old).text in let new = (stored array.new start.new len.new).text in
+    ///     MatchOption result ((cap N < size t + size (chars string.now)) × (new ≡ t ++ cut (chars string.now) (cap N - size t)))
+    ///     (λ _. (size t + size (chars string.now) ≤ cap N) × (new ≡ t ++ chars string.now)) }
+    /// ```
+    ///
+    /// [How to read a contract](crate::contracts)
+    ///
+    /// </details>
+    #[cold]
+    #[inline(never)]
+    unsafe fn append_past_end(array: &mut [u8; N], start: &mut u8, len: &mut u8, string: &str) -> Option<usize> {
+        let part = truncate_str(string, Self::capacity() - *len);
+        // SAFETY: the proof of `append_past_end` in crates/arraystring_core/src/array_string/push.rt shows `held` and `fits` of `make_room`.
+        unsafe { make_room(array, start, *len as usize, part.len()) };
+        let end = *start as usize + *len as usize;
+        *len += part.len() as u8;
+        // SAFETY: the proof of `append_past_end` in crates/arraystring_core/src/array_string/push.rt shows the precondition of `write_over`.
+        unsafe { write_over(array, end, part.as_bytes()) };
+        if part.len() < string.len() {
+            return None;
+        }
+        Some(end + part.len())
     }
 
     /// Appends the characters before the first that does not fit to a text of the array, the `len` bytes
@@ -403,6 +511,35 @@ impl<const N: usize> ArrayString<N> {
     }
 }
 
+/// Moves a text to the start of the array if there is no room for `more` bytes behind it.
+///
+/// # Safety
+///
+/// Each clause `requires` of the contract must hold, but for those on counts, on iterators and on closures.
+///
+/// <details><summary>Contract</summary>
+///
+/// ```text
+/// requires held { IsStored N array.old start.old size }
+/// requires fits { size + more ≤ cap N }
+/// ensures held { IsStored N array.new start.new size }
+/// ensures room { start.new + size + more ≤ cap N }
+/// ensures text { (stored array.new start.new size).text ≡ (stored array.old start.old size).text }
+/// ```
+///
+/// [How to read a contract](crate::contracts)
+///
+/// </details>
+#[inline(always)]
+unsafe fn make_room<const N: usize>(array: &mut [u8; N], start: &mut u8, size: usize, more: usize) {
+    let from = *start as usize;
+    if from + size + more > ArrayString::<N>::capacity() as usize {
+        *start = 0;
+        // SAFETY: the proof of `make_room` in crates/arraystring_core/src/array_string/push.rt shows `source` and `target` of `move_run`.
+        unsafe { move_run(array, from, 0, size) };
+    }
+}
+
 /// Moves a text to the start of the array, appends `ch`, and returns the size that it has then.
 ///
 /// # Safety
@@ -451,7 +588,7 @@ impl<const N: usize> ArrayString<N> {
     ///
     /// </details>
     #[inline(always)]
-    unsafe fn has_room(len: usize, ch: char) -> bool {
+    pub(super) unsafe fn has_room(len: usize, ch: char) -> bool {
         let capacity = Self::capacity() as usize;
         if (ch as u32) < 0x80 {
             return len < capacity;

@@ -147,11 +147,85 @@ impl<const N: usize> ArrayString<N> {
     /// </details>
     #[inline]
     fn drop_leading<F: Fn(char) -> bool>(&mut self, drops: F) {
+        if !self.drop_leading_ascii(&drops) {
+            self.drop_leading_decoded(drops);
+        }
+    }
+
+    /// Drops the characters of ASCII at the start for which `drops` returns true. Returns true if it
+    /// does not for the one after them, which is of ASCII too.
+    ///
+    /// <details><summary>Contract</summary>
+    ///
+    /// ```text
+    /// requires callable { F.IsAlwaysCallable drops.now }
+    /// ensures text { (passes : ℕ → Bool) → ReturnsAs F.post drops.now passes → without_leading passes self.new.text ≡ without_leading passes self.old.text }
+    /// ensures done { IsTrue result → (passes : ℕ → Bool) → ReturnsAs F.post drops.now passes → without_leading passes self.new.text ≡ self.new.text }
+    /// ```
+    ///
+    /// [How to read a contract](crate::contracts)
+    ///
+    /// </details>
+    #[inline(always)]
+    fn drop_leading_ascii<F: Fn(char) -> bool>(&mut self, drops: &F) -> bool {
+        let bytes = self.as_bytes();
+        let mut run = 0;
+        while run < bytes.len() && bytes[run] < 0x80 {
+            if !drops(bytes[run] as char) {
+                // SAFETY: the proof of `drop_leading_ascii` in crates/arraystring_core/src/array_string/trim.rt shows the precondition of `drop_run`.
+                unsafe { self.drop_run(run) };
+                return true;
+            }
+            run += 1;
+        }
+        // SAFETY: the proof of `drop_leading_ascii` in crates/arraystring_core/src/array_string/trim.rt shows the precondition of `drop_run`.
+        unsafe { self.drop_run(run) };
+        false
+    }
+
+    /// Drops the part before a boundary. Writes nothing if there is none.
+    ///
+    /// # Safety
+    ///
+    /// Each clause `requires` of the contract must hold, but for those on counts, on iterators and on closures.
+    ///
+    /// <details><summary>Contract</summary>
+    ///
+    /// ```text
+    /// requires { IsTrue (boundary self.old.text end) }
+    /// ensures { self.new.text ≡ back self.old.text end }
+    /// ```
+    ///
+    /// [How to read a contract](crate::contracts)
+    ///
+    /// </details>
+    #[inline(always)]
+    unsafe fn drop_run(&mut self, end: usize) {
+        if end > 0 {
+            // SAFETY: the proof of `drop_run` in crates/arraystring_core/src/array_string/trim.rt shows the precondition of `drop_front`.
+            unsafe { self.drop_front(end) };
+        }
+    }
+
+    /// `drop_leading` by the decoder alone.
+    ///
+    /// <details><summary>Contract</summary>
+    ///
+    /// ```text
+    /// requires callable { F.IsAlwaysCallable drops }
+    /// ensures { (passes : ℕ → Bool) → ReturnsAs F.post drops passes → self.new.text ≡ without_leading passes self.old.text }
+    /// ```
+    ///
+    /// [How to read a contract](crate::contracts)
+    ///
+    /// </details>
+    #[inline]
+    fn drop_leading_decoded<F: Fn(char) -> bool>(&mut self, drops: F) {
         while let Some(ch) = self.as_str().chars().next() {
             if !drops(ch) {
                 break;
             }
-            // SAFETY: the proof of `drop_leading` in crates/arraystring_core/src/array_string/trim.rt shows the precondition of `drop_front`.
+            // SAFETY: the proof of `drop_leading_decoded` in crates/arraystring_core/src/array_string/trim.rt shows the precondition of `drop_front`.
             unsafe { self.drop_front(ch.len_utf8()) };
         }
     }

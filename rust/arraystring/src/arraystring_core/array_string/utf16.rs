@@ -4,6 +4,7 @@
 use super::ArrayString;
 use crate::arraystring_base::error::{Error, Utf16};
 use crate::arraystring_base::utf16::{Unit16, Units};
+use crate::arraystring_base::utils::encode;
 use core::char;
 
 impl<const N: usize> ArrayString<N> {
@@ -40,10 +41,10 @@ impl<const N: usize> ArrayString<N> {
     #[inline]
     pub fn try_from_utf16<B: AsRef<[u16]>>(units: B) -> Result<Self, Error> {
         let units = units.as_ref();
-        let mut prefix = Self::new();
-        // SAFETY: the proof of `try_from_utf16` in crates/arraystring_core/src/array_string/utf16.rt shows the precondition of `add_prefix`.
-        match unsafe { add_prefix(&mut prefix, units) } {
-            None => Ok(prefix),
+        let mut array = [0; N];
+        let (size, after) = write_prefix(&mut array, units);
+        match after {
+            None => Ok(ArrayString { array, start: 0, size }),
             Some(Unit16::Lone(_)) => Err(Error::Utf16),
             Some(Unit16::Char(_)) => Err(Error::OutOfBounds),
         }
@@ -82,12 +83,12 @@ impl<const N: usize> ArrayString<N> {
     #[inline]
     pub fn from_utf16<B: AsRef<[u16]>>(units: B) -> Result<Self, Utf16> {
         let units = units.as_ref();
-        let mut prefix = Self::new();
-        // SAFETY: the proof of `from_utf16` in crates/arraystring_core/src/array_string/utf16.rt shows the precondition of `add_prefix`.
-        match unsafe { add_prefix(&mut prefix, units) } {
-            Some(Unit16::Lone(_)) => Err(Utf16),
-            _ => Ok(prefix),
+        let mut array = [0; N];
+        let (size, after) = write_prefix(&mut array, units);
+        if let Some(Unit16::Lone(_)) = after {
+            return Err(Utf16);
         }
+        Ok(ArrayString { array, start: 0, size })
     }
 
     /// Creates a string from the longest prefix of the characters of `units` that fits. Each lone
@@ -115,77 +116,53 @@ impl<const N: usize> ArrayString<N> {
     #[inline]
     pub fn from_utf16_lossy<B: AsRef<[u16]>>(units: B) -> Self {
         let units = units.as_ref();
-        let mut text = Self::new();
-        let run = text.push_ascii_units(units);
-        // What `push_ascii_units` ensures.
+        let mut array = [0; N];
+        let run = write_ascii(&mut array, units);
+        let mut end = run;
+        // What `write_ascii` ensures.
         known!(within: run <= units.len());
         for item in Units::new(&units[run..]) {
-            match text.try_push(shown(item)) {
-                Ok(()) => {}
-                Err(_) => return text,
+            // SAFETY: the proof of `from_utf16_lossy` in crates/arraystring_core/src/array_string/utf16.rt shows the precondition of `write_char`.
+            match unsafe { write_char(&mut array, end, shown(item)) } {
+                Some(next) => {
+                    end = next;
+                }
+                None => break,
             }
         }
-        text
-    }
-
-    /// Appends the units before the first that is not ASCII, as far as there is room behind the
-    /// text. Returns how many.
-    ///
-    /// <details><summary>Contract</summary>
-    ///
-    /// ```text
-    /// ensures within { result ≤ length units.now }
-    /// ensures text { self.new.text ≡ self.old.text ++ take result units.now }
-    /// ensures ascii { (i : ℕ) → i < result → slice_index units.now i < 0x80 }
-    /// ```
-    ///
-    /// [How to read a contract](crate::contracts)
-    ///
-    /// </details>
-    #[inline(always)]
-    fn push_ascii_units(&mut self, units: &[u16]) -> usize {
-        let end = self.end();
-        // SAFETY: the proof of `push_ascii_units` in crates/arraystring_core/src/array_string/utf16.rt shows the precondition of `write_ascii`.
-        let run = unsafe { write_ascii(&mut self.array, end, units) };
-        self.size = (self.size as usize + run) as u8;
-        run
+        ArrayString { array, start: 0, size: end as u8 }
     }
 }
 
-/// Writes the units before the first that is not ASCII as bytes into the array, from `at` on, as far
-/// as there is room. Returns how many.
-///
-/// # Safety
-///
-/// Each clause `requires` of the contract must hold, but for those on counts, on iterators and on closures.
+/// Writes the units before the first that is not ASCII as bytes at the start of the array, as far as
+/// there is room. Returns how many: so many bytes are then a text.
 ///
 /// <details><summary>Contract</summary>
 ///
 /// ```text
-/// requires { at ≤ cap N }
 /// ensures within { result ≤ length units.now }
-/// ensures room { at + result ≤ cap N }
 /// ensures ascii { (i : ℕ) → i < result → slice_index units.now i < 0x80 }
-/// ensures bytes { array.new ≡ take at array.old ++ (take result units.now ++ drop (at + result) array.old) }
+/// ensures held { IsStored N array.new 0 result }
+/// ensures text { (stored array.new 0 result).text ≡ take result units.now }
 /// ```
 ///
 /// [How to read a contract](crate::contracts)
 ///
 /// </details>
 #[inline(always)]
-unsafe fn write_ascii<const N: usize>(array: &mut [u8; N], at: usize, units: &[u16]) -> usize {
-    let most = units.len().min(ArrayString::<N>::capacity() as usize - at);
+fn write_ascii<const N: usize>(array: &mut [u8; N], units: &[u16]) -> usize {
+    let most = units.len().min(ArrayString::<N>::capacity() as usize);
     let mut run = 0;
     while run < most && units[run] < 0x80 {
-        known!(proved: at + run < N);
-        array[at + run] = units[run] as u8;
+        known!(proved: run < N);
+        array[run] = units[run] as u8;
         run += 1;
     }
     run
 }
 
-/// Adds to an empty string the longest prefix of characters of `units` that fits, and returns the
-/// item right after it.
+/// Appends `ch` to the text that the first `end` bytes of the array are, and returns where it ends
+/// then. Returns `None` if it does not fit.
 ///
 /// # Safety
 ///
@@ -194,29 +171,57 @@ unsafe fn write_ascii<const N: usize>(array: &mut [u8; N], at: usize, units: &[u
 /// <details><summary>Contract</summary>
 ///
 /// ```text
-/// requires { prefix.old.text ≡ [] }
-/// ensures { (items : List Unit16) → IsReading units.now items → first_stop items (cap N) ≡ stop_at result prefix.new.text }
+/// requires { IsStored N array.old 0 end }
+/// ensures { let t = (stored array.old 0 end).text in
+///     MatchOption result ((cap N < size t + size (ch ∷ [])) × (array.new ≡ array.old))
+///     (λ next. IsStored N array.new 0 next × ((stored array.new 0 next).text ≡ t ++ ch ∷ [])) }
 /// ```
 ///
 /// [How to read a contract](crate::contracts)
 ///
 /// </details>
-#[inline]
-unsafe fn add_prefix<const N: usize>(prefix: &mut ArrayString<N>, units: &[u16]) -> Option<Unit16> {
+#[inline(always)]
+unsafe fn write_char<const N: usize>(array: &mut [u8; N], end: usize, ch: char) -> Option<usize> {
+    if !ArrayString::<N>::has_room(end, ch) {
+        return None;
+    }
+    // SAFETY: the proof of `write_char` in crates/arraystring_core/src/array_string/utf16.rt shows the precondition of `encode`.
+    Some(end + unsafe { encode(ch, array, end) })
+}
+
+/// Writes the longest prefix of characters of `units` that fits at the start of the array. Returns
+/// its size, and the item right after it.
+///
+/// <details><summary>Contract</summary>
+///
+/// ```text
+/// ensures held { IsStored N array.new 0 result.0 }
+/// ensures stop { (items : List Unit16) → IsReading units.now items → first_stop items (cap N) ≡ stop_at result.1 (stored array.new 0 result.0).text }
+/// ```
+///
+/// [How to read a contract](crate::contracts)
+///
+/// </details>
+#[inline(always)]
+fn write_prefix<const N: usize>(array: &mut [u8; N], units: &[u16]) -> (u8, Option<Unit16>) {
     // A run of ASCII first, at once: its units are its bytes.
-    let run = prefix.push_ascii_units(units);
-    // What `push_ascii_units` ensures.
+    let run = write_ascii(array, units);
+    let mut end = run;
+    // What `write_ascii` ensures.
     known!(within: run <= units.len());
     for item in Units::new(&units[run..]) {
         match item {
-            Unit16::Char(ch) => match prefix.try_push(ch) {
-                Ok(()) => {}
-                Err(_) => return Some(item),
+            // SAFETY: the proof of `write_prefix` in crates/arraystring_core/src/array_string/utf16.rt shows the precondition of `write_char`.
+            Unit16::Char(ch) => match unsafe { write_char(array, end, ch) } {
+                Some(next) => {
+                    end = next;
+                }
+                None => return (end as u8, Some(item)),
             },
-            Unit16::Lone(_) => return Some(item),
+            Unit16::Lone(_) => return (end as u8, Some(item)),
         }
     }
-    None
+    (end as u8, None)
 }
 
 /// An item as a character, with U+FFFD for a lone surrogate.

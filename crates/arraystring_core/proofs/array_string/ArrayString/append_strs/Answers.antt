@@ -29,14 +29,14 @@ loop-piece-preserved g c =
     let xs = c.loop-piece.yielded in
     let old = (stored c.args.array.now c.args.start.now c.args.len.now).text in
     let now = (stored c.loop-piece.array c.loop-piece.start c.loop-piece.len).text in
-    let new = (stored c.append_str.new.array c.append_str.new.start c.append_str.new.len).text in
+    let new = (stored c.append_str-appended.new.array c.append_str-appended.new.start c.append_str-appended.new.len).text in
     let on = c.in-Some.ensures.goes.on inv.ends in
-    let done = c.in-Some-append_str.ensures.text in
+    let done = c.in-Some-appended.ensures.text in
     record {
       can = on.0;
       ends = on.1;
-      held = c.in-Some-append_str.ensures.held;
-      end = c.in-Some-append_str.ensures.end;
+      held = c.in-Some-appended.ensures.held;
+      end = c.in-Some-appended.ensures.end;
       text = added-text joined_pieces piece_text joined-more old now (cap g.row.N) xs inv.text inv.fits x new done.1;
       fits = added-fits joined_pieces piece_text joined-more old now (cap g.row.N) xs inv.text inv.fits x done.0;
     }
@@ -48,7 +48,7 @@ returns-in_default-clause-taken g c =
     let xs = c.loop-piece.yielded in
     let old = (stored c.args.array.now c.args.start.now c.args.len.now).text in
     let now = (stored c.loop-piece.array c.loop-piece.start c.loop-piece.len).text in
-    let new = (stored c.append_str.new.array c.append_str.new.start c.append_str.new.len).text in
+    let new = (stored c.append_str-appended.new.array c.append_str-appended.new.start c.append_str-appended.new.len).text in
     let refused = c.in_default.ensures.text in
     let past = added-past joined_pieces piece_text joined-more old now (cap g.row.N) xs inv.text inv.fits x refused.0 in (
       xs ++ x ∷ [],
