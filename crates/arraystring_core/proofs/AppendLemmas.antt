@@ -1,15 +1,12 @@
--- A character, and a part of a string, that is written behind a text in its array.
-use Rattle.std.proofs.Common.{◌≡◌, ℕ, ◌+◌, ◌-◌, ◌<◌, ◌≤◌, List, [], ◌∷◌, ◌++◌, length, take, drop, refl, sym, ap, ◌∙◌, arith, inl, inr, IsUtf8, chars}
+-- A character that is written into an array: behind a text, or into a gap.
+use Rattle.std.proofs.Common.{◌≡◌, ℕ, ◌+◌, ◌-◌, ◌≤◌, List, [], ◌∷◌, ◌++◌, take, drop, length, true, sym, ◌∙◌, arith, IsUtf8, chars}
 use Rattle.std.specs.Char.{IsScalar}
-use Rattle.std.proofs.lemmas.Bool.{cases_lt}
 use Rattle.std.proofs.lemmas.Str.{IsUtf8-encode}
 use Rattle.std.proofs.lemmas.List.{append-nil}
-use Rattle.arraystring_base.specs.Text.{utf8, width, size, bytes, cap, cut}
-use Rattle.arraystring_base.proofs.TextLaws.{chars-bytes, size-borrowed, utf8-is, length-utf8}
-use Rattle.arraystring_base.proofs.CutLaws.{cut-fits, cut-all}
-use Rattle.arraystring_core.specs.Stored.{stored, IsStored}
-use Rattle.arraystring_core.specs.GhostProofs.{stored-size}
-use Rattle.arraystring_core.proofs.SpanLemmas.{Lies, appended, appended_at_start}
+use Rattle.arraystring_base.specs.Text.{utf8, width, size, cap, front, back, boundary}
+use Rattle.arraystring_base.proofs.TextLaws.{chars-bytes, utf8-is, length-utf8, size-borrowed}
+use Rattle.arraystring_core.specs.Stored.{Stored, stored, IsStored}
+use Rattle.arraystring_core.proofs.SpanLemmas.{Lies, appended, appended_at_start, filled, moved_to_start}
 
 module _ (ch : ℕ) (scalar : IsScalar ch) where
   char-utf8 : IsUtf8 (utf8 ch)
@@ -31,39 +28,27 @@ module _ {array_size : ℕ} {array : List ℕ} {p n : ℕ} (is : IsStored array_
       → after ≡ take n compact ++ (utf8 ch ++ drop (n + width ch) compact)
       → Lies array_size after 0 (n + len) (v.text ++ ch ∷ [])
   char-appended_at_start room moved written =
-      rw (length-utf8 ch, one) at (appended_at_start is refl char-utf8 (rw (length-utf8 ch) room) moved (rw (← length-utf8 ch) at written))
+      rw (wide, ← length-utf8 ch, ← one ch scalar)
+      (appended_at_start is e (char-utf8 ch scalar) (rw (length-utf8 ch) room) moved (rw (← length-utf8 ch) at written))
 
--- of a string what fits behind a text of n bytes
-module _ {array_size : ℕ} {array : List ℕ} {p n : ℕ} (is : IsStored array_size array p n) {string part : List ℕ} (u : IsUtf8 string) (w : IsUtf8 part)
-    (fits : part ≡ bytes (cut (chars string) (cap array_size - n))) where
-  abbrev text : List ℕ
-  text = (stored array p n).text
+  fits : (m : ℕ) → size v.text + width ch ≤ cap array_size → size v.text - (m - m) + size (chars (utf8 ch)) ≤ cap array_size
+  fits m room = omega (arith, size-borrowed (char-utf8 ch scalar), length-utf8 ch)
 
-  pub part-is : chars part ≡ cut (chars string) (cap array_size - size text)
-  part-is = chars-bytes w fits ∙ ap (λ k. cut (chars string) (cap array_size - k)) (sym (stored-size is))
+  -- the gap is at the boundary m; offset and count are the span of the text
+  module _ (m : ℕ) (b : boundary v.text m ≡ true) (room : size v.text + width ch ≤ cap array_size) {offset count : ℕ} (at : offset ≡ p) (many : count ≡ n)
+      (gapped : List ℕ) {after : List ℕ} (long : length gapped ≡ array_size) where
+    pub char-inserted : offset + (m + (len + (count - m))) ≤ cap array_size → take m (drop offset gapped) ≡ take m (drop offset array)
+        → take (count - m) (drop (offset + (m + len)) gapped) ≡ take (count - m) (drop (offset + m) array)
+        → after ≡ take (offset + m) gapped ++ (utf8 ch ++ drop (offset + m + width ch) gapped)
+        → Lies array_size after p (m + (len + (count - m))) (front v.text m ++ (ch ∷ back v.text m))
+    char-inserted held moved tail written =
+        rw (one ch scalar) at
+        (filled is e (omega arith) b b (fits m room) (char-utf8 ch scalar) at many (wide ∙ sym (length-utf8 ch)) gapped long held moved tail (rw (← length-utf8 ch) at written))
 
-  pub part-fits : n + length part ≤ cap array_size
-  part-fits = omega (arith, size-borrowed w, ap size part-is, cut-fits (chars string) (cap array_size - size text), stored-size is)
-
-  -- if it is not all
-  pub part-past : length part < length string → cap array_size < size text + size (chars string)
-  part-past less = elim (cases_lt (cap array_size) (size text + size (chars string))) [
-    | inl past ↦ past
-    | inr le ↦
-        let room : size (chars string) ≤ cap array_size - size text = omega arith in
-        absurd (omega (arith, size-borrowed u, size-borrowed w, ap size (part-is ∙ cut-all room)))
-  ]
-
-  -- and if it is
-  module _ (all : length string ≤ length part) where
-    pub part-room : size text + size (chars string) ≤ cap array_size
-    part-room = omega (arith, part-fits, size-borrowed u, stored-size is)
-
-    pub part-all : chars part ≡ chars string
-    part-all = let room : size (chars string) ≤ cap array_size - size text = omega (arith, part-room) in part-is ∙ cut-all room
-
-  -- it was written behind the text, which may have been moved before
-  pub part-appended : {moved : List ℕ} {q : ℕ} (held : IsStored array_size moved q n) → (stored moved q n).text ≡ text → q + n + length part ≤ cap array_size
-      → {after : List ℕ} → after ≡ take (q + n) moved ++ (part ++ drop (q + n + length part) moved)
-      → Lies array_size after q (n + length part) (text ++ chars part)
-  part-appended held same room written = rw same at (appended held refl w room written)
+    pub char-inserted_at_start : take m gapped ≡ take m (drop offset array)
+        → take (count - m) (drop (m + len) gapped) ≡ take (count - m) (drop (offset + m) array)
+        → after ≡ take m gapped ++ (utf8 ch ++ drop (m + width ch) gapped)
+        → Lies array_size after 0 (m + (len + (count - m))) (front v.text m ++ (ch ∷ back v.text m))
+    char-inserted_at_start moved tail written =
+        rw (one ch scalar) at
+        (moved_to_start is e (omega arith) b b (fits m room) (char-utf8 ch scalar) at many (wide ∙ sym (length-utf8 ch)) gapped long moved tail (rw (← length-utf8 ch) at written))

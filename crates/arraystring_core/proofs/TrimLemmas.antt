@@ -172,6 +172,6 @@ run-stops text {bs} is {n} within ascii p low stops =
     let first = begins text is {n = n} (omega arith) ascii in
     let next = begins text is {n = suc n} (omega arith) more in
     let parts : text ≡ take n bs ++ (b ∷ next.rest) =
-        next.parts ∙ ap (λ l. l ++ next.rest) (take-one_more bs n within) ∙ append_assoc (take n bs) (b ∷ []) next.rest in
+    next.parts ∙ ap (λ l. l ++ next.rest) (take-one_more bs n within) ∙ append_assoc (take n bs) (b ∷ []) next.rest in
     let left : back text n ≡ b ∷ next.rest = ap (λ t. back t n) parts ∙ back-is (take n bs) (b ∷ next.rest) n first.long in
     without_leading-stops p (back text n) b next.rest left stops

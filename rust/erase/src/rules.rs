@@ -486,7 +486,7 @@ pub const AGAIN: &[Again] = &[
         why: Why::Ensures("utf8::last_boundary", "end"),
     },
     Again {
-        call: "utf16::write_prefix",
+        call: "ArrayString::write_prefix",
         before: "for item in",
         clause: "within",
         why: Why::Ensures("utf16::write_ascii", "run"),

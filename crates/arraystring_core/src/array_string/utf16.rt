@@ -36,7 +36,7 @@ impl<const N: usize> ArrayString<N> {
         ensures { (items : List Unit16) → IsReading units.now items → GivesWhole (first_stop items (cap N)) result }
     {
         let mut array = [0; N];
-        let (size, after) = write_prefix(&mut array, units);
+        let (size, after) = Self::write_prefix(&mut array, units);
         match after {
             None => Ok(ArrayString {
                 array,
@@ -69,7 +69,7 @@ impl<const N: usize> ArrayString<N> {
         ensures { (items : List Unit16) → IsReading units.now items → GivesPrefix (first_stop items (cap N)) result }
     {
         let mut array = [0; N];
-        let (size, after) = write_prefix(&mut array, units);
+        let (size, after) = Self::write_prefix(&mut array, units);
         if let Some(Unit16::Lone(_)) = after {
             return Err(Utf16);
         }
@@ -98,7 +98,7 @@ impl<const N: usize> ArrayString<N> {
         let run = write_ascii(&mut array, units);
         let mut end = run;
         for item in Units::new(&units[run..]) {
-            match write_char(&mut array, end, shown(item)) {
+            match Self::write_char(&mut array, end, shown(item)) {
                 Some(next) => {
                     end = next;
                 }
@@ -110,6 +110,46 @@ impl<const N: usize> ArrayString<N> {
             start: 0,
             size: end as u8,
         }
+    }
+
+    /// Writes the longest prefix of characters of `units` that fits at the start of the array. Returns
+    /// its size, and the item right after it.
+    #[inline(always)]
+    fn write_prefix(array: &mut [u8; N], units: &[u16]) -> (u8, Option<Unit16>)
+        ensures held { IsStored N array.new 0 result.0 }
+        ensures stop { (items : List Unit16) → IsReading units.now items → first_stop items (cap N) ≡ stop_at result.1 (stored array.new 0 result.0).text }
+    {
+        only_reading(units);
+        // A run of ASCII first, at once: its units are its bytes.
+        let run = write_ascii(array, units);
+        let mut end = run;
+        for item in Units::new(&units[run..]) {
+            match item {
+                Unit16::Char(ch) => match Self::write_char(array, end, ch) {
+                    Some(next) => {
+                        end = next;
+                    }
+                    None => return (end as u8, Some(item)),
+                },
+                Unit16::Lone(_) => return (end as u8, Some(item)),
+            }
+        }
+        (end as u8, None)
+    }
+
+    /// Appends `ch` to the text that the first `end` bytes of the array are, and returns where it ends
+    /// then. Returns `None` if it does not fit.
+    #[inline(always)]
+    fn write_char(array: &mut [u8; N], end: usize, ch: char) -> Option<usize>
+        requires { IsStored N array.old 0 end }
+        ensures { let t = (stored array.old 0 end).text in
+            MatchOption result ((cap N < size t + size (ch ∷ [])) × (array.new ≡ array.old))
+            (λ next. IsStored N array.new 0 next × ((stored array.new 0 next).text ≡ t ++ ch ∷ [])) }
+    {
+        if !Self::has_room(end, ch) {
+            return None;
+        }
+        Some(end + encode(ch, array, end))
     }
 }
 
@@ -130,46 +170,6 @@ fn write_ascii<const N: usize>(array: &mut [u8; N], units: &[u16]) -> usize
         run += 1;
     }
     run
-}
-
-/// Appends `ch` to the text that the first `end` bytes of the array are, and returns where it ends
-/// then. Returns `None` if it does not fit.
-#[inline(always)]
-fn write_char<const N: usize>(array: &mut [u8; N], end: usize, ch: char) -> Option<usize>
-    requires { IsStored N array.old 0 end }
-    ensures { let t = (stored array.old 0 end).text in
-        MatchOption result ((cap N < size t + size (ch ∷ [])) × (array.new ≡ array.old))
-        (λ next. IsStored N array.new 0 next × ((stored array.new 0 next).text ≡ t ++ ch ∷ [])) }
-{
-    if !ArrayString::<N>::has_room(end, ch) {
-        return None;
-    }
-    Some(end + encode(ch, array, end))
-}
-
-/// Writes the longest prefix of characters of `units` that fits at the start of the array. Returns
-/// its size, and the item right after it.
-#[inline(always)]
-fn write_prefix<const N: usize>(array: &mut [u8; N], units: &[u16]) -> (u8, Option<Unit16>)
-    ensures held { IsStored N array.new 0 result.0 }
-    ensures stop { (items : List Unit16) → IsReading units.now items → first_stop items (cap N) ≡ stop_at result.1 (stored array.new 0 result.0).text }
-{
-    only_reading(units);
-    // A run of ASCII first, at once: its units are its bytes.
-    let run = write_ascii(array, units);
-    let mut end = run;
-    for item in Units::new(&units[run..]) {
-        match item {
-            Unit16::Char(ch) => match write_char(array, end, ch) {
-                Some(next) => {
-                    end = next;
-                }
-                None => return (end as u8, Some(item)),
-            },
-            Unit16::Lone(_) => return (end as u8, Some(item)),
-        }
-    }
-    (end as u8, None)
 }
 
 /// An item as a character, with U+FFFD for a lone surrogate.

@@ -42,7 +42,7 @@ impl<const N: usize> ArrayString<N> {
     pub fn try_from_utf16<B: AsRef<[u16]>>(units: B) -> Result<Self, Error> {
         let units = units.as_ref();
         let mut array = [0; N];
-        let (size, after) = write_prefix(&mut array, units);
+        let (size, after) = Self::write_prefix(&mut array, units);
         match after {
             None => Ok(ArrayString { array, start: 0, size }),
             Some(Unit16::Lone(_)) => Err(Error::Utf16),
@@ -84,7 +84,7 @@ impl<const N: usize> ArrayString<N> {
     pub fn from_utf16<B: AsRef<[u16]>>(units: B) -> Result<Self, Utf16> {
         let units = units.as_ref();
         let mut array = [0; N];
-        let (size, after) = write_prefix(&mut array, units);
+        let (size, after) = Self::write_prefix(&mut array, units);
         if let Some(Unit16::Lone(_)) = after {
             return Err(Utf16);
         }
@@ -123,7 +123,7 @@ impl<const N: usize> ArrayString<N> {
         known!(within: run <= units.len());
         for item in Units::new(&units[run..]) {
             // SAFETY: the proof of `from_utf16_lossy` in crates/arraystring_core/src/array_string/utf16.rt shows the precondition of `write_char`.
-            match unsafe { write_char(&mut array, end, shown(item)) } {
+            match unsafe { Self::write_char(&mut array, end, shown(item)) } {
                 Some(next) => {
                     end = next;
                 }
@@ -131,6 +131,70 @@ impl<const N: usize> ArrayString<N> {
             }
         }
         ArrayString { array, start: 0, size: end as u8 }
+    }
+
+    /// Writes the longest prefix of characters of `units` that fits at the start of the array. Returns
+    /// its size, and the item right after it.
+    ///
+    /// <details><summary>Contract</summary>
+    ///
+    /// ```text
+    /// ensures held { IsStored N array.new 0 result.0 }
+    /// ensures stop { (items : List Unit16) → IsReading units.now items → first_stop items (cap N) ≡ stop_at result.1 (stored array.new 0 result.0).text }
+    /// ```
+    ///
+    /// [How to read a contract](crate::contracts)
+    ///
+    /// </details>
+    #[inline(always)]
+    fn write_prefix(array: &mut [u8; N], units: &[u16]) -> (u8, Option<Unit16>) {
+        // A run of ASCII first, at once: its units are its bytes.
+        let run = write_ascii(array, units);
+        let mut end = run;
+        // What `write_ascii` ensures.
+        known!(within: run <= units.len());
+        for item in Units::new(&units[run..]) {
+            match item {
+                // SAFETY: the proof of `write_prefix` in crates/arraystring_core/src/array_string/utf16.rt shows the precondition of `write_char`.
+                Unit16::Char(ch) => match unsafe { Self::write_char(array, end, ch) } {
+                    Some(next) => {
+                        end = next;
+                    }
+                    None => return (end as u8, Some(item)),
+                },
+                Unit16::Lone(_) => return (end as u8, Some(item)),
+            }
+        }
+        (end as u8, None)
+    }
+
+    /// Appends `ch` to the text that the first `end` bytes of the array are, and returns where it ends
+    /// then. Returns `None` if it does not fit.
+    ///
+    /// # Safety
+    ///
+    /// Each clause `requires` of the contract must hold, but for those on counts, on iterators and on closures.
+    ///
+    /// <details><summary>Contract</summary>
+    ///
+    /// ```text
+    /// requires { IsStored N array.old 0 end }
+    /// ensures { let t = (stored array.old 0 end).text in
+    ///     MatchOption result ((cap N < size t + size (ch ∷ [])) × (array.new ≡ array.old))
+    ///     (λ next. IsStored N array.new 0 next × ((stored array.new 0 next).text ≡ t ++ ch ∷ [])) }
+    /// ```
+    ///
+    /// [How to read a contract](crate::contracts)
+    ///
+    /// </details>
+    #[inline(always)]
+    unsafe fn write_char(array: &mut [u8; N], end: usize, ch: char) -> Option<usize> {
+        // SAFETY: the proof of `write_char` in crates/arraystring_core/src/array_string/utf16.rt shows the precondition of `has_room`.
+        if !unsafe { Self::has_room(end, ch) } {
+            return None;
+        }
+        // SAFETY: the proof of `write_char` in crates/arraystring_core/src/array_string/utf16.rt shows the precondition of `encode`.
+        Some(end + unsafe { encode(ch, array, end) })
     }
 }
 
@@ -159,69 +223,6 @@ fn write_ascii<const N: usize>(array: &mut [u8; N], units: &[u16]) -> usize {
         run += 1;
     }
     run
-}
-
-/// Appends `ch` to the text that the first `end` bytes of the array are, and returns where it ends
-/// then. Returns `None` if it does not fit.
-///
-/// # Safety
-///
-/// Each clause `requires` of the contract must hold, but for those on counts, on iterators and on closures.
-///
-/// <details><summary>Contract</summary>
-///
-/// ```text
-/// requires { IsStored N array.old 0 end }
-/// ensures { let t = (stored array.old 0 end).text in
-///     MatchOption result ((cap N < size t + size (ch ∷ [])) × (array.new ≡ array.old))
-///     (λ next. IsStored N array.new 0 next × ((stored array.new 0 next).text ≡ t ++ ch ∷ [])) }
-/// ```
-///
-/// [How to read a contract](crate::contracts)
-///
-/// </details>
-#[inline(always)]
-unsafe fn write_char<const N: usize>(array: &mut [u8; N], end: usize, ch: char) -> Option<usize> {
-    if !ArrayString::<N>::has_room(end, ch) {
-        return None;
-    }
-    // SAFETY: the proof of `write_char` in crates/arraystring_core/src/array_string/utf16.rt shows the precondition of `encode`.
-    Some(end + unsafe { encode(ch, array, end) })
-}
-
-/// Writes the longest prefix of characters of `units` that fits at the start of the array. Returns
-/// its size, and the item right after it.
-///
-/// <details><summary>Contract</summary>
-///
-/// ```text
-/// ensures held { IsStored N array.new 0 result.0 }
-/// ensures stop { (items : List Unit16) → IsReading units.now items → first_stop items (cap N) ≡ stop_at result.1 (stored array.new 0 result.0).text }
-/// ```
-///
-/// [How to read a contract](crate::contracts)
-///
-/// </details>
-#[inline(always)]
-fn write_prefix<const N: usize>(array: &mut [u8; N], units: &[u16]) -> (u8, Option<Unit16>) {
-    // A run of ASCII first, at once: its units are its bytes.
-    let run = write_ascii(array, units);
-    let mut end = run;
-    // What `write_ascii` ensures.
-    known!(within: run <= units.len());
-    for item in Units::new(&units[run..]) {
-        match item {
-            // SAFETY: the proof of `write_prefix` in crates/arraystring_core/src/array_string/utf16.rt shows the precondition of `write_char`.
-            Unit16::Char(ch) => match unsafe { write_char(array, end, ch) } {
-                Some(next) => {
-                    end = next;
-                }
-                None => return (end as u8, Some(item)),
-            },
-            Unit16::Lone(_) => return (end as u8, Some(item)),
-        }
-    }
-    (end as u8, None)
 }
 
 /// An item as a character, with U+FFFD for a lone surrogate.

@@ -8,8 +8,8 @@ use Rattle.arraystring_base.proofs.Utf16Laws.{stop-is}
 use Rattle.arraystring_core.specs.FromUtf16.{stop_at}
 use Rattle.arraystring_core.specs.GhostProofs.{stored-size}
 use Rattle.arraystring_core.specs.Stored.{stored}
-use Rattle.arraystring_core.proofs.UnitLemmas.{whole-reading}
-use Rattle.arraystring_core.proofs.array_string.utf16.write_prefix.Goals as goal
+use Rattle.arraystring_core.proofs.UnitLemmas.{run-reads, rest-whole}
+use Rattle.arraystring_core.proofs.array_string.ArrayString.write_prefix.Goals as goal
 
 pub loop-item-init : goal.loop-item-init
 loop-item-init g c = record {

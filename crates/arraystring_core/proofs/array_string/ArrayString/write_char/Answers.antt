@@ -4,7 +4,7 @@ use Rattle.std.proofs.lemmas.Bool.{iff_false}
 use Rattle.arraystring_base.specs.Text.{cap, width}
 use Rattle.arraystring_core.specs.GhostProofs.{stored-size}
 use Rattle.arraystring_core.proofs.AppendLemmas.{char-appended}
-use Rattle.arraystring_core.proofs.array_string.utf16.write_char.Goals as goal
+use Rattle.arraystring_core.proofs.array_string.ArrayString.write_char.Goals as goal
 
 pub returns-then-not-has_room : goal.returns-then-not-has_room
 returns-then-not-has_room g c =
@@ -16,6 +16,5 @@ pub returns : goal.returns
 returns g c =
     let zero : 0 + c.args.end ≡ c.args.end = omega arith in
     let room : 0 + c.args.end + width c.args.ch ≤ cap g.row.N = omega (arith, c.if-not-has_room.ensures.0 refl) in
-    let lies = char-appended c.requires c.args.ch (search rules) {after = c.encode.new.array} room (rw zero c.encode.ensures.bytes) in
-    let lies = rw (← c.encode.ensures.width) at lies in
+    let lies = char-appended c.requires refl c.args.ch (search rules) c.encode.ensures.width {after = c.encode.new.array} room (rw zero c.encode.ensures.bytes) in
     (lies.held, lies.shown)
