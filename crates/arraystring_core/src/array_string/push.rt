@@ -215,43 +215,24 @@ impl<const N: usize> ArrayString<N> {
     {
         let mut end = *start as usize + *len as usize;
         for piece in pieces {
-            let appended = Self::append_str(array, start, len, end, piece);
-            let Some(next) = appended else {
-                return Err(OutOfBounds);
-            };
+            let next = end + piece.len();
+            if next > Self::capacity() as usize {
+                let appended = Self::append_past_end(array, start, len, piece);
+                let Some(next) = appended else {
+                    return Err(OutOfBounds);
+                };
+                end = next;
+                continue;
+            }
+            *len += piece.len() as u8;
+            write_over(array, end, piece.as_bytes());
             end = next;
         }
         Ok(())
     }
 
-    /// Appends `string` to a text of the array that ends at `end`, and returns where it ends then. If not
-    /// all of it fits, appends what does and returns `None`.
-    #[inline(always)]
-    fn append_str(
-        array: &mut [u8; N],
-        start: &mut u8,
-        len: &mut u8,
-        end: usize,
-        string: &str,
-    ) -> Option<usize>
-        requires held { IsStored N array.old start.old len.old }
-        requires end { end ≡ start.old + len.old }
-        ensures held { IsStored N array.new start.new len.new }
-        ensures end { IfSome result (λ next. next ≡ start.new + len.new) }
-        ensures text { let t = (stored array.old start.old len.old).text in let new = (stored array.new start.new len.new).text in
-            MatchOption result ((cap N < size t + size (chars string.now)) × (new ≡ t ++ cut (chars string.now) (cap N - size t)))
-            (λ _. (size t + size (chars string.now) ≤ cap N) × (new ≡ t ++ chars string.now)) }
-    {
-        let next = end + string.len();
-        if next > Self::capacity() as usize {
-            return Self::append_past_end(array, start, len, string);
-        }
-        *len += string.len() as u8;
-        write_over(array, end, string.as_bytes());
-        Some(next)
-    }
-
-    /// The same if there is no room for `string` behind the text.
+    /// Appends `string` to a text of the array, and returns where it ends then. If not all of it fits,
+    /// appends what does and returns `None`. It is for a text that has no room for `string` behind it.
     #[cold]
     #[inline(never)]
     fn append_past_end(

@@ -344,52 +344,26 @@ impl<const N: usize> ArrayString<N> {
         let mut end = *start as usize + *len as usize;
         for piece in pieces {
             let piece = piece.as_ref();
-            // SAFETY: the proof of `append_strs` in crates/arraystring_core/src/array_string/push.rt shows `held` and `end` of `append_str`.
-            let appended = unsafe { Self::append_str(array, start, len, end, piece) };
-            let Some(next) = appended else {
-                return Err(OutOfBounds);
-            };
+            let next = end + piece.len();
+            if next > Self::capacity() as usize {
+                // SAFETY: the proof of `append_strs` in crates/arraystring_core/src/array_string/push.rt shows the precondition of `append_past_end`.
+                let appended = unsafe { Self::append_past_end(array, start, len, piece) };
+                let Some(next) = appended else {
+                    return Err(OutOfBounds);
+                };
+                end = next;
+                continue;
+            }
+            *len += piece.len() as u8;
+            // SAFETY: the proof of `append_strs` in crates/arraystring_core/src/array_string/push.rt shows the precondition of `write_over`.
+            unsafe { write_over(array, end, piece.as_bytes()) };
             end = next;
         }
         Ok(())
     }
 
-    /// Appends `string` to a text of the array that ends at `end`, and returns where it ends then. If not
-    /// all of it fits, appends what does and returns `None`.
-    ///
-    /// # Safety
-    ///
-    /// Each clause `requires` of the contract must hold, but for those on counts, on iterators and on closures.
-    ///
-    /// <details><summary>Contract</summary>
-    ///
-    /// ```text
-    /// requires held { IsStored N array.old start.old len.old }
-    /// requires end { end ≡ start.old + len.old }
-    /// ensures held { IsStored N array.new start.new len.new }
-    /// ensures end { IfSome result (λ next. next ≡ start.new + len.new) }
-    /// ensures text { let t = (stored array.old start.old len.old).text in let new = (stored array.new start.new len.new).text in
-    ///     MatchOption result ((cap N < size t + size (chars string.now)) × (new ≡ t ++ cut (chars string.now) (cap N - size t)))
-    ///     (λ _. (size t + size (chars string.now) ≤ cap N) × (new ≡ t ++ chars string.now)) }
-    /// ```
-    ///
-    /// [How to read a contract](crate::contracts)
-    ///
-    /// </details>
-    #[inline(always)]
-    unsafe fn append_str(array: &mut [u8; N], start: &mut u8, len: &mut u8, end: usize, string: &str) -> Option<usize> {
-        let next = end + string.len();
-        if next > Self::capacity() as usize {
-            // SAFETY: the proof of `append_str` in crates/arraystring_core/src/array_string/push.rt shows the precondition of `append_past_end`.
-            return unsafe { Self::append_past_end(array, start, len, string) };
-        }
-        *len += string.len() as u8;
-        // SAFETY: the proof of `append_str` in crates/arraystring_core/src/array_string/push.rt shows the precondition of `write_over`.
-        unsafe { write_over(array, end, string.as_bytes()) };
-        Some(next)
-    }
-
-    /// The same if there is no room for `string` behind the text.
+    /// Appends `string` to a text of the array, and returns where it ends then. If not all of it fits,
+    /// appends what does and returns `None`. It is for a text that has no room for `string` behind it.
     ///
     /// # Safety
     ///
