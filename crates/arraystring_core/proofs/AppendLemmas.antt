@@ -5,7 +5,8 @@ use Rattle.std.proofs.lemmas.Str.{IsUtf8-encode}
 use Rattle.std.proofs.lemmas.List.{append-nil}
 use Rattle.arraystring_base.specs.Text.{utf8, width, size, cap, front, back, boundary}
 use Rattle.arraystring_base.proofs.TextLaws.{chars-bytes, utf8-is, length-utf8, size-borrowed}
-use Rattle.arraystring_core.specs.Stored.{Stored, stored, IsStored}
+use Rattle.arraystring_core.specs.Stored.{Stored}
+use Rattle.arraystring_core.specs.Layout.{stored, IsStored}
 use Rattle.arraystring_core.proofs.SpanLemmas.{Lies, appended, appended_at_start, filled, moved_to_start}
 
 module _ (ch : ℕ) (scalar : IsScalar ch) where

@@ -4,7 +4,7 @@ use Rattle.std.proofs.lemmas.Bool.{cases_lt}
 use Rattle.arraystring_base.specs.Text.{size, bytes, cap, cut}
 use Rattle.arraystring_base.proofs.TextLaws.{chars-bytes, size-borrowed}
 use Rattle.arraystring_base.proofs.CutLaws.{cut-fits, cut-all}
-use Rattle.arraystring_core.specs.Stored.{stored, IsStored}
+use Rattle.arraystring_core.specs.Layout.{stored, IsStored}
 use Rattle.arraystring_core.specs.GhostProofs.{stored-size}
 use Rattle.arraystring_core.proofs.SpanLemmas.{Lies, appended}
 

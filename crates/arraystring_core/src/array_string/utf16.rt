@@ -4,7 +4,7 @@ ghost use Rattle.arraystring_base.specs.declared.utf16.Unit16.{Unit16};
 ghost use Rattle.arraystring_base.specs.Text.{cap, cut, size};
 ghost use Rattle.arraystring_base.specs.Utf16.{IsReading, first_stop, shown, lossy_text};
 ghost use Rattle.arraystring_core.specs.FromUtf16.{GivesWhole, GivesPrefix, stop_at};
-ghost use Rattle.arraystring_core.specs.Stored.{stored, IsStored};
+ghost use Rattle.arraystring_core.specs.Layout.{stored, IsStored};
 
 use super::ArrayString;
 use arraystring_base::error::{Error, Utf16};

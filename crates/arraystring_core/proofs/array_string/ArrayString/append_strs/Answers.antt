@@ -2,7 +2,7 @@ use Rattle.std.proofs.Common.{◌≡◌, ◌+◌, ◌-◌, ◌<◌, ◌≤◌, �
 use Rattle.std.proofs.iter.Next.{Yields-more}
 use Rattle.arraystring_base.specs.Text.{size, cap}
 use Rattle.arraystring_base.proofs.CutLaws.{cut-all}
-use Rattle.arraystring_core.specs.Stored.{stored}
+use Rattle.arraystring_core.specs.Layout.{stored}
 use Rattle.arraystring_core.specs.Taken.{joined_pieces, piece_text}
 use Rattle.arraystring_core.specs.GhostProofs.{stored-size}
 use Rattle.arraystring_base.proofs.TextLaws.{size-borrowed}

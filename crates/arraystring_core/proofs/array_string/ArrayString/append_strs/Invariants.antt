@@ -1,6 +1,6 @@
 use Rattle.std.proofs.Common.{◌≡◌, ◌+◌, ◌≤◌, ◌++◌}
 use Rattle.arraystring_base.specs.Text.{size, cap}
-use Rattle.arraystring_core.specs.Stored.{stored, IsStored}
+use Rattle.arraystring_core.specs.Layout.{stored, IsStored}
 use Rattle.arraystring_core.specs.Taken.{joined_pieces}
 use Rattle.arraystring_core.proofs.array_string.ArrayString.append_strs.Given as goal
 

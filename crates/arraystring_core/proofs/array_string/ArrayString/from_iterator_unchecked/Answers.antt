@@ -5,7 +5,7 @@ use Rattle.std.proofs.lemmas.Str.{IsUtf8-nil, chars-nil}
 use Rattle.arraystring_base.specs.Text.{size, cap}
 use Rattle.arraystring_base.proofs.TextLaws.{size-borrowed}
 use Rattle.arraystring_core.specs.GhostProofs.{stored-size}
-use Rattle.arraystring_core.specs.Stored.{stored}
+use Rattle.arraystring_core.specs.Layout.{stored}
 use Rattle.arraystring_core.specs.Taken.{joined_pieces, piece_text}
 use Rattle.arraystring_core.proofs.GapLemmas.{written-from-zero}
 use Rattle.arraystring_core.proofs.SpanLemmas.{appended}

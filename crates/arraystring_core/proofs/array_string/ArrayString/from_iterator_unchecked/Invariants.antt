@@ -1,5 +1,5 @@
 use Rattle.std.proofs.Common.{◌≡◌}
-use Rattle.arraystring_core.specs.Stored.{stored, IsStored}
+use Rattle.arraystring_core.specs.Layout.{stored, IsStored}
 use Rattle.arraystring_core.specs.Taken.{joined_pieces}
 use Rattle.arraystring_core.proofs.array_string.ArrayString.from_iterator_unchecked.Given as goal
 

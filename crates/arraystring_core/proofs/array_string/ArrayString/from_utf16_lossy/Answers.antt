@@ -5,7 +5,7 @@ use Rattle.arraystring_base.specs.Text.{cap, cut, size, width}
 use Rattle.arraystring_base.proofs.CutLaws.{cut-is, cut-all}
 use Rattle.arraystring_base.specs.Utf16.{lossy_text}
 use Rattle.arraystring_core.specs.GhostProofs.{stored-size}
-use Rattle.arraystring_core.specs.Stored.{stored}
+use Rattle.arraystring_core.specs.Layout.{stored}
 use Rattle.arraystring_core.proofs.array_string.ArrayString.from_utf16_lossy.Goals as goal
 use Rattle.arraystring_core.proofs.array_string.ArrayString.from_utf16_lossy.Goals.{in-None, in-Some+in-None-write_char}
 
@@ -48,9 +48,8 @@ returns g c = λ items is.
     let units = c.args.units.now in
     let long = stored-size inv.held in
     let room : size text ≤ n = omega arith in
-    let same = ap lossy_text (c.only_reading.ensures.only items _ is
-    (run-reads run units _ c.write_ascii-run.ensures.ascii (rw (rest-whole run units) at c.new-item-items.ensures))
-    ∙ ap (λ l. map Char (take run units) ++ l) (sym c.into_iter-item-iterator.ensures.into_iter_gives)) ∙ inv.read in
+    let same = ap lossy_text (whole-reading run units c.write_ascii-run.ensures.ascii c.new-item-items.ensures c.into_iter-item-iterator.ensures.into_iter_gives
+    c.only_reading.ensures.only is) ∙ inv.read in
     elim c.match-next.branch [
       | in-None w ↦
           let whole = ap (λ l. text ++ lossy_text l) w.in-None.ensures.steps.0 ∙ append-nil text in

@@ -2,7 +2,7 @@ use Rattle.std.proofs.Common.{◌<◌, subst, arith, Ok}
 use Rattle.std.proofs.lemmas.Str.{chars-nil}
 use Rattle.arraystring_base.specs.Text.{size, cap}
 use Rattle.arraystring_core.specs.Edits.{from_out_of_bounds}
-use Rattle.arraystring_core.specs.Stored.{stored}
+use Rattle.arraystring_core.specs.Layout.{stored}
 use Rattle.arraystring_core.specs.Taken.{joined_pieces, Takes}
 use Rattle.arraystring_core.proofs.TakenLaws.{pieces-made}
 use Rattle.arraystring_core.proofs.ConstructLaws.{refused-made, fresh-room, fresh-whole}

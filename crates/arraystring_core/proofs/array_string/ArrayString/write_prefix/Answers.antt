@@ -7,8 +7,8 @@ use Rattle.arraystring_base.specs.Utf16.{End, Fault, Full, IsReading}
 use Rattle.arraystring_base.proofs.Utf16Laws.{stop-is}
 use Rattle.arraystring_core.specs.FromUtf16.{stop_at}
 use Rattle.arraystring_core.specs.GhostProofs.{stored-size}
-use Rattle.arraystring_core.specs.Stored.{stored}
-use Rattle.arraystring_core.proofs.UnitLemmas.{run-reads, rest-whole}
+use Rattle.arraystring_core.specs.Layout.{stored}
+use Rattle.arraystring_core.proofs.UnitLemmas.{whole-reading}
 use Rattle.arraystring_core.proofs.array_string.ArrayString.write_prefix.Goals as goal
 
 pub loop-item-init : goal.loop-item-init
@@ -60,9 +60,8 @@ returns-in-Lone-clause-stop g c = λ items is.
     let left = c.next.new.self in
     let long = stored-size inv.held in
     let room : size prefix ≤ cap g.row.N = omega arith in
-    let same = c.only_reading.ensures.only items _ is
-    (run-reads c.write_ascii-run.result c.args.units.now _ c.write_ascii-run.ensures.ascii (rw (rest-whole c.write_ascii-run.result c.args.units.now) at c.new-item-items.ensures))
-    ∙ ap (λ l. map Char (take c.write_ascii-run.result c.args.units.now) ++ l) (sym c.into_iter-item-iterator.ensures.into_iter_gives) ∙ inv.read in
+    let same = whole-reading c.write_ascii-run.result c.args.units.now c.write_ascii-run.ensures.ascii c.new-item-items.ensures c.into_iter-item-iterator.ensures.into_iter_gives
+    c.only_reading.ensures.only is ∙ inv.read in
     let first = c.in-Some.ensures.steps ∙ ap (λ item. item ∷ left) c.in-Lone.is in
     stop-is items (cap g.row.N) (Fault prefix) (unit, left, same ∙ ap (λ l. map Char prefix ++ l) first, room)
     ∙ ap (λ item. stop_at (Some item) prefix) (sym c.in-Lone.is)
@@ -73,8 +72,7 @@ returns-clause-stop g c = λ items is.
     let prefix = (stored c.loop-item.array 0 c.loop-item.end).text in
     let long = stored-size inv.held in
     let room : size prefix ≤ cap g.row.N = omega arith in
-    let same = c.only_reading.ensures.only items _ is
-    (run-reads c.write_ascii-run.result c.args.units.now _ c.write_ascii-run.ensures.ascii (rw (rest-whole c.write_ascii-run.result c.args.units.now) at c.new-item-items.ensures))
-    ∙ ap (λ l. map Char (take c.write_ascii-run.result c.args.units.now) ++ l) (sym c.into_iter-item-iterator.ensures.into_iter_gives) ∙ inv.read in
+    let same = whole-reading c.write_ascii-run.result c.args.units.now c.write_ascii-run.ensures.ascii c.new-item-items.ensures c.into_iter-item-iterator.ensures.into_iter_gives
+    c.only_reading.ensures.only is ∙ inv.read in
     let whole = ap (λ l. map Char prefix ++ l) c.in-None.ensures.steps.0 ∙ append-nil (map Char prefix) in
     stop-is items (cap g.row.N) (End prefix) (same ∙ whole, room)

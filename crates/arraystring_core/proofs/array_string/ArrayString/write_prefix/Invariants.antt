@@ -1,6 +1,6 @@
 use Rattle.std.proofs.Common.{◌≡◌, map, take, ◌++◌}
 use Rattle.arraystring_base.specs.declared.utf16.Unit16.TheVariants.{Char}
-use Rattle.arraystring_core.specs.Stored.{stored, IsStored}
+use Rattle.arraystring_core.specs.Layout.{stored, IsStored}
 use Rattle.arraystring_core.proofs.array_string.ArrayString.write_prefix.Given as goal
 
 abbrev pub invariant-loop-item : goal.invariant-loop-item
