@@ -2,7 +2,6 @@
 use Rattle.std.proofs.Common.{◌≡◌, ℕ, ◌+◌, ◌-◌, ◌<◌, ◌≤◌, List, [], ◌∷◌, ◌++◌, Option, refl, sym, ap, ◌∙◌, arith, map, append_assoc, inl, inr}
 use Rattle.std.proofs.lemmas.Bool.{lt-leb}
 use Rattle.std.proofs.lemmas.List.{append-nil, map-append}
-use Rattle.std.specs.Borrow.{Bor}
 use Rattle.arraystring_base.specs.Text.{width, size, cut}
 use Rattle.arraystring_base.proofs.TextLaws.{size-append}
 use Rattle.arraystring_base.proofs.CutLaws.{cut-all, cut-past_part}

@@ -1,4 +1,4 @@
-use Rattle.std.proofs.Common.{ap, ◌∙◌, ◌++◌, arith, rules}
+use Rattle.std.proofs.Common.{ap, ◌∙◌, ◌++◌, rules}
 use Rattle.arraystring_core.specs.Layout.{stored}
 use Rattle.arraystring_core.proofs.PieceLemmas.{part-is, part-fits, part-past, part-room, part-all, part-appended}
 use Rattle.arraystring_core.proofs.array_string.ArrayString.append_past_end.Goals as goal

@@ -1,7 +1,8 @@
-use Rattle.std.proofs.Common.{◌≡◌, ◌+◌, ◌≤◌, ◌++◌}
-use Rattle.arraystring_base.specs.Text.{size, cap}
+use Rattle.std.proofs.Common.{◌≡◌, ◌+◌}
+use Rattle.arraystring_base.specs.Text.{cap}
 use Rattle.arraystring_core.specs.Layout.{stored, IsStored}
 use Rattle.arraystring_core.specs.Taken.{joined_pieces}
+use Rattle.arraystring_core.proofs.TakenLemmas.{IsAdded}
 use Rattle.arraystring_core.proofs.array_string.ArrayString.append_strs.Given as goal
 
 abbrev pub invariant-loop-piece : goal.invariant-loop-piece
@@ -10,6 +11,5 @@ invariant-loop-piece g l = let old = (stored l.fn.array l.fn.start l.fn.len).tex
   ends : (goal.iterator-loop-piece g).is_finite l.piece-iterator;
   held : IsStored g.row.N l.array l.start l.len;
   end : l.end ≡ l.start + l.len;
-  text : (stored l.array l.start l.len).text ≡ old ++ joined_pieces l.yielded;
-  fits : size old + size (joined_pieces l.yielded) ≤ cap g.row.N;
+  added : IsAdded joined_pieces old (stored l.array l.start l.len).text (cap g.row.N) l.yielded;
 }

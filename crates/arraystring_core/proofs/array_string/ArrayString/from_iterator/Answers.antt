@@ -12,7 +12,7 @@ returns-clause-taken g c =
     let becomes = g.I.IntoIterator.into_iter_gives in
     let steps = g.I.IntoIter.Iterator.next_gives in
     let n = cap g.row.N in
-    let takes = subst (λ k. Takes becomes steps joined_pieces c.args.pieces k ensured.0) (fresh-room _ (joined_pieces ensured.0) n chars-nil) ensured.1 in
+    let takes = subst (λ k. Takes becomes steps joined_pieces c.args.pieces k ensured.0) (fresh-room _ n chars-nil) ensured.1 in
     (ensured.0, takes, fresh-cut _ (joined_pieces ensured.0) n chars-nil _ ensured.3)
 
 pub returns-clause-whole : goal.returns-clause-whole
@@ -21,5 +21,5 @@ returns-clause-whole g c = λ all gives.
     let becomes = g.I.IntoIterator.into_iter_gives in
     let steps = g.I.IntoIter.Iterator.next_gives in
     let n = cap g.row.N in
-    let takes = subst (λ k. Takes becomes steps joined_pieces c.args.pieces k ensured.0) (fresh-room _ (joined_pieces ensured.0) n chars-nil) ensured.1 in
+    let takes = subst (λ k. Takes becomes steps joined_pieces c.args.pieces k ensured.0) (fresh-room _ n chars-nil) ensured.1 in
     fresh-cut _ (joined_pieces ensured.0) n chars-nil _ ensured.3 ∙ pieces-cut becomes steps c.args.pieces all gives ensured.0 n takes

@@ -1,4 +1,4 @@
-use Rattle.std.proofs.Common.{◌≡◌, ◌+◌, ◌≤◌, ◌++◌, ◌∷◌, [], length, refl, ap, ◌∙◌, arith, rules, IsUtf8}
+use Rattle.std.proofs.Common.{◌+◌, ◌≤◌, length, refl, ap, ◌∙◌, arith, rules, IsUtf8}
 use Rattle.std.proofs.iter.Next.{Yields-more}
 use Rattle.std.proofs.lemmas.List.{length-replicate}
 use Rattle.std.proofs.lemmas.Str.{IsUtf8-nil, chars-nil}
@@ -6,7 +6,7 @@ use Rattle.arraystring_base.specs.Text.{size, cap}
 use Rattle.arraystring_base.proofs.TextLaws.{size-borrowed}
 use Rattle.arraystring_core.specs.GhostProofs.{stored-size}
 use Rattle.arraystring_core.specs.Layout.{stored}
-use Rattle.arraystring_core.specs.Taken.{joined_pieces, piece_text}
+use Rattle.arraystring_core.specs.Taken.{piece_text}
 use Rattle.arraystring_core.proofs.GapLemmas.{written-from-zero}
 use Rattle.arraystring_core.proofs.SpanLemmas.{appended}
 use Rattle.arraystring_core.proofs.TakenLaws.{pieces-all}
@@ -32,7 +32,7 @@ write_over-requires g c =
     let n = cap g.row.N in
     let yields = Yields-more g.I.IntoIter.Iterator.next_gives _ xs _ x _ c.loop-piece.yielded_by c.in-Some.ensures.steps in
     let fits = c.requires.fits c.into_iter-piece-iterator.result c.into_iter-piece-iterator.ensures.into_iter_gives _ c.next.new.self yields in
-    let within : size text + size (piece_text x) ≤ n = next-fits joined_pieces piece_text joined-more text n xs inv.text x fits in
+    let within : size text + size (piece_text x) ≤ n = next-fits of_pieces xs inv.text x fits in
     let utf8 : IsUtf8 x.now = rw (← c.as_bytes.ensures.value) c.as_bytes.ensures.utf8 in
     let long = stored-size inv.held in
     let wide = size-borrowed utf8 in
@@ -47,7 +47,7 @@ loop-piece-preserved g c =
     let n = cap g.row.N in
     let yields = Yields-more g.I.IntoIter.Iterator.next_gives _ xs _ x _ c.loop-piece.yielded_by c.in-Some.ensures.steps in
     let fits = c.requires.fits c.into_iter-piece-iterator.result c.into_iter-piece-iterator.ensures.into_iter_gives _ c.next.new.self yields in
-    let within : size text + size (piece_text x) ≤ n = next-fits joined_pieces piece_text joined-more text n xs inv.text x fits in
+    let within : size text + size (piece_text x) ≤ n = next-fits of_pieces xs inv.text x fits in
     let utf8 : IsUtf8 x.now = rw (← c.as_bytes.ensures.value) c.as_bytes.ensures.utf8 in
     let long = stored-size inv.held in
     let wide = size-borrowed utf8 in
@@ -58,7 +58,7 @@ loop-piece-preserved g c =
       can = on.0;
       ends = on.1;
       held = lies.held;
-      text = next-text joined_pieces piece_text joined-more text n xs inv.text x _ lies.shown;
+      text = next-text of_pieces xs inv.text x lies.shown;
     }
 
 pub returns-clause-whole : goal.returns-clause-whole

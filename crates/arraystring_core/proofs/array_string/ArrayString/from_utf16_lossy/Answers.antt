@@ -1,6 +1,5 @@
-use Rattle.std.proofs.Common.{◌≡◌, ◌+◌, ◌≤◌, ◌<◌, [], ◌∷◌, ◌++◌, sym, ap, ◌∙◌, arith, append-nil, append_assoc, map, take}
+use Rattle.std.proofs.Common.{◌≡◌, ◌+◌, ◌≤◌, ◌<◌, [], ◌∷◌, ◌++◌, sym, ap, ◌∙◌, arith, append-nil, append_assoc, take}
 use Rattle.arraystring_core.proofs.UnitLemmas.{whole-reading, lossy-behind}
-use Rattle.arraystring_base.specs.declared.utf16.Unit16.TheVariants.{Char}
 use Rattle.arraystring_base.specs.Text.{cap, cut, size, width}
 use Rattle.arraystring_base.proofs.CutLaws.{cut-is, cut-all}
 use Rattle.arraystring_base.specs.Utf16.{lossy_text}

@@ -14,7 +14,7 @@ returns-in_err-append_strs g c =
     let becomes = g.I.IntoIterator.into_iter_gives in
     let steps = g.I.IntoIter.Iterator.next_gives in
     let n = cap g.row.N in
-    let room = fresh-room _ (joined_pieces ensured.0) n chars-nil in
+    let room = fresh-room _ n chars-nil in
     let takes = subst (λ k. Takes becomes steps joined_pieces c.args.pieces k ensured.0) room ensured.1 in
     let past : n < size (joined_pieces ensured.0) = omega (arith, ensured.2) in
     let made = refused-made c.from_residual.result (joined_pieces ensured.0) n c.from_residual.ensures.0 past in
@@ -30,7 +30,7 @@ returns g c =
     let becomes = g.I.IntoIterator.into_iter_gives in
     let steps = g.I.IntoIter.Iterator.next_gives in
     let n = cap g.row.N in
-    let takes = subst (λ k. Takes becomes steps joined_pieces c.args.pieces k ensured.0) (fresh-room _ (joined_pieces ensured.0) n chars-nil) ensured.1 in
+    let takes = subst (λ k. Takes becomes steps joined_pieces c.args.pieces k ensured.0) (fresh-room _ n chars-nil) ensured.1 in
     let made = fresh-whole _ (joined_pieces ensured.0) n chars-nil _ ensured.2 ensured.3 in
     record {
       taken = (ensured.0, takes, made);

@@ -1,9 +1,8 @@
-use Rattle.std.proofs.Common.{◌≡◌, List, ◌+◌, ◌≤◌, ◌<◌, [], ◌∷◌, ◌++◌, map, sym, ap, ◌∙◌, arith, append-nil, append_assoc, take, Some}
+use Rattle.std.proofs.Common.{◌+◌, ◌≤◌, ◌<◌, [], ◌∷◌, ◌++◌, map, sym, ap, ◌∙◌, arith, append-nil, append_assoc, Some}
 use Rattle.std.proofs.lemmas.List.{map-append}
-use Rattle.arraystring_base.specs.declared.utf16.Unit16.{Unit16}
 use Rattle.arraystring_base.specs.declared.utf16.Unit16.TheVariants.{Char}
 use Rattle.arraystring_base.specs.Text.{cap, size, width}
-use Rattle.arraystring_base.specs.Utf16.{End, Fault, Full, IsReading}
+use Rattle.arraystring_base.specs.Utf16.{End, Fault, Full}
 use Rattle.arraystring_base.proofs.Utf16Laws.{stop-is}
 use Rattle.arraystring_core.specs.FromUtf16.{stop_at}
 use Rattle.arraystring_core.specs.GhostProofs.{stored-size}

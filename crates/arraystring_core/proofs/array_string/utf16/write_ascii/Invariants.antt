@@ -1,4 +1,4 @@
-use Rattle.std.proofs.Common.{◌≡◌, ◌≤◌, ◌+◌, ◌-◌, ◌++◌, take, drop}
+use Rattle.std.proofs.Common.{◌≡◌, ◌≤◌, ◌-◌, ◌++◌, take, drop}
 use Rattle.arraystring_core.proofs.UnitLemmas.{AreAscii}
 use Rattle.arraystring_core.proofs.array_string.utf16.write_ascii.Given as goal
 

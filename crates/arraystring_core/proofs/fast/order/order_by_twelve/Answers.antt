@@ -1,4 +1,4 @@
-use Rattle.std.proofs.Common.{◌≡◌, ◌+◌, ◌-◌, refl, sym, ap, ◌∙◌, bit_or, arith}
+use Rattle.std.proofs.Common.{◌≡◌, ◌+◌, ◌-◌, sym, ap, ◌∙◌, bit_or, arith}
 use lib.Lanes.{zip2}
 use Rattle.arraystring_core.proofs.ApartLemmas.{or_none, or_long, none_or, front_longer}
 use Rattle.arraystring_core.proofs.OrderLemmas.{prefix_decides}
