@@ -158,7 +158,7 @@ differ-behind K a b at in_a in_b before i found = record {
 }
   where
     within : i < K
-    within = omega (arith, length-take-le K (drop at a) (omega (arith, length-drop at a)))
+    within = omega (arith, block_long K at a in_a)
 
     taken : (l : List ℕ) → take i (take K (drop at l)) ≡ take i (drop at l)
     taken l = take-take i K (drop at l) (omega (arith, within))
@@ -181,7 +181,7 @@ module _ (K : ℕ) (few : K ≤ 64) (a b : List ℕ) (at : ℕ) (in_a : at + K �
   block-is l = ap (λ k. take k (drop at l)) wide
 
   block-length : (l : List ℕ) → at + K ≤ length l → length (block l) ≡ K
-  block-length l within = ap length (block-is l) ∙ length-take-le K (drop at l) (omega (arith, length-drop at l))
+  block-length l within = ap length (block-is l) ∙ block_long K at l within
 
   long : length (block a) ≡ length (block b)
   long = block-length a in_a ∙ sym (block-length b in_b)

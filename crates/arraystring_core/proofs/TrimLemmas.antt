@@ -1,7 +1,7 @@
 -- The characters at the ends of a text that pass a test.
-use Rattle.std.proofs.Common.{◌≡◌, ℕ, ◌<◌, ◌≤◌, List, [], ◌∷◌, ◌++◌, suc, zero, length, take, get_or, refl, sym, ap, subst, ◌∙◌, arith, Bool, true, false, inl, inr}
+use Rattle.std.proofs.Common.{◌≡◌, ℕ, ◌+◌, ◌<◌, ◌≤◌, List, [], ◌∷◌, ◌++◌, suc, zero, length, take, get_or, refl, sym, ap, subst, ◌∙◌, arith, Bool, true, false, inl, inr}
 use Rattle.std.proofs.lemmas.Bool.{cases_Bool, cases_lt}
-use Rattle.std.proofs.lemmas.List.{append_assoc, reverse-append, reverse-reverse}
+use Rattle.std.proofs.lemmas.List.{append_assoc, reverse-append, reverse-reverse, take_more}
 use Rattle.std.proofs.lemmas.List.Elements.{All-nil, All-cons, All-head, All-tail, All-append}
 use Rattle.std.proofs.lemmas.List.Sums.{take_while-cons}
 use Rattle.std.specs.Prelude.{All, IfSome, take_while, reverse}
@@ -10,7 +10,7 @@ use Rattle.arraystring_base.proofs.TextLaws.{utf8-one, utf8-two, utf8-three, utf
 use Rattle.arraystring_base.proofs.BoundaryLaws.{boundary-is, back-is}
 use Rattle.arraystring_core.specs.Edits.{first_of, last_of, without_leading, without_trailing}
 use Rattle.arraystring_core.proofs.EditLaws.{last_of-push}
-use Rattle.arraystring_core.proofs.UnitLemmas.{AreAscii, take-one_more}
+use Rattle.arraystring_core.proofs.UnitLemmas.{AreAscii}
 
 -- the characters that pass, and those from the first that does not
 split-leading : (p : ℕ → Bool) (t : List ℕ) → take_while p t ++ without_leading p t ≡ t
@@ -165,13 +165,13 @@ pub run-stops : (text : List ℕ) {bs : List ℕ} (is : bs ≡ bytes text) {n : 
     → get_or bs n 0 < 0x80 → p (get_or bs n 0) ≡ false → without_leading p (back text n) ≡ back text n
 run-stops text {bs} is {n} within ascii p low stops =
     let b = get_or bs n 0 in
-    let more : AreAscii bs (suc n) = λ i lt. elim (cases_lt i n) [
+    let more : AreAscii bs (n + 1) = λ i lt. elim (cases_lt i n) [
       | inl less ↦ ascii i less
       | inr past ↦ let same : n ≡ i = omega arith in subst (λ k. get_or bs k 0 < 0x80) same low
     ] in
     let first = begins text is {n = n} (omega arith) ascii in
-    let next = begins text is {n = suc n} (omega arith) more in
+    let next = begins text is {n = n + 1} (omega arith) more in
     let parts : text ≡ take n bs ++ (b ∷ next.rest) =
-    next.parts ∙ ap (λ l. l ++ next.rest) (take-one_more bs n within) ∙ append_assoc (take n bs) (b ∷ []) next.rest in
+    next.parts ∙ ap (λ l. l ++ next.rest) (take_more bs n 0 within) ∙ append_assoc (take n bs) (b ∷ []) next.rest in
     let left : back text n ≡ b ∷ next.rest = ap (λ t. back t n) parts ∙ back-is (take n bs) (b ∷ next.rest) n first.long in
     without_leading-stops p (back text n) b next.rest left stops

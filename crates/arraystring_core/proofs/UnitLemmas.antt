@@ -1,6 +1,8 @@
 -- A run of ASCII in front of units of UTF-16: its bytes, and how it is read.
 use Rattle.std.proofs.Common.{◌≡◌, ℕ, ◌+◌, ◌<◌, ◌≤◌, List, [], ◌∷◌, ◌++◌, suc, zero, map, length, take, take_at, drop, get_or, slice_set, take_all, refl, sym, ap, ◌∙◌, arith, inl, append_assoc, length-append, length-take-le, length-drop, ◌-◌}
+use Rattle.std.proofs.Math.Seq.{set-append_seam}
 use Rattle.std.proofs.lemmas.Bool.{lt-ltb}
+use Rattle.std.proofs.lemmas.List.{drop_more, take_more}
 use Rattle.std.proofs.lemmas.List.Elements.{All-cons}
 use Rattle.std.proofs.lemmas.Str.{IsUtf8-from_ascii, chars-IsAscii}
 use Rattle.std.specs.Prelude.{IsUtf8, chars, IsAscii}
@@ -54,34 +56,17 @@ pub run-chars : (n : ℕ) (units : List ℕ) → AreAscii units n → chars (tak
 run-chars n units ascii = chars-IsAscii (take n units) (ascii-run n units ascii)
 
 -- one more unit is written behind a run
-set-behind : (front : List ℕ) (y x : ℕ) (rest : List ℕ) → slice_set (front ++ y ∷ rest) (length front) x ≡ front ++ x ∷ rest
-set-behind [] y x rest = refl
-set-behind (z ∷ front) y x rest = ap (λ l. z ∷ l) (set-behind front y x rest)
-
-split-at : (l : List ℕ) (i : ℕ) → i < length l → drop i l ≡ get_or l i 0 ∷ drop (suc i) l
-split-at [] i within = absurd (omega arith)
-split-at (y ∷ l) zero within = refl
-split-at (y ∷ l) (suc i) within = split-at l i (omega arith)
-
-pub take-one_more : (l : List ℕ) (i : ℕ) → i < length l → take (suc i) l ≡ take i l ++ get_or l i 0 ∷ []
-take-one_more [] i within = absurd (omega arith)
-take-one_more (y ∷ l) zero within = refl
-take-one_more (y ∷ l) (suc i) within = ap (λ r. y ∷ r) (take-one_more l i (omega arith))
-
 pub run-longer : (array units : List ℕ) (n : ℕ) (now : List ℕ) → n < length array → n < length units → now ≡ take n units ++ drop n array
     → slice_set now n (get_or units n 0) ≡ take (n + 1) units ++ drop (n + 1) array
 run-longer array units n now in_array in_units is =
     let front = take n units in
-    let rest = drop (suc n) array in
+    let rest = drop (n + 1) array in
     let x = get_or units n 0 in
     let y = get_or array n 0 in
-    let long : n ≡ length front = omega (arith, length-take-le n units (omega (arith, in_units))) in
-    let next : suc n ≡ n + 1 = omega arith in
-    let parts : now ≡ front ++ y ∷ rest = is ∙ ap (λ l. front ++ l) (split-at array n in_array) in
-    ap (λ l. slice_set l n x) parts ∙ ap (λ k. slice_set (front ++ y ∷ rest) k x) long ∙ set-behind front y x rest
-    ∙ sym (append_assoc front (x ∷ []) rest)
-    ∙ ap (λ l. l ++ rest) (sym (take-one_more units n in_units))
-    ∙ ap (λ k. take k units ++ drop k array) next
+    let long : n ≡ length front = omega (arith, length-take-le n units (omega arith)) in
+    let parts : now ≡ front ++ y ∷ rest = is ∙ ap (λ l. front ++ l) (drop_more array n 0 in_array) in
+    ap (λ l. slice_set l n x) parts ∙ ap (λ k. slice_set (front ++ y ∷ rest) k x) long ∙ set-append_seam front y rest x
+    ∙ sym (append_assoc front (x ∷ []) rest) ∙ ap (λ l. l ++ rest) (sym (take_more units n 0 in_units))
 
 -- a run at the start of an array is the text of its bytes
 pub run-lies : {array_size : ℕ} (array units : List ℕ) (n : ℕ) {after : List ℕ} → length array ≡ array_size → n ≤ cap array_size → n ≤ length units

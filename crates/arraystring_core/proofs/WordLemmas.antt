@@ -1,6 +1,6 @@
 -- The number of which bytes are the digits, and the order of lists that such numbers are read from.
 use Rattle.std.specs.Option.{IfNone}
-use Rattle.std.proofs.Common.{Option, None, Some, ◌≡◌, ◌≢◌, ℕ, Less, Equal, Greater, ◌+◌, ◌-◌, ◌*◌, ◌^◌, ◌<◌, ◌≤◌, ◌++◌, List, [], ◌∷◌, suc, zero, length, min, take, drop, get_or, length-take-le, length-drop, take-append-drop, mul-le-mul_right, suc-mul, pow-suc, refl, sym, ap, ◌∙◌, arith, inl, inr, ◌⊎◌, Fits, w8, w32, w64}
+use Rattle.std.proofs.Common.{Option, None, Some, ◌≡◌, ◌≢◌, ℕ, Less, Equal, Greater, ◌+◌, ◌-◌, ◌*◌, ◌^◌, ◌<◌, ◌≤◌, ◌++◌, List, [], ◌∷◌, suc, zero, length, min, take, drop, get_or, take-append-drop, mul-le-mul_right, suc-mul, pow-suc, refl, sym, ap, ◌∙◌, arith, inl, inr, ◌⊎◌, Fits, w8, w32, w64}
 use Rattle.std.proofs.lemmas.Bool.{cases_lt}
 use Rattle.std.proofs.lemmas.List.{get_or-drop}
 use Rattle.std.proofs.lemmas.Nat.{be_bytes_4, be_bytes_8}
@@ -9,6 +9,7 @@ use Rattle.std.specs.Cmp.{nat_cmp_is}
 use Rattle.std.specs.Cmp.Lexicographic.{slice_cmp}
 use Rattle.std.specs.Int.{from_be_bytes, to_be_bytes}
 use Rattle.std.specs.Ordering.{nat_cmp}
+use Rattle.arraystring_core.proofs.ApartLemmas.{block_long}
 use Rattle.arraystring_core.proofs.OrderLemmas.{other_decides, first_decides, shorter_same, longer_same}
 
 abbrev pub AreBytes : List ℕ → Type 0
@@ -129,14 +130,8 @@ behind_same (x ∷ p) a b = rw (tied_itself nat_cmp_total x) (behind_same p a b)
 
 -- the K bytes of two lists from `at` on
 module _ (K : ℕ) (a b : List ℕ) (at : ℕ) (in_a : at + K ≤ length a) (in_b : at + K ≤ length b) (before : take at a ≡ take at b) where
-  part : List ℕ → List ℕ
-  part l = take K (drop at l)
-
   abbrev rest : List ℕ → List ℕ
   rest l = drop K (drop at l)
-
-  part-length : (l : List ℕ) → at + K ≤ length l → length (take K (drop at l)) ≡ K
-  part-length l within = length-take-le K (drop at l) (omega (arith, length-drop at l))
 
   parts : (l : List ℕ) → take at l ++ (take K (drop at l) ++ rest l) ≡ l
   parts l = ap (λ r. take at l ++ r) (take-append-drop K (drop at l)) ∙ take-append-drop at l
@@ -147,7 +142,7 @@ module _ (K : ℕ) (a b : List ℕ) (at : ℕ) (in_a : at + K ≤ length a) (in_
       let other = ap (λ l. slice_cmp nat_cmp (take at a ++ (take K (drop at a) ++ rest a)) l) (sym (parts b)) in
       let front = ap (λ l. slice_cmp nat_cmp (l ++ (take K (drop at a) ++ rest a)) (take at b ++ (take K (drop at b) ++ rest b))) before in
       one ∙ other ∙ front ∙ behind_same (take at b) (take K (drop at a) ++ rest a) (take K (drop at b) ++ rest b)
-      ∙ part_decides (take K (drop at a)) (take K (drop at b)) (rest a) (rest b) (part-length a in_a ∙ sym (part-length b in_b)) differ
+      ∙ part_decides (take K (drop at a)) (take K (drop at b)) (rest a) (rest b) (block_long K at a in_a ∙ sym (block_long K at b in_b)) differ
 
   pub words_same : take K (drop at a) ≡ take K (drop at b) → take (at + K) a ≡ take (at + K) b
   words_same same =
@@ -161,19 +156,16 @@ at_bytes K at l all = take_bytes K (drop at l) (λ i. rw (get_or-drop at l i 0) 
 module _ {K : ℕ} {number : List ℕ → ℕ} (digits : AreDigits K number) (a b : List ℕ) (at : ℕ) (bytes : AreBytes a) (other_bytes : AreBytes b)
     (before : take at a ≡ take at b) (in_a : at + K ≤ length a) (in_b : at + K ≤ length b)
     (x y : ℕ) (one : x ≡ number (take K (drop at a))) (other : y ≡ number (take K (drop at b))) where
-  long : (l : List ℕ) → at + K ≤ length l → length (take K (drop at l)) ≡ K
-  long = part-length K a b at in_a in_b before
-
   pub word_decides : x ≢ y → nat_cmp x y ≡ slice_cmp nat_cmp a b
   word_decides differ =
       ap (λ n. nat_cmp n y) one ∙ ap (nat_cmp (number (take K (drop at a)))) other
-      ∙ digits.compare _ _ (long a in_a) (long b in_b) (at_bytes K at a bytes) (at_bytes K at b other_bytes)
+      ∙ digits.compare _ _ (block_long K at a in_a) (block_long K at b in_b) (at_bytes K at a bytes) (at_bytes K at b other_bytes)
       ∙ sym (words_decide K a b at in_a in_b before (λ e. differ (one ∙ ap number e ∙ sym other)))
 
   pub word_same : x ≡ y → take (at + K) a ≡ take (at + K) b
   word_same same =
       words_same K a b at in_a in_b before
-      (digits.same _ _ (long a in_a) (long b in_b) (at_bytes K at a bytes) (at_bytes K at b other_bytes) (sym one ∙ same ∙ other))
+      (digits.same _ _ (block_long K at a in_a) (block_long K at b in_b) (at_bytes K at a bytes) (at_bytes K at b other_bytes) (sym one ∙ same ∙ other))
 
 -- the first K of at most twice as many bytes decide, or else the last K
 module _ {K : ℕ} {number : List ℕ → ℕ} (digits : AreDigits K number) (a b : List ℕ)
