@@ -1,5 +1,5 @@
 -- Where two lists first differ, found by blocks, and their order.
-use Rattle.std.proofs.Common.{◌≡◌, ◌≢◌, ℕ, min, Less, Equal, Greater, ◌+◌, ◌-◌, ◌/◌, ◌%◌, ◌^◌, ◌<◌, ◌≤◌, ◌++◌, Bool, true, false, not, cond, eqb, eqb-true, List, [], ◌∷◌, suc, zero, map, length, take, drop, get_or, take_all, length-take-le, length-drop, refl, sym, ap, ◌∙◌, arith, inl, inr, w8, w64, take-take, replicate, bit_xor}
+use Rattle.std.proofs.Common.{◌≡◌, ◌≢◌, ℕ, min, Less, Equal, Greater, ◌+◌, ◌-◌, ◌/◌, ◌%◌, ◌^◌, ◌<◌, ◌≤◌, ◌++◌, Bool, true, false, not, cond, eqb, eqb-true, List, [], ◌∷◌, suc, zero, map, length, take, drop, get_or, take_all, refl, sym, ap, ◌∙◌, arith, inl, inr, w8, w64, take-take, replicate, bit_xor}
 use Rattle.std.proofs.Math.Seq.{take-add}
 use Rattle.std.proofs.lemmas.Bool.{eq-eqb, cases_lt, both_ways}
 use Rattle.std.proofs.lemmas.List.{get_or-take, get_or-drop, drop-take}

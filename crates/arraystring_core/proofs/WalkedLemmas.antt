@@ -11,7 +11,8 @@ walked-none [] = refl
 walked-none (Front ∷ ends) = walked-none ends
 walked-none (Back ∷ ends) = walked-none ends
 
-pub walked-back : (ends : List End) (t new : List ℕ) (c : ℕ) → t ≡ new ++ c ∷ [] → walked (Back ∷ ends) t ≡ from_back (Some c) (walked ends new)
+-- the back, and the walk from what it leaves
+walked-back : (ends : List End) (t new : List ℕ) (c : ℕ) → t ≡ new ++ c ∷ [] → walked (Back ∷ ends) t ≡ from_back (Some c) (walked ends new)
 walked-back ends t new c e = rw (e, last_of-push new c, all_but_last-push new c) refl
 
 -- all that was walked is there

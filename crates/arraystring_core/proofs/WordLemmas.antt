@@ -1,6 +1,5 @@
 -- The number of which bytes are the digits, and the order of lists that such numbers are read from.
-use Rattle.std.specs.Option.{IfNone}
-use Rattle.std.proofs.Common.{Option, None, Some, ◌≡◌, ◌≢◌, ℕ, Less, Equal, Greater, ◌+◌, ◌-◌, ◌*◌, ◌^◌, ◌<◌, ◌≤◌, ◌++◌, List, [], ◌∷◌, suc, zero, length, min, take, drop, get_or, take-append-drop, mul-le-mul_right, suc-mul, pow-suc, refl, sym, ap, ◌∙◌, arith, inl, inr, ◌⊎◌, Fits, w8, w32, w64}
+use Rattle.std.proofs.Common.{◌≡◌, ◌≢◌, ℕ, Less, Equal, Greater, ◌+◌, ◌-◌, ◌*◌, ◌^◌, ◌<◌, ◌≤◌, ◌++◌, List, [], ◌∷◌, suc, zero, length, min, take, drop, get_or, take-append-drop, mul-le-mul_right, suc-mul, pow-suc, refl, sym, ap, ◌∙◌, arith, inl, inr, ◌⊎◌, Fits, w8, w32, w64}
 use Rattle.std.proofs.lemmas.Bool.{cases_lt}
 use Rattle.std.proofs.lemmas.List.{get_or-drop}
 use Rattle.std.proofs.lemmas.Nat.{be_bytes_4, be_bytes_8}
@@ -10,7 +9,7 @@ use Rattle.std.specs.Cmp.Lexicographic.{slice_cmp}
 use Rattle.std.specs.Int.{from_be_bytes, to_be_bytes}
 use Rattle.std.specs.Ordering.{nat_cmp}
 use Rattle.arraystring_core.proofs.ApartLemmas.{block_long}
-use Rattle.arraystring_core.proofs.OrderLemmas.{other_decides, first_decides, shorter_same, longer_same}
+use Rattle.arraystring_core.proofs.OrderLemmas.{other_decides, shorter_same, longer_same}
 
 abbrev pub AreBytes : List ℕ → Type 0
 AreBytes l = (i : ℕ) → get_or l i 0 < 256
@@ -197,25 +196,3 @@ module _ {K : ℕ} {number : List ℕ → ℕ} (digits : AreDigits K number) (a 
     back_same last =
         let whole : common - K + K ≡ common = omega arith in
         rw whole at (word_same digits a b (common - K) bytes other_bytes before (omega arith) (omega arith) z w one_last other_last last)
-
--- one element after equal ones
-pub one_decides : (a b : List ℕ) (at : ℕ) → at < length a → at < length b → take at a ≡ take at b → get_or a at 0 ≢ get_or b at 0
-    → nat_cmp (get_or a at 0) (get_or b at 0) ≡ slice_cmp nat_cmp a b
-one_decides a b at in_a in_b before differ = sym (first_decides a b at in_a in_b before differ)
-
-same_through : (a b : List ℕ) (at : ℕ) → at < length a → at < length b → take at a ≡ take at b → get_or a at 0 ≡ get_or b at 0 → take (suc at) a ≡ take (suc at) b
-same_through (x ∷ a) (y ∷ b) zero in_a in_b before same = ap (λ z. z ∷ []) same
-same_through (x ∷ a) (y ∷ b) (suc at) in_a in_b before same =
-    let first : x ≡ y = cc in
-    let front : take at a ≡ take at b = cc in
-    ap (λ l. x ∷ l) (same_through a b at (omega arith) (omega arith) front same) ∙ ap (λ z. z ∷ take (suc at) b) first
-same_through xs b at in_a in_b before same = absurd (omega arith)
-
-pub one_same : (a b : List ℕ) (at : ℕ) → at < length a → at < length b → take at a ≡ take at b → get_or a at 0 ≡ get_or b at 0 → take (at + 1) a ≡ take (at + 1) b
-one_same a b at in_a in_b before same =
-    let next : suc at ≡ at + 1 = omega arith in
-    rw next at (same_through a b at in_a in_b before same)
-
-pub none_then : {X : Type 0} (r : Option X) {P Q : Type 0} → IfNone r P → (P → Q) → IfNone r Q
-none_then None known then = then known
-none_then (Some x) known then = known
