@@ -29,14 +29,21 @@ module _ {array_size : ℕ} {array : List ℕ} {p n i : ℕ} (is : IsDrained arr
   pub given-within : i ≤ n
   given-within = opened-within is.held refl i is.at
 
-  borrowed-long : p + n - (p + i) ≡ n - i
-  borrowed-long = omega (arith, given-within)
-
   borrowed-stored : IsStored array_size array (p + i) (n - i)
   borrowed-stored = (dropped_part is.held refl i is.at).held
 
-  pub borrowed-utf8 : IsUtf8 (take (p + n - (p + i)) (drop (p + i) array))
-  borrowed-utf8 = rw borrowed-long (stored-utf8 borrowed-stored)
+  -- the bytes of what is left are those of the array from f to t
+  module _ (f t : ℕ) (from : f ≡ p + i) (to : t ≡ p + n) where
+    long : t - f ≡ n - i
+    long = omega (arith, given-within)
+
+    pub borrowed-utf8 : IsUtf8 (take (t - f) (drop f array))
+    borrowed-utf8 = rw (long, from) (stored-utf8 borrowed-stored)
+
+    pub borrowed-bytes : {v : Drained} → drained (stored array p n) i ≡ v → take (t - f) (drop f array) ≡ bytes v.left
+    borrowed-bytes e =
+        ap (λ k. take k (drop f array)) long ∙ ap (λ k. take (n - i) (drop k array)) from ∙ sym (stored-bytes borrowed-stored)
+        ∙ ap bytes ((dropped_part is.held refl i is.at).shown ∙ ap (λ d. d.left) e)
 
   -- the value that a contract sees
   module _ {v : Drained} (e : drained (stored array p n) i ≡ v) where
@@ -48,11 +55,6 @@ module _ {array_size : ℕ} {array : List ℕ} {p n i : ℕ} (is : IsDrained arr
 
     left-bytes : bytes v.left ≡ drop i (take n (drop p array))
     left-bytes = ap bytes (sym left-is) ∙ sym (bytes-back removed i is.at) ∙ ap (drop i) (stored-bytes is.held)
-
-    pub borrowed-bytes : take (p + n - (p + i)) (drop (p + i) array) ≡ bytes v.left
-    borrowed-bytes =
-        ap (λ k. take k (drop (p + i) array)) borrowed-long ∙ sym (stored-bytes borrowed-stored)
-        ∙ ap bytes ((dropped_part is.held refl i is.at).shown ∙ left-is)
 
     pub left-fits : size v.left ≤ cap array_size
     left-fits = omega (arith, left-size)

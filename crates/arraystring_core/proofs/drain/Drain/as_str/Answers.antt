@@ -6,19 +6,17 @@ use Rattle.arraystring_core.proofs.DrainLemmas.{given-within, borrowed-utf8, bor
 use Rattle.arraystring_core.proofs.drain.Drain.as_str.Goals as goal
 
 pub slice_bounds-from_utf8_unchecked-start : goal.slice_bounds-from_utf8_unchecked-start
-slice_bounds-from_utf8_unchecked-start g c =
-    omega (arith, given-within c.self.invariant)
+slice_bounds-from_utf8_unchecked-start g c = omega (arith, given-within c.self.invariant)
 
 pub slice_bounds-from_utf8_unchecked-count : goal.slice_bounds-from_utf8_unchecked-count
-slice_bounds-from_utf8_unchecked-count g c =
-    omega (arith, given-within c.self.invariant)
+slice_bounds-from_utf8_unchecked-count g c = omega (arith, given-within c.self.invariant)
 
 pub from_utf8_unchecked-requires : goal.from_utf8_unchecked-requires
-from_utf8_unchecked-requires g c = borrowed-utf8 c.self.invariant
+from_utf8_unchecked-requires g c = borrowed-utf8 c.self.invariant _ _ (omega arith) (omega arith)
 
 pub returns-clause-bytes : goal.returns-clause-bytes
 returns-clause-bytes g c =
-    c.from_utf8_unchecked.ensures ∙ borrowed-bytes c.self.invariant c.self.view_is
+    c.from_utf8_unchecked.ensures ∙ borrowed-bytes c.self.invariant _ _ (omega arith) (omega arith) c.self.view_is
 
 pub returns-clause-text : goal.returns-clause-text
 returns-clause-text g c =
@@ -29,5 +27,4 @@ pub returns-clause-fits : goal.returns-clause-fits
 returns-clause-fits g c = left-fits c.self.invariant c.self.view_is
 
 pub prove-unreachable-requires : goal.prove-unreachable-requires
-prove-unreachable-requires g c =
-    omega (arith, given-within c.self.invariant)
+prove-unreachable-requires g c = omega (arith, given-within c.self.invariant)
