@@ -28,21 +28,21 @@ def tests_fail():
     return not result.wasSuccessful() or result.testsRun == 0
 
 
-def write(root):
-    """Writes what commands can write; whether one of them fails."""
+def is_written(root):
+    """Writes what commands can write; whether none of them fails."""
     commands = [(["rt", "fmt"], root / "crates" / it) for it in repository.crates(root)]
     if shutil.which("cargo"):
         commands.append((["rust/erase/run"], root))
-    failed = [subprocess.run(words, cwd=folder, stdout=subprocess.DEVNULL).returncode for words, folder in commands]
+    statuses = [subprocess.run(words, cwd=folder, stdout=subprocess.DEVNULL).returncode for words, folder in commands]
     quotes.main(["--write"], root)
-    return any(failed)
+    return not any(statuses)
 
 
 def main(arguments, root):
-    failed = arguments == ["--write"] and write(root)
-    failed = tests_fail() or failed
+    is_done = arguments != ["--write"] or is_written(root)
+    failed = tests_fail()
     for command, words in (
         (trusted, []), (dead, []), (quotes, []), (calls, []), (sentences, []), (evidence, []), (controls, ["--check"]),
     ):
         failed = bool(command.main(words, root)) or failed
-    return failed
+    return failed or not is_done

@@ -13,7 +13,7 @@ TEST = "import unittest\n\n\nclass Sums(unittest.TestCase):\n    def test_a_sum(
 
 
 class Check(TreeTest):
-    PARTS = ["trusted", "quotes", "calls", "sentences", "evidence", "controls"]
+    PARTS = [name for name, it in vars(check).items() if (ROOT / "tools" / f"{name}.py").exists() and hasattr(it, "main")]
 
     FILES = {"crates.txt": "numbers:\nletters: numbers\n"}
 
@@ -27,6 +27,7 @@ class Check(TreeTest):
         return failed
 
     def test_each_part_is_enough_to_fail(self):
+        self.assertIn("controls", self.PARTS)
         self.assertFalse(self.outcome())
         for part in ["tests", *self.PARTS]:
             self.assertTrue(self.outcome(part), part)
