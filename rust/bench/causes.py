@@ -62,7 +62,7 @@ CAUSES = [
         [
             ("let mut array = [0; N];\n        let (refused", "let mut array = core::mem::MaybeUninit::<[u8; N]>::uninit();\n        let (refused"),
             ("try_fill(&mut array,", "try_fill(unsafe { &mut *array.as_mut_ptr() },"),
-            ("Ok(ArrayString { array, start: 0, size })", "Ok(ArrayString { array: unsafe { array.assume_init() }, start: 0, size })"),
+            ("let mut result = Ok(ArrayString { array,", "let mut result = Ok(ArrayString { array: unsafe { array.assume_init() },"),
         ],
     ),
     Cause(
