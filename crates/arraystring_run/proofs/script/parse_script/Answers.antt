@@ -60,3 +60,6 @@ returns-clause-accepted c =
     let done = c.loop-start.commands.items in
     let none = ap lines (drop_all c.loop-start.start bs c.loop-start-test.false) in
     read-all (lines bs) done c.loop-start.number (subst (λ l. IsPartRead (lines bs) done l c.loop-start.number) none c.loop-start.invariant.read)
+
+pub returns-in_default-clause-faults : goal.returns-in_default-clause-faults
+returns-in_default-clause-faults c = search rules
