@@ -1,7 +1,7 @@
 """What a change has to pass before anything is proved: the tests of the tools; specs/ has definitions alone and the page has
 them; something cites each lemma and uses each import of a proof; the pages are as the files that they quote, name each public
-call and trait of the string and have no long sentence; a wrong body touches each public function and impl; and each control is
-as it was when it proved.
+call and trait of the string and have no long sentence; every move goes through `shift`; a wrong body touches each public
+function and impl; and each control is as it was when it proved.
 
 tools/run check             writes nothing
 tools/run check --write     first lays out each crate by `rt fmt`, makes the Rust crate by rust/erase/run where cargo is there,
@@ -16,6 +16,7 @@ import calls
 import controls
 import dead
 import evidence
+import moves
 import quotes
 import repository
 import sentences
@@ -42,7 +43,7 @@ def main(arguments, root):
     is_done = arguments != ["--write"] or is_written(root)
     failed = tests_fail()
     for command, words in (
-        (trusted, []), (dead, []), (quotes, []), (calls, []), (sentences, []), (evidence, []), (controls, ["--check"]),
+        (trusted, []), (dead, []), (quotes, []), (calls, []), (sentences, []), (moves, []), (evidence, []), (controls, ["--check"]),
     ):
         failed = bool(command.main(words, root)) or failed
     return failed or not is_done

@@ -6,6 +6,6 @@ pub record Stored : Type 0 where
   pub text : List ℕ
   pub spare : List ℕ
 
--- some string of the text t, for what is said of each string by its text
+-- a value with the text t, for what is said of each string by its text; its spare is that of no string
 abbrev pub string_of : List ℕ → Stored
 string_of t = record { text = t; spare = [] }

@@ -43,7 +43,7 @@ pub fn text_spelled<const N: usize>(string: &ArrayString<N>)
 /// A drain, as an iterator, gives the characters that are left.
 #[inline]
 pub fn left_given<const N: usize>(drained: &Drain<N>)
-    ensures { (it : Drained) → it ≡ drained.now → AlwaysYields (YieldsFirst (λ d. d.left)) (λ c. c) it drained.now.left }
+    ensures { (it : Drained) → it.left ≡ drained.now.left → AlwaysYields (YieldsFirst (λ d. d.left)) (λ c. c) it drained.now.left }
 {}
 
 /// What is left of a drain fits the capacity of the string from which it was taken.

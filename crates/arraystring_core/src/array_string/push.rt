@@ -9,7 +9,7 @@ ghost use Rattle.arraystring_core.specs.Taken.{Takes, Gives, joined, joined_piec
 
 use crate::ArrayString;
 use arraystring_base::error::OutOfBounds;
-use arraystring_base::utils::{Steps, encode, move_run, truncate_str, write_over};
+use arraystring_base::utils::{Steps, encode, shift, truncate_str, write_over};
 
 impl<const N: usize> ArrayString<N> {
     /// Appends `ch`.
@@ -334,7 +334,7 @@ fn make_room<const N: usize>(array: &mut [u8; N], start: &mut u8, size: usize, m
     let from = *start as usize;
     if from + size + more > ArrayString::<N>::capacity() as usize {
         *start = 0;
-        move_run(array, from, 0, size);
+        shift(array, from, 0, size, &mut Steps::new());
     }
 }
 
@@ -353,7 +353,7 @@ fn compact_and_append<const N: usize>(
     ensures held { IsStored N array.new 0 result }
     ensures text { (stored array.new 0 result).text ≡ (stored array.old start size).text ++ ch ∷ [] }
 {
-    move_run(array, start, 0, size);
+    shift(array, start, 0, size, &mut Steps::new());
     prove!(size < N);
     size + encode(ch, array, size)
 }
@@ -394,7 +394,7 @@ impl<const N: usize> ArrayString<N> {
     {
         let (start, size) = (self.start as usize, self.size as usize);
         self.start = 0;
-        move_run(&mut self.array, start, 0, size);
+        shift(&mut self.array, start, 0, size, &mut Steps::new());
         prove!(size < N);
         let len = encode(ch, &mut self.array, size);
         self.size = (size + len) as u8;

@@ -3,4 +3,4 @@ use Rattle.arraystring_core.proofs.TakenLaws.{drain-gives}
 use Rattle.arraystring_core.proofs.laws.left_given.Goals as goal
 
 pub returns : goal.returns
-returns g c = λ it e. drain-gives c.args.drained.now it c.args.drained.now.left refl e
+returns g c = λ it e. drain-gives it it c.args.drained.now.left e refl

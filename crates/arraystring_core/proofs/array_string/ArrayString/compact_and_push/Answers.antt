@@ -21,7 +21,7 @@ written : (g : given.Over) (c : goal.After-self-2-1 g)
     → Lies g.row.N c.encode-len.new.array 0 (c.self.inside.size + c.encode-len.result) (c.args.self.now.text ++ c.args.ch ∷ [])
 written g c =
     char-appended_at_start c.self.invariant c.self.view_is c.args.ch (search rules) c.encode-len.ensures.width
-    (omega (arith, opened-size c.self.invariant c.self.view_is)) c.move_run.ensures c.encode-len.ensures.bytes
+    (omega (arith, opened-size c.self.invariant c.self.view_is)) c.shift.ensures.bytes c.encode-len.ensures.bytes
 
 pub invariant_of-self : goal.invariant_of-self
 invariant_of-self g c = (written g c).held

@@ -9,8 +9,8 @@ prove-unreachable-requires g c =
 
 pub returns-clause-held : goal.returns-clause-held
 returns-clause-held g c =
-    (char-appended_at_start c.requires.held refl c.args.ch (search rules) c.encode.ensures.width c.requires.room c.move_run.ensures c.encode.ensures.bytes).held
+    (char-appended_at_start c.requires.held refl c.args.ch (search rules) c.encode.ensures.width c.requires.room c.shift.ensures.bytes c.encode.ensures.bytes).held
 
 pub returns-clause-text : goal.returns-clause-text
 returns-clause-text g c =
-    (char-appended_at_start c.requires.held refl c.args.ch (search rules) c.encode.ensures.width c.requires.room c.move_run.ensures c.encode.ensures.bytes).shown
+    (char-appended_at_start c.requires.held refl c.args.ch (search rules) c.encode.ensures.width c.requires.room c.shift.ensures.bytes c.encode.ensures.bytes).shown
