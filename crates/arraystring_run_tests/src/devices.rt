@@ -211,6 +211,27 @@ fn a_failed_flush_is_reported(rt: HostRuntime) {
     );
 }
 
+/// More reads than two bytes count: a byte at each, with and without an interruption before it.
+#[test]
+fn any_number_of_reads_is_gone_on_with(rt: HostRuntime) {
+    let script = "len\n".repeat(rt.alloc(), 17500).expect(&rt, "memory");
+    for again in 0..=1u8 {
+        let mut input = FakeReader {
+            bytes: script.as_bytes(),
+            step: 1,
+            reads: 0,
+            faults: again,
+            again,
+            kind: ErrorKind::Interrupted,
+        };
+        let mut output = Vec::new(rt.alloc());
+        let played = play::<23, FakeReader, Vec<u8>>(rt.alloc(), &mut input, &mut output);
+        agree(&rt, "what is returned", played, Ok(()));
+        // 17,500 times `number 0`, and then `final `, a line each
+        agree(&rt, "the output", output.len(), 157507);
+    }
+}
+
 /// A read fails before each byte and before the end, and no word lets it pass.
 #[test]
 fn failed_reads_are_served(rt: HostRuntime) {

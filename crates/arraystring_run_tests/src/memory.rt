@@ -4,9 +4,11 @@ use super::player::{EXAMPLE, EXAMPLE_OUTPUT};
 use super::runs::text_of;
 use super::table::agree;
 use arraystring::ArrayString;
+use arraystring_run::program::serve_buffered;
 use arraystring_run::{Command, PlayFault, play, run, run_both, serve};
 use std::alloc::Global;
 use std::io;
+use std::io::{Read, Write};
 use std::process::Abort;
 use std::test::Fail;
 use test_support::memory::{ScarceMemory, TIMES};
@@ -194,6 +196,93 @@ fn each_refused_growth_is_reported(rt: HostRuntime) -> Result<(), Fail> {
     check_serve(&rt, alloc, &mut output, &good, none, wanting);
     scarce.leave(alloc, 50000)?;
     check_serve(&rt, alloc, &mut output, &good, Ok(()), "");
+    drop(scarce);
+    Ok(())
+}
+
+/// A reader and a writer that look, at each call, whether there is memory of `size` bytes. No byte is
+/// read.
+#[derive(Drop)]
+struct MemoryProbe {
+    alloc: Global,
+    size: usize,
+    calls: u32,
+    found: u32,
+}
+
+impl MemoryProbe {
+    fn of(alloc: Global, size: usize) -> MemoryProbe {
+        MemoryProbe {
+            alloc,
+            size,
+            calls: 0,
+            found: 0,
+        }
+    }
+
+    fn look(&mut self) {
+        self.calls = self.calls.saturating_add(1);
+        if Vec::<u8>::with_capacity(self.alloc, self.size).is_ok() {
+            self.found = self.found.saturating_add(1);
+        }
+    }
+}
+
+impl Read for MemoryProbe {
+    fn read(&mut self, _buf: &mut [u8]) -> io::Result<usize> {
+        self.look();
+        Ok(0)
+    }
+}
+
+impl Write for MemoryProbe {
+    fn write(&mut self, buf: &[u8]) -> io::Result<usize> {
+        self.look();
+        Ok(buf.len())
+    }
+
+    fn flush(&mut self) -> io::Result<()> {
+        Ok(())
+    }
+}
+
+/// Before the first read `play` has taken no memory, and `serve_buffered` has taken its buffer alone,
+/// if there is memory for one. For a word that names no capacity it has taken none when it says so.
+#[test]
+fn no_memory_is_taken_before_the_first_read(rt: HostRuntime) -> Result<(), Fail> {
+    let alloc = rt.alloc();
+    let mut errors = Vec::with_capacity(alloc, 1000)?;
+    let Some(mut scarce) = ScarceMemory::take(&rt)? else {
+        return Ok(());
+    };
+    // how much is left, how much a probe asks for, and whether it is there behind the buffer
+    for (left, size, is_behind) in [
+        (0, 0, 1),
+        (6000, 5000, 1),
+        (20000, 18000, 0),
+        (40000, 30000, 1),
+    ] {
+        scarce.leave(alloc, left)?;
+        let mut input = MemoryProbe::of(alloc, size);
+        let mut none = io::sink();
+        let _ = play::<23, MemoryProbe, io::Sink>(alloc, &mut input, &mut none);
+        agree(&rt, "before a read", (input.calls, input.found), (1, 1));
+        let mut input = MemoryProbe::of(alloc, size);
+        let word = Some("small");
+        let _ = serve_buffered(alloc, word, &mut input, io::sink(), &mut errors);
+        agree(
+            &rt,
+            "with a buffer",
+            (input.calls, input.found),
+            (1, is_behind),
+        );
+        errors.clear();
+        let mut input = MemoryProbe::of(alloc, size);
+        let mut usage = MemoryProbe::of(alloc, size);
+        let (status, _) = serve_buffered(alloc, Some("none"), &mut input, io::sink(), &mut usage);
+        agree(&rt, "another word", (status, input.calls), (2, 0));
+        agree(&rt, "its line", (usage.calls, usage.found), (1, 1));
+    }
     drop(scarce);
     Ok(())
 }

@@ -2,12 +2,12 @@
 ghost use Rattle.std.specs.Prelude.{◌≤◌};
 
 use super::table::{agree, number};
-use arraystring::ArrayString;
 use arraystring::error::{OutOfBounds, Utf8};
 use arraystring::utils::{
     Steps, encode, is_boundary, is_char_boundary, is_inside_boundary, look, shift, truncate_str,
     truncate_str_counted,
 };
+use arraystring::{ArrayString, MaxString};
 use arraystring_base::utils::{last_char, move_run, write_over};
 use std::process::Abort;
 use test_support::table::{column, rows};
@@ -18,6 +18,47 @@ fn sizes_inside_a_limit(rt: HostRuntime) {
     agree(&rt, "6 of 5", is_inside_boundary(6, 5), Err(OutOfBounds));
     let inside = is_char_boundary(&ArrayString::<5>::from("é"), 1);
     agree(&rt, "inside a character", inside, Err(Utf8));
+}
+
+/// Each index to past 256 of a text of each size to past 256: those to the size are boundaries, and
+/// inside the limit.
+#[test]
+fn each_index_of_each_size(rt: HostRuntime) {
+    let letters = "a".repeat(rt.alloc(), 260).expect(&rt, "memory");
+    for size in 0..=260usize {
+        let text = letters.get(..size).unwrap_or("none");
+        for at in 0..=262usize {
+            let is_within = at <= size;
+            agree(&rt, "a boundary", is_boundary(text, at), is_within);
+            let inside = is_inside_boundary(at, size);
+            agree(&rt, "a limit", inside.is_ok(), is_within);
+        }
+        let string = MaxString::from_str_truncate(text);
+        for at in 0..=255u8 {
+            let found = is_char_boundary(&string, at);
+            agree(&rt, "of a string", found.is_ok(), at as usize <= size);
+        }
+    }
+}
+
+/// The same of characters of two bytes: each second index is inside one.
+#[test]
+fn each_index_of_wide_characters(rt: HostRuntime) {
+    let text = "é".repeat(rt.alloc(), 130).expect(&rt, "memory");
+    for at in 0..=262usize {
+        let is_even = at % 2 == 0;
+        agree(
+            &rt,
+            "a boundary",
+            is_boundary(&text, at),
+            is_even && at <= 260,
+        );
+    }
+    let string = MaxString::from_str_truncate(&text);
+    for at in 0..=255u8 {
+        let found = is_char_boundary(&string, at);
+        agree(&rt, "of a string", found.is_ok(), at % 2 == 0);
+    }
 }
 
 /// Asserts how texts are cut. The columns are a text, a size, and the text cut to it. The size is a
