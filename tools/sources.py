@@ -5,19 +5,34 @@ from collections import Counter
 from repository import read, sources
 
 ITEM = re.compile(r"( *)(pub |pub\(\w+\) )?(?:const |unsafe )*(?:fn (\w+)|(impl|trait)\b(.*) \{$)")
+RETURNS_BOOL = re.compile(r"\) -> bool( \{)?$")
 BRANCH = re.compile(r"\b(if|match|while|for|loop)\b|\?[;)]")
 
 
 class Function:
     """A function of a source file, by its path in Rust, and the lines of it or of the impl of a trait that it is in."""
 
-    def __init__(self, path, is_asked, is_private, place, body):
-        self.path, self.is_private, self.place = path, is_private, place
+    def __init__(self, path, is_asked, is_private, place, header, body):
+        self.path, self.is_private, self.place, self.header = path, is_private, place, header
         self.name = path.rpartition("::")[2]
         self.body = [line for line in body if not line.strip().startswith("//")]
         self.is_asked = is_asked and bool(self.body)
         is_door = 0 < len(self.body) <= 3 and not BRANCH.search(" ".join(self.body))
         self.named = re.findall(r"\w+", self.body[-1]) if is_door else []
+
+    def is_equivalence(self):
+        """Whether it decides something: the clauses have an equivalence, or it returns a `bool`."""
+        return "↔" in "\n".join(self.header) or any(RETURNS_BOOL.search(line) for line in self.header)
+
+    def speaks_of_counts(self, clause):
+        """Whether a clause of this name is about counts."""
+        lines = "\n".join(self.header)
+        found = re.search(rf"(?s)\bensures {clause} \{{(.*?)(?=\n *(?:ensures|requires|where|ghost)\b|$)", lines)
+        return bool(found and "steps." in found[1])
+
+    def counts(self):
+        """Whether its signature has a counter."""
+        return any("steps: &mut Steps" in line for line in self.header)
 
     def is_door_to(self, other):
         """Whether this one only hands on to the other: at most three lines without a branch, of which the last names it."""
@@ -78,7 +93,7 @@ def functions_of(file, public):
             path = f"{kind}::{name}" if indent else name
             is_asked = visibility == "pub " or file.name == "main.rt" and name != "main"
         place = of_impl if is_of_trait else range(at, last + 1)
-        yield Function(path, is_asked, visibility != "pub " and not is_of_trait, place, lines[first:last])
+        yield Function(path, is_asked, visibility != "pub " and not is_of_trait, place, lines[at:first], lines[first:last])
 
 
 def functions(folder):

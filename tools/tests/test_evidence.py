@@ -97,3 +97,88 @@ class Evidence(TreeTest):
         for path in ("src/lib.rt", "src/tests.rt", "must-fail/doubled.is_once.edit", "must-fail/default.is_one.edit"):
             (self.root / "crates/numbers" / path).unlink()
         self.assert_fails("wrong bodies try 0 functions", evidence)
+
+    def test_what_decides_has_one_for_each_direction(self):
+        self.replace("crates/numbers/src/lib.rt", "pub fn doubled(&self) -> u8\n", "pub fn doubled(&self) -> bool\n")
+        self.assert_fails("no wrong body of numbers doubled", evidence)
+        self.write("crates/numbers/must-fail/doubled.is_thrice.edit", self.FILES["crates/numbers/must-fail/doubled.is_once.edit"].replace("0\n", "7\n"))
+        self.assert_passes(evidence)
+        self.replace("crates/numbers/src/lib.rt", "-> bool\n", "-> u8\n")
+        self.replace("crates/numbers/src/lib.rt", "result ≡ 2", "(result ≡ 0) ↔ 2")
+        self.assert_passes(evidence)
+        (self.root / "crates/numbers/must-fail/doubled.is_once.edit").unlink()
+        (self.root / "crates/numbers/must-fail/doubled.is_thrice.edit").unlink()
+        self.assert_fails("no 2 wrong bodies of numbers doubled", evidence)
+
+
+COUNTED = """\
+pub fn counted(steps: &mut Steps)
+    ensures moved { steps.new.moved ≤ 4 }
+{
+    move_all(steps)
+}
+
+pub fn plain()
+    ensures { result ≡ 0 }
+{
+    move_all(&mut Steps::new())
+}
+
+fn move_all(steps: &mut Steps)
+    ensures moved { steps.new.moved ≤ 4 }
+    ensures text { result ≡ 0 }
+{
+    0
+}
+
+pub fn other()
+    ensures { result ≡ 1 }
+{
+    1
+}
+"""
+
+
+class Refusals(TreeTest):
+    FILES = {
+        "crates.txt": "moves:\n",
+        "crates/moves/src/lib.rt": COUNTED,
+        "crates/moves/must-fail/counted.is_one.edit": "file: src/lib.rt\nold:     0\nnew:     1\n",
+        "crates/moves/must-fail/plain.is_one.edit": "file: src/lib.rt\nold:     0\nnew:     1\n",
+        "crates/moves/must-fail/other.is_zero.edit": "file: src/lib.rt\nold:     1\nnew:     0\n",
+    }
+
+    GOAL = "note: src/lib.rt:{}:1: it is not proved that what the function ensures holds when it returns (`{}`); `search` gave up"
+    TOLD = {"counted.is_one": GOAL.format(13, "returns-clause-moved"), "plain.is_one": GOAL.format(13, "returns-clause-text"),
+            "other.is_zero": GOAL.format(20, "returns")}
+
+    def tell(self, **changed):
+        """The log, in which some verdicts are others."""
+        told = {**self.TOLD, **{name.replace("__", "."): said for name, said in changed.items()}}
+        lines = [f"rt: must-fail moves/{name}.edit: refused, as it must be: {said}" for name, said in told.items() if said]
+        self.write("log", "\n".join(["checked moves", *lines, "3 passed, 0 failed"]))
+        return ["--refused", str(self.root / "log")]
+
+    def test_each_is_refused_where_it_is_named_for(self):
+        self.assert_passes(evidence, *self.tell())
+
+    def test_one_that_the_log_lacks_is_named(self):
+        self.assert_fails("moves other.is_zero: the log does not say that it is refused", evidence, *self.tell(other__is_zero=""))
+
+    def test_a_goal_of_another_function_refuses_nothing(self):
+        words = self.tell(other__is_zero=self.GOAL.format(13, "returns-clause-text"))
+        self.assert_fails("moves other.is_zero: refused at src/lib.rt:13", evidence, *words)
+
+    def test_counts_refuse_nothing_of_what_does_not_count(self):
+        words = self.tell(plain__is_one=self.GOAL.format(13, "returns-then-zero-clause-moved"))
+        self.assert_fails("moves plain.is_one: refused by the counts of move_all", evidence, *words)
+
+    def test_a_stored_proof_refuses_where_there_is_a_control(self):
+        words = self.tell(plain__is_one="./proofs/move_all/Answers.antt:12:4: error: `returns-clause-text`: expected another")
+        self.assert_fails("moves plain.is_one: refused over a stored proof, and has no control", evidence, *words)
+        self.write("crates/moves/controls/plain.is_one.edit", "file: src/lib.rt\nold:     0\nnew:     { 0 }\n")
+        self.assert_passes(evidence, *words)
+
+    def test_a_stored_proof_of_another_function_refuses_nothing(self):
+        words = self.tell(plain__is_one="./proofs/other/Answers.antt:12:4: error: `returns`: expected another")
+        self.assert_fails("moves plain.is_one: refused neither by a goal", evidence, *words)
