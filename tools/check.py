@@ -1,7 +1,7 @@
 """What a change has to pass before anything is proved: the tests of the tools; specs/ has definitions alone and the page has
 them; something cites each lemma and uses each import of a proof; the pages are as the files that they quote, name each public
 call and trait of the string and have no long sentence; a wrong body touches each public function and impl; and each control is
-as it was when it proved.
+as it was when it proved. What a part says that it looked at has to be at least what LEAST says.
 
 tools/run check             writes nothing
 tools/run check --write     first lays out each crate by `rt fmt`, makes the Rust crate by rust/erase/run where cargo is there,
