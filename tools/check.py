@@ -1,15 +1,19 @@
 """What a change has to pass before anything is proved: the tests of the tools; specs/ has definitions alone and the page has
 them; something cites each lemma and uses each import of a proof; the pages are as the files that they quote, name each public
 call and trait of the string and have no long sentence; every move goes through `shift`; a wrong body touches each public
-function and impl; and each control is as it was when it proved.
+function and impl; and each control is as it was when it proved. What a part says that it looked at has to be at least what
+LEAST says.
 
 tools/run check             writes nothing
 tools/run check --write     first lays out each crate by `rt fmt`, makes the Rust crate by rust/erase/run where cargo is there,
                             and writes lines and counts into the pages by `quotes --write`
 """
+import io
+import re
 import shutil
 import subprocess
 import unittest
+from contextlib import redirect_stdout
 from pathlib import Path
 
 import calls
@@ -22,10 +26,26 @@ import repository
 import sentences
 import trusted
 
+# What the parts say that they looked at, and how much that is at least: a search that finds less than there is fails at nothing.
+LEAST = {
+    "{} tests of the tools": 100,
+    "run: {} definitions": 60,
+    "all public contracts: {} definitions": 190,
+    "{} lemmas and laws are cited": 1000,
+    "{} blocks are as in the files": 14,
+    "the pages name {} public calls": 58,
+    "public calls and {} traits": 18,
+    "makes {} calls": 44,
+    "no sentence of {} pages": 18,
+    "wrong bodies try {} functions": 189,
+    "{} controls are as they were": 120,
+}
+
 
 def tests_fail():
     tests = unittest.defaultTestLoader.discover(str(Path(__file__).parent / "tests"), top_level_dir=str(Path(__file__).parent))
     result = unittest.TextTestRunner(verbosity=0).run(tests)
+    print(f"{result.testsRun} tests of the tools have run")
     return not result.wasSuccessful() or result.testsRun == 0
 
 
@@ -39,11 +59,27 @@ def is_written(root):
     return not any(statuses)
 
 
-def main(arguments, root):
-    is_done = arguments != ["--write"] or is_written(root)
+def too_few(said):
+    """What is less than the LEAST, or is not said, in what the parts said."""
+    for words, least in LEAST.items():
+        found = re.search(re.escape(words).replace(r"\{\}", r"(\d+)"), said)
+        if not found or int(found[1]) < least:
+            yield f"{words.format(found[1] if found else 'no')}, where at least {least} are due"
+
+
+def parts_fail(root):
     failed = tests_fail()
     for command, words in (
         (trusted, []), (dead, []), (quotes, []), (calls, []), (sentences, []), (moves, []), (evidence, []), (controls, ["--check"]),
     ):
         failed = bool(command.main(words, root)) or failed
-    return failed or not is_done
+    return failed
+
+
+def main(arguments, root):
+    is_done = arguments != ["--write"] or is_written(root)
+    with redirect_stdout(io.StringIO()) as said:
+        failed = parts_fail(root)
+    faults = [] if failed else list(too_few(said.getvalue()))
+    print(said.getvalue(), *(f"{it}\n" for it in faults), sep="", end="")
+    return failed or bool(faults) or not is_done

@@ -35,7 +35,8 @@ class Calls(TreeTest):
     }
 
     def test_each_call_and_trait_is_named(self):
-        self.assertIn("3 public calls and 3 traits", self.assert_passes(calls))
+        counts = f"the pages name 3 public calls and 3 traits, and {calls.PROGRAM} makes 2 calls\n"
+        self.assertEqual(self.assert_passes(calls), counts)
 
     def test_a_call_that_no_page_names_is_told(self):
         self.write("crates/arraystring/CALLING.md", "capacity\n\n```rust\n`capacity`\n```\n")
@@ -53,6 +54,8 @@ class Calls(TreeTest):
 
     def test_the_program_without_panics_makes_each_safe_call(self):
         self.replace(calls.PROGRAM, "string.pop();\n", "")
+        self.assert_fails(f"{calls.PROGRAM} does not make pop\n", calls)
+        self.replace(calls.PROGRAM, "string.", "// string.pop();\nstring.")
         self.assert_fails(f"{calls.PROGRAM} does not make pop\n", calls)
         self.replace("crates/arraystring_core/src/array_string.rt", "pop(", "slice(")
         self.replace("README.md", "`pop`", "`slice`")

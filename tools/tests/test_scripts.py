@@ -6,10 +6,13 @@ import subprocess
 from repository import ROOT
 from tests.trees import TreeTest
 
+# How many cases the program is tried on.
+CASES = 405
+
 # Writes down its name and arguments, and fails if that is the call number $FAULT.
 STAND_IN = """\
 #!/bin/sh
-echo "${0##*/} $*" >> "$CALLS"
+echo "FOLDER${0##*/} $*FLAGS" >> "$CALLS"
 [ "$(wc -l < "$CALLS")" != "$FAULT" ] || exit 3
 """
 
@@ -18,7 +21,9 @@ class ScriptTest(TreeTest):
     """A tree with a copy of a script, and a PATH that has these programs and the stand-ins of its folder `bin` alone."""
 
     SCRIPT = ""
-    PROGRAMS = "bash sh dirname id ls cmp grep sed paste rm mkdir cat wc mktemp sha256sum sleep"
+    # What a stand-in writes down before its name, and behind its arguments.
+    FOLDER, FLAGS = "", ""
+    PROGRAMS = "bash sh dirname id ls cmp grep sed paste rm mkdir cat wc mktemp sha256sum sleep tee"
 
     def setUp(self):
         super().setUp()
@@ -28,7 +33,7 @@ class ScriptTest(TreeTest):
         self.write(self.SCRIPT, (ROOT / self.SCRIPT).read_text(encoding="utf-8"))
 
     def stand_in(self, path, *lines):
-        self.write(path, STAND_IN + "".join(f"{line}\n" for line in lines))
+        self.write(path, STAND_IN.replace("FOLDER", self.FOLDER).replace("FLAGS", self.FLAGS) + "".join(f"{line}\n" for line in lines))
         (self.root / path).chmod(0o755)
 
     def called(self, fault=0):
@@ -59,27 +64,49 @@ class ScriptTest(TreeTest):
 class Gate(ScriptTest):
     SCRIPT = ".ci/run"
     PROGRAM = "crates/arraystring_cli/out/arraystring_cli"
+    RAN = "    run: all memory is taken"
 
     def setUp(self):
         super().setUp()
         self.write(self.PROGRAM, "of an earlier run")
         os.utime(self.root / self.PROGRAM, (0, 0))
+        self.write("crates/numbers_tests/src/lib.rt", "let a = ScarceMemory::take(&rt)?;\nlet b = ScarceMemory::take(&rt)?;\n")
         self.stand_in("tools/run")
-        self.stand_in("bin/rt", "sleep 0.02", f"echo a program > {self.PROGRAM}")
-        self.stand_in("crates/arraystring_cli/try")
+        self.proves(self.RAN, self.RAN)
+        self.tries(f"try: {CASES} cases, 0 differ")
         self.stand_in("rust/check")
         (self.root / "bin/cargo").symlink_to("/bin/false")
+
+    def proves(self, *lines):
+        """`rt ci` prints these lines, and leaves a program."""
+        self.stand_in("bin/rt", "sleep 0.02", f"echo a program > {self.PROGRAM}", *(f"echo '{it}'" for it in lines))
+
+    def tries(self, *lines):
+        """The try of the program prints these lines."""
+        self.stand_in("crates/arraystring_cli/try", *(f"echo '{it}'" for it in lines))
 
     def test_each_call_is_enough_to_fail(self):
         calls = self.assert_each_call_is_enough_to_fail()
         self.assertEqual(calls, ["run check", "rt ci", f"try {self.PROGRAM}", "check "])
 
+    def test_a_test_without_memory_that_has_not_run_is_counted(self):
+        self.proves(self.RAN, "    not run: the checker of addresses of `rt try` has memory set aside")
+        self.assert_refused("run: 1 tests without memory have run, and 2 are due")
+        self.proves()
+        self.assert_refused("run: 0 tests without memory have run, and 2 are due")
+
+    def test_fewer_cases_of_the_program_are_refused(self):
+        self.tries("ok       a case", f"try: {CASES - 1} cases, 0 differ")
+        self.assert_refused(f"run: {CASES - 1} cases of the program were tried, and {CASES} are due")
+        self.tries("ok       a case")
+        self.assert_refused(f"run: no cases of the program were tried, and {CASES} are due")
+
     def test_a_program_of_an_earlier_run_is_refused(self):
-        self.stand_in("bin/rt")
+        self.stand_in("bin/rt", f"echo '{self.RAN}'", f"echo '{self.RAN}'")
         self.assert_refused(f"rt ci has left no new {self.PROGRAM}")
 
     def test_another_program_than_the_one_that_ran_is_refused(self):
-        self.stand_in("crates/arraystring_cli/try", f"echo more >> {self.PROGRAM}")
+        self.stand_in("crates/arraystring_cli/try", f"echo more >> {self.PROGRAM}", f"echo 'try: {CASES} cases, 0 differ'")
         self.assert_refused(f"{self.PROGRAM} is no longer the one that rt ci ran")
 
     def test_where_there_is_no_cargo_it_says_what_was_not_checked(self):
@@ -90,8 +117,56 @@ class Gate(ScriptTest):
         self.assertNotIn("check ", calls)
 
 
+# The calls of rust/check, each with the folder in which it is made. The first are made before flags are set, the second with
+# those that make a warning an error. Where serde is not there, those in its folder are left out.
+BEFORE_FLAGS = """\
+rust: run --check
+rust: cargo fmt --version
+rust: cargo fmt --check --manifest-path arraystring/Cargo.toml
+rust: cargo fmt --check --manifest-path arraystring_serde/Cargo.toml
+rust: cargo fmt --check --manifest-path erase/Cargo.toml
+rust: cargo fmt --check --manifest-path example/Cargo.toml
+rust: cargo fmt --check --manifest-path example_names/Cargo.toml
+rust: cargo fmt --check --manifest-path no_panic/Cargo.toml
+rust: cargo fmt --check --manifest-path static_library/Cargo.toml
+rust: cargo clippy --version
+rust: cargo clippy --quiet --offline --release --manifest-path arraystring/Cargo.toml -- -D warnings
+rust: cargo clippy --quiet --offline --release --manifest-path example/Cargo.toml -- -D warnings
+rust: cargo clippy --quiet --offline --release --manifest-path example_names/Cargo.toml -- -D warnings
+rust: cargo clippy --quiet --offline --release --manifest-path no_panic/Cargo.toml -- -D warnings
+rust: cargo clippy --quiet --offline --release --manifest-path static_library/Cargo.toml -- -D warnings
+rust: cargo clippy --quiet --offline --manifest-path arraystring/Cargo.toml --features alloc -- -D warnings
+rust: cargo clippy --quiet --offline --manifest-path erase/Cargo.toml --all-targets -- -D warnings
+rust: cargo clippy --quiet --offline --manifest-path arraystring/Cargo.toml --features alloc --tests -- -D warnings \
+-A clippy::incompatible_msrv -A clippy::needless_borrows_for_generic_args -A clippy::unit_arg
+arraystring_serde: cargo clippy --quiet --offline --all-targets -- -D warnings
+"""
+WITH_FLAGS = """\
+rust: cargo test --quiet --offline --manifest-path erase/Cargo.toml
+rust: cargo test --quiet --offline --manifest-path arraystring/Cargo.toml
+rust: cargo test --quiet --offline --manifest-path arraystring/Cargo.toml --release
+rust: cargo test --quiet --offline --manifest-path arraystring/Cargo.toml --release --features checked,alloc
+rust: cargo test --quiet --offline --manifest-path arraystring/Cargo.toml --features alloc --test owned
+rust: cargo doc --quiet --offline --no-deps --all-features --manifest-path arraystring/Cargo.toml
+rust: cargo run --quiet --offline --manifest-path example/Cargo.toml
+rust: cargo run --quiet --offline --manifest-path example_names/Cargo.toml
+rust: cargo run --quiet --offline --release --manifest-path no_panic/Cargo.toml
+rust: cargo build --quiet --offline --manifest-path static_library/Cargo.toml
+rust: cargo build --quiet --offline --manifest-path static_library/Cargo.toml --release
+rust: time 1
+rust: cargo package --quiet --offline --allow-dirty --manifest-path arraystring/Cargo.toml
+rust: cargo pkgid --offline --manifest-path arraystring/Cargo.toml
+rust: cargo test --quiet --offline --manifest-path TARGET/package/arraystring-0.1.0/Cargo.toml
+arraystring_serde: cargo test --quiet --offline
+arraystring_serde: cargo run --quiet --offline --example guests
+arraystring_serde: cargo doc --quiet --offline --no-deps
+"""
+
+
 class RustCheck(ScriptTest):
     SCRIPT = "rust/check"
+    FOLDER = "${PWD##*/}: "
+    FLAGS = "${RUSTFLAGS:+ with$RUSTFLAGS}${RUSTDOCFLAGS:+ and$RUSTDOCFLAGS}"
     CRATES = ["arraystring", "arraystring_serde", "erase", "example", "example_names", "no_panic", "static_library"]
     REFERENCE = "$CARGO_TARGET_DIR/doc/arraystring"
     # (what `cargo doc` makes, and the number that `cargo pkgid` tells)
@@ -109,22 +184,36 @@ esac"""
         self.write("rust/arraystring/LICENSE", "a license")
         self.stand_in("rust/erase/run")
         self.stand_in("rust/bench/time")
+        (self.root / "bin/ls").unlink()
+        self.serde_is_there(True)
         self.reference_has('id="method.new" id="method.try_from_str" id="method.len"')
+
+    def serde_is_there(self, is_there):
+        self.write("bin/ls", f"#!/bin/sh\nexit {0 if is_there else 2}\n")
+        (self.root / "bin/ls").chmod(0o755)
+
+    def due(self, folders=""):
+        """The calls that are due, those in folders whose name begins so."""
+        calls = [*BEFORE_FLAGS.splitlines(), *(f"{it} with -D warnings and -D warnings" for it in WITH_FLAGS.splitlines())]
+        return [it for it in calls if it.startswith(folders)]
 
     def reference_has(self, page):
         self.stand_in("bin/cargo", self.CARGO.format(self.REFERENCE, page))
 
     def test_each_call_is_enough_to_fail(self):
-        calls = self.assert_each_call_is_enough_to_fail(["cargo fmt --version", "cargo clippy --version"])
-        for needed in ("run --check", "time 1", "cargo test", "cargo doc", "cargo package"):
-            self.assertTrue(any(it.startswith(needed) for it in calls), needed)
-        for crate in self.CRATES:
-            self.assertTrue(any(f"{crate}/Cargo.toml" in it for it in calls), crate)
+        calls = self.assert_each_call_is_enough_to_fail(["rust: cargo fmt --version", "rust: cargo clippy --version"])
+        target = f"{self.root}/arraystring-rust-{os.getuid()}"
+        self.assertEqual([" ".join(it.replace(target, "TARGET").split()) for it in calls], self.due())
 
     def test_it_says_what_was_not_there(self):
         calls = self.called()[2]
         for name, told in (("fmt", "rustfmt is not there"), ("clippy", "clippy is not there")):
-            self.assertIn(told, self.called(calls.index(f"cargo {name} --version") + 1)[1])
+            self.assertIn(told, self.called(calls.index(f"rust: cargo {name} --version") + 1)[1])
+        self.serde_is_there(False)
+        failed, printed, calls = self.called()
+        self.assertFalse(failed)
+        self.assertIn("librust-serde-dev and librust-serde-json-dev are not there", printed)
+        self.assertEqual(len(calls), len(self.due("rust: ")))
 
     def test_another_license_is_refused(self):
         self.write("rust/arraystring/LICENSE", "another")
@@ -140,15 +229,87 @@ esac"""
 
 
 class Try(TreeTest):
-    def called(self, program):
-        run = subprocess.run([str(ROOT / "crates/arraystring_cli/try"), program], stdout=subprocess.PIPE, stderr=subprocess.STDOUT,
-                             encoding="utf-8")
-        return run.returncode, run.stdout.splitlines()
+    """The try of the program, over stand-ins for the program."""
+
+    WORDS = ("small", "cache", "max")
+
+    # Says on each call how it is called, and more.
+    USAGE = """\
+#!/bin/sh
+echo 'usage: arraystring_run small or cache or max' >&2
+{more}
+exit 2
+"""
+    # Answers as the program does, but ends well where a full device or a pipe that nobody reads takes nothing, writes another
+    # last line behind 5,000 replies, and a byte on standard output with the usage.
+    NEARLY = """\
+#!/bin/sh
+fail() {
+    echo "$2" >&2
+    exit "$1"
+}
+usage() {
+    printf x
+    fail 2 'usage: arraystring_run small or cache or max'
+}
+[ $# = 1 ] || usage
+case $1 in
+    small) capacity=23 ;;
+    cache) capacity=63 ;;
+    max) capacity=255 ;;
+    *) usage ;;
+esac
+[ -f /dev/stdin ] || [ -p /dev/stdin ] || fail 4 'read failed'
+set -- $(awk 'NR == 1 { first = $1 } !/^(len|capacity)$/ { bad = NR } END { print NR, bad + 0, first }')
+if [ "$3" = push_str ]; then
+    printf '%s\\n' done done done 'text 🤔DC' 'no text' 'refused OutOfBounds' 'text AABB' 'final AABB'
+    exit
+fi
+[ "$2" = 0 ] || fail 2 "bad line $2"
+[ "$(ulimit -v)" = unlimited ] || [ "$1" -le 5000 ] || fail 3 'out of memory'
+[ ! -p /dev/stdout ] && { [ -f /dev/stdout ] || [ "$(readlink /proc/$$/fd/1)" != /dev/full ]; } || exit 0
+[ "$3" = capacity ] || capacity=0
+{ yes "number $capacity" | head -n "$1" && echo "final $([ "$1" -lt 5000 ] || echo x)"; } 2> /dev/null || fail 4 'write failed'
+"""
+
+    def tried(self, program, lines=()):
+        """The names of the cases that are as they should be, and of those that differ, over a program of these lines."""
+        if lines:
+            program = self.root / program
+            program.write_text(lines, encoding="utf-8")
+            program.chmod(0o755)
+        run = subprocess.run([str(ROOT / "crates/arraystring_cli/try"), program], stdout=subprocess.PIPE,
+                             stderr=subprocess.STDOUT, encoding="utf-8", errors="replace")
+        lines = run.stdout.splitlines()
+        ok = [it[9:] for it in lines if it.startswith("ok       ")]
+        differing = [it[9:].split(" (status ")[0] for it in lines if it.startswith("DIFFERS  ")]
+        self.assertEqual(lines[-1], f"try: {CASES} cases, {len(differing)} differ")
+        self.assertEqual((len(ok) + len(differing), run.returncode), (CASES, 1 if differing else 0))
+        return ok, differing
 
     def test_a_program_that_is_not_there_is_refused(self):
-        self.assertEqual(self.called("/no_such_program"), (1, ["try: /no_such_program is not built"]))
+        run = subprocess.run([str(ROOT / "crates/arraystring_cli/try"), "/no_such_program"], stdout=subprocess.PIPE,
+                             stderr=subprocess.STDOUT, encoding="utf-8")
+        self.assertEqual((run.returncode, run.stdout), (1, "try: /no_such_program is not built\n"))
 
     def test_a_program_that_does_nothing_differs_in_each_case(self):
-        status, lines = self.called("/bin/true")
-        self.assertEqual((status, [it for it in lines if it.startswith("ok ")]), (1, []))
-        self.assertTrue(any(it.startswith("DIFFERS ") for it in lines))
+        self.assertEqual(self.tried("/bin/true")[0], [])
+
+    def test_the_usage_is_what_some_cases_want(self):
+        # Those with another word, and a bad line with standard error closed, of four sizes at each word.
+        self.assertEqual(len(self.tried("usage", self.USAGE.format(more=""))[0]), 237 + 12)
+
+    def test_a_byte_more_on_standard_error_differs_in_each_case(self):
+        # (on standard output where standard error is closed)
+        self.assertEqual(self.tried("more", self.USAGE.format(more="printf x >&2 || printf x"))[0], [])
+
+    def test_each_device_and_all_of_each_output_is_looked_at(self):
+        devices = [f"{count} lines into {device} at {word}" for device in ("a full device", "a closed pipe") for word in self.WORDS
+                   for count in (0, 1, 6, 700, 5000)]
+        pipes = [f"a pipe that is closed early at {word}" for word in self.WORDS]
+        ends = ["100,000 lines", *(name + word for word in self.WORDS for name in (
+            "5000 lines with closed standard error at ", "5000 lines into a file at ", "5,000 lines in little memory at "))]
+        differing = self.tried("nearly", self.NEARLY)[1]
+        self.assertEqual([it for it in devices + pipes + ends if it not in differing], [])
+        # The others are those of the usage.
+        self.assertEqual(len(differing), len(devices + pipes + ends) + 237)

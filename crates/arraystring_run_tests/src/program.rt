@@ -351,6 +351,7 @@ fn a_failed_flush_without_a_buffer_is_reported(rt: HostRuntime) -> Result<(), Fa
 /// Serves a script with a writer that fails after each number of bytes, and after all. Of the two
 /// longest outputs, these are every 17th number and every 601st.
 fn fails_after_each(rt: &(impl Abort + AllocGlobal), word: &str, kind: Option<ErrorKind>) {
+    let mut served = 0u32;
     for count in COUNTS {
         let (script, wanted) = script_of(rt, count);
         let whole = wanted.as_bytes();
@@ -376,8 +377,11 @@ fn fails_after_each(rt: &(impl Abort + AllocGlobal), word: &str, kind: Option<Er
                 status,
                 &whole[..room],
             );
+            served = served.wrapping_add(1);
         }
     }
+    // The outputs have 7, 35, 69, 80, 92, 1,739 and 10,529 bytes.
+    assert_eq!(rt; served, 8 + 36 + 70 + 81 + 93 + 104 + 19);
 }
 
 /// What the writer took before it failed is all that it had room for.

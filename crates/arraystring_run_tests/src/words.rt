@@ -39,6 +39,7 @@ fn is_refused(rt: &(impl Abort + AllocGlobal), word: &str) {
 /// Before each of the words, behind it, on both sides and inside.
 #[test]
 fn words_with_more_are_refused(rt: HostRuntime) {
+    let mut count = 0u32;
     for word in WORDS {
         for more in MORE {
             for at in 0..=word.len() {
@@ -47,6 +48,7 @@ fn words_with_more_are_refused(rt: HostRuntime) {
                 };
                 let given = format!(in rt.alloc(); "{front}{more}{back}").expect(&rt, "memory");
                 is_refused(&rt, &given);
+                count = count.wrapping_add(1);
             }
             let given = format!(in rt.alloc(); "{more}{word}{more}").expect(&rt, "memory");
             is_refused(&rt, &given);
@@ -58,21 +60,26 @@ fn words_with_more_are_refused(rt: HostRuntime) {
             is_refused(&rt, &given);
         }
     }
+    // The words have 5, 5 and 3 letters.
+    agree(&rt, "places", count, 24 * (6 + 6 + 4));
 }
 
 /// Each part of a word but the whole.
 #[test]
 fn parts_of_words_are_refused(rt: HostRuntime) {
+    let mut count = 0u32;
     for word in WORDS {
         for start in 0..=word.len() {
             for end in start..=word.len() {
                 let part = word.get(start..end).unwrap_or(" ");
                 if part != word {
                     is_refused(&rt, part);
+                    count = count.wrapping_add(1);
                 }
             }
         }
     }
+    agree(&rt, "parts", count, 20 + 20 + 9);
 }
 
 /// A word with other letters: of `large` those in upper case whose bits are set, and at a place another
@@ -102,11 +109,13 @@ fn respelled(
 /// Any of a word's letters large, and each letter another of the 128 of ASCII.
 #[test]
 fn words_in_other_letters_are_refused(rt: HostRuntime) {
+    let (mut large_ones, mut others) = (0u32, 0u32);
     for word in WORDS {
         for large in 0..=255u8 {
             let given = respelled(&rt, word, large, None);
             if given.as_str() != word {
                 is_refused(&rt, &given);
+                large_ones = large_ones.wrapping_add(1);
             }
         }
         for place in 0..word.len() {
@@ -114,10 +123,14 @@ fn words_in_other_letters_are_refused(rt: HostRuntime) {
                 let given = respelled(&rt, word, 0, Some((place, byte as char)));
                 if given.as_str() != word {
                     is_refused(&rt, &given);
+                    others = others.wrapping_add(1);
                 }
             }
         }
     }
+    // Of the 256 choices that leave each letter as it is are 8, 8 and 32.
+    agree(&rt, "large letters", large_ones, 248 + 248 + 224);
+    agree(&rt, "other letters", others, 127 * (5 + 5 + 3));
 }
 
 /// No word at all.

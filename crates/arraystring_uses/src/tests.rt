@@ -88,18 +88,23 @@ fn check_line_without_sign(rt: &impl Abort, text: &str) {
 /// The first sign at each boundary, and nothing, a sign, and so on behind it.
 #[test]
 fn lines_are_split_at_their_first_sign(rt: HostRuntime) {
+    let (mut without, mut lines) = (0u32, 0u32);
     for at in 0..=BEFORE.len() {
         let Some(before) = BEFORE.get(..at) else {
             continue;
         };
         check_line_without_sign(&rt, before);
+        without = without.wrapping_add(1);
         for cut in 0..=BEHIND.len() {
             if let (Some(front), Some(back)) = (BEHIND.get(..cut), BEHIND.get(cut..)) {
                 check_line(&rt, before, front);
                 check_line(&rt, before, back);
+                lines = lines.wrapping_add(2);
             }
         }
     }
+    // 10 characters are before it, and 35 behind it.
+    agree(&rt, (without, lines), (11, 2 * 11 * 36));
 }
 
 #[test]

@@ -70,12 +70,14 @@ fn each_user_can_be_put_in_again(rt: HostRuntime) {
 fn the_first_text_that_is_too_large_is_reported(rt: HostRuntime) -> Result<(), Fail> {
     let letters = "abcdefghijklmnopqrstuvwxyzabcd";
     let wide = "éèêëàâîïôûùüçñö";
+    let mut count = 0u32;
     for username in 0..31usize {
         for role in 0..31usize {
             for text in [letters, wide] {
                 let (Some(username), Some(role)) = (text.get(..username), text.get(..role)) else {
                     continue;
                 };
+                count = count.wrapping_add(1);
                 let made = User::new(username, role);
                 if username.len() > 20 {
                     agree(&rt, made, Err(UserFault::Username));
@@ -89,6 +91,7 @@ fn the_first_text_that_is_too_large_is_reported(rt: HostRuntime) -> Result<(), F
             }
         }
     }
+    agree(&rt, count, 31 * 31 + 16 * 16);
     Ok(())
 }
 

@@ -88,15 +88,15 @@ fn the_first_test_that_fails_decides(rt: HostRuntime) {
 
 #[test]
 fn each_padding_byte_is_judged(rt: HostRuntime) {
-    for offset in 1..27usize {
-        if offset != 21 {
-            let record = with([0; 27], &[(offset, 0x01)]);
+    for (record, first, end) in [
+        ([0; 27], 1usize, 21usize),
+        ([0; 27], 22, 27),
+        (RECORD, 5, 21),
+    ] {
+        for offset in first..end {
+            let record = with(record, &[(offset, 0x01)]);
             agree(&rt, decode(&record), Err(RecordFault::Padding));
         }
-    }
-    for offset in 5..21usize {
-        let record = with(RECORD, &[(offset, 0x01)]);
-        agree(&rt, decode(&record), Err(RecordFault::Padding));
     }
 }
 

@@ -11,6 +11,8 @@
 //!
 //! `count_tests` are the tests of `steps` that set its counts.
 #![deny(unsafe_code)]
+// A length that is cast to a byte makes a text of 256 bytes more the same.
+#![cfg_attr(not(test), deny(clippy::cast_possible_truncation))]
 
 mod compare;
 pub mod contracts;

@@ -47,6 +47,9 @@ fn texts(size: usize) -> Vec<String> {
     }
     texts.extend(CHARS.iter().flat_map(|one| CHARS.iter().map(move |other| format!("{one}{other}"))));
     texts.retain(|text| text.len() <= size);
+    // A character has at most four bytes.
+    let pairs = if size < 8 { 0 } else { CHARS.len() * CHARS.len() };
+    assert!(texts.len() > 3 * size.saturating_sub(3) + pairs);
     texts
 }
 
@@ -83,6 +86,26 @@ macro_rules! is_beside {
     }};
 }
 
+/// Texts that begin with a text and are longer, also by as many bytes as a byte counts, so that the lengths are one byte.
+fn lengthened(text: &str) -> impl Iterator<Item = String> {
+    [1, 255, 256, 257, 512].into_iter().flat_map(move |more| ["m", "\0"].map(|ch| text.to_string() + &ch.repeat(more)))
+}
+
+/// What a text of letters is compared with: each prefix, itself among them, texts that are longer, and those of its length that
+/// have another byte at a place.
+fn others(text: &str) -> Vec<String> {
+    let mut others: Vec<String> = (0..=text.len()).map(|len| text[..len].to_string()).chain(lengthened(text)).collect();
+    for place in 0..text.len() {
+        for letter in ["a", "z"] {
+            let mut other = text.to_string();
+            other.replace_range(place..=place, letter);
+            others.push(other);
+        }
+    }
+    assert_eq!(others.len(), 1 + text.len() + 10 + 2 * text.len());
+    others
+}
+
 #[test]
 fn strings_and_texts_are_compared_on_either_side() {
     fn at<const N: usize>() {
@@ -90,8 +113,8 @@ fn strings_and_texts_are_compared_on_either_side() {
         for text in &texts {
             for offset in [0, 1, 3] {
                 let string = behind::<N>(offset, text);
-                for other in &texts {
-                    is_beside!(string, text, other);
+                for other in texts.iter().cloned().chain(lengthened(text)) {
+                    is_beside!(string, text, &other);
                 }
             }
         }
@@ -123,15 +146,8 @@ fn long_texts_differ_at_each_place() {
         for len in 0..=N.min(255) {
             let text = "m".repeat(len);
             let string = ArrayString::<N>::from(text.as_str());
-            is_beside!(string, &text, &text);
-            is_beside!(string, &text, &format!("{text}m"));
-            for place in 0..len {
-                for other in ["a", "z"] {
-                    let mut other_text = text.clone();
-                    other_text.replace_range(place..=place, other);
-                    is_beside!(string, &text, &other_text);
-                }
-                is_beside!(string, &text, &text[..place]);
+            for other in others(&text) {
+                is_beside!(string, &text, &other);
             }
         }
     }
@@ -143,14 +159,14 @@ fn cache_strings_are_compared_on_either_side() {
     let texts = texts(12);
     for text in &texts {
         let string = CacheString::from(text.as_str());
-        for other in &texts {
-            is_beside!(string, text, other);
+        for other in texts.iter().cloned().chain(lengthened(text)) {
+            is_beside!(string, text, &other);
         }
     }
     for len in 0..=63 {
         let text = "m".repeat(len);
-        for other in 0..=64 {
-            is_beside!(CacheString::from(text.as_str()), &text, &"m".repeat(other));
+        for other in others(&text).into_iter().chain((0..=64).map(|other| "m".repeat(other))) {
+            is_beside!(CacheString::from(text.as_str()), &text, &other);
         }
     }
 }

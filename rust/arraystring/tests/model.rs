@@ -76,11 +76,14 @@ struct Pair<const N: usize> {
     string: ArrayString<N>,
     model: String,
     capacity: usize,
+    /// How often both were compared, and how many unchecked calls were made.
+    compared: usize,
+    unchecked: usize,
 }
 
 impl<const N: usize> Pair<N> {
     fn new() -> Self {
-        Pair { string: ArrayString::new(), model: String::new(), capacity: N.min(255) }
+        Pair { string: ArrayString::new(), model: String::new(), capacity: N.min(255), compared: 0, unchecked: 0 }
     }
 
     fn room(&self) -> usize {
@@ -97,12 +100,13 @@ impl<const N: usize> Pair<N> {
     }
 
     /// Asserts that all that a string shows is as the model.
-    fn agrees(&self, call: usize) {
+    fn agrees(&mut self, call: usize) {
         let (string, model) = (&self.string, &self.model);
         assert_eq!(string.as_bytes(), model.as_bytes(), "after call {call} at {N}");
         assert!(str::from_utf8(string.as_bytes()).is_ok());
         assert_eq!((string.len() as usize, string.is_empty()), (model.len(), model.is_empty()));
         assert_eq!(ArrayString::<N>::capacity() as usize, self.capacity);
+        self.compared += 1;
     }
 
     /// Makes one call of each kind in turn.
@@ -189,6 +193,7 @@ impl<const N: usize> Pair<N> {
     fn unchecked(&mut self, random: &mut Random) {
         let (index, text, ch) = (random.index(&self.model), random.text(5), random.character());
         let (Ok(at), true) = (self.at(index), text.len().max(ch.len_utf8()) <= self.room()) else { return };
+        self.unchecked += 1;
         // SAFETY: the index is a boundary, and what is given fits.
         match random.below(6) {
             0 => {
@@ -542,13 +547,14 @@ impl<const N: usize> Pair<N> {
     }
 }
 
-/// Makes random calls at one capacity.
-fn play<const N: usize>(calls: usize) {
+/// Makes random calls at one capacity, and returns how many were compared, and how many of these unchecked.
+fn play<const N: usize>(calls: usize) -> [usize; 2] {
     let mut random = Random(N as u64);
     let mut pair = Pair::<N>::new();
     for call in 0..calls {
         pair.call(&mut random, call);
     }
+    [pair.compared, pair.unchecked]
 }
 
 #[test]
@@ -573,9 +579,12 @@ fn random_calls_beside_a_string() {
         play::<256>,
         play::<300>,
     ];
-    std::thread::scope(|scope| {
-        for play in plays {
-            scope.spawn(move || play(calls));
-        }
+    let played = std::thread::scope(|scope| {
+        let threads = plays.map(|play| scope.spawn(move || play(calls)));
+        threads.map(|thread| thread.join().expect("no panic"))
     });
+    assert_eq!(played.map(|[compared, _]| compared), [calls; 16]);
+    // Of twelve calls one is unchecked, and made where its conditions hold: never in no byte, and seldom in one.
+    let unchecked = played.map(|[_, unchecked]| unchecked);
+    assert!(unchecked[1..].iter().all(|made| *made >= calls / 400), "{unchecked:?}");
 }

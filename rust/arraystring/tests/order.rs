@@ -62,11 +62,11 @@ fn are_ordered<T: Ord + Hash>(one: &T, other: &T, texts: (&str, &str)) {
     }
 }
 
-/// Asserts that two texts are ordered as std orders them, as strings of a capacity, where both fit.
-fn at<const N: usize>(texts: (&str, &str)) {
+/// Asserts that two texts are ordered as std orders them, as strings of a capacity, and returns 1; or 0, where they do not fit.
+fn at<const N: usize>(texts: (&str, &str)) -> usize {
     let longest = texts.0.len().max(texts.1.len());
     if longest > N.min(255) {
-        return;
+        return 0;
     }
     let (one, other) = (ArrayString::<N>::from(texts.0), ArrayString::<N>::from(texts.1));
     are_ordered(&one, &other, texts);
@@ -74,28 +74,29 @@ fn at<const N: usize>(texts: (&str, &str)) {
     let offset = (N.min(255) - longest).min(3);
     are_ordered(&behind::<N>(offset, texts.0), &other, texts);
     are_ordered(&one, &behind::<N>(offset, texts.1), texts);
+    1
 }
 
-/// The same at each of the capacities on which the sources branch.
-fn at_some_capacities(texts: (&str, &str)) {
-    match texts.0.len().max(texts.1.len()) {
+/// The same at each of the capacities on which the sources branch: at two, if the texts are no longer than 129 bytes.
+fn at_some_capacities(texts: (&str, &str)) -> usize {
+    let count = match texts.0.len().max(texts.1.len()) {
         0..=16 => at::<16>(texts),
         17..=64 => at::<64>(texts),
         65..=128 => at::<128>(texts),
         129 => at::<129>(texts),
-        _ => {}
-    }
-    at::<255>(texts);
+        _ => 0,
+    };
+    count + at::<255>(texts)
 }
 
-/// Tests each length to 255, on four threads.
-fn each_length(test: impl Fn(usize) + Sync) {
+/// Tests each length to 255, on four threads, and returns how much was compared.
+fn each_length(test: impl Fn(usize) -> usize + Sync) -> usize {
     let test = &test;
     thread::scope(|scope| {
-        for first in 0..4 {
-            scope.spawn(move || (first..=255).step_by(4).for_each(test));
-        }
-    });
+        let some = |first: usize| scope.spawn(move || (first..=255).step_by(4).map(test).sum::<usize>());
+        let threads = [0, 1, 2, 3].map(some);
+        threads.into_iter().map(|thread| thread.join().expect("no panic")).sum()
+    })
 }
 
 /// So many bytes of ASCII.
@@ -112,9 +113,9 @@ fn with(text: &str, at: usize, ch: char) -> String {
 
 #[test]
 fn texts_that_differ_at_one_place() {
-    each_length(|len| {
+    let count = each_length(|len| {
         let text = letters(len);
-        at_some_capacities((&text, &text));
+        let mut count = at_some_capacities((&text, &text));
         for place in 0..len {
             // Each place of each length has a pair of ASCII and, where it fits, a wider one; which, changes.
             let (ascii, wide) = PAIRS.split_at(3);
@@ -123,54 +124,65 @@ fn texts_that_differ_at_one_place() {
                     continue;
                 }
                 let (one, other) = (with(&text, place, less), with(&text, place, more));
-                at::<255>((&one, &other));
+                count += at::<255>((&one, &other));
                 // The longer of the two is less.
-                at::<255>((&(one + "z"), &other));
+                count += at::<255>((&(one + "z"), &other));
             }
         }
+        count
     });
+    // Equal texts of 256 lengths, those up to 129 at two capacities. ASCII at each place; wider ones at 31,879 places of lengths
+    // below 255, and at 253 of that length, where none is longer.
+    assert_eq!(count, 256 + 130 + 2 * (32_385 + 31_879) + 255 + 253);
 }
 
 #[test]
 fn each_pair_at_each_place_of_some_lengths() {
+    let mut count = 0;
     for len in [1, 2, 4, 7, 15, 16, 17, 31, 32, 33, 48, 63, 64, 65] {
         let text = letters(len);
         for place in 0..len {
             for (less, more) in PAIRS {
                 if place + less.len_utf8() <= len {
                     let (one, other) = (with(&text, place, *less), with(&text, place, *more));
-                    at_some_capacities((&one, &other));
+                    count += at_some_capacities((&one, &other));
                     // What comes after the first difference is of no account.
                     let (one, other) = (one + "zz", other + "aa");
-                    at_some_capacities((&one, &other));
+                    count += at_some_capacities((&one, &other));
                 }
             }
         }
     }
+    // The lengths have so many places for one byte, and for two, three and four, of which there are three pairs each, and two.
+    assert_eq!(count, 4 * (3 * 398 + 3 * 384 + 3 * 371 + 2 * 359));
 }
 
 #[test]
 fn each_two_lengths() {
-    each_length(|len| {
-        let text = letters(255);
-        for other in 0..=255 {
-            at::<255>((&text[..len], &text[..other]));
-        }
-    });
+    let text = letters(255);
+    let count = each_length(|len| (0..=255).map(|other| at::<255>((&text[..len], &text[..other]))).sum());
+    assert_eq!(count, 256 * 256);
 }
 
 #[test]
 fn characters_of_two_widths() {
+    let mut count = 0;
     for len in 0..=251 {
         for (less, more) in WIDTHS {
             let (mut one, mut other) = (letters(len), letters(len));
             one.push(*less);
             other.push(*more);
-            at_some_capacities((&one, &other));
+            count += at_some_capacities((&one, &other));
             one += "zzzzz";
-            at_some_capacities((&one, &other));
+            count += at_some_capacities((&one, &other));
         }
     }
+    // (the widest of the pairs leave room for this many lengths, at 255 and at 129)
+    let lengths = |capacity: usize, widest: [usize; 5]| widest.map(|width| capacity.min(251 + width) - width + 1);
+    let (alone, behind) = ([2, 4, 3, 3, 4], [6, 6, 7, 7, 8]);
+    let counts =
+        [(255, alone), (129, alone), (255, behind), (129, behind)].map(|(capacity, widest)| lengths(capacity, widest));
+    assert_eq!(count, counts.iter().flatten().sum());
 }
 
 #[test]
@@ -178,11 +190,12 @@ fn each_capacity_compares_full_texts() {
     fn full<const N: usize>() {
         let len = N.min(255);
         let text = letters(len);
-        at::<N>((&text, &text));
+        let mut count = at::<N>((&text, &text));
         for place in 0..len {
-            at::<N>((&with(&text, place, '\0'), &with(&text, place, '\u{7F}')));
-            at::<N>((&text[..place], &text));
+            count += at::<N>((&with(&text, place, '\0'), &with(&text, place, '\u{7F}')));
+            count += at::<N>((&text[..place], &text));
         }
+        assert_eq!(count, 1 + 2 * len);
     }
     full::<0>();
     full::<1>();
@@ -207,6 +220,7 @@ fn each_capacity_compares_full_texts() {
 
 #[test]
 fn drains_and_cache_strings_are_ordered_alike() {
+    let mut count = 0;
     for len in 0..=63 {
         let text = letters(len);
         for place in 0..len {
@@ -222,7 +236,10 @@ fn drains_and_cache_strings_are_ordered_alike() {
                 let drains = (drained(texts.0), drained(texts.1));
                 are_ordered(&drains.0, &drains.1, texts);
                 are_ordered(&drains.1, &drains.1.clone(), (texts.1, texts.1));
+                count += 1;
             }
         }
     }
+    // The lengths to 63, those to 62 and so on are these sums, for the pairs of one to four bytes.
+    assert_eq!(count, 3 * 2016 + 3 * 1953 + 3 * 1891 + 2 * 1830);
 }

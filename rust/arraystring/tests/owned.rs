@@ -9,6 +9,21 @@ fn cut(text: &str, size: usize) -> &str {
     &text[..end.unwrap_or(0)]
 }
 
+/// What a text is compared with: each prefix, texts that are longer, also by as many bytes as a byte counts, and those of its
+/// length that have another character of the same width at a place.
+fn others(text: &str) -> Vec<String> {
+    let ends = text.char_indices().map(|(at, _)| at);
+    let mut others: Vec<String> = ends.map(|end| text[..end].to_string()).collect();
+    others.extend([0, 1, 255, 256, 257, 512].map(|more| text.to_string() + &"m".repeat(more)));
+    others.extend([format!("m{text}"), text.chars().skip(1).collect()]);
+    for (at, ch) in text.char_indices() {
+        let other = ["a", "è", "₭", "🤕"][ch.len_utf8() - 1];
+        others.push(format!("{}{other}{}", &text[..at], &text[at + ch.len_utf8()..]));
+    }
+    assert_eq!(others.len(), 2 * text.chars().count() + 8);
+    others
+}
+
 /// Asserts each trait of a kind of string, of so many bytes, with a `String`.
 macro_rules! is_owned {
     ($type:ty, $size:expr, $text:expr) => {{
@@ -16,17 +31,16 @@ macro_rules! is_owned {
         let kept = cut(&text, size).to_string();
         let string = <$type>::from(kept.as_str());
         assert!(string == kept && kept == string && !(string != kept) && !(kept != string));
-        for other in [kept.clone() + "m", format!("m{kept}"), kept.chars().skip(1).collect()] {
+        for other in others(&kept) {
             assert_eq!((string == other, other == string), (kept == other, kept == other), "{kept} {other}");
+            assert_eq!((string != other, other != string), (kept != other, kept != other), "{kept} {other}");
         }
         assert_eq!(String::from(string), kept);
         let pieces: Vec<String> = text.split_inclusive(|_| true).map(String::from).collect();
         assert_eq!(pieces.iter().cloned().collect::<$type>(), kept);
-        for half in [0, pieces.len() / 2, pieces.len()] {
+        let fitting = kept.chars().count();
+        for half in [0, fitting / 2, fitting.min(pieces.len() / 2), fitting] {
             let front: String = pieces[..half].concat();
-            if front.len() > size {
-                continue;
-            }
             let mut extended = <$type>::from(front.as_str());
             Extend::extend(&mut extended, pieces[half..].iter().cloned());
             assert_eq!(extended, kept);

@@ -18,11 +18,13 @@ fn words(call: impl FnOnce()) -> String {
 fn parts_panic_as_those_of_str() {
     let text = "aé€🤔";
     let string = ArrayString::<12>::from(text);
+    let mut parts = 0;
     for start in 0..=13u8 {
         for end in 0..=13u8 {
             let (from, to) = (start as usize, end as usize);
             if let Some(part) = text.get(from..to) {
                 assert_eq!((string.slice(start..end), &string[start..end]), (part, part));
+                parts += 1;
                 continue;
             }
             let wanted = words(|| drop(text[from..to].to_string()));
@@ -34,6 +36,8 @@ fn parts_panic_as_those_of_str() {
             assert_eq!(other, string);
         }
     }
+    // Between each two of five boundaries.
+    assert_eq!(parts, 15);
 }
 
 /// Asserts that a part panics where that of the `str` does, with the same words, and is the same one elsewhere.
@@ -89,6 +93,7 @@ fn a_full_text_has_no_end_past_it() {
 
 #[test]
 fn a_part_of_the_array_that_is_no_text_is_not_changed() {
+    let mut parts = 0;
     for len in 0..8u8 {
         let mut string = ArrayString::<8>::from("abcdefgh");
         assert!(string.truncate(len).is_ok());
@@ -97,11 +102,14 @@ fn a_part_of_the_array_that_is_no_text_is_not_changed() {
                 words(|| string.make_ascii_uppercase_in(start..end));
                 words(|| string.make_ascii_lowercase_in(start..end));
                 assert_eq!(string, &"abcdefgh"[..len as usize]);
+                parts += 1;
             }
         }
         string.make_ascii_uppercase();
         assert_eq!(string, &"ABCDEFGH"[..len as usize]);
     }
+    // Of the hundred pairs those that are in the text are 1, 3, 6 and so on.
+    assert_eq!(parts, 8 * 100 - (1 + 3 + 6 + 10 + 15 + 21 + 28 + 36));
 }
 
 #[test]

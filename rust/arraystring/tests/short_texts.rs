@@ -23,6 +23,9 @@ fn texts(size: usize) -> Vec<String> {
             }
         }
     }
+    // Four of the characters have one byte, two have two, one has three, and one four.
+    let places = |width: usize| (size + 1).saturating_sub(width);
+    assert_eq!(texts.len(), 1 + 4 * places(1) + 2 * places(2) + places(3) + places(4));
     texts
 }
 

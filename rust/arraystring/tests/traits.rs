@@ -77,6 +77,8 @@ macro_rules! shows {
 
 #[test]
 fn each_trait_with_each_character() {
+    // All of one and two bytes, twelve of the others, and one in 997 of these, but two surrogates.
+    assert_eq!(characters().count(), 2048 + 12 + 1116 - 2);
     for ch in characters() {
         for text in texts_with(ch) {
             let string = Name::from(&*text);
@@ -135,12 +137,14 @@ fn strings_are_collected_and_extended() {
 
 #[test]
 fn a_part_by_each_kind_of_range() {
+    let mut parts = 0;
     for text in ["", "a", "\0", "aé€b", "🤔\0é", "abcdefgh"] {
         let (name, cached) = (Name::from(text), CacheString::from_str_truncate(text));
         assert_eq!((&name[..], &cached[..]), (text, text));
         for start in 0..=text.len() {
             for end in start..=text.len() {
                 let Some(part) = text.get(start..end) else { continue };
+                parts += 1;
                 let (first, last) = (start as u8, end as u8);
                 assert_eq!((&name[first..last], &cached[first..last]), (part, part));
                 assert_eq!((&name[..last], &name[first..]), (&text[..end], &text[start..]));
@@ -150,6 +154,8 @@ fn a_part_by_each_kind_of_range() {
             }
         }
     }
+    // Between each two of the boundaries, which are 1, 2, 2, 5, 4 and 9.
+    assert_eq!(parts, 1 + 3 + 3 + 15 + 10 + 45);
 }
 
 #[test]

@@ -8,14 +8,14 @@ use arraystring::{ArrayString, CacheString, Error};
 /// How many bytes the texts have at most: more than any string takes.
 const MOST: usize = 300;
 
-/// Asserts that bytes are taken or refused as std does it, and that what is taken is cut or refused for its size.
-fn as_std(bytes: &[u8]) {
+/// Asserts that bytes are taken or refused as std does it, and that what is taken is cut or refused for its size. Returns 1.
+fn as_std(bytes: &[u8]) -> usize {
     let wanted = str::from_utf8(bytes);
     let made = ArrayString::<255>::from_utf8(bytes);
     let whole = ArrayString::<255>::try_from_utf8(bytes);
     let Ok(text) = wanted else {
         assert_eq!((made, whole), (Err(Utf8), Err(Error::Utf8)), "{bytes:x?}");
-        return;
+        return 1;
     };
     let cut = &text[..text.floor_char_boundary(255)];
     assert_eq!(made.as_ref().map(|made| made.as_bytes()), Ok(cut.as_bytes()), "{bytes:x?}");
@@ -23,16 +23,17 @@ fn as_std(bytes: &[u8]) {
         Ok(whole) => assert_eq!((whole.as_bytes(), text.len()), (bytes, cut.len()), "{bytes:x?}"),
         refused => assert!(refused == Err(Error::OutOfBounds) && text.len() > 255, "{bytes:x?}"),
     }
+    1
 }
 
-/// Makes a test of each number below a limit, on four threads.
-fn each_below(limit: usize, test: impl Fn(usize) + Sync) {
+/// Makes a test of each number below a limit, on four threads, and returns how many texts were tried.
+fn each_below(limit: usize, test: impl Fn(usize) -> usize + Sync) -> usize {
     let test = &test;
     thread::scope(|scope| {
-        for first in 0..4 {
-            scope.spawn(move || (first..limit).step_by(4).for_each(test));
-        }
-    });
+        let some = |first: usize| scope.spawn(move || (first..limit).step_by(4).map(test).sum::<usize>());
+        let threads = [0, 1, 2, 3].map(some);
+        threads.into_iter().map(|thread| thread.join().expect("no panic")).sum()
+    })
 }
 
 /// ASCII of some length, with each byte of it among them.
@@ -41,55 +42,63 @@ fn ascii(len: usize) -> Vec<u8> {
 }
 
 /// Puts a byte that is not ASCII at each place of ASCII: each such byte, or those at the ends and one that changes.
-fn one_fault_in_ascii(len: usize, is_each: bool) {
+fn one_fault_in_ascii(len: usize, is_each: bool) -> usize {
     let mut bytes = ascii(len);
-    as_std(&bytes);
+    let mut count = as_std(&bytes);
     for at in 0..len {
         let byte = bytes[at];
-        let is_tried = |fault: &u8| is_each || [0x80, 0xFF, 0x80 + (at + len) as u8 % 0x80].contains(fault);
-        for fault in (0x80..=0xFF).filter(is_tried) {
+        let some = vec![0x80, 0xFF, 0x80 + (at + len) as u8 % 0x80];
+        for fault in if is_each { (0x80..=0xFF).collect() } else { some } {
             bytes[at] = fault;
             assert_eq!(ArrayString::<255>::from_utf8(&bytes), Err(Utf8), "{fault:x} at {at} of {len}");
+            count += 1;
         }
         bytes[at] = byte;
     }
+    count
 }
 
 #[test]
 fn one_byte_from_80_on_at_each_place_of_ascii() {
     // Without optimisation all bytes at all lengths take a minute, so some lengths have some of the bytes there.
     let is_each = |len: usize| !cfg!(debug_assertions) || len <= 66 || (127..=129).contains(&len);
-    each_below(MOST + 1, |len| one_fault_in_ascii(len, is_each(len)));
+    let count = each_below(MOST + 1, |len| one_fault_in_ascii(len, is_each(len)));
+    // The sum of all lengths, and of those in which each byte is tried.
+    let (places, full) = (45_150, if cfg!(debug_assertions) { 2211 + 384 } else { 45_150 });
+    assert_eq!(count, 301 + 128 * full + 3 * (places - full));
 }
 
 #[test]
 fn each_width_at_each_place_of_ascii() {
-    each_below(MOST + 1, |len| {
+    let count = each_below(MOST + 1, |len| {
+        let mut count = 0;
         for at in 0..=len {
             for ch in ['\0', '\u{7F}', '\u{80}', '\u{7FF}', '\u{800}', '\u{FFFF}', '\u{10000}', '\u{10FFFF}'] {
                 let mut bytes = ascii(len);
                 let spelled = ch.to_string();
                 bytes.splice(at..at, spelled.bytes());
-                as_std(&bytes);
+                count += as_std(&bytes);
                 if ch.len_utf8() > 1 {
                     // Without its last byte.
                     bytes.remove(at + ch.len_utf8() - 1);
-                    as_std(&bytes);
+                    count += as_std(&bytes);
                 }
             }
         }
+        count
     });
+    // Eight characters, and six without their last byte, at one place more than each length has.
+    assert_eq!(count, (8 + 6) * (45_150 + 301));
 }
 
 #[test]
 fn each_two_bytes_at_some_places() {
-    each_below(0x10000, |pair| {
+    let count = each_below(0x10000, |pair| {
         let two = (pair as u16).to_be_bytes();
-        as_std(&two);
-        for (before, after) in [(0, 2), (2, 0), (13, 1), (14, 0), (15, 20), (31, 3), (62, 4)] {
-            as_std(&[&ascii(before)[..], &two, &ascii(after)].concat());
-        }
+        let places = [(0, 0), (0, 2), (2, 0), (13, 1), (14, 0), (15, 20), (31, 3), (62, 4)];
+        places.map(|(before, after)| as_std(&[&ascii(before)[..], &two, &ascii(after)].concat())).iter().sum()
     });
+    assert_eq!(count, 8 * 0x10000);
 }
 
 /// The bytes at which the rows of the table of well-formed bytes begin and end, and their neighbours (the Unicode Standard,
@@ -101,23 +110,26 @@ const EDGES: &[u8] = &[
 
 #[test]
 fn each_four_bytes_of_the_edges() {
-    each_below(EDGES.len() * EDGES.len(), |two| {
+    let count = each_below(EDGES.len() * EDGES.len(), |two| {
         let (first, second) = (EDGES[two / EDGES.len()], EDGES[two % EDGES.len()]);
+        let mut count = 0;
         for third in EDGES {
             let three = [first, second, *third];
-            as_std(&three);
-            as_std(&[&ascii(16)[..], &three].concat());
+            count += as_std(&three) + as_std(&[&ascii(16)[..], &three].concat());
             for fourth in EDGES {
-                as_std(&[first, second, *third, *fourth]);
-                as_std(&[first, second, *third, *fourth, b'a', b'b', b'c', b'd']);
+                let four = [first, second, *third, *fourth];
+                count += as_std(&four) + as_std(&[&four[..], b"abcd"].concat());
             }
         }
+        count
     });
+    assert_eq!(count, 2 * 24 * 24 * 24 * (1 + 24));
 }
 
 #[test]
 fn each_character_is_taken() {
-    each_below(0x11, |plane| {
+    let count = each_below(0x11, |plane| {
+        let mut count = 0;
         for ch in (0..0x1_0000).filter_map(|low| char::from_u32((plane * 0x1_0000 + low) as u32)) {
             let (mut spelled, mut units) = ([0; 4], [0; 2]);
             let spelled = ch.encode_utf8(&mut spelled);
@@ -127,8 +139,12 @@ fn each_character_is_taken() {
             let mut pushed = ArrayString::<4>::new();
             assert_eq!((pushed.try_push(ch), pushed.as_bytes()), (Ok(()), spelled.as_bytes()));
             assert_eq!((pushed.pop(), pushed.is_empty()), (Some(ch), true));
+            count += 1;
         }
+        count
     });
+    // All but the surrogates.
+    assert_eq!(count, 0x11_0000 - 0x800);
 }
 
 #[test]

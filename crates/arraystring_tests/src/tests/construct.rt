@@ -268,6 +268,7 @@ fn takes<const N: usize>(rt: &(impl Abort + AllocGlobal))
         let width = run.chars().next().unwrap_or_default().len_utf8();
         for room in 0..13usize {
             let before = LETTERS.get(..N.saturating_sub(room)).unwrap_or_default();
+            let mut pieces = 0usize;
             let fit = room / width;
             let end = run.get(..fit.wrapping_mul(width)).unwrap_or_default();
             let wanted = format!(in rt.alloc(); "{before}{end}").expect(rt, "memory for it");
@@ -276,8 +277,10 @@ fn takes<const N: usize>(rt: &(impl Abort + AllocGlobal))
             for size in 1..13usize {
                 if let Some(piece) = run.get(..size) {
                     takes_pieces::<N>(rt, before, piece, room / size, &wanted);
+                    pieces = pieces.wrapping_add(1);
                 }
             }
+            agree(rt, run, pieces, 12 / width);
         }
     }
 }

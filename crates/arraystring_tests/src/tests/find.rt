@@ -62,8 +62,9 @@ fn check_not_found(rt: &impl Abort, c: char, text: &str) {
 }
 
 /// Looks for `c` behind each text before it, and with each text after it: none, one in which it is
-/// again, and so on.
-fn check_places(rt: &impl Abort, c: char) {
+/// again, and so on. Returns how often.
+fn check_places(rt: &impl Abort, c: char) -> u32 {
+    let mut count = 0u32;
     for at in 0..=OTHERS.len() {
         let Some(before) = OTHERS.get(..at) else {
             continue;
@@ -74,19 +75,26 @@ fn check_places(rt: &impl Abort, c: char) {
                 continue;
             };
             check_found(rt, c, before, after);
+            count = count.wrapping_add(1);
         }
         for start in 0..=FOUND.len() {
             let Some(after) = FOUND.get(start..) else {
                 continue;
             };
             check_found(rt, c, before, after);
+            count = count.wrapping_add(1);
         }
     }
+    count
 }
 
 #[test]
 fn each_character_at_each_place(rt: HostRuntime) {
+    let mut count = 0u32;
     for c in FOUND.chars() {
-        check_places(&rt, c);
+        // 9 texts before it, and 9 and 5 after it.
+        agree(&rt, "places", check_places(&rt, c), 9 * (9 + 5));
+        count = count.wrapping_add(1);
     }
+    agree(&rt, "characters", count, 4);
 }

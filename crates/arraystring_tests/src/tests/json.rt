@@ -39,6 +39,7 @@ fn kept<S: Json>(rt: &(impl Abort + AllocGlobal), given: &Value, wanted: &str) {
 fn texts_of_each_size_are_read_back(rt: HostRuntime) -> Result<(), Fail> {
     let letters = "abcdefg".repeat(rt.alloc(), 50)?;
     let wide = "aé€🤔".repeat(rt.alloc(), 35)?;
+    let mut count = 0u32;
     for text in [letters.as_str(), wide.as_str()] {
         for start in 0..10usize {
             for size in 0..301usize {
@@ -48,10 +49,13 @@ fn texts_of_each_size_are_read_back(rt: HostRuntime) -> Result<(), Fail> {
                     kept::<ArrayString<63>>(&rt, &given, prefix(text, 63));
                     kept::<ArrayString<255>>(&rt, &given, prefix(text, 255));
                     kept::<CacheString>(&rt, &given, prefix(text, 63));
+                    count = count.wrapping_add(1);
                 }
             }
         }
     }
+    // Of the letters all, of the others those that begin and end at one of the four boundaries in ten.
+    agree(&rt, "texts", count, 10 * 301 + 4 * 121);
     Ok(())
 }
 

@@ -53,6 +53,7 @@ fn cached_or_refused(rt: &(impl Abort + AllocGlobal), given: &Value, text: &str)
 fn texts_of_each_size_are_whole_or_refused(rt: HostRuntime) -> Result<(), Fail> {
     let letters = "abcdefg".repeat(rt.alloc(), 50)?;
     let wide = "aé€🤔".repeat(rt.alloc(), 35)?;
+    let mut count = 0u32;
     for text in [letters.as_str(), wide.as_str()] {
         for start in 0..10usize {
             for size in 0..301usize {
@@ -63,10 +64,13 @@ fn texts_of_each_size_are_whole_or_refused(rt: HostRuntime) -> Result<(), Fail> 
                     whole_or_refused::<255>(&rt, &given, text, 255);
                     whole_or_refused::<300>(&rt, &given, text, 255);
                     cached_or_refused(&rt, &given, text);
+                    count = count.wrapping_add(1);
                 }
             }
         }
     }
+    // Of the letters all, of the others those that begin and end at one of the four boundaries in ten.
+    agree(&rt, "texts", count, 10 * 301 + 4 * 121);
     Ok(())
 }
 

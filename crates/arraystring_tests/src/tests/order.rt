@@ -11,28 +11,37 @@ use test_support::table::{LETTERS, column, rows};
 ///
 ///     less | greater
 ///
-/// if the less is no larger. Each pair stands at each index among letters, in texts of each size.
-fn check_orders<const N: usize>(rt: &impl Abort, table: &str)
+/// if the less is no larger. Each pair stands at each index among letters, in texts of each size. These
+/// are `sizes` in all, and `short` those in which the pair is compared in other types too.
+fn check_orders<const N: usize>(rt: &impl Abort, table: &str, sizes: u32, short: u32)
     requires { N ≤ 300 }
 {
+    let mut compared = (0u32, 0u32);
     for row in rows(table) {
         for index in 0..ArrayString::<N>::capacity() as usize {
-            check_pair::<N>(rt, row, index);
+            let (sizes, short) = check_pair::<N>(rt, row, index);
+            compared = (
+                compared.0.wrapping_add(sizes),
+                compared.1.wrapping_add(short),
+            );
         }
     }
+    agree(rt, table, compared, (sizes, short));
 }
 
 /// Asserts the order of the pair of a row behind `index` letters. Behind it each byte says the opposite,
 /// or none differs, and there are none behind the shortest. One text begins at offset 0, and the other
-/// does, or behind it. What is before the pair is less.
-fn check_pair<const N: usize>(rt: &impl Abort, row: &str, index: usize)
+/// does, or behind it. What is before the pair is less. Returns in how many sizes the pair was compared,
+/// none if it does not fit, and in how many of these as other types.
+fn check_pair<const N: usize>(rt: &impl Abort, row: &str, index: usize) -> (u32, u32)
     requires { N ≤ 300 }
 {
     let (less, greater) = (column(row, 0), column(row, 1));
     let capacity = ArrayString::<N>::capacity() as usize;
     let Some(room) = capacity.checked_sub(index.saturating_add(greater.len())) else {
-        return;
+        return (0, 0);
     };
+    let (mut sizes, mut short) = (0u32, 0u32);
     let front = MANY_LETTERS.get(..index).unwrap_or_default();
     let offset = index.wrapping_mul(7) % (room + 1);
     let before = behind::<N>(offset, [front, "", ""]);
@@ -57,8 +66,11 @@ fn check_pair<const N: usize>(rt: &impl Abort, row: &str, index: usize)
         agree(rt, row, high == moved, high.len() == moved.len());
         if size < 64 {
             of_other_types(rt, row, low, moved);
+            short = short.wrapping_add(1);
         }
+        sizes = sizes.wrapping_add(1);
     }
+    (sizes, short)
 }
 
 /// Asserts the same order of what is drained of two strings, and of their strings of 63 bytes.
@@ -102,6 +114,9 @@ fn is_less<T: Ord>(rt: &impl Abort, row: &str, less: &T, greater: &T) {
     agree(rt, row, results, [true; 4]);
 }
 
+/// A pair of `w` bytes stands at each index up to the capacity less `w`, and is compared in one size more at
+/// the index before: so the sizes are the sum of the numbers up to the capacity and 1 less `w`. The short
+/// are that up to 64 less `w`.
 #[test]
 fn texts_of_each_size_are_ordered(rt: HostRuntime) {
     check_orders::<255>(
@@ -112,7 +127,9 @@ fn texts_of_each_size_are_ordered(rt: HostRuntime) {
         è        | é
         \u{FFFF} | \u{10000}
         ",
+        32640 + 2 * 32385 + 31878,
+        2016 + 2 * 1953 + 1830,
     );
-    check_orders::<128>(&rt, "a | é");
-    check_orders::<63>(&rt, "\u{7F} | 🤔");
+    check_orders::<128>(&rt, "a | é", 8128, 1953);
+    check_orders::<63>(&rt, "\u{7F} | 🤔", 1830, 1830);
 }

@@ -137,9 +137,9 @@ fn texts_of_many_sizes_are_printed(rt: HostRuntime) {
             24..200 => shows::<300>(&rt, text),
             _ => shows::<255>(&rt, text),
         }
-        if size < 64 {
-            shows_cached(&rt, text);
-        }
+    }
+    for size in 0..64usize {
+        shows_cached(&rt, MANY_LETTERS.get(..size).unwrap_or_default());
     }
 }
 

@@ -1,4 +1,5 @@
 //! The room that is left in a string.
+#![deny(clippy::cast_possible_truncation)]
 
 use crate::ArrayString;
 

@@ -34,56 +34,60 @@ pub fn is_call(name: &str) -> bool {
 }
 
 /// Makes the calls of blocks. The line over a block is `# 8 | what it shows`, where 8 is the capacity.
-pub fn blocks(table: &str) {
-    for block in table.split('#').skip(1) {
+pub fn blocks(table: &str) -> usize {
+    let of_block = |block: &str| {
         let (heading, rows) = block.split_once('\n').unwrap_or_default();
-        at(parsed(heading, 0), rows);
-    }
+        at(parsed(heading, 0), rows)
+    };
+    table.split('#').skip(1).map(of_block).sum()
 }
 
 /// Makes the calls of a table on strings of one capacity.
-pub fn at(capacity: usize, table: &str) {
-    fn hold<const N: usize>(table: &str) {
-        hold_from(table, |text| ArrayString::<N>::from(text));
+pub fn at(capacity: usize, table: &str) -> usize {
+    fn hold<const N: usize>(table: &str) -> usize {
+        hold_from(table, |text| ArrayString::<N>::from(text))
     }
-    at_capacity!(capacity, hold, table);
+    at_capacity!(capacity, hold, table)
 }
 
 /// Makes the calls of a table on strings of 8 bytes whose texts begin at each offset of the array that leaves them their room.
-pub fn anywhere(table: &str) {
-    for offset in 0..9 {
+pub fn anywhere(table: &str) -> usize {
+    let at_offset = |offset: usize| {
         hold_from(table, |text| {
             let before = &"........"[..offset.min(8 - text.len())];
             let mut behind = ArrayString::<8>::from(before);
             behind.push_str(text);
             assert!(behind.drain(..before.len() as u8).is_ok());
             behind
-        });
-    }
+        })
+    };
+    (0..9).map(at_offset).sum::<usize>() / 9
 }
 
-fn hold_from<const N: usize>(table: &str, string: impl Fn(&str) -> ArrayString<N>) {
+fn hold_from<const N: usize>(table: &str, string: impl Fn(&str) -> ArrayString<N>) -> usize {
     let mut text = ArrayString::default();
     let mut first = text;
-    for row in rows(table) {
-        match column(row, 0) {
-            "" => first = text,
-            "again" => {}
-            "new" => first = ArrayString::new(),
-            before => first = string(before),
-        }
-        for call in column(row, 1).split(' ') {
-            text = first;
-            make(&mut text, call, row);
-            let after = column(row, 5);
-            assert_eq!(
-                (text.as_str(), text.as_bytes(), text.len() as usize),
-                (after, after.as_bytes(), after.len()),
-                "{row}"
-            );
-            assert_eq!(text.is_empty(), after.is_empty(), "{row}");
-        }
-    }
+    rows(table)
+        .inspect(|row| {
+            match column(row, 0) {
+                "" => first = text,
+                "again" => {}
+                "new" => first = ArrayString::new(),
+                before => first = string(before),
+            }
+            for call in column(row, 1).split(' ') {
+                text = first;
+                make(&mut text, call, row);
+                let after = column(row, 5);
+                assert_eq!(
+                    (text.as_str(), text.as_bytes(), text.len() as usize),
+                    (after, after.as_bytes(), after.len()),
+                    "{row}"
+                );
+                assert_eq!(text.is_empty(), after.is_empty(), "{row}");
+            }
+        })
+        .count()
 }
 
 /// Makes a call, and asserts what it returns.

@@ -19,62 +19,66 @@ fn next(row: &str, ch: Option<char>, piece: Option<&str>) {
 /// Asserts what each constructor makes. The columns are
 ///
 ///     text | the same in pieces | made whole | cut | next character | next piece
-pub fn made_at(capacity: usize, table: &str) {
-    at_capacity!(capacity, made, table);
+pub fn made_at(capacity: usize, table: &str) -> usize {
+    at_capacity!(capacity, made, table)
 }
 
-fn made<const N: usize>(table: &str) {
-    for row in rows(table) {
-        let (text, pieces) = (column(row, 0), column(row, 1));
-        let whole = ArrayString::<N>::try_from_utf8(text);
-        assert_eq!(told(whole), column(row, 2), "{row}");
-        let (mut chars, mut rest) = (text.chars(), pieces.split(','));
-        let others = [
-            ArrayString::try_from_str(text),
-            text.parse(),
-            ArrayString::try_from_chars(&mut chars),
-            ArrayString::try_from_iterator(rest.by_ref()),
-        ];
-        assert_eq!(others, [whole.ok().ok_or(OutOfBounds); 4], "{row}");
-        next(row, chars.next(), rest.next());
-        let cut = ArrayString::<N>::from_str_truncate(text);
-        assert_eq!(cut.as_str(), column(row, 3), "{row}");
-        let (mut chars, mut rest) = (text.chars(), pieces.split(','));
-        let others = [text.into(), ArrayString::from_chars(&mut chars), ArrayString::from_iterator(rest.by_ref())];
-        assert_eq!((others, ArrayString::from_utf8(text)), ([cut; 3], Ok(cut)), "{row}");
-        next(row, chars.next(), rest.next());
-        let collected: [ArrayString<N>; 2] = [text.chars().collect(), pieces.split(',').collect()];
-        assert_eq!(collected, [cut; 2], "{row}");
-        if whole.is_ok() {
-            // SAFETY: the whole text fits.
-            let unchecked = unsafe {
-                [
-                    ArrayString::from_str_unchecked(text),
-                    ArrayString::from_chars_unchecked(text.chars()),
-                    ArrayString::from_iterator_unchecked(pieces.split(',')),
-                    ArrayString::from_utf8_unchecked(text),
-                ]
-            };
-            assert_eq!(unchecked, [cut; 4], "{row}");
-        }
-    }
+fn made<const N: usize>(table: &str) -> usize {
+    rows(table)
+        .inspect(|row| {
+            let (text, pieces) = (column(row, 0), column(row, 1));
+            let whole = ArrayString::<N>::try_from_utf8(text);
+            assert_eq!(told(whole), column(row, 2), "{row}");
+            let (mut chars, mut rest) = (text.chars(), pieces.split(','));
+            let others = [
+                ArrayString::try_from_str(text),
+                text.parse(),
+                ArrayString::try_from_chars(&mut chars),
+                ArrayString::try_from_iterator(rest.by_ref()),
+            ];
+            assert_eq!(others, [whole.ok().ok_or(OutOfBounds); 4], "{row}");
+            next(row, chars.next(), rest.next());
+            let cut = ArrayString::<N>::from_str_truncate(text);
+            assert_eq!(cut.as_str(), column(row, 3), "{row}");
+            let (mut chars, mut rest) = (text.chars(), pieces.split(','));
+            let others = [text.into(), ArrayString::from_chars(&mut chars), ArrayString::from_iterator(rest.by_ref())];
+            assert_eq!((others, ArrayString::from_utf8(text)), ([cut; 3], Ok(cut)), "{row}");
+            next(row, chars.next(), rest.next());
+            let collected: [ArrayString<N>; 2] = [text.chars().collect(), pieces.split(',').collect()];
+            assert_eq!(collected, [cut; 2], "{row}");
+            if whole.is_ok() {
+                // SAFETY: the whole text fits.
+                let unchecked = unsafe {
+                    [
+                        ArrayString::from_str_unchecked(text),
+                        ArrayString::from_chars_unchecked(text.chars()),
+                        ArrayString::from_iterator_unchecked(pieces.split(',')),
+                        ArrayString::from_utf8_unchecked(text),
+                    ]
+                };
+                assert_eq!(unchecked, [cut; 4], "{row}");
+            }
+        })
+        .count()
 }
 
 /// Asserts what is added from iterators that are lent. The columns are
 ///
 ///     text before | characters | pieces | text after | next character | next piece
-pub fn extended_at(capacity: usize, table: &str) {
-    at_capacity!(capacity, extended, table);
+pub fn extended_at(capacity: usize, table: &str) -> usize {
+    at_capacity!(capacity, extended, table)
 }
 
-fn extended<const N: usize>(table: &str) {
-    for row in rows(table) {
-        let (mut chars, mut pieces) = (column(row, 1).chars(), column(row, 2).split(','));
-        let before = ArrayString::<N>::from(column(row, 0));
-        let (mut by_chars, mut by_pieces) = (before, before);
-        by_chars.extend(&mut chars);
-        by_pieces.extend(pieces.by_ref());
-        assert_eq!((by_chars.as_str(), by_pieces), (column(row, 3), by_chars), "{row}");
-        next(row, chars.next(), pieces.next());
-    }
+fn extended<const N: usize>(table: &str) -> usize {
+    rows(table)
+        .inspect(|row| {
+            let (mut chars, mut pieces) = (column(row, 1).chars(), column(row, 2).split(','));
+            let before = ArrayString::<N>::from(column(row, 0));
+            let (mut by_chars, mut by_pieces) = (before, before);
+            by_chars.extend(&mut chars);
+            by_pieces.extend(pieces.by_ref());
+            assert_eq!((by_chars.as_str(), by_pieces), (column(row, 3), by_chars), "{row}");
+            next(row, chars.next(), pieces.next());
+        })
+        .count()
 }

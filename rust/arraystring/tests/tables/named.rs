@@ -8,11 +8,11 @@ use arraystring::utils::{Steps, is_boundary, truncate_str, truncate_str_counted}
 use arraystring::{ArrayString, CacheString, Drain, MaxString, SmallString};
 
 use crate::at_capacity;
-use crate::literals::{Table, tables};
+use crate::literals::Table;
 use crate::rows::{column, hash_of, parsed, returned, rows};
 
-/// The players, and how many rows they have at least.
-const PLAYERS: &[(&str, usize)] = &[
+/// The players, and how many rows they play at least.
+pub const PLAYERS: &[(&str, usize)] = &[
     ("check_comparisons", 4),
     ("check_cuts", 18),
     ("check_orders", 6),
@@ -22,10 +22,10 @@ const PLAYERS: &[(&str, usize)] = &[
     ("check_walks", 7),
 ];
 
-/// Plays a table, where its player is one of these, and returns whether it is.
-pub fn play(table: &Table) -> bool {
+/// Plays a table, where its player is one of these, and returns how many rows it has played.
+pub fn play(table: &Table) -> Option<usize> {
     let text = table.text.as_str();
-    match table.player.as_str() {
+    Some(match table.player.as_str() {
         "check_comparisons" => comparisons(text),
         "check_cuts" => cuts(text),
         "check_orders" => at_capacity!(table.capacity.unwrap_or(255), orders, text, 63 128 255),
@@ -33,19 +33,8 @@ pub fn play(table: &Table) -> bool {
         "check_trims" => trims(text),
         "check_units" => units(text),
         "check_walks" => walks(text),
-        _ => return false,
-    }
-    true
-}
-
-#[test]
-fn each_player_has_its_rows() {
-    let found = tables(std::path::Path::new(crate::FOLDER));
-    for (player, least) in PLAYERS {
-        let count: usize =
-            found.iter().filter(|table| table.player == *player).map(|table| rows(&table.text).count()).sum();
-        assert!(count >= *least, "{count} rows of {player} were found, where at least {least} are due");
-    }
+        _ => return None,
+    })
 }
 
 /// How bytes among letters are read. The columns are, in hexadecimal but for the last,
@@ -54,19 +43,20 @@ fn each_player_has_its_rows() {
 ///
 /// At each offset of each size stands one of the first bytes in turn, with the bytes behind it. Where these do not fit, std says
 /// how all is read.
-fn reading(table: &str) {
+fn reading(table: &str) -> usize {
     std::thread::scope(|scope| {
-        for row in rows(table) {
-            scope.spawn(move || reading_of(row));
-        }
-    });
+        let threads: Vec<_> = rows(table).map(|row| scope.spawn(move || reading_of(row))).collect();
+        threads.into_iter().map(|thread| thread.join().expect("no panic")).sum()
+    })
 }
 
-fn reading_of(row: &str) {
+/// Reads the bytes of one row.
+fn reading_of(row: &str) -> usize {
     let byte = |digits: &str| u8::from_str_radix(digits, 16).expect("a byte");
     let rest: Vec<u8> = column(row, 2).split_whitespace().map(byte).collect();
     let mut turns = (byte(column(row, 0))..=byte(column(row, 1))).cycle();
     let mut bytes = [b'a'; 264];
+    let (mut count, mut fitting) = (0, 0);
     for size in 1..258 {
         for at in 0..size {
             let end = at + 1 + rest.len();
@@ -75,11 +65,16 @@ fn reading_of(row: &str) {
             let given = &bytes[..size];
             if end <= size {
                 assert_eq!(str::from_utf8(given).is_ok(), column(row, 3) == "ok", "{row}");
+                fitting += 1;
             }
             as_in_std(row, given);
+            count += 1;
             bytes[at..end].fill(b'a');
         }
     }
+    let sum_to = |last: usize| last * (last + 1) / 2;
+    assert_eq!((count, fitting), (sum_to(257), sum_to(257 - rest.len())), "{row}");
+    1
 }
 
 /// Asserts that bytes are read whole and cut as std reads them.
@@ -100,21 +95,23 @@ fn as_in_std(row: &str, bytes: &[u8]) {
 ///     less | greater
 ///
 /// Each pair stands at each index among letters, in texts of each size.
-fn orders<const N: usize>(table: &str) {
-    for row in rows(table) {
-        for index in 0..N {
-            order_at::<N>(row, index);
-        }
-    }
+fn orders<const N: usize>(table: &str) -> usize {
+    let of_row = |row: &&str| {
+        let sizes: usize = (0..N).map(|index| order_at::<N>(row, index)).sum();
+        let last = N + 1 - column(row, 1).len();
+        assert_eq!(sizes, last * (last + 1) / 2, "{row}");
+    };
+    rows(table).inspect(of_row).count()
 }
 
 /// The order of the pair of a row behind `index` letters. Behind it each byte says the opposite, and there are none behind the
-/// shortest. One text begins at offset 0, and the other does, or behind it. What is before the pair is less.
-fn order_at<const N: usize>(row: &str, index: usize) {
+/// shortest. One text begins at offset 0, and the other does, or behind it. What is before the pair is less. Returns in how many
+/// sizes the pair was compared.
+fn order_at<const N: usize>(row: &str, index: usize) -> usize {
     let (low, high) = ("abcde".repeat(60), "x".repeat(300));
     let (less, greater, front) = (column(row, 0), column(row, 1), &low[..index]);
     let end = index + greater.len();
-    let Some(room) = N.checked_sub(end) else { return };
+    let Some(room) = N.checked_sub(end) else { return 0 };
     let offset = index * 7 % (room + 1);
     let behind = |offset: usize, parts: [&str; 3]| {
         let mut string = ArrayString::<N>::from(&high[..offset]);
@@ -142,6 +139,7 @@ fn order_at<const N: usize>(row: &str, index: usize) {
             is_less(row, &drained(one), &drained(moved));
         }
     }
+    room + 1
 }
 
 fn drained<const N: usize>(mut string: ArrayString<N>) -> Drain<N> {
@@ -156,65 +154,73 @@ fn is_less<T: Ord + ?Sized>(row: &str, less: &T, greater: &T) {
 
 /// What units are read as. The columns are units in hexadecimal, and characters and lone surrogates in hexadecimal. After the
 /// last of these nothing is read any more.
-fn units(table: &str) {
+fn units(table: &str) -> usize {
     let unit = |digits: &str| u16::from_str_radix(digits, 16).expect("a unit");
-    for row in rows(table) {
-        let units: Vec<u16> = column(row, 0).split_whitespace().map(unit).collect();
-        let mut walk = Units::new(&units);
-        for word in column(row, 1).split_whitespace() {
-            let wanted = word.parse().map_or_else(|_| Unit16::Lone(unit(word)), Unit16::Char);
-            assert_eq!(walk.next(), Some(wanted), "{row}");
-        }
-        assert_eq!((walk.next(), walk.next()), (None, None), "{row}");
-    }
+    rows(table)
+        .inspect(|row| {
+            let units: Vec<u16> = column(row, 0).split_whitespace().map(unit).collect();
+            let mut walk = Units::new(&units);
+            for word in column(row, 1).split_whitespace() {
+                let wanted = word.parse().map_or_else(|_| Unit16::Lone(unit(word)), Unit16::Char);
+                assert_eq!(walk.next(), Some(wanted), "{row}");
+            }
+            assert_eq!((walk.next(), walk.next()), (None, None), "{row}");
+        })
+        .count()
 }
 
 /// How texts are cut. The columns are a text, a size, and the text cut to it. The size is a boundary where the cut has it.
-fn cuts(table: &str) {
-    for row in rows(table) {
-        let (text, size, wanted) = (column(row, 0), parsed::<u8>(row, 1), column(row, 2));
-        assert_eq!(is_boundary(text, size as usize), wanted.len() == size as usize, "{row}");
-        let mut steps = Steps::new();
-        assert_eq!([truncate_str(text, size), truncate_str_counted(text, size, &mut steps)], [wanted; 2], "{row}");
-        assert!(steps.looked() <= 4 && steps.moved() == 0, "{row}");
-    }
+fn cuts(table: &str) -> usize {
+    rows(table)
+        .inspect(|row| {
+            let (text, size, wanted) = (column(row, 0), parsed::<u8>(row, 1), column(row, 2));
+            assert_eq!(is_boundary(text, size as usize), wanted.len() == size as usize, "{row}");
+            let mut steps = Steps::new();
+            assert_eq!([truncate_str(text, size), truncate_str_counted(text, size, &mut steps)], [wanted; 2], "{row}");
+            assert!(steps.looked() <= 4 && steps.moved() == 0, "{row}");
+        })
+        .count()
 }
 
 /// Walks over texts, from the back where a choice has a bit. The columns are how many choices there are, and the text.
-fn walks(table: &str) {
-    for row in rows(table) {
-        let text = column(row, 1);
-        for choice in 0..parsed::<u32>(row, 0) {
-            let (mut drain, mut wanted) = (drained(SmallString::from(text)), text.chars());
-            for step in 0..text.chars().count() {
-                let debugged = format!("Drain({:?})", wanted.as_str());
-                assert_eq!((drain.as_str(), format!("{drain:?}")), (wanted.as_str(), debugged), "{row}");
-                let (given, due) = if choice >> step & 1 == 0 {
-                    (drain.next(), wanted.next())
-                } else {
-                    (drain.next_back(), wanted.next_back())
-                };
-                assert_eq!(given, due, "{row}");
+fn walks(table: &str) -> usize {
+    rows(table)
+        .inspect(|row| {
+            let text = column(row, 1);
+            for choice in 0..parsed::<u32>(row, 0) {
+                let (mut drain, mut wanted) = (drained(SmallString::from(text)), text.chars());
+                for step in 0..text.chars().count() {
+                    let debugged = format!("Drain({:?})", wanted.as_str());
+                    assert_eq!((drain.as_str(), format!("{drain:?}")), (wanted.as_str(), debugged), "{row}");
+                    let (given, due) = if choice >> step & 1 == 0 {
+                        (drain.next(), wanted.next())
+                    } else {
+                        (drain.next_back(), wanted.next_back())
+                    };
+                    assert_eq!(given, due, "{row}");
+                }
+                assert_eq!(drain.as_str(), "", "{row}");
+                assert_eq!((drain.next(), drain.next_back()), (None, None), "{row}");
             }
-            assert_eq!(drain.as_str(), "", "{row}");
-            assert_eq!((drain.next(), drain.next_back()), (None, None), "{row}");
-        }
-    }
+        })
+        .count()
 }
 
 /// Comparisons of drains, of which `[ ]` has in it what is left after a step from each end. The columns are
 ///
 ///     one drain | `cmp` | | the other | order
-fn comparisons(table: &str) {
-    for row in rows(table) {
-        let (one, other) = (left(column(row, 0)), left(column(row, 3)));
-        let order = Ord::cmp(&one, &other);
-        returned(row, order);
-        assert_eq!(PartialOrd::partial_cmp(&one, &other), Some(order), "{row}");
-        assert_eq!((one == other, one != other), (order.is_eq(), order.is_ne()), "{row}");
-        let hash = hash_of(&one);
-        assert_eq!((hash == hash_of(&other), hash), (order.is_eq(), hash_of(one.as_str())), "{row}");
-    }
+fn comparisons(table: &str) -> usize {
+    rows(table)
+        .inspect(|row| {
+            let (one, other) = (left(column(row, 0)), left(column(row, 3)));
+            let order = Ord::cmp(&one, &other);
+            returned(row, order);
+            assert_eq!(PartialOrd::partial_cmp(&one, &other), Some(order), "{row}");
+            assert_eq!((one == other, one != other), (order.is_eq(), order.is_ne()), "{row}");
+            let hash = hash_of(&one);
+            assert_eq!((hash == hash_of(&other), hash), (order.is_eq(), hash_of(one.as_str())), "{row}");
+        })
+        .count()
 }
 
 fn left(written: &str) -> Drain<8> {
@@ -236,21 +242,23 @@ fn left(written: &str) -> Drain<8> {
 ///     first character | last character | calls that trim each
 ///
 /// where the characters are in hexadecimal. Each is after `a`, before it, and on both sides.
-fn trims(table: &str) {
+fn trims(table: &str) -> usize {
     let character = |row: &str, at: usize| {
         char::from_u32(u32::from_str_radix(column(row, at), 16).expect("a number")).expect("a character")
     };
-    for row in rows(table) {
-        let calls = column(row, 2);
-        for ch in character(row, 0)..=character(row, 1) {
-            for text in [format!("a{ch}"), format!("{ch}a"), format!("{ch}a{ch}")] {
-                let [mut trimmed, mut without_spaces] = [SmallString::from(text.as_str()); 2];
-                trimmed.trim();
-                without_spaces.trim_spaces();
-                let left = |is_trimmed: bool| if is_trimmed { "a" } else { text.as_str() };
-                let wanted = (left(!calls.is_empty()), left(calls.ends_with("trim_spaces")));
-                assert_eq!((trimmed.as_str(), without_spaces.as_str()), wanted, "{ch:?}");
+    rows(table)
+        .inspect(|row| {
+            let calls = column(row, 2);
+            for ch in character(row, 0)..=character(row, 1) {
+                for text in [format!("a{ch}"), format!("{ch}a"), format!("{ch}a{ch}")] {
+                    let [mut trimmed, mut without_spaces] = [SmallString::from(text.as_str()); 2];
+                    trimmed.trim();
+                    without_spaces.trim_spaces();
+                    let left = |is_trimmed: bool| if is_trimmed { "a" } else { text.as_str() };
+                    let wanted = (left(!calls.is_empty()), left(calls.ends_with("trim_spaces")));
+                    assert_eq!((trimmed.as_str(), without_spaces.as_str()), wanted, "{ch:?}");
+                }
             }
-        }
-    }
+        })
+        .count()
 }
