@@ -20,7 +20,6 @@ mod DrainLemmas
 mod BackLemmas
 mod WalkedLemmas
 mod EqualLemmas
-mod ApartLemmas
 mod OrderLemmas
 mod WordLemmas
 mod UnitLemmas

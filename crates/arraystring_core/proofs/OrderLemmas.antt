@@ -1,18 +1,17 @@
 -- Where two lists first differ, found by blocks, and their order.
-use Rattle.std.proofs.Common.{◌≡◌, ◌≢◌, ℕ, min, Less, Equal, Greater, ◌+◌, ◌-◌, ◌/◌, ◌%◌, ◌^◌, ◌<◌, ◌≤◌, ◌++◌, Bool, true, false, not, cond, eqb, eqb-true, List, [], ◌∷◌, suc, zero, map, length, take, drop, get_or, take_all, refl, sym, ap, ◌∙◌, arith, inl, inr, w8, w64, take-take, replicate, bit_xor}
+use Rattle.std.proofs.Common.{◌≡◌, ◌≢◌, ℕ, min, Less, Equal, Greater, ◌+◌, ◌-◌, ◌/◌, ◌%◌, ◌^◌, ◌<◌, ◌≤◌, ◌++◌, Bool, true, false, not, cond, eqb, eqb-true, List, [], ◌∷◌, suc, zero, map, length, take, drop, get_or, take_all, refl, sym, ap, ◌∙◌, arith, inl, inr, w8, w64, take-take, length-take-le, length-drop}
 use Rattle.std.proofs.Math.Seq.{take-add}
 use Rattle.std.proofs.lemmas.Bool.{eq-eqb, cases_lt, both_ways}
 use Rattle.std.proofs.lemmas.List.{get_or-take, get_or-drop, drop-take}
-use Rattle.std.proofs.lemmas.Simd.{tops_compared, mask_l-lt, mask_l-mod, bit_mask_l, length-zip2}
-use Rattle.std.proofs.lemmas.Nat.Bits.{bit_at-trailing_zeros, bit_at-trailing_ones}
+use Rattle.std.proofs.lemmas.Simd.{tops_compared, mask_l-mod, bit_mask_l, length-zip2}
+use Rattle.std.proofs.lemmas.Nat.Bits.{bit_at-trailing_zeros}
 use Rattle.std.proofs.lemmas.Cmp.{nat_cmp_total, tied_itself}
 use Rattle.std.specs.Cmp.{nat_cmp_is}
 use Rattle.std.specs.Cmp.Lexicographic.{slice_cmp}
-use Rattle.std.specs.Int.{trailing_zeros, trailing_ones}
+use Rattle.std.specs.Int.{trailing_zeros}
 use Rattle.std.specs.Ordering.{nat_cmp}
 use Rattle.std.specs.Simd.Lanes.{zip2, mask_l}
 use lib.Lanes.{top}
-use Rattle.arraystring_core.proofs.ApartLemmas.{xor_lanes, xor_equal, block_long}
 use Rattle.arraystring_core.proofs.EqualLemmas.{apart, none_apart}
 
 -- the first elements that differ decide
@@ -95,30 +94,6 @@ first_bit xs ys m long is some small =
     first_apart xs ys i long (one-is (get_or lanes i false) (sym (bit i) ∙ lowest.1))
     (λ j lt. none-is (get_or lanes j false) (sym (bit j) ∙ lowest.2 j lt))
 
--- the first lane that is not the same
-first_other : (xs ys : List ℕ) (i : ℕ) → length xs ≡ length ys → xs ≢ ys → get_or (zip2 eqb xs ys) i false ≡ false
-    → ((j : ℕ) → j < i → get_or (zip2 eqb xs ys) j false ≡ true)
-    → (i < length xs) × (take i xs ≡ take i ys) × (get_or xs i 0 ≢ get_or ys i 0)
-first_other [] [] i long differ clear before = absurd (differ refl)
-first_other (x ∷ xs) (y ∷ ys) zero long differ clear before = (omega arith, refl, λ e. absurd (both_ways (eqb x y) clear (eq-eqb x y e)))
-first_other (x ∷ xs) (y ∷ ys) (suc i) long differ clear before =
-    let same : x ≡ y = eqb-true x y (before 0 (omega arith)) in
-    let rest = first_other xs ys i (omega arith) (λ e. differ (ap (λ l. x ∷ l) e ∙ ap (λ z. z ∷ ys) same)) clear (λ j lt. before (suc j) (omega arith)) in
-    (omega arith, ap (λ l. x ∷ l) rest.1 ∙ ap (λ z. z ∷ take i ys) same, rest.2)
-first_other xs ys i long differ clear before = absurd (omega arith)
-
--- the lowest bit that a mask of equal lanes has not
-first_clear : (xs ys : List ℕ) (m : ℕ) → length xs ≡ length ys → xs ≢ ys → m ≡ mask_l (zip2 eqb xs ys) → m + 1 < 2 ^ 64
-    → (trailing_ones w64 m < length xs) × (take (trailing_ones w64 m) xs ≡ take (trailing_ones w64 m) ys)
-    × (get_or xs (trailing_ones w64 m) 0 ≢ get_or ys (trailing_ones w64 m) 0)
-first_clear xs ys m long differ is small =
-    let lowest = bit_at-trailing_ones w64 m small in
-    let i = trailing_ones w64 m in
-    let lanes = zip2 eqb xs ys in
-    let bit : (j : ℕ) → m / 2 ^ j % 2 ≡ cond (get_or lanes j false) 1 0 = λ j. ap (λ n. n / 2 ^ j % 2) is ∙ bit_mask_l lanes j in
-    first_other xs ys i long differ (none-is (get_or lanes i false) (sym (bit i) ∙ lowest.1))
-    (λ j lt. one-is (get_or lanes j false) (sym (bit j) ∙ lowest.2 j lt))
-
 pub shorter_same : (n m : ℕ) (a b : List ℕ) → n ≤ m → take m a ≡ take m b → take n a ≡ take n b
 shorter_same n m a b le same = sym (take-take n m a le) ∙ ap (take n) same ∙ take-take n m b le
 
@@ -136,6 +111,21 @@ pub block_of : (K : ℕ) (a b : List ℕ) (at : ℕ) → take (at + K) a ≡ tak
 block_of K a b at same =
     let wide : at + K - at ≡ K = omega arith in
     rw wide (sym (drop-take at K a) ∙ ap (drop at) same ∙ drop-take at K b)
+
+-- K bytes at `at` that differ or reach the end, or the last K if those are before them
+pub last_rest : (K at common place : ℕ) (a b : List ℕ) → K ≤ common → (take (at + K) a ≡ take (at + K) b → common ≤ at + K)
+    → place ≡ min (common - K) at → take (place + K) a ≡ take (place + K) b → common ≤ place + K
+last_rest K at common place a b least rest is same =
+    elim (cases_lt (common - K) at) [
+      | inl past ↦ omega arith
+      | inr within ↦
+          let here : place ≡ at = omega arith in
+          omega (arith, rest (rw here at same))
+    ]
+
+-- K bytes of a list from `at` on
+pub block_long : (K at : ℕ) (l : List ℕ) → at + K ≤ length l → length (take K (drop at l)) ≡ K
+block_long K at l within = length-take-le K (drop at l) (omega (arith, length-drop at l))
 
 -- two lists differ at i, and not before
 pub record DiffersAt (a b : List ℕ) (i : ℕ) : Type 0 where
@@ -204,42 +194,6 @@ module _ (K : ℕ) (few : K ≤ 64) (a b : List ℕ) (at : ℕ) (in_a : at + K �
   pub first-differ : 0 < mask → DiffersAt a b (at + first)
   first-differ some =
       differ-behind (at + K - at) a b at (omega arith) (omega arith) before first (first_bit (block a) (block b) mask long mask-is some (omega arith))
-
--- 16 bytes of both lists from `at` on, told by a vector of which a lane is zero where they are equal
-module _ (a b : List ℕ) (at : ℕ) (in_a : at + 16 ≤ length a) (in_b : at + 16 ≤ length b) (before : take at a ≡ take at b)
-    (vector : List ℕ) (is : vector ≡ zip2 bit_xor (take 16 (drop at a)) (take 16 (drop at b))) (some : vector ≢ replicate 16 0) where
-  abbrev told : ℕ
-  told = mask_l (map (top 7) (zip2 (λ x y. cond (eqb x y) 255 0) vector (replicate 16 0))) % 2 ^ 64
-
-  abbrev bytes : List ℕ → List ℕ
-  bytes l = take 16 (drop at l)
-
-  abbrev place : ℕ
-  place = trailing_ones w64 told
-
-  bytes-long : length (bytes a) ≡ length (bytes b)
-  bytes-long = block_long 16 at a in_a ∙ sym (block_long 16 at b in_b)
-
-  lanes-are : zip2 eqb vector (replicate 16 0) ≡ zip2 eqb (bytes a) (bytes b)
-  lanes-are = ap (λ l. zip2 eqb l (replicate 16 0)) is ∙ xor_lanes 16 (bytes a) (bytes b) (block_long 16 at a in_a) (block_long 16 at b in_b)
-
-  lanes-long : length (zip2 eqb (bytes a) (bytes b)) ≡ 16
-  lanes-long = length-zip2 eqb (bytes a) (bytes b) bytes-long ∙ block_long 16 at a in_a
-
-  told-is : told ≡ mask_l (zip2 eqb (bytes a) (bytes b))
-  told-is =
-      ap (λ lanes. mask_l lanes % 2 ^ 64) (tops_compared w8 eqb vector (replicate 16 0) ∙ lanes-are)
-      ∙ mask_l-mod (zip2 eqb (bytes a) (bytes b)) 64 (omega (arith, lanes-long))
-
-  narrow : told < 2 ^ 16
-  narrow = omega (arith, told-is, mask_l-lt (zip2 eqb (bytes a) (bytes b)), ap (λ n. 2 ^ n) lanes-long)
-
-  bytes-differ : bytes a ≢ bytes b
-  bytes-differ e = some (is ∙ ap (λ l. zip2 bit_xor l (bytes b)) e ∙ xor_equal 16 (bytes b) (block_long 16 at b in_b))
-
-  pub told-differ : DiffersAt a b (at + place)
-  told-differ =
-      differ-behind 16 a b at in_a in_b before place (first_clear (bytes a) (bytes b) told bytes-long bytes-differ told-is (omega (arith, narrow)))
 
 -- one list begins the other
 pub prefix_decides : (a b : List ℕ) (n : ℕ) → n ≡ min (length a) (length b) → take n a ≡ take n b

@@ -8,8 +8,7 @@ use Rattle.std.specs.Cmp.{nat_cmp_is}
 use Rattle.std.specs.Cmp.Lexicographic.{slice_cmp}
 use Rattle.std.specs.Int.{from_be_bytes, to_be_bytes}
 use Rattle.std.specs.Ordering.{nat_cmp}
-use Rattle.arraystring_core.proofs.ApartLemmas.{block_long}
-use Rattle.arraystring_core.proofs.OrderLemmas.{other_decides, shorter_same, longer_same}
+use Rattle.arraystring_core.proofs.OrderLemmas.{other_decides, shorter_same, longer_same, block_long}
 
 abbrev pub AreBytes : List ℕ → Type 0
 AreBytes l = (i : ℕ) → get_or l i 0 < 256

@@ -3,5 +3,4 @@
 
 pub(crate) mod equal;
 pub(crate) mod order;
-mod told;
 pub(crate) mod well_formed;

@@ -45,7 +45,6 @@ pub struct Tested {
 
 /// What is left out of the Rust crate: modules, laws about them, and what no other body calls here.
 pub const LEFT_OUT: &[LeftOut] = &[
-    LeftOut { name: "told", why: "std tells the order" },
     LeftOut { name: "integration", why: "it stands on `serde_json`, and the Rust crate has no dependency" },
     LeftOut { name: "between", why: "`get` asks std for the part, and `slice` has the index itself" },
     LeftOut { name: "json_reads_back", why: "a law about JSON texts" },
@@ -506,12 +505,9 @@ pub struct Body {
     pub why: &'static str,
 }
 
-const ONE_ORDER: &str = "std tells both orders";
 const BY_SPLIT: &str = "stable Rust has no index of a slice in a constant";
 
 pub const BODIES: &[Body] = &[
-    Body { call: "ArrayString::partial_cmp", lines: &["Some(self.cmp(other))"], why: ONE_ORDER },
-    Body { call: "Drain::partial_cmp", lines: &["Some(self.cmp(other))"], why: ONE_ORDER },
     Body {
         call: "ArrayString::get",
         lines: &["let (start, end) = plain_ends(range, self.len());", "self.as_str().get(start..end)"],
@@ -788,17 +784,5 @@ pub const REPLACED: &[Replaced] = &[
         from: "self.between(start, end)",
         to: "&self.as_str()[start..end]",
         why: "no precondition bounds the range of `slice`, which panics as the index of `str` does",
-    },
-    Replaced {
-        file: "arraystring_core/src/array_string/traits.rt",
-        from: "use crate::fast::order::{order, order_for_less};",
-        to: "use crate::fast::order::order;",
-        why: ONE_ORDER,
-    },
-    Replaced {
-        file: "arraystring_core/src/drain/traits.rt",
-        from: "use crate::fast::order::{order, order_for_less};",
-        to: "use crate::fast::order::order;",
-        why: ONE_ORDER,
     },
 ];

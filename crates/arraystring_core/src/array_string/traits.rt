@@ -10,7 +10,7 @@ ghost use Rattle.std.specs.Ordering.{nat_cmp, MatchOrdering};
 
 use crate::ArrayString;
 use crate::fast::equal::equal;
-use crate::fast::order::{order, order_for_less};
+use crate::fast::order::order;
 use arraystring_base::error::OutOfBounds;
 use std::cmp::Ordering;
 use std::fmt;
@@ -191,7 +191,7 @@ impl<const N: usize> Ord for ArrayString<N> {
     {
         // The other one is read first, so that no register has to be moved.
         let other_text = other.as_str();
-        order::<N>(self.as_str(), other_text)
+        order(self.as_str(), other_text)
     }
 }
 
@@ -210,7 +210,7 @@ impl<const N: usize> PartialEq for ArrayString<N> {
     ghost laws = { on_per (λ s. s.text) (partial_equiv_from_equiv nat_list_eq_equiv) };
 
     fn eq(&self, other: &Self) -> bool {
-        equal::<N>(self.as_str(), other.as_str())
+        equal(self.as_str(), other.as_str())
     }
 }
 
@@ -228,8 +228,7 @@ impl<const N: usize> PartialOrd for ArrayString<N> {
 
     #[inline(always)]
     fn partial_cmp(&self, other: &Self) -> Option<Ordering> {
-        let other_text = other.as_str();
-        Some(order_for_less::<N>(self.as_str(), other_text))
+        Some(self.cmp(other))
     }
 }
 

@@ -8,7 +8,7 @@ ghost use Rattle.std.specs.Hash as fed;
 ghost use Rattle.std.specs.Ordering.{nat_cmp, MatchOrdering};
 
 use crate::Drain;
-use crate::fast::order::{order, order_for_less};
+use crate::fast::order::order;
 use arraystring_base::utils::{Steps, last_char};
 use std::cmp::Ordering;
 use std::fmt;
@@ -181,7 +181,7 @@ impl<const N: usize> Ord for Drain<N> {
         ensures of_bytes { result ≡ slice_cmp nat_cmp (bytes self.now.left) (bytes other.now.left) }
         ensures says { MatchOrdering result (IsBefore self.now.left other.now.left) (self.now.left ≡ other.now.left) (IsBefore other.now.left self.now.left) }
     {
-        order::<N>(self.as_str(), other.as_str())
+        order(self.as_str(), other.as_str())
     }
 }
 
@@ -219,7 +219,6 @@ impl<const N: usize> PartialOrd for Drain<N> {
 
     #[inline(always)]
     fn partial_cmp(&self, other: &Self) -> Option<Ordering> {
-        let other_text = other.as_str();
-        Some(order_for_less::<N>(self.as_str(), other_text))
+        Some(self.cmp(other))
     }
 }

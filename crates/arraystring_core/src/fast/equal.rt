@@ -5,19 +5,14 @@ ghost use Rattle.std.specs.Cmp.Lexicographic.{pointwise};
 
 use std::simd::Simd;
 
-/// Whether the texts of two strings of at most `N` bytes are equal. More than 256 bytes, which no
-/// string has, are left to std.
+/// Whether two texts are equal. More than 256 bytes, which no string has, are left to std.
 #[inline(always)]
-pub(crate) fn equal<const N: usize>(text: &str, other: &str) -> bool
+pub(crate) fn equal(text: &str, other: &str) -> bool
     ensures { result ≡ pointwise nat_eq text.now other.now }
 {
     let (a, b) = (text.as_bytes(), other.as_bytes());
     if a.len() != b.len() {
         return false;
-    }
-    // One test finds 129 to 208 bytes.
-    if N > 128 && a.len().wrapping_sub(129) < 80 {
-        return equal_by_five(a, b);
     }
     if a.len() > 256 {
         return text == other;
@@ -70,9 +65,8 @@ fn equal_by_blocks(a: &[u8], b: &[u8]) -> bool
     equal_by_two::<16>(a, b)
 }
 
-/// The same for 128 to 256 bytes: the last 128 and the first 128, which may overlap. With the first
-/// before the last, the compiler reads 64 bytes ahead of the test of the size, which costs 16
-/// instructions more.
+/// The same for 128 to 256 bytes: the last 128 and the first 128, which may overlap. In the other order
+/// the compiler reads 64 bytes ahead of the test of the size, which costs 16 instructions more.
 #[inline(always)]
 fn equal_by_four(a: &[u8], b: &[u8]) -> bool
     requires same { length a.now ≡ length b.now }
@@ -84,33 +78,6 @@ fn equal_by_four(a: &[u8], b: &[u8]) -> bool
     let rest = a.len() - 128;
     let last = equal_by_two::<64>(&a[rest..], &b[rest..]);
     let first = equal_by_two::<64>(&a[..128], &b[..128]);
-    first & last
-}
-
-/// The same for 128 to 208 bytes: the last 128 and the first 80, which may overlap.
-#[inline(always)]
-fn equal_by_five(a: &[u8], b: &[u8]) -> bool
-    requires same { length a.now ≡ length b.now }
-    requires least { 128 ≤ length a.now }
-    requires other_least { 128 ≤ length b.now }
-    requires most { length a.now ≤ 208 }
-    ensures { IsTrue result ↔ (a.now ≡ b.now) }
-{
-    let rest = a.len() - 128;
-    let last = equal_by_two::<64>(&a[rest..], &b[rest..]);
-    let first = equal_eighty(&a[..80], &b[..80]);
-    first & last
-}
-
-/// The same for 80 bytes.
-#[inline(always)]
-fn equal_eighty(a: &[u8], b: &[u8]) -> bool
-    requires one { length a.now ≡ 80 }
-    requires other { length b.now ≡ 80 }
-    ensures { IsTrue result ↔ (a.now ≡ b.now) }
-{
-    let first = equal_block::<64>(&a[..64], &b[..64]);
-    let last = equal_block::<16>(&a[64..], &b[64..]);
     first & last
 }
 

@@ -193,7 +193,7 @@ fn a_body_is_another_one_and_a_call_is_constant_and_knows_the_invariant() {
 #[test]
 fn an_impl_has_lines_beyond_its_source() {
     let source = "\
-use crate::fast::order::{order, order_for_less};
+use crate::fast::order::order;
 
 impl<const N: usize> Iterator for Drain<N> {
     type Item = char;

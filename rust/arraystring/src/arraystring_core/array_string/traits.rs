@@ -273,7 +273,7 @@ impl<const N: usize> Ord for ArrayString<N> {
     fn cmp(&self, other: &Self) -> Ordering {
         // The other one is read first, so that no register has to be moved.
         let other_text = other.as_str();
-        order::<N>(self.as_str(), other_text)
+        order(self.as_str(), other_text)
     }
 }
 
@@ -302,7 +302,7 @@ impl<const N: usize> Ord for ArrayString<N> {
 impl<const N: usize> PartialEq for ArrayString<N> {
     #[inline]
     fn eq(&self, other: &Self) -> bool {
-        equal::<N>(self.as_str(), other.as_str())
+        equal(self.as_str(), other.as_str())
     }
 }
 

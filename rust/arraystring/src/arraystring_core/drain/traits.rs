@@ -254,7 +254,7 @@ impl<const N: usize> Ord for Drain<N> {
     /// </details>
     #[inline(always)]
     fn cmp(&self, other: &Self) -> Ordering {
-        order::<N>(self.as_str(), other.as_str())
+        order(self.as_str(), other.as_str())
     }
 }
 

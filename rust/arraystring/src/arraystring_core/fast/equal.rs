@@ -13,6 +13,6 @@
 ///
 /// </details>
 #[inline(always)]
-pub(crate) fn equal<const N: usize>(text: &str, other: &str) -> bool {
+pub(crate) fn equal(text: &str, other: &str) -> bool {
     text == other
 }

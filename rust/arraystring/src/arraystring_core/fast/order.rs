@@ -15,6 +15,6 @@ use core::cmp::Ordering;
 ///
 /// </details>
 #[inline(always)]
-pub(crate) fn order<const N: usize>(text: &str, other: &str) -> Ordering {
+pub(crate) fn order(text: &str, other: &str) -> Ordering {
     text.cmp(other)
 }

@@ -3,6 +3,6 @@ use Rattle.arraystring_core.proofs.OrderLemmas.{first_decides}
 use Rattle.arraystring_core.proofs.fast.order.order_at.Goals as goal
 
 pub returns : goal.returns
-returns g c =
-    c.of_different.ensures
+returns c =
+    c.order_of_different.ensures
     ∙ sym (first_decides c.args.a.now c.args.b.now c.args.at c.requires.one c.requires.other c.requires.before c.requires.apart)

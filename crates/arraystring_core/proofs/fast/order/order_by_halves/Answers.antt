@@ -4,18 +4,18 @@ use Rattle.arraystring_core.proofs.WordLemmas.{four, front_decides, back_decides
 use Rattle.arraystring_core.proofs.fast.order.order_by_halves.Goals as goal
 
 pub returns-then-one-other : goal.returns-then-one-other
-returns-then-one-other g c =
-    c.of_different.ensures
+returns-then-one-other c =
+    c.order_of_different.ensures
     ∙ front_decides four c.args.a.now c.args.b.now c.type_inv.a c.type_inv.b c.requires.least c.requires.lesser c.half_word-one.ensures c.half_word-other.ensures c.if-one-other.true
 
 pub returns-then-one_last-other_last : goal.returns-then-one_last-other_last
-returns-then-one_last-other_last g c =
-    c.of_different-then-one_last-other_last.ensures
+returns-then-one_last-other_last c =
+    c.order_of_different-then-one_last-other_last.ensures
     ∙ back_decides four c.args.a.now c.args.b.now c.type_inv.a c.type_inv.b c.requires.least c.requires.lesser c.half_word-one.ensures c.half_word-other.ensures
     c.requires.most (omega arith) c.half_word-one_last.ensures c.half_word-other_last.ensures c.if-one_last-other_last.true
 
 pub returns : goal.returns
-returns g c =
+returns c =
     let all = back_same four c.args.a.now c.args.b.now c.type_inv.a c.type_inv.b c.requires.least c.requires.lesser c.half_word-one.ensures c.half_word-other.ensures
     c.requires.most (omega arith) c.half_word-one_last.ensures c.half_word-other_last.ensures (omega arith) in
     c.order_of_lengths.ensures ∙ sym (prefix_decides c.args.a.now c.args.b.now _ c.requires.lesser all)

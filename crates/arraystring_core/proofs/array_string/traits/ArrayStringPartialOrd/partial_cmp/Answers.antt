@@ -1,8 +1,0 @@
-use Rattle.std.proofs.Common.{Some, ap, ◌∙◌}
-use Rattle.arraystring_base.proofs.OrderLaws.{order-bytes}
-use Rattle.arraystring_core.proofs.array_string.traits.ArrayStringPartialOrd.partial_cmp.Goals as goal
-
-pub returns : goal.returns
-returns g c =
-    let borrowed = rw (c.as_str.ensures.bytes, c.as_str-other_text.ensures.bytes) at c.order_for_less.ensures in
-    ap (λ order. Some order) (borrowed ∙ order-bytes c.args.self.now.text c.args.other.now.text)
