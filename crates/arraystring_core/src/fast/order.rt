@@ -9,7 +9,7 @@ use crate::fast::equal::equal_block;
 use std::cmp::Ordering;
 use std::simd::Simd;
 
-/// How two texts are ordered by their bytes.
+/// How two texts are ordered by their bytes. Most differ in the first 16.
 #[inline(always)]
 pub(crate) fn order(text: &str, other: &str) -> Ordering
     ensures { result ≡ slice_cmp nat_cmp text.now other.now }
@@ -19,11 +19,11 @@ pub(crate) fn order(text: &str, other: &str) -> Ordering
     if common < 16 {
         return order_of_few(a, b, common);
     }
-    if common <= 32 {
-        return order_by::<16>(a, b, common, 0);
+    if let Some(order) = block_order::<16>(a, b, 0) {
+        return order;
     }
-    if common <= 64 {
-        return order_by::<32>(a, b, common, 0);
+    if common <= 48 {
+        return order_by::<16>(a, b, common, 16);
     }
     order_by::<32>(a, b, common, equal_groups(a, b, common))
 }
@@ -169,8 +169,7 @@ fn past_block<const K: usize>(a: &[u8], b: &[u8], common: usize, at: usize) -> u
     requires lanes { K ≤ 64 }
     requires least { K ≤ common }
     requires within { at ≤ common }
-    requires one { common ≤ length a.now }
-    requires other { common ≤ length b.now }
+    requires lesser { common ≡ min (length a.now) (length b.now) }
     requires before { take at a.now ≡ take at b.now }
     requires rest { take (at + K + K) a.now ≡ take (at + K + K) b.now → common ≤ at + K + K }
     ensures within { result + K ≤ common }
@@ -184,17 +183,18 @@ fn past_block<const K: usize>(a: &[u8], b: &[u8], common: usize, at: usize) -> u
     last.min(at)
 }
 
-/// How many bytes at the front are equal, in groups of 64. The group behind them differs, or the first
-/// `common` bytes end in it.
+/// How many bytes at the front are equal: 16, and behind them groups of 64. The group behind all differs,
+/// or the first `common` bytes end in it.
 #[inline(always)]
 fn equal_groups(a: &[u8], b: &[u8], common: usize) -> usize
-    requires one { common ≤ length a.now }
-    requires other { common ≤ length b.now }
+    requires least { 16 ≤ common }
+    requires lesser { common ≡ min (length a.now) (length b.now) }
+    requires front { take 16 a.now ≡ take 16 b.now }
     ensures within { result ≤ common }
     ensures before { take result a.now ≡ take result b.now }
     ensures rest { take (result + 64) a.now ≡ take (result + 64) b.now → common ≤ result + 64 }
 {
-    let mut end = 0;
+    let mut end = 16;
     while end + 64 < common && equal_block::<64>(&a[end..end + 64], &b[end..end + 64]) {
         end += 64;
     }
