@@ -9,6 +9,15 @@ fn cut(text: &str, size: usize) -> &str {
     &text[..end.unwrap_or(0)]
 }
 
+/// The texts of as many bytes that differ from a text in one character: in its last bit.
+fn altered(text: &str) -> Vec<String> {
+    let altered = text.char_indices().map(|(at, ch)| {
+        let other = char::from_u32(u32::from(ch) ^ 1).expect("a character beside this one");
+        format!("{}{other}{}", &text[..at], &text[at + ch.len_utf8()..])
+    });
+    altered.collect()
+}
+
 /// Asserts each trait of a kind of string, of so many bytes, with a `String`.
 macro_rules! is_owned {
     ($type:ty, $size:expr, $text:expr) => {{
@@ -18,6 +27,12 @@ macro_rules! is_owned {
         assert!(string == kept && kept == string && !(string != kept) && !(kept != string));
         for other in [kept.clone() + "m", format!("m{kept}"), kept.chars().skip(1).collect()] {
             assert_eq!((string == other, other == string), (kept == other, kept == other), "{kept} {other}");
+        }
+        let others = altered(&kept);
+        assert_eq!(others.len(), kept.chars().count());
+        for other in others {
+            assert!(other.len() == kept.len() && string != other && other != string, "{kept} {other}");
+            assert!(!(string == other) && !(other == string), "{kept} {other}");
         }
         assert_eq!(String::from(string), kept);
         let pieces: Vec<String> = text.split_inclusive(|_| true).map(String::from).collect();
