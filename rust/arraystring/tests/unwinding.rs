@@ -36,7 +36,7 @@ fn left_at<const N: usize>(offset: usize, text: &str, call: impl FnOnce(&mut Arr
     let mut string = behind::<N>(offset, text);
     let panicked = catch_unwind(AssertUnwindSafe(|| call(&mut string)));
     assert!(panicked.is_err(), "no panic at `{text}`");
-    assert_eq!(str::from_utf8(string.as_bytes()), Ok(string.as_str()));
+    assert_eq!(std::str::from_utf8(string.as_bytes()), Ok(string.as_str()));
     assert_eq!(string.len() as usize, string.as_str().len());
     let text = string.as_str().to_string();
     // It goes on as any string of this text.
@@ -296,7 +296,7 @@ fn ranges_that_lie_leave_a_text() {
             let _ = catch_unwind(AssertUnwindSafe(|| string.make_ascii_lowercase_in(lies())));
             let _ = string.replace_range(lies(), "é");
             let _ = string.drain(lies()).map(|mut drain| drain.next_back());
-            assert_eq!(str::from_utf8(string.as_bytes()), Ok(string.as_str()));
+            assert_eq!(std::str::from_utf8(string.as_bytes()), Ok(string.as_str()));
         }
     }
 }
