@@ -3,7 +3,7 @@
 //! Its tests are in `tests`, beside `src`.
 //!
 //! The calls are those of [`ArrayString`]. What is proved of each folds out under *Contract*, and [`contracts`] says how to read
-//! it; [`laws`] has facts on texts.
+//! it.
 //!
 #![doc = include_str!("../README.md")]
 #![no_std]
@@ -21,7 +21,6 @@ mod by_hand;
 pub use by_hand::contracts;
 
 mod cache_string;
-pub mod laws;
 
 pub use crate::arraystring_base::error::Error;
 pub use crate::arraystring_base::{error, utf16};

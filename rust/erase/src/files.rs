@@ -7,7 +7,6 @@ use std::path::{Path, PathBuf};
 use std::process::{Command, Stdio};
 
 use crate::erase::{Source, Tally, erase, line_of};
-use crate::pages::laws;
 use crate::rules::{
     ADDED, AGAIN, BODIES, BY_HAND, BY_STD, CONSTANT, CRATES, DEFINITIONS, FATES, INSIDE, INVARIANTS, KNOWN, LEFT_OUT,
     MORE, ORDER, REPLACED, TESTED, WIDER,
@@ -21,9 +20,8 @@ pub fn made(crates: &Path) -> Result<(Made, Tally), String> {
     // Read twice: a call is `unsafe` by the contract of what it calls, which may come later.
     let (_, mut read) = read_all(crates, Tally::default())?;
     read.contracts.is_whole = true;
-    let (mut made, tally) = read_all(crates, Tally { contracts: read.contracts, ..Tally::default() })?;
+    let (made, tally) = read_all(crates, Tally { contracts: read.contracts, ..Tally::default() })?;
     all_used(&tally)?;
-    laws(&mut made)?;
     Ok((made, tally))
 }
 

@@ -1,8 +1,6 @@
-//! Samples of documentation: what replaces a section, what an example imports, links, order, and the page of the laws.
+//! Samples of documentation: what replaces a section, what an example imports, links, and order.
 
 use super::*;
-use crate::files::Made;
-use crate::pages;
 
 /// A public call whose precondition Rust replaces, with an example behind that section.
 const COUNTED: &str = "\
@@ -155,21 +153,4 @@ fn the_calls_of_a_file_stand_in_modules_in_the_order_of_the_reference() {
         let fault = made_as(path, &FILE.replace(from, to)).unwrap_err();
         assert_eq!(fault, format!("the order of `{path}`: {why}"));
     }
-}
-
-#[test]
-fn the_page_of_the_laws_says_what_they_say() {
-    let law = "//! Laws.\n\n/// It is so.\n#[doc(hidden)]\npub fn parts() {}\n";
-    let files = |page: &str| {
-        let files = [("laws.rs", page), ("arraystring_base/laws.rs", law), ("arraystring_core/laws.rs", "")];
-        files.iter().map(|(path, text)| (path.to_string(), text.to_string())).collect::<Made>()
-    };
-    let mut made = files("//! The page.\npub use laws::{parts};\n");
-    assert_eq!(pages::laws(&mut made), Ok(()));
-    let says = crate::rules::LAWS.says;
-    let wanted =
-        format!("//! The page.\n//!\n//! {says}\n//!\n//! # `parts`\n//!\n//! It is so.\npub use laws::{{parts}};\n");
-    assert_eq!(made["laws.rs"], wanted);
-    let why = "arraystring_base/laws.rs: the law `parts` is not named by laws.rs";
-    assert_eq!(pages::laws(&mut files("//! The page.\n")), Err(why.to_string()));
 }
