@@ -11,6 +11,7 @@ use crate::rules::{
     ADDED, AGAIN, BODIES, BY_HAND, BY_STD, CONSTANT, CRATES, DEFINITIONS, FATES, INSIDE, INVARIANTS, KNOWN, LEFT_OUT,
     MORE, ORDER, REPLACED, TESTED, WIDER,
 };
+use crate::width;
 
 /// Each file of the Rust crate that is made, by its path in `src`.
 pub type Made = BTreeMap<String, String>;
@@ -22,6 +23,7 @@ pub fn made(crates: &Path) -> Result<(Made, Tally), String> {
     read.contracts.is_whole = true;
     let (made, tally) = read_all(crates, Tally { contracts: read.contracts, ..Tally::default() })?;
     all_used(&tally)?;
+    width::bounded(&made)?;
     Ok((made, tally))
 }
 

@@ -18,6 +18,7 @@ mod known;
 mod pages;
 mod rules;
 mod sections;
+mod width;
 
 use std::path::PathBuf;
 use std::process::ExitCode;
@@ -72,6 +73,9 @@ fn run(root: &std::path::Path, is_check: bool) -> Result<(), String> {
     }
     for rule in rules::BY_STD {
         println!("by std: {}: `{}`: {}", rule.file, rule.body, rule.why);
+    }
+    for rule in width::BOUNDED {
+        println!("products and shifts: {}: {} in `{}`: {}", rule.file, rule.count, rule.function, rule.why);
     }
     for rule in rules::TESTED {
         println!("tests by hand: {} has {}: {}", rule.file, rule.path, rule.why);

@@ -20,6 +20,9 @@ pub const ROOT: &str = "\
 #![no_std]
 #![deny(unsafe_op_in_unsafe_fn, missing_docs)]
 
+#[cfg(not(any(target_pointer_width = \"32\", target_pointer_width = \"64\")))]
+compile_error!(\"the crate was tried where a `usize` has 32 or 64 bits, and nowhere else\");
+
 #[macro_use]
 #[path = \"by_hand/known.rs\"]
 mod known;
