@@ -109,7 +109,7 @@ fn sources(folder: &Path) -> Result<BTreeSet<String>, String> {
     Ok(found)
 }
 
-fn read(path: &Path) -> Result<String, String> {
+pub fn read(path: &Path) -> Result<String, String> {
     fs::read_to_string(path).map_err(|error| format!("{}: {error}", path.display()))
 }
 

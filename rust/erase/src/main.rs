@@ -19,6 +19,7 @@ mod pages;
 mod rules;
 mod sections;
 mod width;
+mod words;
 
 use std::path::PathBuf;
 use std::process::ExitCode;
@@ -51,6 +52,7 @@ fn run(root: &std::path::Path, is_check: bool) -> Result<(), String> {
     let is_formatted = files::format(&mut made, &root.join("rust"))?;
     let target = root.join("rust/arraystring/src");
     files::by_hand_has(&tally.by_hand, &target)?;
+    let explained = words::explained(&made, &files::read(&target.join(words::PAGE))?)?;
     if is_check {
         files::compare(&made, &target, is_formatted)?;
     } else {
@@ -59,6 +61,7 @@ fn run(root: &std::path::Path, is_check: bool) -> Result<(), String> {
     for (what, count) in &tally.counts {
         println!("{count:5} {what}");
     }
+    println!("{explained:5} contracts that the reference shows, and whose words {} has", words::PAGE);
     for rule in rules::LEFT_OUT {
         println!("left out: `{}`: {}", rule.name, rule.why);
     }

@@ -154,3 +154,37 @@ fn the_calls_of_a_file_stand_in_modules_in_the_order_of_the_reference() {
         assert_eq!(fault, format!("the order of `{path}`: {why}"));
     }
 }
+
+#[test]
+fn what_is_a_proof_is_not_shown() {
+    let source = "\
+impl PartialEq for Sample {
+    ghost eq = { λ s t. pointwise s t };
+    ghost laws = { on_per (λ s. s.text)
+        (a_proof) };
+
+    fn eq(&self, other: &Self) -> bool {
+        true
+    }
+}
+
+impl Ord for Sample {
+    ghost total = { a_proof };
+    ghost matches_eq = { λ s t. a_proof };
+    ghost matches_partial_cmp = { λ s t. a_proof };
+    ghost laws_of = { a_definition };
+
+    fn cmp(&self, other: &Self) -> Ordering {
+        f()
+    }
+}
+";
+    let made = made_as("arraystring_base/src/sample.rt", source).unwrap();
+    assert!(!made.contains("a_proof"), "{made}");
+    for shown in [
+        "/// eq = { λ s t. pointwise s t };\n/// laws = { .. };\n",
+        "/// total = { .. };\n/// matches_eq = { .. };\n/// matches_partial_cmp = { .. };\n/// laws_of = { a_definition };\n",
+    ] {
+        assert!(made.contains(shown), "{made}");
+    }
+}
