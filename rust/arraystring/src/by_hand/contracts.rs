@@ -62,7 +62,7 @@
 //! | `IsOk r`, `IsTrue b` | `r` is `Ok`, `b` is `true` | `IsTrue (boundary t 0)` |
 //! | `IfOk r (λ x. A)`, `OnOk r A`, `OnErr r A` | `A` if `r` is `Ok(x)`; if it is `Ok`; if it is an error | `OnErr result (steps.new.moved ≡ 0)` |
 //! | `IfSome r (λ x. A)`, `IfNone r A` | `A` if `r` is `Some(x)`; if it is `None` | `IfNone result (self.new.text ≡ [])` |
-//! | `MatchOption r A (λ x. B)` | `A` if `r` is `None`, and `B` if it is `Some(x)` | `MatchOption (t.pop) (t ≡ []) (λ c. t ≢ [])` |
+//! | `MatchOption r A (λ x. B)` | `A` if `r` is `None`, and `B` if it is `Some(x)` | `MatchOption None A (λ x. B)` is `A` |
 //! | `MatchOrdering o A B C` | `A`, `B` or `C`, if `o` is `Less`, `Equal` or `Greater` | `MatchOrdering (1.cmp(2)) A B C` is `A` |
 //! | `IsWholeOrRefused t n r` | `t` takes at most `n` bytes and is the text of what `r` has; or it takes more, and `r` is `OutOfBounds` | `IsWholeOrRefused "ab" 1 (Err OutOfBounds)` |
 //! | `from_out_of_bounds r`, `from_utf8_error r` | the result with its error as an `Error` | `from_utf8_error (Err Utf8)` is `Err(Error::Utf8)` |
@@ -107,7 +107,7 @@
 //! | Written | Read | Example |
 //! |---|---|---|
 //! | `I.into_iter_gives`, `I.IntoIter.next_gives` | what `into_iter` may return, and what `next` may return and leave | `"ab".chars()` gives `'a'`, and leaves `"b"` |
-//! | `I.IntoIter.can_next`, `I.IntoIter.remaining` | when `next` may be called, and how many items are left at most | 2 are left of `"ab".chars()` |
+//! | `I.IntoIter.can_next`, `I.IntoIter.remaining` | when `next` may be called, and a bound of how many items are left | 2 of `"ab".chars()` |
 //! | `IsFiniteIterable .. x` | `x` can be walked, and its walk ends | `'a'..='z'`, and not `repeat('a')` |
 //! | `Takes .. f x n l` | `l` is what the call takes of `x`: all items, of which `f` takes at most `n` bytes, or those up to the first that does not fit | `['a', 'b']` of `"abc".chars()` at 1 |
 //! | `TakesAll .. x l` | `l` is all that `x` gives | `['a', 'b']` of `"ab".chars()` |

@@ -183,10 +183,15 @@ fn additions_of_items() {
                         string.extend_strs(&mut left);
                         left.len()
                     });
+                    made += case.each(("extend of texts", &pieces), &wanted, |string| {
+                        let mut left = pieces.iter().copied();
+                        string.extend(&mut left);
+                        left.len()
+                    });
                 }
             }
         }
-        (made, total::<N>(&WIDTHS) * (texts.len() + piece_counts(N + 2)))
+        (made, total::<N>(&WIDTHS) * (texts.len() + 2 * piece_counts(N + 2)))
     }
     at_each_capacity!(extended);
 }
@@ -199,6 +204,8 @@ fn additions_of_a_character() {
             for ch in WIDTHS {
                 let pushed = case.wanted(|model| model.try_push_str(&ch.to_string()));
                 made += case.each(("try_push", ch), &pushed, |string| string.try_push(ch));
+                let written = (pushed.0.is_ok(), pushed.1.clone());
+                made += case.each(("write_char", ch), &written, |string| string.write_char(ch).is_ok());
                 if pushed.0.is_ok() {
                     // SAFETY: the character fits.
                     made += case.each(("push_unchecked", ch), &((), pushed.1), |string| unsafe {
@@ -220,7 +227,7 @@ fn additions_of_a_character() {
         let fitting = |case: &Case<N>| WIDTHS.iter().filter(|ch| case.text.len() + ch.len_utf8() <= N).count();
         let unchecked = |case: &Case<N>| case.strings.len() * fitting(case) * (2 + length(&case.text));
         let unchecked: usize = cases(&WIDTHS).iter().map(unchecked).sum();
-        (made, 4 * total::<N>(&WIDTHS) * (N + 5) + unchecked)
+        (made, 4 * total::<N>(&WIDTHS) * (N + 6) + unchecked)
     }
     at_each_capacity!(character);
 }
