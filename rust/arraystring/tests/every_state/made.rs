@@ -8,47 +8,69 @@ use crate::edits::{all_pieces, counted, indices, piece_counts};
 use crate::limited::{Limited, cut};
 use crate::states::{WIDTHS, at_each_capacity, counts, texts};
 
+type Made<const N: usize> = Result<ArrayString<N>, Error>;
+
+/// The texts of what was made.
+fn texts_of<const N: usize, const K: usize>(made: [Made<N>; K]) -> [Result<String, Error>; K] {
+    made.map(|made| made.map(|made| made.to_string()))
+}
+
+/// What the calls make of a text that cut it.
+fn cuts_of<const N: usize>(given: &str) -> [Made<N>; 8] {
+    let units: Vec<_> = given.encode_utf16().collect();
+    [
+        Ok(ArrayString::from_str_truncate(given)),
+        Ok(ArrayString::from(given)),
+        Ok(ArrayString::from_chars(given.chars())),
+        Ok(given.chars().collect()),
+        Ok(given.chars().collect::<Vec<_>>().iter().collect()),
+        ArrayString::from_utf8(given).map_err(Error::from),
+        ArrayString::from_utf16(&units).map_err(Error::from),
+        Ok(ArrayString::from_utf16_lossy(&units)),
+    ]
+}
+
+/// What the calls make of a text that refuse it if it does not fit.
+fn wholes_of<const N: usize>(given: &str) -> [Made<N>; 5] {
+    [
+        ArrayString::try_from_str(given).map_err(Error::from),
+        given.parse().map_err(Error::from),
+        ArrayString::try_from_chars(given.chars()).map_err(Error::from),
+        ArrayString::try_from_utf8(given),
+        ArrayString::try_from_utf16(given.encode_utf16().collect::<Vec<_>>()),
+    ]
+}
+
+/// What the calls make of a text that do not ask whether it fits.
+///
+/// # Safety
+///
+/// It has to fit.
+unsafe fn unchecked_of<const N: usize>(given: &str) -> [Made<N>; 3] {
+    // SAFETY: the text fits.
+    unsafe {
+        [
+            Ok(ArrayString::from_str_unchecked(given)),
+            Ok(ArrayString::from_utf8_unchecked(given)),
+            Ok(ArrayString::from_chars_unchecked(given.chars())),
+        ]
+    }
+}
+
 #[test]
 fn made_of_a_text() {
     fn of_a_text<const N: usize>() -> (usize, usize) {
-        type Made<const N: usize> = Result<ArrayString<N>, Error>;
         let mut made = 0;
         for given in texts(&WIDTHS, N + 2) {
-            let (chars, units) = (|| given.chars(), given.encode_utf16().collect::<Vec<_>>());
-            let cuts: [Made<N>; 8] = [
-                Ok(ArrayString::from_str_truncate(&given)),
-                Ok(ArrayString::from(given.as_str())),
-                Ok(ArrayString::from_chars(chars())),
-                Ok(chars().collect()),
-                Ok(chars().collect::<Vec<_>>().iter().collect()),
-                ArrayString::from_utf8(&given).map_err(Error::from),
-                ArrayString::from_utf16(&units).map_err(Error::from),
-                Ok(ArrayString::from_utf16_lossy(&units)),
-            ];
-            assert_eq!(
-                cuts.map(|made| made.map(|made| made.to_string())),
-                [(); 8].map(|()| Ok(cut(&given, N).to_string()))
-            );
-            let wholes: [Made<N>; 5] = [
-                ArrayString::try_from_str(&given).map_err(Error::from),
-                given.parse().map_err(Error::from),
-                ArrayString::try_from_chars(chars()).map_err(Error::from),
-                ArrayString::try_from_utf8(&given),
-                ArrayString::try_from_utf16(&units),
-            ];
+            let (cuts, wholes) = (texts_of(cuts_of::<N>(&given)), texts_of(wholes_of::<N>(&given)));
             let whole = if given.len() <= N { Ok(given.clone()) } else { Err(Error::OutOfBounds) };
-            assert_eq!(wholes.map(|made| made.map(|made| made.to_string())), [(); 5].map(|()| whole.clone()));
             made += cuts.len() + wholes.len();
+            assert!(cuts.iter().all(|made| made.as_deref() == Ok(cut(&given, N))), "{cuts:?} of {given}");
+            assert!(wholes.iter().all(|made| *made == whole), "{wholes:?} of {given}");
             if whole.is_ok() {
                 // SAFETY: the text fits.
-                let unchecked: [ArrayString<N>; 3] = unsafe {
-                    [
-                        ArrayString::from_str_unchecked(&given),
-                        ArrayString::from_utf8_unchecked(&given),
-                        ArrayString::from_chars_unchecked(chars()),
-                    ]
-                };
-                assert_eq!(unchecked.map(|made| made.to_string()), [(); 3].map(|()| given.clone()));
+                let unchecked = texts_of(unsafe { unchecked_of::<N>(&given) });
+                assert!(unchecked.iter().all(|made| *made == whole), "{unchecked:?} of {given}");
                 made += unchecked.len();
             }
         }
