@@ -4,7 +4,6 @@
 //! tests are in `crates/arraystring_tests`.
 
 pub mod error;
-pub mod laws;
 mod moves;
 mod steps;
 pub mod utf16;

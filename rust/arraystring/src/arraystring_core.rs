@@ -5,7 +5,6 @@
 pub mod array_string;
 pub mod drain;
 mod fast;
-pub mod laws;
 mod range_ends;
 pub mod utils;
 

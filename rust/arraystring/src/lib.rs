@@ -3,11 +3,14 @@
 //! Its tests are in `tests`, beside `src`.
 //!
 //! The calls are those of [`ArrayString`]. What is proved of each folds out under *Contract*, and [`contracts`] says how to read
-//! it; [`laws`] has facts on texts.
+//! it.
 //!
 #![doc = include_str!("../README.md")]
 #![no_std]
 #![deny(unsafe_op_in_unsafe_fn, missing_docs)]
+
+#[cfg(not(any(target_pointer_width = "32", target_pointer_width = "64")))]
+compile_error!("the crate was tried where a `usize` has 32 or 64 bits, and nowhere else");
 
 #[macro_use]
 #[path = "by_hand/known.rs"]
@@ -21,7 +24,6 @@ mod by_hand;
 pub use by_hand::contracts;
 
 mod cache_string;
-pub mod laws;
 
 pub use crate::arraystring_base::error::Error;
 pub use crate::arraystring_base::{error, utf16};

@@ -68,7 +68,8 @@ impl Random {
 
 /// The longest leading run of whole characters that fits.
 fn cut(text: &str, room: usize) -> &str {
-    &text[..text.floor_char_boundary(room)]
+    let end = (0..=room.min(text.len())).rev().find(|end| text.is_char_boundary(*end));
+    &text[..end.unwrap_or(0)]
 }
 
 /// A string and what its text has to be.
@@ -103,7 +104,7 @@ impl<const N: usize> Pair<N> {
     fn agrees(&mut self, call: usize) {
         let (string, model) = (&self.string, &self.model);
         assert_eq!(string.as_bytes(), model.as_bytes(), "after call {call} at {N}");
-        assert!(str::from_utf8(string.as_bytes()).is_ok());
+        assert!(std::str::from_utf8(string.as_bytes()).is_ok());
         assert_eq!((string.len() as usize, string.is_empty()), (model.len(), model.is_empty()));
         assert_eq!(ArrayString::<N>::capacity() as usize, self.capacity);
         self.compared += 1;
@@ -534,7 +535,7 @@ impl<const N: usize> Pair<N> {
         // One fault somewhere.
         let at = random.below(bytes.len() + 1);
         bytes.insert(at, [0x80, 0xC0, 0xED, 0xF5, 0xFF][random.below(5)]);
-        let is_text = str::from_utf8(&bytes).is_ok();
+        let is_text = std::str::from_utf8(&bytes).is_ok();
         assert_eq!(ArrayString::<N>::try_from_utf8(&bytes) == Err(Error::Utf8), !is_text);
         let at = random.below(units.len() + 1);
         units.insert(at, 0xD800 + random.below(0x800) as u16);

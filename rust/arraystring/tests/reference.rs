@@ -20,12 +20,11 @@ fn files(folder: &Path) -> Vec<(String, String)> {
     found
 }
 
-/// An item: its head, its documentation line by line, and whether the reference hides it.
+/// An item: its head, and its documentation line by line.
 struct Item {
     file: String,
     head: String,
     docs: Vec<String>,
-    is_hidden: bool,
 }
 
 impl Item {
@@ -45,7 +44,6 @@ impl Item {
         let words: Vec<_> = self.head.split_whitespace().filter(|word| !["const", "unsafe"].contains(word)).collect();
         let is_method = self.head.starts_with(' ');
         match words[..] {
-            _ if self.is_hidden => false,
             ["pub", "fn", name, ..] => is_method || root.contains(&name.split(['(', '<']).next().unwrap_or(name)),
             ["pub", "struct" | "enum" | "type", ..] => true,
             [first, ..] => first.starts_with("impl") && self.head.contains(" for "),
@@ -58,15 +56,14 @@ impl Item {
 fn items() -> Vec<Item> {
     let mut items = Vec::new();
     for (file, text) in files(Path::new("src")) {
-        let (mut docs, mut is_hidden) = (Vec::new(), false);
+        let mut docs = Vec::new();
         for line in text.lines() {
             match line.trim_start().strip_prefix("///") {
                 Some(words) => docs.push(words.strip_prefix(' ').unwrap_or(words).to_string()),
-                None if line.trim_start().starts_with("#[") => is_hidden |= line.contains("doc(hidden)"),
+                None if line.trim_start().starts_with("#[") => {}
                 None => {
                     let (file, head) = (file.clone(), line.to_string());
-                    items.push(Item { file, head, docs: std::mem::take(&mut docs), is_hidden });
-                    is_hidden = false;
+                    items.push(Item { file, head, docs: std::mem::take(&mut docs) });
                 }
             }
         }

@@ -1,10 +1,15 @@
 //! What is handed in may panic in the middle of a call, or tell what is not so. The string is then a text all the same.
 
 use std::cell::Cell;
+use std::fmt::{self, Display, Write};
 use std::ops::{Bound, RangeBounds};
 use std::panic::{AssertUnwindSafe, catch_unwind};
 
 use arraystring::ArrayString;
+use states::{WIDTHS, at_each_capacity, cases, counts, length, string_counts, texts};
+
+#[path = "every_state/states.rs"]
+mod states;
 
 /// How many bytes after the address of a string that of its text is.
 fn distance<const N: usize>(string: &ArrayString<N>) -> usize {
@@ -31,7 +36,7 @@ fn left_at<const N: usize>(offset: usize, text: &str, call: impl FnOnce(&mut Arr
     let mut string = behind::<N>(offset, text);
     let panicked = catch_unwind(AssertUnwindSafe(|| call(&mut string)));
     assert!(panicked.is_err(), "no panic at `{text}`");
-    assert_eq!(str::from_utf8(string.as_bytes()), Ok(string.as_str()));
+    assert_eq!(std::str::from_utf8(string.as_bytes()), Ok(string.as_str()));
     assert_eq!(string.len() as usize, string.as_str().len());
     let text = string.as_str().to_string();
     // It goes on as any string of this text.
@@ -291,7 +296,7 @@ fn ranges_that_lie_leave_a_text() {
             let _ = catch_unwind(AssertUnwindSafe(|| string.make_ascii_lowercase_in(lies())));
             let _ = string.replace_range(lies(), "é");
             let _ = string.drain(lies()).map(|mut drain| drain.next_back());
-            assert_eq!(str::from_utf8(string.as_bytes()), Ok(string.as_str()));
+            assert_eq!(std::str::from_utf8(string.as_bytes()), Ok(string.as_str()));
         }
     }
 }
@@ -322,4 +327,197 @@ fn a_text_is_asked_once() {
     assert_eq!(left::<5>("aé", |string| string.push_str(given(&[]))), "aé");
     assert_eq!(left::<5>("aé", |string| _ = string.replace_range(.., given(&[]))), "aé");
     assert_eq!(left::<5>("aé", |string| string.extend_strs([given(&["b"]), given(&[])])), "aéb");
+}
+
+/// Whether a call panics.
+fn panics<T>(call: impl FnOnce() -> T) -> bool {
+    catch_unwind(AssertUnwindSafe(call)).is_err()
+}
+
+/// How many strings there are at a capacity.
+fn total<const N: usize>() -> usize {
+    string_counts::<N>(&WIDTHS).iter().sum()
+}
+
+#[test]
+fn a_closure_panics_at_each_call_on_every_string() {
+    fn retained<const N: usize>() -> (usize, usize) {
+        let (mut made, mut wanted) = (0, 0);
+        for case in cases::<N>(&WIDTHS) {
+            for stops in 0..length(&case.text) {
+                for pattern in 0..1 << stops {
+                    let keeps = |at: usize| pattern >> at & 1 == 1;
+                    let kept = case.text.chars().take(stops).enumerate().filter(|(at, _)| keeps(*at));
+                    let left = (true, kept.map(|(_, ch)| ch).collect());
+                    made += case.each(("retain", stops, pattern), &left, |string| {
+                        let mut answers = (0..stops).map(keeps);
+                        panics(|| string.retain(|_| answers.next().unwrap_or_else(|| panic_now())))
+                    });
+                }
+            }
+            wanted += case.strings.len() * ((1 << length(&case.text)) - 1);
+        }
+        (made, wanted)
+    }
+    at_each_capacity!(retained);
+}
+
+#[test]
+fn the_drop_of_a_closure_panics_on_every_string() {
+    fn dropped<const N: usize>() -> (usize, usize) {
+        let (mut made, mut wanted) = (0, 0);
+        for case in cases::<N>(&WIDTHS) {
+            for pattern in 0..1 << length(&case.text) {
+                let keeps = move |at: usize| pattern >> at & 1 == 1;
+                let kept = case.text.chars().enumerate().filter(|(at, _)| keeps(*at)).map(|(_, ch)| ch).collect();
+                made += case.each(("retain", pattern), &(true, kept), |string| {
+                    let (dropped, mut answers) = (Dropped, (0..).map(keeps));
+                    panics(|| {
+                        string.retain(move |_| {
+                            let _ = &dropped;
+                            answers.next() == Some(true)
+                        });
+                    })
+                });
+            }
+            wanted += case.strings.len() << length(&case.text);
+        }
+        (made, wanted)
+    }
+    at_each_capacity!(dropped);
+}
+
+/// Whether a call panics that adds items, and the text that it leaves, where so many items come before the panic.
+fn extended(text: &str, items: &[&str], stops: usize, capacity: usize) -> (bool, String) {
+    let mut text = text.to_string();
+    for item in &items[..stops] {
+        if text.len() + item.len() > capacity {
+            return (false, text);
+        }
+        text.push_str(item);
+    }
+    (true, text)
+}
+
+/// An item whose text is asked for, which panics if it has none.
+struct Item<'a>(Option<&'a str>);
+
+impl AsRef<str> for Item<'_> {
+    fn as_ref(&self) -> &str {
+        self.0.unwrap_or_else(|| panic_now())
+    }
+}
+
+/// A text that is written character by character, and panics behind the last.
+struct Written<'a>(&'a [&'a str]);
+
+impl Display for Written<'_> {
+    fn fmt(&self, f: &mut fmt::Formatter<'_>) -> fmt::Result {
+        self.0.iter().try_for_each(|item| f.write_str(item))?;
+        panic_now()
+    }
+}
+
+#[test]
+fn an_iterator_panics_at_each_call_on_every_string() {
+    fn added<const N: usize>() -> (usize, usize) {
+        let mut made = 0;
+        let texts = texts(&WIDTHS, N + 2);
+        for case in cases::<N>(&WIDTHS) {
+            for given in &texts {
+                let items: Vec<_> = given.split_inclusive(|_| true).collect();
+                for stops in 0..=items.len() {
+                    let name = |call| (call, given, stops);
+                    let left = extended(&case.text, &items, stops, N);
+                    let chars = || Panics { items: given.chars(), left: stops, hint: (0, None) };
+                    let pieces = || Panics { items: items.iter(), left: stops, hint: (usize::MAX, Some(0)) };
+                    let asked = || items[..stops].iter().map(|item| Item(Some(item))).chain([Item(None)]);
+                    made += case.each(name("extend_chars"), &left, |string| panics(|| string.extend_chars(chars())));
+                    made += case.each(name("extend_strs"), &left, |string| panics(|| string.extend_strs(pieces())));
+                    made += case.each(name("as_ref"), &left, |string| panics(|| string.extend_strs(asked())));
+                    made += case.each(name("write!"), &left, |string| {
+                        panics(|| write!(string, "{}", Written(&items[..stops])))
+                    });
+                }
+            }
+        }
+        let panics: usize = texts.iter().map(|given| length(given) + 1).sum();
+        (made, 4 * total::<N>() * panics)
+    }
+    at_each_capacity!(added);
+}
+
+#[test]
+fn an_iterator_panics_where_a_string_is_made() {
+    fn made<const N: usize>() -> (usize, usize) {
+        let (mut made, mut panicked) = (0, 0);
+        let texts = texts(&WIDTHS, N + 2);
+        for given in &texts {
+            let items: Vec<_> = given.split_inclusive(|_| true).collect();
+            for stops in 0..=items.len() {
+                let wanted = extended("", &items, stops, N).0;
+                let chars = || Panics { items: given.chars(), left: stops, hint: (0, None) };
+                let pieces = || Panics { items: items.iter(), left: stops, hint: (0, None) };
+                let calls = [
+                    panics(|| ArrayString::<N>::from_chars(chars())),
+                    panics(|| ArrayString::<N>::try_from_chars(chars())),
+                    panics(|| ArrayString::<N>::from_iterator(pieces())),
+                    panics(|| ArrayString::<N>::try_from_iterator(pieces())),
+                    panics(|| chars().collect::<ArrayString<N>>()),
+                ];
+                assert_eq!(calls, [wanted; 5], "{given} and a panic behind {stops}");
+                made += calls.len();
+                panicked += usize::from(wanted);
+            }
+        }
+        assert!(panicked >= counts(&WIDTHS, N).iter().sum(), "each text that fits, and then a panic");
+        (made, 5 * texts.iter().map(|given| length(given) + 1).sum::<usize>())
+    }
+    at_each_capacity!(made);
+}
+
+/// A range whose bounds are asked for so many times before a panic.
+struct Asked(Cell<usize>);
+
+impl Asked {
+    fn bound(&self) -> Bound<&u8> {
+        self.0.set(self.0.get().checked_sub(1).unwrap_or_else(|| panic_now()));
+        Bound::Unbounded
+    }
+}
+
+impl RangeBounds<u8> for Asked {
+    fn start_bound(&self) -> Bound<&u8> {
+        self.bound()
+    }
+
+    fn end_bound(&self) -> Bound<&u8> {
+        self.bound()
+    }
+}
+
+#[test]
+fn a_text_or_a_range_panics_on_every_string() {
+    fn unchanged<const N: usize>() -> (usize, usize) {
+        let (mut made, index) = (0, 0);
+        for case in cases::<N>(&WIDTHS) {
+            let (none, left) = (|| Item(None), (true, case.text.clone()));
+            made += case.each("push_str", &left, |string| panics(|| string.push_str(none())));
+            made += case.each("try_push_str", &left, |string| panics(|| string.try_push_str(none())));
+            made += case.each("insert_str", &left, |string| panics(|| string.insert_str(index, none())));
+            made += case.each("try_insert_str", &left, |string| panics(|| string.try_insert_str(index, none())));
+            made += case.each("replace_range", &left, |string| panics(|| string.replace_range(.., none())));
+            for asked in 0..2 {
+                let range = || Asked(Cell::new(asked));
+                made += case.each("drain", &left, |string| panics(|| string.drain(range())));
+                made += case.each("replace_range", &left, |string| panics(|| string.replace_range(range(), "")));
+                made += case.each("get", &left, |string| panics(|| _ = string.get(range())));
+                made += case.each("slice", &left, |string| panics(|| _ = string.slice(range())));
+                made += case.each("upper case", &left, |string| panics(|| string.make_ascii_uppercase_in(range())));
+                made += case.each("lower case", &left, |string| panics(|| string.make_ascii_lowercase_in(range())));
+            }
+        }
+        (made, 17 * total::<N>())
+    }
+    at_each_capacity!(unchanged);
 }

@@ -10,14 +10,15 @@ const MOST: usize = 300;
 
 /// Asserts that bytes are taken or refused as std does it, and that what is taken is cut or refused for its size. Returns 1.
 fn as_std(bytes: &[u8]) -> usize {
-    let wanted = str::from_utf8(bytes);
+    let wanted = std::str::from_utf8(bytes);
     let made = ArrayString::<255>::from_utf8(bytes);
     let whole = ArrayString::<255>::try_from_utf8(bytes);
     let Ok(text) = wanted else {
         assert_eq!((made, whole), (Err(Utf8), Err(Error::Utf8)), "{bytes:x?}");
         return 1;
     };
-    let cut = &text[..text.floor_char_boundary(255)];
+    let end = (0..=text.len().min(255)).rev().find(|end| text.is_char_boundary(*end));
+    let cut = &text[..end.expect("the start")];
     assert_eq!(made.as_ref().map(|made| made.as_bytes()), Ok(cut.as_bytes()), "{bytes:x?}");
     match whole {
         Ok(whole) => assert_eq!((whole.as_bytes(), text.len()), (bytes, cut.len()), "{bytes:x?}"),

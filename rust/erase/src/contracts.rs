@@ -23,6 +23,17 @@ impl Clause {
     }
 }
 
+/// Members of an impl whose value is a proof: that what its calls return is what the trait asks for.
+const PROOFS: &[&str] = &["laws", "total", "matches_eq", "matches_partial_cmp", "respects_eq"];
+
+/// A member of an impl, `NAME = { .. };`, as the reference shows it: a proof is for the checker alone.
+pub fn shown(member: &str) -> String {
+    match member.split_once(" = ") {
+        Some((name, _)) if PROOFS.contains(&name) => format!("{name} = {{ .. }};"),
+        _ => member.to_string(),
+    }
+}
+
 /// How a call names what it calls.
 pub enum Called<'a> {
     /// Behind a dot.

@@ -7,11 +7,11 @@ use std::path::{Path, PathBuf};
 use std::process::{Command, Stdio};
 
 use crate::erase::{Source, Tally, erase, line_of};
-use crate::pages::laws;
 use crate::rules::{
     ADDED, AGAIN, BODIES, BY_HAND, BY_STD, CONSTANT, CRATES, DEFINITIONS, FATES, INSIDE, INVARIANTS, KNOWN, LEFT_OUT,
     MORE, ORDER, REPLACED, TESTED, WIDER,
 };
+use crate::width;
 
 /// Each file of the Rust crate that is made, by its path in `src`.
 pub type Made = BTreeMap<String, String>;
@@ -21,9 +21,9 @@ pub fn made(crates: &Path) -> Result<(Made, Tally), String> {
     // Read twice: a call is `unsafe` by the contract of what it calls, which may come later.
     let (_, mut read) = read_all(crates, Tally::default())?;
     read.contracts.is_whole = true;
-    let (mut made, tally) = read_all(crates, Tally { contracts: read.contracts, ..Tally::default() })?;
+    let (made, tally) = read_all(crates, Tally { contracts: read.contracts, ..Tally::default() })?;
     all_used(&tally)?;
-    laws(&mut made)?;
+    width::bounded(&made)?;
     Ok((made, tally))
 }
 
@@ -109,7 +109,7 @@ fn sources(folder: &Path) -> Result<BTreeSet<String>, String> {
     Ok(found)
 }
 
-fn read(path: &Path) -> Result<String, String> {
+pub fn read(path: &Path) -> Result<String, String> {
     fs::read_to_string(path).map_err(|error| format!("{}: {error}", path.display()))
 }
 

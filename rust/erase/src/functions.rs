@@ -316,20 +316,12 @@ impl<'a> File<'a, '_> {
         Ok(())
     }
 
-    /// Says to rustc that a body may be inlined, or that a law needs no body.
+    /// Says to rustc that a body may be inlined.
     fn hint(&mut self, function: &Function, lead: &Lead) {
-        if function.is_public && self.source.path.ends_with("/laws.rt") {
-            self.edits.insert(lead.docs_end, "#[doc(hidden)]\n");
+        if !lead.is_inlined {
+            self.edits.insert(lead.docs_end, format!("{}#[inline]\n", self.indent(function.head.start)));
+            self.tally.count("functions that may be inlined");
         }
-        let is_law = function.tokens.is_empty();
-        let hint = match is_law {
-            true if self.text[function.head.clone()].contains("()") => return,
-            true => "#[allow(unused_variables)]",
-            false if lead.is_inlined => return,
-            false => "#[inline]",
-        };
-        self.edits.insert(lead.docs_end, format!("{}{hint}\n", self.indent(function.head.start)));
-        self.tally.count(if is_law { "laws with arguments" } else { "functions that may be inlined" });
     }
 
     /// Does what is to become of a public call with a precondition.

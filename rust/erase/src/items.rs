@@ -3,6 +3,7 @@
 use std::ops::Range;
 
 use crate::body;
+use crate::contracts::shown;
 use crate::cursor::{Cursor, Fault, Kind, Token};
 use crate::edits::Edits;
 use crate::erase::{Source, Tally};
@@ -212,7 +213,8 @@ impl<'a, 't> File<'a, 't> {
         }
         self.linked(lead, "");
         if !members.is_empty() {
-            self.folded(lead.docs_end, &members.join("\n"), lead.has_docs);
+            let shown: Vec<_> = members.iter().map(|member| shown(member)).collect();
+            self.folded(lead.docs_end, &shown.join("\n"), lead.has_docs);
         }
         Ok(())
     }

@@ -18,6 +18,8 @@ mod known;
 mod pages;
 mod rules;
 mod sections;
+mod width;
+mod words;
 
 use std::path::PathBuf;
 use std::process::ExitCode;
@@ -50,6 +52,7 @@ fn run(root: &std::path::Path, is_check: bool) -> Result<(), String> {
     let is_formatted = files::format(&mut made, &root.join("rust"))?;
     let target = root.join("rust/arraystring/src");
     files::by_hand_has(&tally.by_hand, &target)?;
+    let explained = words::explained(&made, &files::read(&target.join(words::PAGE))?)?;
     if is_check {
         files::compare(&made, &target, is_formatted)?;
     } else {
@@ -58,6 +61,7 @@ fn run(root: &std::path::Path, is_check: bool) -> Result<(), String> {
     for (what, count) in &tally.counts {
         println!("{count:5} {what}");
     }
+    println!("{explained:5} contracts that the reference shows, and whose words {} has", words::PAGE);
     for rule in rules::LEFT_OUT {
         println!("left out: `{}`: {}", rule.name, rule.why);
     }
@@ -72,6 +76,9 @@ fn run(root: &std::path::Path, is_check: bool) -> Result<(), String> {
     }
     for rule in rules::BY_STD {
         println!("by std: {}: `{}`: {}", rule.file, rule.body, rule.why);
+    }
+    for rule in width::BOUNDED {
+        println!("products and shifts: {}: {} in `{}`: {}", rule.file, rule.count, rule.function, rule.why);
     }
     for rule in rules::TESTED {
         println!("tests by hand: {} has {}: {}", rule.file, rule.path, rule.why);

@@ -1,12 +1,11 @@
-//! What the reference shows first, and the page of the laws.
+//! What the reference shows first.
 //!
 //! rustdoc shows the calls of a type in the order of its modules, and those of the type's own file behind those of the modules
 //! in it. So the impl of that file is split, and each part of it stands in a module of its own.
 
 use crate::cursor::Fault;
 use crate::erase::{Source, Tally};
-use crate::files::Made;
-use crate::rules::{LAWS, ORDER, Part};
+use crate::rules::{ORDER, Part};
 
 /// A file with its modules in the order that the reference shows, if a rule has one.
 pub fn ordered(source: &Source, made: String, tally: &mut Tally) -> Result<String, Fault> {
@@ -50,30 +49,4 @@ fn module(part: &Part, head: &str, left: &mut Vec<&str>, calls: &mut &str) -> Re
             Ok(format!("mod {name} {{\nuse super::*;\n\n{head} {{\n{these}\n}}\n}}\n"))
         }
     }
-}
-
-/// Puts what the laws say on the page of their module: the reference has no call that does nothing.
-pub fn laws(made: &mut Made) -> Result<(), String> {
-    let page = made.get(LAWS.page).ok_or("the page of the laws is not there")?.clone();
-    let mut told = format!("//!\n//! {}\n", LAWS.says);
-    for (file, text) in LAWS.files.iter().filter_map(|file| Some((file, made.get(*file)?))) {
-        let mut docs = String::new();
-        for line in text.lines() {
-            if let Some(words) = line.strip_prefix("///") {
-                docs += &format!("//!{words}\n");
-            } else if let Some(name) = line.strip_prefix("pub fn ") {
-                let name = name.split(['(', '<']).next().unwrap_or_default();
-                if !page.contains(name) {
-                    return Err(format!("{file}: the law `{name}` is not named by {}", LAWS.page));
-                }
-                told += &format!("//!\n//! # `{name}`\n//!\n{docs}");
-                docs.clear();
-            } else if !line.starts_with('#') {
-                docs.clear();
-            }
-        }
-    }
-    let end = page.lines().take_while(|line| line.starts_with("//")).map(|line| line.len() + 1).sum();
-    made.insert(LAWS.page.to_string(), format!("{}{told}{}", &page[..end], &page[end..]));
-    Ok(())
 }

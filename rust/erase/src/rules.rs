@@ -14,11 +14,14 @@ pub const BY_HAND: &[&str] = &["by_hand.rs", "by_hand/"];
 pub const ROOT: &str = "\
 //!
 //! The calls are those of [`ArrayString`]. What is proved of each folds out under *Contract*, and [`contracts`] says how to read
-//! it; [`laws`] has facts on texts.
+//! it.
 //!
 #![doc = include_str!(\"../README.md\")]
 #![no_std]
 #![deny(unsafe_op_in_unsafe_fn, missing_docs)]
+
+#[cfg(not(any(target_pointer_width = \"32\", target_pointer_width = \"64\")))]
+compile_error!(\"the crate was tried where a `usize` has 32 or 64 bits, and nowhere else\");
 
 #[macro_use]
 #[path = \"by_hand/known.rs\"]
@@ -43,12 +46,11 @@ pub struct Tested {
     pub why: &'static str,
 }
 
-/// What is left out of the Rust crate: modules, laws about them, and what no other body calls here.
+/// What is left out of the Rust crate: modules, and what no other body calls here.
 pub const LEFT_OUT: &[LeftOut] = &[
     LeftOut { name: "integration", why: "it stands on `serde_json`, and the Rust crate has no dependency" },
     LeftOut { name: "between", why: "`get` asks std for the part, and `slice` has the index itself" },
-    LeftOut { name: "json_reads_back", why: "a law about JSON texts" },
-    LeftOut { name: "json_reads_whole", why: "a law about JSON texts" },
+    LeftOut { name: "laws", why: "a Rust program has no proof that could cite one" },
 ];
 
 pub struct LeftOut {
@@ -76,7 +78,6 @@ const MUST_LIE_IN_ARRAY: &str = "What is written must lie in the array.";
 const ENDS: &str = "An iterator that never ends, or that panics, is allowed. The call stops at the first item that does not fit, \
                     so only empty pieces without an end keep it. What was taken before a panic is a text.";
 const COUNTS: &str = "A count that would pass 2^64 - 1 stays there.";
-const LAW: &str = "The law does nothing when it is called.";
 const LIKE_STR: &str = "Where the range ends before it starts, ends past the text, or has an end inside a character, as the index of \
                         `str` does.";
 
@@ -267,8 +268,6 @@ pub const FATES: &[(&str, Fate)] = &[
     ("ArrayString::replace_range_counted", Safe(COUNTS)),
     ("utf8::truncate_str_counted", Safe(COUNTS)),
     ("utf8::last_char", Safe(COUNTS)),
-    ("laws::found_first", Safe(LAW)),
-    ("laws::split_first", Safe(LAW)),
 ];
 
 /// What an example names, and where a program finds it.
@@ -356,20 +355,6 @@ pub const ORDER: &[Order] = &[Order {
         Module("gap"),
     ],
 }];
-
-/// The page of the laws, and the files in which they are.
-pub struct Laws {
-    pub page: &'static str,
-    pub files: &'static [&'static str],
-    /// What the page says before them.
-    pub says: &'static str,
-}
-
-pub const LAWS: Laws = Laws {
-    page: "laws.rs",
-    files: &["arraystring_base/laws.rs", "arraystring_core/laws.rs"],
-    says: "A Rust program has no use for these calls, so only what they say is shown.",
-};
 
 /// What the documentation of a type has beyond its source.
 pub struct More {

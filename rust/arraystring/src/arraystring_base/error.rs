@@ -251,7 +251,7 @@ impl From<Utf8Error> for Error {
 ///
 /// ```text
 /// hash_input = { λ e. fed.str (error_name e) };
-/// respects_eq = { λ x y h. ap fed.str (same_names x y h) };
+/// respects_eq = { .. };
 /// ```
 ///
 /// [How to read a contract](crate::contracts)

@@ -111,7 +111,7 @@ impl fmt::Display for CacheString {
 /// <details><summary>Contract</summary>
 ///
 /// ```text
-/// laws = { on_equiv (λ s. s.0.text) nat_list_eq_equiv };
+/// laws = { .. };
 /// ```
 ///
 /// [How to read a contract](crate::contracts)
@@ -196,7 +196,7 @@ impl FromStr for CacheString {
 ///
 /// ```text
 /// hash_input = { λ s. fed.str (bytes s.0.text) };
-/// respects_eq = { (fed.on_Alike (λ s. s.0.text) (fed.same_Alike (λ t. fed.str (bytes t)) bytes_decides)).fed };
+/// respects_eq = { .. };
 /// ```
 ///
 /// [How to read a contract](crate::contracts)
@@ -224,9 +224,9 @@ impl Hash for CacheString {
 ///
 /// ```text
 /// cmp = { λ s t. slice_cmp nat_cmp s.0.text t.0.text };
-/// total = { on_total (λ s. s.0.text) nat_list_cmp_total };
-/// matches_partial_cmp = { λ s t. refl };
-/// matches_eq = { λ s t. texts_ties s.0.text t.0.text };
+/// total = { .. };
+/// matches_partial_cmp = { .. };
+/// matches_eq = { .. };
 /// ```
 ///
 /// [How to read a contract](crate::contracts)
@@ -268,7 +268,7 @@ impl Ord for CacheString {
 ///
 /// ```text
 /// eq = { λ s t. pointwise nat_eq s.0.text t.0.text };
-/// laws = { on_per (λ s. s.0.text) (partial_equiv_from_equiv nat_list_eq_equiv) };
+/// laws = { .. };
 /// ```
 ///
 /// [How to read a contract](crate::contracts)
@@ -295,7 +295,7 @@ impl PartialEq for CacheString {
 ///
 /// ```text
 /// partial_cmp = { λ s t. Some (slice_cmp nat_cmp s.0.text t.0.text) };
-/// laws = { on_po (λ s. s.0.text) texts_po };
+/// laws = { .. };
 /// ```
 ///
 /// [How to read a contract](crate::contracts)

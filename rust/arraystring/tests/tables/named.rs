@@ -64,7 +64,7 @@ fn reading_of(row: &str) -> usize {
             bytes[at + 1..end].copy_from_slice(&rest);
             let given = &bytes[..size];
             if end <= size {
-                assert_eq!(str::from_utf8(given).is_ok(), column(row, 3) == "ok", "{row}");
+                assert_eq!(std::str::from_utf8(given).is_ok(), column(row, 3) == "ok", "{row}");
                 fitting += 1;
             }
             as_in_std(row, given);
@@ -80,10 +80,11 @@ fn reading_of(row: &str) -> usize {
 /// Asserts that bytes are read whole and cut as std reads them.
 fn as_in_std(row: &str, bytes: &[u8]) {
     let (whole, cut) = (MaxString::try_from_utf8(bytes), MaxString::from_utf8(bytes));
-    match str::from_utf8(bytes) {
+    match std::str::from_utf8(bytes) {
         Ok(text) => {
             let cut = cut.expect("a text");
-            assert_eq!(cut.as_str(), &text[..text.floor_char_boundary(255)], "{row}");
+            let end = (0..=text.len().min(255)).rev().find(|end| text.is_char_boundary(*end));
+            assert_eq!(cut.as_str(), &text[..end.expect("the start")], "{row}");
             assert_eq!(whole, if text.len() < 256 { Ok(cut) } else { Err(Error::OutOfBounds) }, "{row}");
         }
         Err(_) => assert_eq!((whole, cut.is_err()), (Err(Error::Utf8), true), "{row}"),

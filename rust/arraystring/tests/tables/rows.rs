@@ -16,7 +16,7 @@ pub fn column(row: &str, at: usize) -> &str {
         return rest.strip_suffix('\'').unwrap_or(column);
     }
     match column.strip_suffix(" x").and_then(|count| count.parse::<usize>().ok()) {
-        Some(count) => str::from_utf8(&LETTERS[..count]).expect("letters"),
+        Some(count) => std::str::from_utf8(&LETTERS[..count]).expect("letters"),
         None => column,
     }
 }

@@ -1,8 +1,6 @@
-//! Samples of documentation: what replaces a section, what an example imports, links, order, and the page of the laws.
+//! Samples of documentation: what replaces a section, what an example imports, links, and order.
 
 use super::*;
-use crate::files::Made;
-use crate::pages;
 
 /// A public call whose precondition Rust replaces, with an example behind that section.
 const COUNTED: &str = "\
@@ -158,18 +156,35 @@ fn the_calls_of_a_file_stand_in_modules_in_the_order_of_the_reference() {
 }
 
 #[test]
-fn the_page_of_the_laws_says_what_they_say() {
-    let law = "//! Laws.\n\n/// It is so.\n#[doc(hidden)]\npub fn parts() {}\n";
-    let files = |page: &str| {
-        let files = [("laws.rs", page), ("arraystring_base/laws.rs", law), ("arraystring_core/laws.rs", "")];
-        files.iter().map(|(path, text)| (path.to_string(), text.to_string())).collect::<Made>()
-    };
-    let mut made = files("//! The page.\npub use laws::{parts};\n");
-    assert_eq!(pages::laws(&mut made), Ok(()));
-    let says = crate::rules::LAWS.says;
-    let wanted =
-        format!("//! The page.\n//!\n//! {says}\n//!\n//! # `parts`\n//!\n//! It is so.\npub use laws::{{parts}};\n");
-    assert_eq!(made["laws.rs"], wanted);
-    let why = "arraystring_base/laws.rs: the law `parts` is not named by laws.rs";
-    assert_eq!(pages::laws(&mut files("//! The page.\n")), Err(why.to_string()));
+fn what_is_a_proof_is_not_shown() {
+    let source = "\
+impl PartialEq for Sample {
+    ghost eq = { λ s t. pointwise s t };
+    ghost laws = { on_per (λ s. s.text)
+        (a_proof) };
+
+    fn eq(&self, other: &Self) -> bool {
+        true
+    }
+}
+
+impl Ord for Sample {
+    ghost total = { a_proof };
+    ghost matches_eq = { λ s t. a_proof };
+    ghost matches_partial_cmp = { λ s t. a_proof };
+    ghost laws_of = { a_definition };
+
+    fn cmp(&self, other: &Self) -> Ordering {
+        f()
+    }
+}
+";
+    let made = made_as("arraystring_base/src/sample.rt", source).unwrap();
+    assert!(!made.contains("a_proof"), "{made}");
+    for shown in [
+        "/// eq = { λ s t. pointwise s t };\n/// laws = { .. };\n",
+        "/// total = { .. };\n/// matches_eq = { .. };\n/// matches_partial_cmp = { .. };\n/// laws_of = { a_definition };\n",
+    ] {
+        assert!(made.contains(shown), "{made}");
+    }
 }

@@ -50,7 +50,7 @@ fn a_derive_is_put_before_a_type() {
 #[test]
 fn what_is_left_out_goes_with_its_imports() {
     let source = "\
-use crate::a::{between, json_reads_back, other};
+use crate::a::{between, told, other};
 
 mod integration;
 mod kept;

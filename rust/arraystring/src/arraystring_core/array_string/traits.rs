@@ -130,7 +130,7 @@ impl<const N: usize> fmt::Display for ArrayString<N> {
 /// <details><summary>Contract</summary>
 ///
 /// ```text
-/// laws = { on_equiv (λ s. s.text) nat_list_eq_equiv };
+/// laws = { .. };
 /// ```
 ///
 /// [How to read a contract](crate::contracts)
@@ -217,7 +217,7 @@ impl<const N: usize> FromStr for ArrayString<N> {
 ///
 /// ```text
 /// hash_input = { λ s. fed.str (bytes s.text) };
-/// respects_eq = { (fed.on_Alike (λ s. s.text) (fed.same_Alike (λ t. fed.str (bytes t)) bytes_decides)).fed };
+/// respects_eq = { .. };
 /// ```
 ///
 /// [How to read a contract](crate::contracts)
@@ -246,9 +246,9 @@ impl<const N: usize> Hash for ArrayString<N> {
 ///
 /// ```text
 /// cmp = { λ s t. slice_cmp nat_cmp s.text t.text };
-/// total = { on_total (λ s. s.text) nat_list_cmp_total };
-/// matches_partial_cmp = { λ s t. refl };
-/// matches_eq = { λ s t. texts_ties s.text t.text };
+/// total = { .. };
+/// matches_partial_cmp = { .. };
+/// matches_eq = { .. };
 /// ```
 ///
 /// [How to read a contract](crate::contracts)
@@ -293,7 +293,7 @@ impl<const N: usize> Ord for ArrayString<N> {
 ///
 /// ```text
 /// eq = { λ s t. pointwise nat_eq s.text t.text };
-/// laws = { on_per (λ s. s.text) (partial_equiv_from_equiv nat_list_eq_equiv) };
+/// laws = { .. };
 /// ```
 ///
 /// [How to read a contract](crate::contracts)
@@ -320,7 +320,7 @@ impl<const N: usize> PartialEq for ArrayString<N> {
 ///
 /// ```text
 /// partial_cmp = { λ s t. Some (slice_cmp nat_cmp s.text t.text) };
-/// laws = { on_po (λ s. s.text) texts_po };
+/// laws = { .. };
 /// ```
 ///
 /// [How to read a contract](crate::contracts)

@@ -112,7 +112,7 @@ impl<const N: usize> DoubleEndedIterator for Drain<N> {
 /// <details><summary>Contract</summary>
 ///
 /// ```text
-/// laws = { on_equiv (λ s. s.left) nat_list_eq_equiv };
+/// laws = { .. };
 /// ```
 ///
 /// [How to read a contract](crate::contracts)
@@ -148,7 +148,7 @@ impl<const N: usize> FusedIterator for Drain<N> {}
 ///
 /// ```text
 /// hash_input = { λ s. fed.str (bytes s.left) };
-/// respects_eq = { (fed.on_Alike (λ s. s.left) (fed.same_Alike (λ t. fed.str (bytes t)) bytes_decides)).fed };
+/// respects_eq = { .. };
 /// ```
 ///
 /// [How to read a contract](crate::contracts)
@@ -229,9 +229,9 @@ impl<const N: usize> Iterator for Drain<N> {
 ///
 /// ```text
 /// cmp = { λ s t. slice_cmp nat_cmp s.left t.left };
-/// total = { on_total (λ s. s.left) nat_list_cmp_total };
-/// matches_partial_cmp = { λ s t. refl };
-/// matches_eq = { λ s t. texts_ties s.left t.left };
+/// total = { .. };
+/// matches_partial_cmp = { .. };
+/// matches_eq = { .. };
 /// ```
 ///
 /// [How to read a contract](crate::contracts)
@@ -274,7 +274,7 @@ impl<const N: usize> Ord for Drain<N> {
 ///
 /// ```text
 /// eq = { λ s t. pointwise nat_eq s.left t.left };
-/// laws = { on_per (λ s. s.left) (partial_equiv_from_equiv nat_list_eq_equiv) };
+/// laws = { .. };
 /// ```
 ///
 /// [How to read a contract](crate::contracts)
@@ -302,7 +302,7 @@ impl<const N: usize> PartialEq for Drain<N> {
 ///
 /// ```text
 /// partial_cmp = { λ s t. Some (slice_cmp nat_cmp s.left t.left) };
-/// laws = { on_po (λ s. s.left) texts_po };
+/// laws = { .. };
 /// ```
 ///
 /// [How to read a contract](crate::contracts)

@@ -1,0 +1,237 @@
+//! The calls that take a range.
+
+use std::cell::Cell;
+use std::ops::{Bound, RangeBounds, RangeInclusive};
+use std::panic::{AssertUnwindSafe, catch_unwind, set_hook, take_hook};
+use std::sync::Once;
+
+use arraystring::{ArrayString, Drain};
+
+use crate::edits::{counted, indices, total};
+use crate::limited::wide;
+use crate::states::{WIDTHS, at_each_capacity, cases, length, texts};
+
+type Ends = (Bound<u8>, Bound<u8>);
+
+/// Every range of two bounds at a capacity.
+fn ranges(capacity: usize) -> Vec<Ends> {
+    let at = |index| [Bound::Included(index), Bound::Excluded(index)];
+    let bounds: Vec<_> = [Bound::Unbounded].into_iter().chain(indices(capacity).flat_map(at)).collect();
+    bounds.iter().flat_map(|start| bounds.iter().map(move |end| (*start, *end))).collect()
+}
+
+/// How many that are: no bound, or one of two kinds at each index.
+fn range_count(capacity: usize) -> usize {
+    (1 + 2 * (capacity + 4)).pow(2)
+}
+
+thread_local! {
+    static IS_EXPECTED: Cell<bool> = const { Cell::new(false) };
+}
+
+/// What a call returns; none where it panics, which prints nothing.
+fn returned<T>(call: impl FnOnce() -> T) -> Option<T> {
+    static HOOK: Once = Once::new();
+    HOOK.call_once(|| {
+        let others = take_hook();
+        set_hook(Box::new(move |panicked| {
+            if !IS_EXPECTED.get() {
+                others(panicked)
+            }
+        }));
+    });
+    IS_EXPECTED.set(true);
+    let returned = catch_unwind(AssertUnwindSafe(call));
+    IS_EXPECTED.set(false);
+    returned.ok()
+}
+
+#[test]
+fn parts_between_two_bounds() {
+    fn parts<const N: usize>() -> (usize, usize) {
+        let mut made = 0;
+        for case in cases::<N>(&WIDTHS) {
+            for range in ranges(N) {
+                let part = (case.text.get(wide(range)).map(str::to_string), case.text.clone());
+                made += case.each(("get", range), &part, |string| string.get(range).map(str::to_string));
+                made += case.each(("slice", range), &part, |string| returned(|| string.slice(range).to_string()));
+                let mut upper = case.text.clone();
+                let is_part = upper.get_mut(wide(range)).map(str::make_ascii_uppercase);
+                made += case.each(("make_ascii_uppercase_in", range), &(is_part, upper), |string| {
+                    returned(|| string.make_ascii_uppercase_in(range))
+                });
+            }
+        }
+        (made, 3 * total::<N>(&WIDTHS) * range_count(N))
+    }
+    at_each_capacity!(parts);
+}
+
+#[test]
+fn capitals_between_two_bounds() {
+    fn capitals<const N: usize>() -> (usize, usize) {
+        const CAPITALS: [char; 4] = ['A', 'É', '€', '🤔'];
+        let mut made = 0;
+        for case in cases::<N>(&CAPITALS) {
+            for range in ranges(N) {
+                let mut lower = case.text.clone();
+                let is_part = lower.get_mut(wide(range)).map(str::make_ascii_lowercase);
+                made += case.each(("make_ascii_lowercase_in", range), &(is_part, lower), |string| {
+                    returned(|| string.make_ascii_lowercase_in(range))
+                });
+            }
+        }
+        (made, total::<N>(&CAPITALS) * range_count(N))
+    }
+    at_each_capacity!(capitals);
+}
+
+#[test]
+fn drains_between_two_bounds() {
+    fn drained<const N: usize>() -> (usize, usize) {
+        let mut made = 0;
+        for case in cases::<N>(&WIDTHS) {
+            for range in ranges(N) {
+                let wanted = case.wanted(|model| model.drain(wide(range)));
+                made += case.each(("drain", range), &wanted, |string| string.drain(range).map(Iterator::collect));
+                // What is behind the part may move, and at least the shorter side of it does.
+                let (from, to) = case.wanted(|model| model.part(wide(range), 0)).0.unwrap_or_default();
+                let behind = if wanted.0.is_ok() { case.text.len() - to } else { 0 };
+                let moved = if from == to { 0 } else { from.min(behind) }..=if from == 0 { 0 } else { behind };
+                made += case.each(("drain_counted", range), &wanted, |string| {
+                    let drain = counted(0..=0, moved.clone(), |steps| string.drain_counted(range, steps));
+                    drain.map(|left| left.as_str().to_string())
+                });
+            }
+        }
+        (made, 2 * total::<N>(&WIDTHS) * range_count(N))
+    }
+    at_each_capacity!(drained);
+}
+
+/// How many bytes of a text may move where so many take the place of a part: none before it if they are no more, and the shorter
+/// side of it at least if they are not as many.
+fn moved_by_replacement(len: usize, (from, to): (usize, usize), size: usize) -> RangeInclusive<usize> {
+    let least = if size == to - from { 0 } else { from.min(len - to) };
+    least..=if size <= to - from { len - to } else { len }
+}
+
+#[test]
+fn replacements_between_two_bounds() {
+    fn replaced<const N: usize>() -> (usize, usize) {
+        let mut made = 0;
+        let texts = texts(&WIDTHS, N + 2);
+        for case in cases::<N>(&WIDTHS) {
+            for (range, with) in ranges(N).into_iter().flat_map(|range| texts.iter().map(move |with| (range, with))) {
+                let wanted = case.wanted(|model| model.replace_range(wide(range), with));
+                let part = case.wanted(|model| model.part(wide(range), with.len())).0;
+                let moved = part.map_or(0..=0, |part| moved_by_replacement(case.text.len(), part, with.len()));
+                made += case.each(("replace_range", range, with), &wanted, |string| string.replace_range(range, with));
+                made += case.each(("replace_range_counted", range, with), &wanted, |string| {
+                    counted(0..=0, moved.clone(), |steps| string.replace_range_counted(range, with, steps))
+                });
+            }
+        }
+        (made, 2 * total::<N>(&WIDTHS) * range_count(N) * texts.len())
+    }
+    at_each_capacity!(replaced);
+}
+
+/// Makes each call that takes a range of a kind of std's, on each string of a text. The second range is the same over `usize`.
+macro_rules! by_kind {
+    ($case:expr, $range:expr, $wide:expr) => {{
+        let (case, name) = ($case, stringify!($range));
+        let part = (case.text.get($wide).map(str::to_string), case.text.clone());
+        let bounds = (RangeBounds::<usize>::start_bound(&$wide).cloned(), RangeBounds::end_bound(&$wide).cloned());
+        let drained = case.wanted(|model| model.drain(bounds));
+        let replaced = case.wanted(|model| model.replace_range(bounds, "é"));
+        case.each(("index", name), &part, |string| returned(|| string[$range].to_string()))
+            + case.each(("slice", name), &part, |string| returned(|| string.slice($range).to_string()))
+            + case.each(("get", name), &part, |string| string.get($range).map(str::to_string))
+            + case.each(("drain", name), &drained, |string| string.drain($range).map(Iterator::collect))
+            + case.each(("replace_range", name), &replaced, |string| string.replace_range($range, "é"))
+    }};
+}
+
+#[test]
+fn each_kind_of_range() {
+    fn kinds<const N: usize>() -> (usize, usize) {
+        let mut made = 0;
+        for case in &cases::<N>(&WIDTHS) {
+            made += by_kind!(case, .., ..);
+            for start in indices(N) {
+                let from = usize::from(start);
+                made += by_kind!(case, start.., from..);
+                made += by_kind!(case, ..start, ..from);
+                made += by_kind!(case, ..=start, ..=from);
+                for end in indices(N) {
+                    let to = usize::from(end);
+                    made += by_kind!(case, start..end, from..to);
+                    made += by_kind!(case, start..=end, from..=to);
+                }
+            }
+        }
+        (made, 5 * total::<N>(&WIDTHS) * (1 + 3 * (N + 4) + 2 * (N + 4) * (N + 4)))
+    }
+    at_each_capacity!(kinds);
+}
+
+/// Takes what is left of a drain from both ends in every order, and says how many drains that are.
+fn walked<const N: usize>(drain: Drain<N>, left: &str) -> usize {
+    assert_eq!((drain.as_str(), format!("{drain:?}")), (left, format!("Drain({left:?})")));
+    let (least, most) = drain.size_hint();
+    assert!(least <= length(left) && Some(length(left)) <= most, "{least} to {most:?} of {left}");
+    let (mut front, mut back) = (drain, drain);
+    let (mut chars, mut backwards) = (left.chars(), left.chars());
+    assert_eq!((front.next(), back.next_back()), (chars.next(), backwards.next_back()), "of {left}");
+    if left.is_empty() {
+        assert_eq!((front.next_back(), back.next(), front.as_str(), back.as_str()), (None, None, "", ""));
+        return 1;
+    }
+    1 + walked(front, chars.as_str()) + walked(back, backwards.as_str())
+}
+
+#[test]
+fn every_walk_of_a_drain() {
+    fn walks<const N: usize>() -> (usize, usize) {
+        let (mut made, mut wanted) = (0, 0);
+        for case in cases::<N>(&WIDTHS) {
+            let len = case.text.len() as u8;
+            for range in (0..=len).flat_map(|start| (start..=len).map(move |end| start..end)) {
+                let Some(part) = case.text.get(range.start.into()..range.end.into()) else { continue };
+                for string in &case.strings {
+                    let drain = { *string }.drain(range.clone()).expect("a part");
+                    made += walked(drain, part);
+                }
+            }
+            // A part of so many characters begins at so many places, and each character is taken from one of two ends.
+            let count = length(&case.text);
+            let drains = (0..=count).map(|len| (count - len + 1) * ((2 << len) - 1));
+            wanted += case.strings.len() * drains.sum::<usize>();
+        }
+        (made, wanted)
+    }
+    at_each_capacity!(walks);
+}
+
+#[test]
+fn drains_beside_each_other() {
+    fn drains<const N: usize>() -> (usize, usize) {
+        let mut made = 0;
+        let cases = cases::<N>(&WIDTHS);
+        let all = |string: &ArrayString<N>| { *string }.drain(..).expect("all of it");
+        for (one, other) in cases.iter().flat_map(|one| cases.iter().map(move |other| (one, other))) {
+            let wanted = (one.text == other.text, one.text.cmp(&other.text), Some(one.text.cmp(&other.text)));
+            for string in &one.strings {
+                let drain = all(string);
+                for other in other.strings.iter().map(all) {
+                    let orders = (Ord::cmp(&drain, &other), PartialOrd::partial_cmp(&drain, &other));
+                    assert_eq!((drain == other, orders.0, orders.1), wanted);
+                    made += 1;
+                }
+            }
+        }
+        (made, total::<N>(&WIDTHS).pow(2))
+    }
+    at_each_capacity!(drains);
+}

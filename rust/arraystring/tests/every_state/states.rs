@@ -1,0 +1,148 @@
+//! What there is at a small capacity: every text, every string of it, and how many that are.
+
+use std::fmt::Debug;
+
+use arraystring::ArrayString;
+
+/// A character of each width in UTF-8.
+pub const WIDTHS: [char; 4] = ['a', 'é', '€', '🤔'];
+
+/// The greatest capacity whose states are gone through: what the variable `ARRAYSTRING_CAPACITY` of the environment says. Without
+/// it a build with debug assertions, which is slow, stops at a smaller one.
+fn greatest_capacity() -> usize {
+    let told = std::env::var("ARRAYSTRING_CAPACITY").ok();
+    told.map_or(if cfg!(debug_assertions) { 4 } else { 6 }, |told| {
+        told.parse().expect("ARRAYSTRING_CAPACITY is a number")
+    })
+}
+
+/// Calls a generic check at each capacity up to the greatest. What the check returns is how many calls it made, and how many
+/// those had to be.
+macro_rules! at_each_capacity {
+    ($check:ident) => {
+        $crate::states::checked_at_each_capacity(
+            stringify!($check),
+            &[$check::<0>, $check::<1>, $check::<2>, $check::<3>, $check::<4>, $check::<5>, $check::<6>, $check::<7>],
+        )
+    };
+}
+pub(crate) use at_each_capacity;
+
+pub fn checked_at_each_capacity(name: &str, checks: &[fn() -> (usize, usize)]) {
+    let greatest = greatest_capacity();
+    assert!(greatest < checks.len(), "no capacity of {greatest} is gone through");
+    let mut all = 0;
+    for (capacity, check) in checks[..=greatest].iter().enumerate() {
+        let (made, wanted) = check();
+        assert_eq!(made, wanted, "calls of {name} at {capacity}");
+        all += made;
+    }
+    println!("{name}: {all} calls at capacities up to {greatest}");
+    assert!(all > 0);
+}
+
+/// Every text of these characters that takes at most so many bytes, shorter ones first.
+pub fn texts(characters: &[char], size: usize) -> Vec<String> {
+    let mut of_size = vec![vec![String::new()]];
+    for size in 1..=size {
+        let fronts = |ch: &char| size.checked_sub(ch.len_utf8()).map(|front| (*ch, &of_size[front]));
+        let longer = characters.iter().filter_map(fronts);
+        let longer = longer.flat_map(|(ch, fronts)| fronts.iter().map(move |front| format!("{front}{ch}"))).collect();
+        of_size.push(longer);
+    }
+    of_size.concat()
+}
+
+/// How many texts there are of each size, up to so many bytes: as many as of the sizes that one character less leaves.
+pub fn counts(characters: &[char], size: usize) -> Vec<usize> {
+    let mut counts = vec![1];
+    for size in 1..=size {
+        let fronts = characters.iter().filter_map(|ch| size.checked_sub(ch.len_utf8()));
+        counts.push(fronts.map(|front| counts[front]).sum());
+    }
+    counts
+}
+
+/// How many characters a text has.
+pub fn length(text: &str) -> usize {
+    text.chars().count()
+}
+
+/// A text, and every string of it.
+pub struct Case<const N: usize> {
+    pub text: String,
+    pub strings: Vec<ArrayString<N>>,
+}
+
+/// Every text of these characters that fits, with every string of it: at each start offset, with the bytes of every text before
+/// it, and behind it either those of every text that fills the array, or none that was ever written.
+pub fn cases<const N: usize>(characters: &[char]) -> Vec<Case<N>> {
+    let texts = texts(characters, N);
+    texts.iter().map(|text| Case { text: text.clone(), strings: strings_of(text, &texts) }).collect()
+}
+
+/// How many strings [`cases`] has of the texts of each size.
+pub fn string_counts<const N: usize>(characters: &[char]) -> Vec<usize> {
+    let counts = counts(characters, N);
+    let behind = |room: usize, before: usize| counts[room - before] + usize::from(before < room);
+    let around = |room| (0..=room).map(|before| counts[before] * behind(room, before)).sum::<usize>();
+    (0..=N).map(|size| counts[size] * around(N - size)).collect()
+}
+
+fn strings_of<const N: usize>(text: &str, around: &[String]) -> Vec<ArrayString<N>> {
+    let mut strings = Vec::new();
+    for before in around.iter().filter(|before| before.len() + text.len() <= N) {
+        let room = N - before.len() - text.len();
+        let behind = around.iter().filter(|behind| behind.is_empty() || behind.len() == room);
+        strings.extend(behind.map(|behind| string_between(before, text, behind)));
+    }
+    strings
+}
+
+/// The string that is left of three texts, without the first and the last.
+fn string_between<const N: usize>(before: &str, text: &str, behind: &str) -> ArrayString<N> {
+    let mut string = ArrayString::<N>::new();
+    for part in [before, text, behind] {
+        assert_eq!(string.try_push_str(part), Ok(()));
+    }
+    assert_eq!(string.truncate((before.len() + text.len()) as u8), Ok(()));
+    for ch in before.chars() {
+        assert_eq!(string.remove(0), Ok(ch));
+    }
+    assert_eq!((string.as_str(), offset(&string)), (text, before.len()));
+    string
+}
+
+/// At which offset of its array a text begins: it is 0 in a new string.
+pub fn offset<const N: usize>(string: &ArrayString<N>) -> usize {
+    let distance = |string: &ArrayString<N>| string.as_bytes().as_ptr().addr() - std::ptr::from_ref(string).addr();
+    distance(string) - distance(&ArrayString::new())
+}
+
+impl<const N: usize> Case<N> {
+    /// Makes a call on a copy of each string. Asserts what it returns, and the text that it leaves. Says how many calls those are.
+    pub fn each<T: PartialEq + Debug>(
+        &self,
+        name: impl Debug,
+        wanted: &(T, String),
+        call: impl Fn(&mut ArrayString<N>) -> T,
+    ) -> usize {
+        self.each_by(&name, wanted, &call)
+    }
+
+    /// Compiled once for all calls that return the same type.
+    fn each_by<T: PartialEq + Debug>(
+        &self,
+        name: &dyn Debug,
+        (returned, text): &(T, String),
+        call: &dyn Fn(&mut ArrayString<N>) -> T,
+    ) -> usize {
+        for string in &self.strings {
+            let (mut after, from) = (*string, offset(string));
+            assert_eq!(call(&mut after), *returned, "{name:?} of {:?} at {from} of {N}", self.text);
+            assert_eq!(after.as_bytes(), text.as_bytes(), "after {name:?} of {:?} at {from} of {N}", self.text);
+            assert!(offset(&after) + text.len() <= N, "outside after {name:?} of {:?} at {from} of {N}", self.text);
+        }
+        self.strings.len()
+    }
+}
