@@ -67,13 +67,8 @@ impl<'a> Items<'a> {
         let wanted = self.count.unwrap_or(usize::MAX).min(room / self.text.len() + 1);
         assert_eq!(self.taken.get(), wanted, "{kind:?} {:?} {:?} {room}", self.text, self.count);
         let given = self.text.repeat(wanted);
-        assert_eq!(
-            added,
-            &given[..given.floor_char_boundary(room)],
-            "{kind:?} {:?} {:?} {room}",
-            self.text,
-            self.count
-        );
+        let end = (0..=room.min(given.len())).rev().find(|end| given.is_char_boundary(*end)).unwrap_or(0);
+        assert_eq!(added, &given[..end], "{kind:?} {:?} {:?} {room}", self.text, self.count);
     }
 }
 
