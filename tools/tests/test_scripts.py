@@ -260,13 +260,13 @@ case $1 in
     *) usage ;;
 esac
 [ -f /dev/stdin ] || [ -p /dev/stdin ] || fail 4 'read failed'
+[ "$(ulimit -v)" = unlimited ] || [ "$(wc -c < /dev/stdin)" -lt 100000 ] || fail 3 'out of memory'
 set -- $(awk 'NR == 1 { first = $1 } !/^(len|capacity)$/ { bad = NR } END { print NR, bad + 0, first }')
 if [ "$3" = push_str ]; then
     printf '%s\\n' done done done 'text 🤔DC' 'no text' 'refused OutOfBounds' 'text AABB' 'final AABB'
     exit
 fi
 [ "$2" = 0 ] || fail 2 "bad line $2"
-[ "$(ulimit -v)" = unlimited ] || [ "$1" -le 5000 ] || fail 3 'out of memory'
 [ ! -p /dev/stdout ] && { [ -f /dev/stdout ] || [ "$(readlink /proc/$$/fd/1)" != /dev/full ]; } || exit 0
 [ "$3" = capacity ] || capacity=0
 { yes "number $capacity" | head -n "$1" && echo "final $([ "$1" -lt 5000 ] || echo x)"; } 2> /dev/null || fail 4 'write failed'
