@@ -1,13 +1,15 @@
 //! What Rust asks beyond erasure: nothing here is proved. `look` is `unsafe` to call, as what it stands for is by its
-//! precondition, and the rest has no `unsafe`; but `simd` and `known!` could break UTF-8 all the same.
+//! precondition. `access` and `known!` have `unsafe` blocks, which rest on the proofs. The rest has none; but `simd` could break
+//! UTF-8 all the same.
 //!
 //! - `compare`: `==`, `<` and `+=` with a `str`, and `owned`, behind the feature `alloc`, the traits that name `String`.
 //! - `convert`: the traits of the Rust crate that the language of the sources can't have.
 //! - `contracts`: a page on how to read one.
+//! - `access`: what a proved body reads and writes, without a test that it is there.
 //! - `known!`: tells rustc a clause that is proved; and `look`, which is told that it looks at a byte that is there.
 //! - `read`: what Rust prints, hashes and makes by default of small values.
 //! - `room`, a module of the string: the room that is left.
-//! - `simd`: the vectors of the sources, as arrays and words.
+//! - `simd`: the vectors of the sources, as arrays or words.
 //!
 //! `count_tests` are the tests of `steps` that set its counts.
 #![deny(unsafe_code)]
@@ -31,5 +33,6 @@ use crate::utils::Steps;
 #[inline(always)]
 pub(crate) unsafe fn look(bytes: &[u8], at: usize, steps: &mut Steps) -> u8 {
     known!(in_bounds: at < bytes.len());
-    crate::utils::look(bytes, at, steps)
+    steps.count_look();
+    *get_unchecked!(bytes, at)
 }

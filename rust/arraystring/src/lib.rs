@@ -10,6 +10,9 @@
 #![deny(unsafe_op_in_unsafe_fn, missing_docs)]
 
 #[macro_use]
+#[path = "by_hand/access.rs"]
+mod access;
+#[macro_use]
 #[path = "by_hand/known.rs"]
 mod known;
 

@@ -1,10 +1,13 @@
 //! The body of a function: its paths, and its calls that are `unsafe` in Rust.
 
+use std::ops::Range;
+
+use crate::access;
 use crate::contracts::Called;
 use crate::cursor::{Fault, Kind, Token};
 use crate::edits::Edits;
 use crate::erase::Tally;
-use crate::rules::{CRATES, INSIDE, PROOFS_ALONE};
+use crate::rules::{CRATES, INSIDE, PROOFS_ALONE, SHOWN, Shown};
 
 /// Where a body stands.
 pub struct Here<'a> {
@@ -17,8 +20,29 @@ pub struct Here<'a> {
     pub call: &'a str,
     /// Whether a line that was put into it tests its precondition.
     pub is_tested: bool,
-    /// Whether what `prove!` says in it is a fact in Rust: no clause that its proof may need is given up.
+    /// Whether Rust gives up a clause of the function itself.
+    pub gives_up: bool,
+    /// Whether what is proved in it is a fact in Rust: no clause that its proof may need is given up.
     pub proves: bool,
+}
+
+impl Here<'_> {
+    /// Fails if a worker is called whose precondition may be proved from a clause that is given up.
+    fn shows(&self, worker: &str, at: usize, tally: &mut Tally) -> Result<(), Fault> {
+        if !self.gives_up {
+            return Ok(());
+        }
+        let is_listed = |shown: &Shown| shown.calls.iter().any(|(call, by)| *call == self.call && by.contains(&worker));
+        if !SHOWN.iter().any(is_listed) {
+            let call = self.call;
+            let why = format!(
+                "`{call}`, of which Rust gives up a clause, calls `{worker}`, and SHOWN does not say why it may"
+            );
+            return Err(Fault::new(at, why));
+        }
+        tally.used.insert(format!("shown {} {worker}", self.call));
+        Ok(())
+    }
 }
 
 /// Rewrites a body, which is given by its tokens.
@@ -27,6 +51,9 @@ pub fn rewrite(source: &str, tokens: &[Token], here: &Here, edits: &mut Edits, t
     let body = Body { source, tokens };
     let (mut safe_until, mut inner_until) = (0, 0);
     for at in 0..tokens.len() {
+        if here.proves {
+            access::rewrite(&body, at, edits, tally)?;
+        }
         if PROOFS_ALONE.contains(&body.text(at)) && body.text(at + 1) == "(" {
             body.leave_out(at, edits)?;
             tally.count("calls for the proof alone");
@@ -61,7 +88,16 @@ pub fn rewrite(source: &str, tokens: &[Token], here: &Here, edits: &mut Edits, t
                     tally.used.insert(format!("inside {}", rule.call));
                     Some(format!("`{}` of `{}`", rule.clause, rule.call))
                 }
-                None => tally.contracts.shown_by(body.text(at), &called, here.owner),
+                None => {
+                    tally.contracts.note_call(here.call, body.text(at));
+                    match tally.contracts.shown_by(body.text(at), &called, here.owner) {
+                        Some((worker, shown)) => {
+                            here.shows(&worker, tokens[at].at.start, tally)?;
+                            Some(shown)
+                        }
+                        None => None,
+                    }
+                }
             };
             let Some(shown) = shown else { continue };
             let start = start?;
@@ -105,19 +141,46 @@ pub fn paths(source: &str, tokens: &[Token], krate: &str, edits: &mut Edits, tal
     }
 }
 
-struct Body<'a> {
+/// The tokens of a body.
+pub struct Body<'a> {
     source: &'a str,
     tokens: &'a [Token],
 }
 
 impl<'a> Body<'a> {
     /// The text of a token; `""` where there is none.
-    fn text(&self, at: usize) -> &'a str {
+    pub fn text(&self, at: usize) -> &'a str {
         self.tokens.get(at).map_or("", |token| &self.source[token.at.clone()])
     }
 
+    /// What the token at `at` is.
+    pub fn kind(&self, at: usize) -> Kind {
+        self.tokens[at].kind
+    }
+
+    /// Where the token at `at` is in the source.
+    pub fn at(&self, at: usize) -> Range<usize> {
+        self.tokens[at].at.clone()
+    }
+
+    /// The token that opens the bracket that is closed at `at`.
+    pub fn opening(&self, at: usize) -> Result<usize, Fault> {
+        let mut depth = 0usize;
+        for start in (0..=at).rev() {
+            match self.text(start) {
+                ")" | "}" | "]" => depth += 1,
+                "(" | "{" | "[" => depth -= 1,
+                _ => {}
+            }
+            if depth == 0 {
+                return Ok(start);
+            }
+        }
+        Err(Fault::new(self.tokens[at].at.start, "a bracket that is not opened"))
+    }
+
     /// The token that closes the bracket at `at`.
-    fn closing(&self, at: usize) -> Result<usize, Fault> {
+    pub fn closing(&self, at: usize) -> Result<usize, Fault> {
         let mut depth = 0usize;
         for end in at..self.tokens.len() {
             match self.text(end) {

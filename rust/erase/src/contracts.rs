@@ -46,6 +46,10 @@ pub struct Contracts {
     invariants: BTreeMap<String, String>,
     /// The definitions by which invariants are read, by their name.
     definitions: BTreeMap<String, String>,
+    /// The functions of which Rust gives up a clause.
+    given_up: BTreeSet<String>,
+    /// The names of what each function calls.
+    calls: BTreeMap<String, BTreeSet<String>>,
     /// The public ones.
     public: BTreeSet<String>,
     /// Whether all functions were read.
@@ -61,6 +65,33 @@ impl Contracts {
         if !clauses.is_empty() && !FATES.iter().any(|(name, fate)| *name == call && matches!(fate, Fate::Panics(..))) {
             self.requires.insert(call.to_string(), clauses);
         }
+    }
+
+    /// Notes that Rust gives up a clause of a function.
+    pub fn note_given_up(&mut self, call: &str) {
+        self.given_up.insert(call.to_string());
+    }
+
+    /// Notes that a function calls what has this name.
+    pub fn note_call(&mut self, call: &str, name: &str) {
+        self.calls.entry(call.to_string()).or_default().insert(name.to_string());
+    }
+
+    /// Whether Rust gives up a clause of a function, or of what it calls, however deep. A call is taken for one of each
+    /// function of its name.
+    pub fn is_given_up(&self, call: &str) -> bool {
+        let (mut seen, mut waiting) = (BTreeSet::new(), vec![call]);
+        while let Some(call) = waiting.pop() {
+            if self.given_up.contains(call) {
+                return true;
+            }
+            if seen.insert(call) {
+                let Some(names) = self.calls.get(call) else { continue };
+                let is_named = |call: &&String| call.rsplit("::").next().is_some_and(|name| names.contains(name));
+                waiting.extend(self.ensures.keys().filter(is_named).map(String::as_str));
+            }
+        }
+        false
     }
 
     /// Notes that a function is public.
@@ -107,10 +138,10 @@ impl Contracts {
         clauses.iter().find(|(of, _)| of == name).map(|(_, text)| (head.as_str(), text.as_str()))
     }
 
-    /// What a call has to show, in words, if what it calls is `unsafe` in Rust.
-    pub fn shown_by(&self, name: &str, called: &Called, owner: &str) -> Option<String> {
+    /// If what a call names is `unsafe` in Rust, its whole name, and what the call has to show, in words.
+    pub fn shown_by(&self, name: &str, called: &Called, owner: &str) -> Option<(String, String)> {
         let is_type = |owner: &str| owner.starts_with(char::is_uppercase);
-        let (_, clauses) = self.requires.iter().find(|(call, _)| {
+        let (call, clauses) = self.requires.iter().find(|(call, _)| {
             let Some((of, its)) = call.split_once("::") else { return false };
             let is_meant = match called {
                 Called::Method => is_type(of),
@@ -122,6 +153,6 @@ impl Contracts {
         })?;
         let (last, first) = clauses.split_last()?;
         let clauses = if first.is_empty() { last.clone() } else { format!("{} and {last}", first.join(", ")) };
-        Some(format!("{clauses} of `{name}`"))
+        Some((call.clone(), format!("{clauses} of `{name}`")))
     }
 }

@@ -10,7 +10,7 @@ use crate::erase::{Source, Tally, erase, line_of};
 use crate::pages::laws;
 use crate::rules::{
     ADDED, AGAIN, BODIES, BY_HAND, BY_STD, CONSTANT, CRATES, DEFINITIONS, FATES, INSIDE, INVARIANTS, KNOWN, LEFT_OUT,
-    MORE, ORDER, REPLACED, TESTED, WIDER,
+    MORE, ORDER, PROVED, REPLACED, SHOWN, TESTED, WIDER,
 };
 
 /// Each file of the Rust crate that is made, by its path in `src`.
@@ -76,6 +76,10 @@ pub fn all_used(tally: &Tally) -> Result<(), String> {
     let names = names.chain(BY_STD.iter().map(|rule| format!("by std {}", rule.file)));
     let names = names.chain(KNOWN.iter().map(|(call, clause)| format!("known {call} {clause}")));
     let names = names.chain(AGAIN.iter().map(|rule| format!("again {} {}", rule.call, rule.before)));
+    let names = names.chain(PROVED.iter().map(|(call, _)| format!("proved {call}")));
+    let shown = SHOWN.iter().flat_map(|shown| shown.calls);
+    let shown = shown.flat_map(|(call, workers)| workers.iter().map(move |worker| format!("shown {call} {worker}")));
+    let names = names.chain(shown);
     let names = names.chain(BODIES.iter().map(|rule| format!("body {}", rule.call)));
     let names = names.chain(CONSTANT.iter().map(|call| format!("constant {call}")));
     let names = names.chain(ADDED.iter().map(|rule| format!("added {}", rule.head)));

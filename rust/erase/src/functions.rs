@@ -76,8 +76,15 @@ impl<'a> File<'a, '_> {
         let fate = FATES.iter().find(|(call, _)| *call == function.call).map(|(_, fate)| fate);
         let is_tested = matches!(fate, Some(Fate::Panics(_, Some(_))));
         let gives_up = matches!(fate, Some(Fate::Panics(..))) || function.preconditions.iter().any(Clause::is_given_up);
-        let proves = !gives_up || PROVED.iter().any(|(call, _)| *call == function.call);
-        let here = Here { krate, path, owner: inside.owner, call: &function.call, is_tested, proves };
+        if gives_up && !function.tokens.is_empty() {
+            self.tally.contracts.note_given_up(&function.call);
+        }
+        let mut proves = !self.tally.contracts.is_given_up(&function.call);
+        if !proves && PROVED.iter().any(|(call, _)| *call == function.call) {
+            self.tally.used.insert(format!("proved {}", function.call));
+            proves = true;
+        }
+        let here = Here { krate, path, owner: inside.owner, call: &function.call, is_tested, gives_up, proves };
         body::rewrite(self.text, &function.tokens, &here, &mut self.edits, self.tally)
     }
 

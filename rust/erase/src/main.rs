@@ -6,6 +6,7 @@
 //! Without `--check` it writes `rust/arraystring/src`; with it, it says whether that is as the sources say. The folder is
 //! the repository, by default the one that the eraser was built in. What it can't read stops it.
 
+mod access;
 mod body;
 mod contracts;
 mod cursor;
@@ -72,6 +73,14 @@ fn run(root: &std::path::Path, is_check: bool) -> Result<(), String> {
     }
     for rule in rules::BY_STD {
         println!("by std: {}: `{}`: {}", rule.file, rule.body, rule.why);
+    }
+    for (call, why) in rules::PROVED {
+        println!("proved where a clause is given up: `{call}`: {why}");
+    }
+    for shown in rules::SHOWN {
+        let calls: Vec<_> =
+            shown.calls.iter().map(|(call, workers)| format!("{call} of {}", workers.join(", "))).collect();
+        println!("shown where a clause is given up: {}: {}", calls.join("; "), shown.why);
     }
     for rule in rules::TESTED {
         println!("tests by hand: {} has {}: {}", rule.file, rule.path, rule.why);

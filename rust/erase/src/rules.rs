@@ -21,6 +21,9 @@ pub const ROOT: &str = "\
 #![deny(unsafe_op_in_unsafe_fn, missing_docs)]
 
 #[macro_use]
+#[path = \"by_hand/access.rs\"]
+mod access;
+#[macro_use]
 #[path = \"by_hand/known.rs\"]
 mod known;
 
@@ -431,11 +434,86 @@ pub const GIVEN_UP: &[&str] = &[
     "FindsChar",
 ];
 
-/// The functions that give up a clause, and whose `prove!` are facts all the same, with the reason.
-pub const PROVED: &[(&str, &str)] = &[(
-    "remove::retain_at",
-    "that an index is below N follows from `held`, and not from what the closure may be asked",
-)];
+/// The functions that give up a clause, or call one that does, and in which what is proved is a fact all the same, with the
+/// reason. Any other such function keeps the tests of its accesses.
+pub const PROVED: &[(&str, &str)] = &[
+    ("utf8::truncate_str_counted", "`last_boundary` returns a boundary, whatever was counted"),
+    ("remove::retain_at", "where it reads follows from `held` and `text`, and not from what the closure may be asked"),
+    ("ArrayString::drop_leading_ascii", "its loop tests the index, whatever the closure answers"),
+    ("ArrayString::put_char", "where it writes follows from the text; the move before it only counts"),
+    ("ArrayString::compact_and_insert", "where it writes follows from the text; the move before it only counts"),
+    ("Drain::next_back", "where it reads follows from the invariant, before anything is counted"),
+];
+
+/// Calls of `unsafe` workers by functions that give up a clause. The precondition of the worker is proved there from all clauses,
+/// so each is listed with the reason that it needs none of those that are given up.
+pub struct Shown {
+    pub why: &'static str,
+    /// The function, and the workers that it calls.
+    pub calls: &'static [(&'static str, &'static [&'static str])],
+}
+
+pub const SHOWN: &[Shown] = &[
+    Shown {
+        why: "places and sizes follow from the text and its array; a counter is only added to",
+        calls: &[
+            ("moves::shift", &["moves::move_run"]),
+            ("gap::open_gap", &["moves::shift"]),
+            ("gap::compact_and_open_gap", &["moves::shift"]),
+            ("utf8::truncate_str_counted", &["utf8::last_boundary"]),
+            ("utf8::last_char", &["utf8::char_before_end"]),
+            ("ArrayString::splice", &["ArrayString::compact_and_splice", "gap::open_gap", "moves::write_over"]),
+            ("ArrayString::compact_and_splice", &["gap::compact_and_open_gap", "moves::write_over"]),
+            ("ArrayString::take_out", &["ArrayString::drop_front", "moves::shift"]),
+            ("ArrayString::try_insert_str_counted", &["ArrayString::splice"]),
+            ("ArrayString::replace_between", &["ArrayString::splice"]),
+            ("ArrayString::pop_counted", &["ArrayString::keep"]),
+            ("ArrayString::remove_counted", &["ArrayString::char_at", "ArrayString::take_out"]),
+            ("ArrayString::drain_counted", &["ArrayString::take_out", "Drain::new"]),
+        ],
+    },
+    Shown {
+        why: "what is written was tested to fit, item by item, and each item leaves a text, whether or not the iterator ends",
+        calls: &[
+            ("ArrayString::append_chars", &["ArrayString::append_char"]),
+            ("ArrayString::append_strs", &["ArrayString::append_past_end", "moves::write_over"]),
+            ("ArrayString::add_chars", &["ArrayString::append_chars"]),
+            ("ArrayString::add_strs", &["ArrayString::append_strs"]),
+            ("ArrayString::try_from_chars", &["ArrayString::append_chars"]),
+            ("ArrayString::from_chars", &["ArrayString::append_chars"]),
+            ("ArrayString::try_from_iterator", &["ArrayString::append_strs"]),
+            ("ArrayString::from_iterator", &["ArrayString::append_strs"]),
+        ],
+    },
+    Shown {
+        why: "the caller promises that all items fit, so an iterator that does not end is promised away",
+        calls: &[
+            ("ArrayString::from_iterator_unchecked", &["moves::write_over"]),
+            ("CacheString::from_iterator_unchecked", &["ArrayString::from_iterator_unchecked"]),
+            ("CacheString::from_chars_unchecked", &["ArrayString::from_chars_unchecked"]),
+        ],
+    },
+    Shown {
+        why: "where characters begin and end follows from the text, whatever a closure answers; behind one that panics nothing is done",
+        calls: &[
+            ("ArrayString::drop_trailing", &["ArrayString::keep"]),
+            ("ArrayString::drop_leading_ascii", &["ArrayString::drop_run"]),
+            ("ArrayString::drop_leading_decoded", &["ArrayString::drop_front"]),
+            ("ArrayString::retain", &["remove::retain_at"]),
+            ("remove::retain_at", &["moves::shift", "remove::first_char"]),
+        ],
+    },
+    Shown {
+        why: "the index that Rust puts before it tests the range, as the precondition does",
+        calls: &[
+            ("ArrayString::make_ascii_uppercase_in", &["ArrayString::uppercase_between"]),
+            ("ArrayString::make_ascii_lowercase_in", &["ArrayString::lowercase_between"]),
+        ],
+    },
+];
+
+/// The calls on a part that write into it, beside `copy_from_slice`.
+pub const WRITES: &[&str] = &["make_ascii_uppercase", "make_ascii_lowercase"];
 
 /// What stands under `# Safety` of a private function.
 pub const PRIVATE: &str =
@@ -521,7 +599,7 @@ pub const BODIES: &[Body] = &[
         call: "ArrayString::as_str",
         lines: &[
             "let (size, start) = (self.size as usize, self.start as usize);",
-            "let (_, text) = self.array.split_at(start + size).0.split_at(start);",
+            "let (_, text) = split_at_unchecked!(split_at_unchecked!(self.array, start + size).0, start);",
             "// SAFETY: the type's `invariant`: the `size` bytes from `start` on are UTF-8.",
             "unsafe { str::from_utf8_unchecked(text) }",
         ],
@@ -531,7 +609,7 @@ pub const BODIES: &[Body] = &[
         call: "ArrayString::as_bytes",
         lines: &[
             "let (size, start) = (self.size as usize, self.start as usize);",
-            "self.array.split_at(start + size).0.split_at(start).1",
+            "split_at_unchecked!(split_at_unchecked!(self.array, start + size).0, start).1",
         ],
         why: BY_SPLIT,
     },
@@ -548,19 +626,33 @@ pub struct Added {
     pub why: &'static str,
 }
 
-pub const ADDED: &[Added] = &[Added {
-    file: "arraystring_core/src/drain/traits.rt",
-    head: "impl<const N: usize> Iterator for Drain<N>",
-    lines: &[
-        "/// The bytes that are left bound the characters, which take one to four each.",
-        "#[inline]",
-        "fn size_hint(&self) -> (usize, Option<usize>) {",
-        "    let len = self.as_str().len();",
-        "    (len.div_ceil(4), Some(len))",
-        "}",
-    ],
-    why: "callers that make room ask for it",
-}];
+pub const ADDED: &[Added] = &[
+    Added {
+        file: "arraystring_core/src/drain/traits.rt",
+        head: "impl<const N: usize> Iterator for Drain<N>",
+        lines: &[
+            "/// The bytes that are left bound the characters, which take one to four each.",
+            "#[inline]",
+            "fn size_hint(&self) -> (usize, Option<usize>) {",
+            "    let len = self.as_str().len();",
+            "    (len.div_ceil(4), Some(len))",
+            "}",
+        ],
+        why: "callers that make room ask for it",
+    },
+    Added {
+        file: "arraystring_base/src/steps.rt",
+        head: "impl Steps",
+        lines: &[
+            "/// Counts a look.",
+            "#[inline]",
+            "pub(crate) fn count_look(&mut self) {",
+            "    self.looked = self.looked.saturating_add(1);",
+            "}",
+        ],
+        why: "`look` and the `look` of bodies count by it",
+    },
+];
 
 /// Calls of what is public, safe and panics, which bodies make by a function of `by_hand` that knows a clause instead, by the
 /// line that comes of that clause.
@@ -628,7 +720,7 @@ pub const BY_STD: &[ByStd] = &[
         imports: "use crate::arraystring_base::error::Utf8;\nuse core::str;",
         function: "read_utf8",
         docs: "Returns the text whose UTF-8 is `given`, or `Err(Utf8)` if `given` is not well-formed.",
-        body: "let (blocks, last) = (given.len() / 32 * 32, given.len().saturating_sub(32));\n    if given[..blocks].is_ascii() && given[last..].is_ascii() {\n        // SAFETY: the blocks of 32 bytes in front and the last 32 bytes are all of them, and ASCII is UTF-8.\n        return Ok(unsafe { str::from_utf8_unchecked(given) });\n    }\n    str::from_utf8(given).map_err(Utf8::from)",
+        body: "let (blocks, last) = (given.len() / 32 * 32, given.len().saturating_sub(32));\n    if get_unchecked!(given, ..blocks).is_ascii() && get_unchecked!(given, last..).is_ascii() {\n        // SAFETY: the blocks of 32 bytes in front and the last 32 bytes are all of them, and ASCII is UTF-8.\n        return Ok(unsafe { str::from_utf8_unchecked(given) });\n    }\n    str::from_utf8(given).map_err(Utf8::from)",
         why: "std's vectors are the machine's, where those of `by_hand` are arrays",
     },
 ];
@@ -780,8 +872,8 @@ pub const REPLACED: &[Replaced] = &[
     Replaced {
         file: "arraystring_base/src/steps.rt",
         from: "steps.looked += 1;",
-        to: "steps.looked = steps.looked.saturating_add(1);",
-        why: "no precondition bounds the count",
+        to: "steps.count_look();",
+        why: "no precondition bounds the count, and the `look` of bodies counts so, too",
     },
     Replaced {
         file: "arraystring_core/src/array_string/range.rt",

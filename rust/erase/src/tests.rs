@@ -2,6 +2,8 @@
 
 use super::*;
 
+#[path = "tests/accesses.rs"]
+mod accesses;
 #[path = "tests/odd.rs"]
 mod odd;
 #[path = "tests/pages.rs"]

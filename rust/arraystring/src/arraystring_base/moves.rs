@@ -204,7 +204,7 @@ unsafe fn move_much<const N: usize>(array: &mut [u8; N], from: usize, to: usize,
 #[inline(never)]
 unsafe fn move_any_run<const N: usize>(array: &mut [u8; N], from: usize, to: usize, len: usize) {
     let all = &mut array[..];
-    all.copy_within(from..from + len, to);
+    copy_within_unchecked!(all, from..from + len, to);
 }
 
 /// The same for `K` to `2 * K` bytes.
@@ -398,7 +398,7 @@ unsafe fn write_long_run<const N: usize>(array: &mut [u8; N], at: usize, given: 
 unsafe fn write_any_run<const N: usize>(array: &mut [u8; N], at: usize, given: &[u8]) {
     known!(precondition: at + given.len() <= N && at <= at + given.len());
     let all = &mut array[..];
-    all[at..at + given.len()].copy_from_slice(given);
+    copy_from_slice_unchecked!(all, at..at + given.len(), given);
 }
 
 /// The same for `K` to `2 * K` bytes.
@@ -451,7 +451,7 @@ unsafe fn copy_ends<const N: usize, const K: usize>(array: &mut [u8; N], at: usi
 #[inline(always)]
 unsafe fn bytes_of<const K: usize>(given: &[u8], at: usize) -> Simd<u8, K> {
     known!(precondition: at + K <= given.len() && at <= at + K);
-    Simd::<u8, K>::from_slice(&given[at..at + K])
+    Simd::<u8, K>::from_slice(get_unchecked!(given, at..at + K))
 }
 
 /// Writes `K` bytes from `at` on.
@@ -474,7 +474,7 @@ unsafe fn bytes_of<const K: usize>(given: &[u8], at: usize) -> Simd<u8, K> {
 unsafe fn put_bytes<const N: usize, const K: usize>(array: &mut [u8; N], at: usize, bytes: Simd<u8, K>) {
     known!(precondition: at + K <= N && at <= at + K);
     let all = &mut array[..];
-    bytes.copy_to_slice(&mut all[at..at + K]);
+    bytes.copy_to_slice(get_unchecked_mut!(all, at..at + K));
 }
 
 /// Writes `2 * K` bytes from `at` on.

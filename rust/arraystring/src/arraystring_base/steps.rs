@@ -120,6 +120,12 @@ impl Steps {
     pub(crate) fn count_moves(&mut self, len: usize) {
         self.moved = self.moved.saturating_add(len as u64);
     }
+
+    /// Counts a look.
+    #[inline]
+    pub(crate) fn count_look(&mut self) {
+        self.looked = self.looked.saturating_add(1);
+    }
 }
 
 /// Returns the byte at the index `at`, counted as one look.
@@ -154,7 +160,7 @@ impl Steps {
 /// </details>
 #[inline]
 pub fn look(bytes: &[u8], at: usize, steps: &mut Steps) -> u8 {
-    steps.looked = steps.looked.saturating_add(1);
+    steps.count_look();
     bytes[at]
 }
 

@@ -100,7 +100,7 @@ pub fn truncate_str_counted<'a>(text: &'a str, size: u8, steps: &mut Steps) -> &
     let end = unsafe { last_boundary(text, limit, steps) };
     // What `last_boundary` ensures.
     known!(boundary: text.is_char_boundary(end));
-    &text[..end]
+    get_unchecked!(text, ..end)
 }
 
 /// The last boundary that is not past `limit`. It looks once at each byte from `limit` back to it,
@@ -277,20 +277,20 @@ pub unsafe fn encode<const N: usize>(ch: char, array: &mut [u8; N], at: usize) -
     let code = ch as u32;
     let all = &mut array[..];
     if code < 0x80 {
-        all[at] = code as u8;
+        *get_unchecked_mut!(all, at) = code as u8;
         1
     } else if code < 0x800 {
         let first = (0xC0 + code / 64) as u8;
         let second = (0x80 + code % 64) as u8;
         known!(precondition: at + ch.len_utf8() <= N && at <= at + ch.len_utf8());
-        all[at..at + 2].copy_from_slice(&[first, second]);
+        copy_from_slice_unchecked!(all, at..at + 2, &[first, second]);
         2
     } else if code < 0x1_0000 {
         let first = (0xE0 + code / 4096) as u8;
         let second = (0x80 + code / 64 % 64) as u8;
         let third = (0x80 + code % 64) as u8;
         known!(precondition: at + ch.len_utf8() <= N && at <= at + ch.len_utf8());
-        all[at..at + 3].copy_from_slice(&[first, second, third]);
+        copy_from_slice_unchecked!(all, at..at + 3, &[first, second, third]);
         3
     } else {
         let first = (0xF0 + code / 262_144) as u8;
@@ -298,7 +298,7 @@ pub unsafe fn encode<const N: usize>(ch: char, array: &mut [u8; N], at: usize) -
         let third = (0x80 + code / 64 % 64) as u8;
         let fourth = (0x80 + code % 64) as u8;
         known!(precondition: at + ch.len_utf8() <= N && at <= at + ch.len_utf8());
-        all[at..at + 4].copy_from_slice(&[first, second, third, fourth]);
+        copy_from_slice_unchecked!(all, at..at + 4, &[first, second, third, fourth]);
         4
     }
 }

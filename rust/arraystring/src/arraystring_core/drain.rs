@@ -87,6 +87,6 @@ impl<const N: usize> Drain<N> {
         let start = self.start as usize;
         let (front, end) = (start + self.front as usize, start + self.size as usize);
         // SAFETY: the type's `invariant`: the removed text is UTF-8, with a boundary at `self.front`.
-        unsafe { str::from_utf8_unchecked(&all[front..end]) }
+        unsafe { str::from_utf8_unchecked(get_unchecked!(all, front..end)) }
     }
 }

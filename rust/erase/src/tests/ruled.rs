@@ -30,7 +30,8 @@ pub fn look(bytes: &[u8], at: usize, steps: &mut Steps) -> u8
 fn a_line_is_another_one_and_tests_by_hand_lie_in_a_module() {
     let parts = [
         "        self.moved = self.moved.saturating_add(len as u64);\n",
-        "    steps.looked = steps.looked.saturating_add(1);\n",
+        "    pub(crate) fn count_look(&mut self) {\n        self.looked = self.looked.saturating_add(1);\n    }\n}\n",
+        "    steps.count_look();\n    bytes[at]\n",
         "/// # Panics\n///\n/// Where the index is not below the length.\n///\n/// <details>",
         "\npub fn look(bytes: &[u8], at: usize",
         "\n#[cfg(test)]\n#[path = \"../by_hand/count_tests.rs\"]\nmod tests;\n",
@@ -80,13 +81,12 @@ pub fn encode<const N: usize>(ch: char, all: &mut [u8; N], at: usize)
     all[at..].fill(2);
 }
 ";
-    let known =
-        "    known!(precondition: at + ch.len_utf8() <= N && at <= at + ch.len_utf8());\n    all[at..].fill(2);\n";
+    let known = "    known!(precondition: at + ch.len_utf8() <= N && at <= at + ch.len_utf8());\n    get_unchecked!(all, at..).fill(2);\n";
     let safety = "/// # Safety\n///\n/// What is written must lie in the array.\n";
     has(
         "arraystring_base/src/sample/utf8.rt",
         encode,
-        &[known, safety, "\npub unsafe fn encode<", "        all[at] = 1;\n"],
+        &[known, safety, "\npub unsafe fn encode<", "        *get_unchecked_mut!(all, at) = 1;\n"],
     );
 }
 
@@ -116,7 +116,7 @@ fn last_boundary(text: &str, size: u8) -> usize
 fn what_a_callee_ensures_is_known_behind_the_call() {
     let says = "IsCharBoundary text.now result";
     let parts = [
-        "    // What `last_boundary` ensures.\n    known!(boundary: text.is_char_boundary(end));\n    &text[..end]\n",
+        "    // What `last_boundary` ensures.\n    known!(boundary: text.is_char_boundary(end));\n    get_unchecked!(text, ..end)\n",
         "/// # In Rust\n///\n/// A count that would pass 2^64 - 1 stays there.\n",
         "\npub fn truncate_str_counted<'a>(",
         "shows `within` of `last_boundary`.\n    let end = unsafe { last_boundary(text, size) };\n",
@@ -291,13 +291,13 @@ impl<const N: usize> ArrayString<N> {{
         requires order {{ from < 3 }}
     {{
         {line}
-        shift(start, end);
+        self.uppercase_between(start, end);
     }}
-}}
 
-fn shift(start: usize, end: usize)
-    requires room {{ start < 3 }}
-{{}}
+    fn uppercase_between(&mut self, start: usize, end: usize)
+        requires room {{ start < 3 }}
+    {{}}
+}}
 "
         )
     };
@@ -305,7 +305,8 @@ fn shift(start: usize, end: usize)
     let parts = [
         "        let (start, end) = plain_ends(range, self.len());\n        let _ = &self.as_str()[start..end];\n",
         "        // SAFETY: by what the index above tests, the proof of `make_ascii_uppercase_in` in \
-         crates/arraystring_core/src/ascii.rt shows `room` of `shift`.\n        unsafe { shift(start, end) };\n",
+         crates/arraystring_core/src/ascii.rt shows `room` of `uppercase_between`.\n        \
+         unsafe { self.uppercase_between(start, end) };\n",
         "    /// # Panics\n",
     ];
     has("arraystring_core/src/ascii.rt", &found, &parts);

@@ -130,7 +130,7 @@ impl<const N: usize> ArrayString<N> {
 unsafe fn uppercase_bytes<const N: usize>(array: &mut [u8; N], start: usize, end: usize) {
     known!(within: end <= N);
     let all = &mut array[..];
-    all[start..end].make_ascii_uppercase();
+    get_unchecked_mut!(all, start..end).make_ascii_uppercase();
 }
 
 /// Changes the letters A..Z among the bytes from `start` to `end`.
@@ -154,5 +154,5 @@ unsafe fn uppercase_bytes<const N: usize>(array: &mut [u8; N], start: usize, end
 unsafe fn lowercase_bytes<const N: usize>(array: &mut [u8; N], start: usize, end: usize) {
     known!(within: end <= N);
     let all = &mut array[..];
-    all[start..end].make_ascii_lowercase();
+    get_unchecked_mut!(all, start..end).make_ascii_lowercase();
 }

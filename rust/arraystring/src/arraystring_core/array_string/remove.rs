@@ -286,7 +286,7 @@ impl<const N: usize> ArrayString<N> {
             return Err(Error::Utf8);
         }
         // SAFETY: the proof of `split_off` in crates/arraystring_core/src/array_string/remove.rt shows the precondition of `from_str_unchecked`.
-        let rest = unsafe { Self::from_str_unchecked(&self.as_str()[at as usize..]) };
+        let rest = unsafe { Self::from_str_unchecked(get_unchecked!(self.as_str(), at as usize..)) };
         // SAFETY: the proof of `split_off` in crates/arraystring_core/src/array_string/remove.rt shows the precondition of `keep`.
         unsafe { self.keep(at) };
         Ok(rest)
@@ -342,7 +342,7 @@ impl<const N: usize> ArrayString<N> {
     #[inline]
     unsafe fn char_at(&self, at: usize) -> (char, usize) {
         // SAFETY: the proof of `char_at` in crates/arraystring_core/src/array_string/remove.rt shows the precondition of `first_char`.
-        unsafe { first_char(&self.as_str()[at..]) }
+        unsafe { first_char(get_unchecked!(self.as_str(), at..)) }
     }
 }
 
@@ -369,7 +369,7 @@ impl<const N: usize> ArrayString<N> {
 unsafe fn first_char(text: &str) -> (char, usize) {
     let mut rest = text.chars();
     let Some(ch) = rest.next() else {
-        unreachable!();
+        unreachable_unchecked!();
     };
     (ch, text.len() - rest.as_str().len())
 }
@@ -415,7 +415,7 @@ unsafe fn retain_at<const N: usize, F: FnMut(char) -> bool>(
     while read < size {
         known!(proved: offset + read < N);
         // A byte of ASCII is its character; others take the decoder.
-        let first = array[offset + read];
+        let first = *get_unchecked!(array, offset + read);
         if first < 0x80 {
             if f(first as char) {
                 let to = offset + *kept as usize;
@@ -427,7 +427,7 @@ unsafe fn retain_at<const N: usize, F: FnMut(char) -> bool>(
         } else {
             let all = &array[..];
             // SAFETY: the clause `text`: what was not read yet is UTF-8, since a character begins at `read`.
-            let text = unsafe { str::from_utf8_unchecked(&all[offset + read..offset + size]) };
+            let text = unsafe { str::from_utf8_unchecked(get_unchecked!(all, offset + read..offset + size)) };
             // SAFETY: the proof of `retain_at` in crates/arraystring_core/src/array_string/remove.rt shows the precondition of `first_char`.
             let (ch, width) = unsafe { first_char(text) };
             if f(ch) {

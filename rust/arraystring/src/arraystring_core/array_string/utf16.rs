@@ -121,7 +121,7 @@ impl<const N: usize> ArrayString<N> {
         let mut end = run;
         // What `write_ascii` ensures.
         known!(within: run <= units.len());
-        for item in Units::new(&units[run..]) {
+        for item in Units::new(get_unchecked!(units, run..)) {
             // SAFETY: the proof of `from_utf16_lossy` in crates/arraystring_core/src/array_string/utf16.rt shows the precondition of `write_char`.
             match unsafe { Self::write_char(&mut array, end, shown(item)) } {
                 Some(next) => {
@@ -153,7 +153,7 @@ impl<const N: usize> ArrayString<N> {
         let mut end = run;
         // What `write_ascii` ensures.
         known!(within: run <= units.len());
-        for item in Units::new(&units[run..]) {
+        for item in Units::new(get_unchecked!(units, run..)) {
             match item {
                 // SAFETY: the proof of `write_prefix` in crates/arraystring_core/src/array_string/utf16.rt shows the precondition of `write_char`.
                 Unit16::Char(ch) => match unsafe { Self::write_char(array, end, ch) } {
@@ -217,9 +217,9 @@ impl<const N: usize> ArrayString<N> {
 fn write_ascii<const N: usize>(array: &mut [u8; N], units: &[u16]) -> usize {
     let most = units.len().min(ArrayString::<N>::capacity() as usize);
     let mut run = 0;
-    while run < most && units[run] < 0x80 {
+    while run < most && *get_unchecked!(units, run) < 0x80 {
         known!(proved: run < N);
-        array[run] = units[run] as u8;
+        *get_unchecked_mut!(array, run) = *get_unchecked!(units, run) as u8;
         run += 1;
     }
     run

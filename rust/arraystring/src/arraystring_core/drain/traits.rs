@@ -84,7 +84,7 @@ impl<const N: usize> DoubleEndedIterator for Drain<N> {
             return None;
         }
         known!(proved: self.front < self.size);
-        let last = self.array[self.start as usize + self.size as usize - 1];
+        let last = *get_unchecked!(self.array, self.start as usize + self.size as usize - 1);
         if last < 0x80 {
             self.size -= 1;
             return Some(last as char);
@@ -195,7 +195,7 @@ impl<const N: usize> Iterator for Drain<N> {
         }
         known!(proved: self.front < self.size);
         // A byte of ASCII is its character; others take the decoder.
-        let first = self.array[self.start as usize + self.front as usize];
+        let first = *get_unchecked!(self.array, self.start as usize + self.front as usize);
         if first < 0x80 {
             self.front += 1;
             return Some(first as char);
