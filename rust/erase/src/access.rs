@@ -6,6 +6,9 @@ use crate::edits::Edits;
 use crate::erase::Tally;
 use crate::rules::WRITES;
 
+/// What is counted.
+pub const ACCESSES: &str = "accesses that are proved to be within";
+
 /// Words behind which a bracket begins an array, and no index.
 const NO_OPERANDS: &[&str] =
     &["mut", "in", "return", "as", "else", "match", "if", "while", "let", "ref", "move", "break"];
@@ -26,7 +29,7 @@ pub fn rewrite(body: &Body, at: usize, edits: &mut Edits, tally: &mut Tally) -> 
         _ => false,
     };
     if is_access {
-        tally.count("accesses that are proved to be within");
+        tally.count(ACCESSES);
     }
     Ok(())
 }

@@ -7,7 +7,7 @@ use crate::contracts::Called;
 use crate::cursor::{Fault, Kind, Token};
 use crate::edits::Edits;
 use crate::erase::Tally;
-use crate::rules::{CRATES, INSIDE, PROOFS_ALONE, SHOWN, Shown};
+use crate::rules::{CRATES, PROOFS_ALONE, SHOWN, Shown, TWINS};
 
 /// Where a body stands.
 pub struct Here<'a> {
@@ -55,16 +55,11 @@ pub fn rewrite(source: &str, tokens: &[Token], here: &Here, edits: &mut Edits, t
             access::rewrite(&body, at, edits, tally)?;
         }
         if PROOFS_ALONE.contains(&body.text(at)) && body.text(at + 1) == "(" {
-            body.leave_out(at, edits)?;
+            body.leave_out(at, at + 1, edits)?;
             tally.count("calls for the proof alone");
         } else if [0, 1, 2].map(|next| body.text(at + next)) == ["prove", "!", "("] {
-            if !here.proves {
-                let why = format!("a `prove!` in `{}`, of which Rust gives up a clause", here.call);
-                return Err(Fault::new(tokens[at].at.start, why));
-            }
-            edits.replace(tokens[at].at.clone(), "known");
-            edits.insert(tokens[at + 2].at.end, "proved: ");
-            tally.count("tests that are proved, and known");
+            body.leave_out(at, at + 2, edits)?;
+            tally.count("tests for the proof alone");
         } else if body.text(at) == "unsafe" && body.text(at + 1) == "{" {
             safe_until = body.closing(at + 1)?;
             if at < inner_until {
@@ -81,11 +76,11 @@ pub fn rewrite(source: &str, tokens: &[Token], here: &Here, edits: &mut Edits, t
             if matches!(called, Called::Behind("str")) && body.text(at).ends_with("_unchecked") {
                 return Err(Fault::new(tokens[at].at.start, "a call of std that is in no `unsafe` block"));
             }
-            let inside = INSIDE.iter().find(|rule| rule.call == body.text(at) && matches!(called, Called::Free));
-            let shown = match inside {
+            let twin = TWINS.iter().find(|rule| rule.call == body.text(at) && matches!(called, Called::Free));
+            let shown = match twin {
                 Some(rule) => {
-                    edits.replace(tokens[at].at.clone(), rule.by_hand);
-                    tally.used.insert(format!("inside {}", rule.call));
+                    edits.replace(tokens[at].at.clone(), rule.twin);
+                    tally.used.insert(format!("twin called {}", rule.call));
                     Some(format!("`{}` of `{}`", rule.clause, rule.call))
                 }
                 None => {
@@ -130,6 +125,9 @@ pub fn paths(source: &str, tokens: &[Token], krate: &str, edits: &mut Edits, tal
         let name = body.text(at);
         let put = match name {
             "std" if body.text(at + 3) == "simd" => "crate::by_hand".to_string(),
+            // The module, and not what is in it.
+            "std" if body.text(at + 3) == "str" && body.text(at + 4) != ":" => "crate::by_hand".to_string(),
+            "char" if body.text(at + 3) == "from_u32_unchecked" => "crate::by_hand::char".to_string(),
             "std" => "core".to_string(),
             "crate" if body.text(at + 3) == "by_hand" || CRATES.last() == Some(&krate) => continue,
             "crate" => format!("crate::{krate}"),
@@ -226,10 +224,10 @@ impl<'a> Body<'a> {
         }
     }
 
-    /// Takes out the statement that is the call at `at`.
-    fn leave_out(&self, at: usize, edits: &mut Edits) -> Result<(), Fault> {
+    /// Takes out the statement that is the call at `at`, whose bracket opens at `opens`.
+    fn leave_out(&self, at: usize, opens: usize, edits: &mut Edits) -> Result<(), Fault> {
         let start = self.tokens[at].at.start;
-        let end = self.tokens.get(self.closing(at + 1)? + 1).map_or(start, |token| token.at.end);
+        let end = self.tokens.get(self.closing(opens)? + 1).map_or(start, |token| token.at.end);
         let line = self.source[..start].rfind('\n').map_or(0, |end| end + 1);
         let is_statement = self.source[line..start].trim().is_empty() && self.source[..end].ends_with(';');
         if !is_statement || !self.source[end..].starts_with('\n') {

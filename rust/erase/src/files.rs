@@ -9,8 +9,8 @@ use std::process::{Command, Stdio};
 use crate::erase::{Source, Tally, erase, line_of};
 use crate::pages::laws;
 use crate::rules::{
-    ADDED, AGAIN, BODIES, BY_HAND, BY_STD, CONSTANT, CRATES, DEFINITIONS, FATES, INSIDE, INVARIANTS, KNOWN, LEFT_OUT,
-    MORE, ORDER, PROVED, REPLACED, SHOWN, TESTED, WIDER,
+    ADDED, BODIES, BY_HAND, BY_STD, CONSTANT, CRATES, FATES, KNOWN, LEFT_OUT, MORE, ONCE, ORDER, PROVED, REPLACED,
+    SHOWN, TESTED, TWINS, WIDER,
 };
 
 /// Each file of the Rust crate that is made, by its path in `src`.
@@ -30,11 +30,6 @@ pub fn made(crates: &Path) -> Result<(Made, Tally), String> {
 /// Makes all files by what is known of the contracts.
 fn read_all(crates: &Path, mut tally: Tally) -> Result<(Made, Tally), String> {
     let mut made = Made::new();
-    for (file, name) in DEFINITIONS {
-        let text = read(&crates.join(file))?;
-        let record = text.split("\n\n").find_map(|part| Some(&part[part.find(&format!("pub record {name} "))?..]));
-        tally.contracts.define(name, record.ok_or(format!("crates/{file}: the record `{name}` is not there"))?);
-    }
     for krate in CRATES {
         let mut left = sources(&crates.join(krate).join("src"))?;
         let mut waiting = vec!["lib".to_string()];
@@ -75,7 +70,6 @@ pub fn all_used(tally: &Tally) -> Result<(), String> {
     let names = names.chain(REPLACED.iter().map(|rule| format!("line {}", rule.from)));
     let names = names.chain(BY_STD.iter().map(|rule| format!("by std {}", rule.file)));
     let names = names.chain(KNOWN.iter().map(|(call, clause)| format!("known {call} {clause}")));
-    let names = names.chain(AGAIN.iter().map(|rule| format!("again {} {}", rule.call, rule.before)));
     let names = names.chain(PROVED.iter().map(|(call, _)| format!("proved {call}")));
     let shown = SHOWN.iter().flat_map(|shown| shown.calls);
     let shown = shown.flat_map(|(call, workers)| workers.iter().map(move |worker| format!("shown {call} {worker}")));
@@ -83,10 +77,11 @@ pub fn all_used(tally: &Tally) -> Result<(), String> {
     let names = names.chain(BODIES.iter().map(|rule| format!("body {}", rule.call)));
     let names = names.chain(CONSTANT.iter().map(|call| format!("constant {call}")));
     let names = names.chain(ADDED.iter().map(|rule| format!("added {}", rule.head)));
+    let names = names.chain(ONCE.iter().map(|rule| format!("once {}", rule.file)));
     let names = names.chain(ORDER.iter().map(|rule| format!("order {}", rule.file)));
     let names = names.chain(MORE.iter().map(|rule| format!("more {}", rule.of)));
-    let names = names.chain(INSIDE.iter().map(|rule| format!("inside {}", rule.call)));
-    let names = names.chain(INVARIANTS.iter().map(|call| format!("invariant {call}")));
+    let names = names.chain(TWINS.iter().map(|rule| format!("twin called {}", rule.call)));
+    let names = names.chain(TWINS.iter().map(|rule| format!("twin {}", rule.of)));
     let names = names.chain(TESTED.iter().map(|rule| format!("tests {}", rule.path)));
     let mut names = names.chain(LEFT_OUT.iter().map(|rule| rule.name.to_string()));
     match names.find(|name| !tally.used.contains(name)) {
@@ -119,15 +114,6 @@ fn read(path: &Path) -> Result<String, String> {
 
 fn is_by_hand(path: &str) -> bool {
     BY_HAND.iter().any(|by_hand| path == *by_hand || (by_hand.ends_with('/') && path.starts_with(by_hand)))
-}
-
-/// The file `by_hand.rs` has each of these lines.
-pub fn by_hand_has<'a>(lines: impl IntoIterator<Item = &'a String>, target: &Path) -> Result<(), String> {
-    let text = read(&target.join("by_hand.rs"))?;
-    match lines.into_iter().find(|line| !text.lines().any(|found| found.trim() == *line)) {
-        Some(line) => Err(format!("rust/arraystring/src/by_hand.rs does not have the line `{line}`")),
-        None => Ok(()),
-    }
 }
 
 /// Writes the files, and takes out those that are no longer made.

@@ -50,7 +50,6 @@ fn run(root: &std::path::Path, is_check: bool) -> Result<(), String> {
     let (mut made, tally) = files::made(&root.join("crates"))?;
     let is_formatted = files::format(&mut made, &root.join("rust"))?;
     let target = root.join("rust/arraystring/src");
-    files::by_hand_has(&tally.by_hand, &target)?;
     if is_check {
         files::compare(&made, &target, is_formatted)?;
     } else {

@@ -434,14 +434,12 @@ pub const GIVEN_UP: &[&str] = &[
     "FindsChar",
 ];
 
-/// The functions that give up a clause, or call one that does, and in which what is proved is a fact all the same, with the
-/// reason. Any other such function keeps the tests of its accesses.
+/// The functions that give up a clause, or call one that does, and whose accesses are within all the same, with the reason. Any
+/// other such function keeps the tests of its accesses.
 pub const PROVED: &[(&str, &str)] = &[
     ("utf8::truncate_str_counted", "`last_boundary` returns a boundary, whatever was counted"),
     ("remove::retain_at", "where it reads follows from `held` and `text`, and not from what the closure may be asked"),
     ("ArrayString::drop_leading_ascii", "its loop tests the index, whatever the closure answers"),
-    ("ArrayString::put_char", "where it writes follows from the text; the move before it only counts"),
-    ("ArrayString::compact_and_insert", "where it writes follows from the text; the move before it only counts"),
     ("Drain::next_back", "where it reads follows from the invariant, before anything is counted"),
 ];
 
@@ -519,63 +517,21 @@ pub const WRITES: &[&str] = &["make_ascii_uppercase", "make_ascii_lowercase"];
 pub const PRIVATE: &str =
     "Each clause `requires` of the contract must hold, but for those on counts, on iterators and on closures.";
 
-/// The clauses that stand at the start of a body as known, by their function and their name, if they have one. They are few,
-/// since each costs the compiler time and some cost speed. Without any one of them `rust/no_panic` does not link, or
-/// `rust/bench/run` tells of more instructions or of more bytes of code.
-pub const KNOWN: &[(&str, &str)] = &[
-    ("moves::move_run", "target"),
-    ("moves::move_short_run", "source"),
-    ("moves::move_ends", "target"),
-    ("moves::move_pairs", "source"),
-    ("moves::write_short_run", "room"),
-    ("moves::write_long_run", "room"),
-    ("moves::write_any_run", ""),
-    ("moves::bytes_of", ""),
-    ("moves::put_bytes", ""),
-    ("remove::retain_at", "held"),
-    ("ascii::uppercase_bytes", "within"),
-    ("ascii::lowercase_bytes", "within"),
-];
+/// The clauses that stand at the start of a body as known, by their function and their name, if they have one. An access needs
+/// none, since it has no test. These are for cells of rust/bench/cells.md at 255: without them `try_insert`, `try_insert_str`,
+/// `replace_range` and `remove` in the middle take some twenty instructions more.
+pub const KNOWN: &[(&str, &str)] = &[("moves::move_ends", "target"), ("moves::move_pairs", "source")];
 
-/// What is known once more in the middle of a body, where the compiler knows which branch was taken.
-pub struct Again {
-    pub call: &'static str,
-    /// It stands before each line of the body that begins with these words.
-    pub before: &'static str,
-    pub clause: &'static str,
-    pub why: Why,
+/// A file whose functions rustc need not inline, though their sources always do.
+pub struct Once {
+    pub file: &'static str,
+    /// Functions of it that are inlined all the same.
+    pub but: &'static [&'static str],
 }
 
-/// Why something is known there.
-pub enum Why {
-    /// The function requires the clause, and what it names is not changed in the body.
-    Requires,
-    /// A callee ensures the clause, and this is the name of its result.
-    Ensures(&'static str, &'static str),
-}
-
-pub const AGAIN: &[Again] = &[
-    // Not in the branch of ASCII: the room that a caller has tested is enough there, and loops get slower by the clause.
-    Again { call: "utf8::encode", before: "all[at..", clause: "", why: Why::Requires },
-    Again {
-        call: "utf8::truncate_str_counted",
-        before: "&text[..end]",
-        clause: "boundary",
-        why: Why::Ensures("utf8::last_boundary", "end"),
-    },
-    Again {
-        call: "ArrayString::write_prefix",
-        before: "for item in",
-        clause: "within",
-        why: Why::Ensures("utf16::write_ascii", "run"),
-    },
-    Again {
-        call: "ArrayString::from_utf16_lossy",
-        before: "for item in",
-        clause: "within",
-        why: Why::Ensures("utf16::write_ascii", "run"),
-    },
-];
+/// Workers that are large stand once where code is made small, which takes a quarter of its bytes there. The cells of
+/// rust/bench/cells.md are as many; without `always` elsewhere, too, they are more.
+pub const ONCE: &[Once] = &[Once { file: "arraystring_base/src/moves.rt", but: &["move_run"] }];
 
 /// A function whose body is another one in the Rust crate.
 pub struct Body {
@@ -626,59 +582,29 @@ pub struct Added {
     pub why: &'static str,
 }
 
-pub const ADDED: &[Added] = &[
-    Added {
-        file: "arraystring_core/src/drain/traits.rt",
-        head: "impl<const N: usize> Iterator for Drain<N>",
-        lines: &[
-            "/// The bytes that are left bound the characters, which take one to four each.",
-            "#[inline]",
-            "fn size_hint(&self) -> (usize, Option<usize>) {",
-            "    let len = self.as_str().len();",
-            "    (len.div_ceil(4), Some(len))",
-            "}",
-        ],
-        why: "callers that make room ask for it",
-    },
-    Added {
-        file: "arraystring_base/src/steps.rt",
-        head: "impl Steps",
-        lines: &[
-            "/// Counts a look.",
-            "#[inline]",
-            "pub(crate) fn count_look(&mut self) {",
-            "    self.looked = self.looked.saturating_add(1);",
-            "}",
-        ],
-        why: "`look` and the `look` of bodies count by it",
-    },
-];
+pub const ADDED: &[Added] = &[Added {
+    file: "arraystring_core/src/drain/traits.rt",
+    head: "impl<const N: usize> Iterator for Drain<N>",
+    lines: &[
+        "/// The bytes that are left bound the characters, which take one to four each.",
+        "#[inline]",
+        "fn size_hint(&self) -> (usize, Option<usize>) {",
+        "    let len = self.as_str().len();",
+        "    (len.div_ceil(4), Some(len))",
+        "}",
+    ],
+    why: "callers that make room ask for it",
+}];
 
-/// Calls of what is public, safe and panics, which bodies make by a function of `by_hand` that knows a clause instead, by the
-/// line that comes of that clause.
-pub struct Inside {
+/// What is public, safe and panics in Rust, and has a twin beside it, which is `unsafe` and what bodies call: they prove the clause.
+pub struct Twin {
     pub of: &'static str,
     pub call: &'static str,
-    pub by_hand: &'static str,
+    pub twin: &'static str,
     pub clause: &'static str,
 }
 
-pub const INSIDE: &[Inside] =
-    &[Inside { of: "steps::look", call: "look", by_hand: "crate::by_hand::look", clause: "in_bounds" }];
-
-/// Calls in which the first field of the invariant of their type stands as known: what is stored ends within the capacity.
-pub const INVARIANTS: &[&str] = &[
-    "ArrayString::as_str",
-    "ArrayString::as_bytes",
-    "ArrayString::compact_and_insert",
-    "Drain::as_str",
-    "Drain::next",
-    "Drain::next_back",
-];
-
-/// The records by which invariants are read, with their file in the folder of crates.
-pub const DEFINITIONS: &[(&str, &str)] =
-    &[("arraystring_core/specs/Layout.antt", "IsStored"), ("arraystring_core/specs/Layout.antt", "IsDrained")];
+pub const TWINS: &[Twin] = &[Twin { of: "steps::look", call: "look", twin: "look_unchecked", clause: "in_bounds" }];
 
 /// A file in which std does what a function of the source does.
 pub struct ByStd {
@@ -717,7 +643,7 @@ pub const BY_STD: &[ByStd] = &[
     ByStd {
         file: "arraystring_core/src/fast/well_formed.rt",
         module: "The test of UTF-8, which std makes here.",
-        imports: "use crate::arraystring_base::error::Utf8;\nuse core::str;",
+        imports: "use crate::arraystring_base::error::Utf8;\nuse crate::by_hand::str;",
         function: "read_utf8",
         docs: "Returns the text whose UTF-8 is `given`, or `Err(Utf8)` if `given` is not well-formed.",
         body: "let (blocks, last) = (given.len() / 32 * 32, given.len().saturating_sub(32));\n    if get_unchecked!(given, ..blocks).is_ascii() && get_unchecked!(given, last..).is_ascii() {\n        // SAFETY: the blocks of 32 bytes in front and the last 32 bytes are all of them, and ASCII is UTF-8.\n        return Ok(unsafe { str::from_utf8_unchecked(given) });\n    }\n    str::from_utf8(given).map_err(Utf8::from)",
@@ -854,8 +780,8 @@ pub const REPLACED: &[Replaced] = &[
     Replaced {
         file: "arraystring_base/src/utf8.rt",
         from: "use crate::steps::{Steps, look};",
-        to: "use crate::steps::Steps;",
-        why: "bodies look by hand",
+        to: "use crate::steps::{Steps, look_unchecked};",
+        why: "bodies call its twin",
     },
     Replaced {
         file: "arraystring/src/lib.rt",
@@ -872,8 +798,8 @@ pub const REPLACED: &[Replaced] = &[
     Replaced {
         file: "arraystring_base/src/steps.rt",
         from: "steps.looked += 1;",
-        to: "steps.count_look();",
-        why: "no precondition bounds the count, and the `look` of bodies counts so, too",
+        to: "steps.looked = steps.looked.saturating_add(1);",
+        why: "no precondition bounds the count",
     },
     Replaced {
         file: "arraystring_core/src/array_string/range.rt",

@@ -41,7 +41,7 @@ use crate::by_hand::simd::Simd;
 /// [How to read a contract](crate::contracts)
 ///
 /// </details>
-#[inline(always)]
+#[inline]
 pub unsafe fn shift<const N: usize>(array: &mut [u8; N], from: usize, to: usize, len: usize, steps: &mut Steps) {
     if from != to {
         // SAFETY: the proof of `shift` in crates/arraystring_base/src/moves.rt shows `source` and `target` of `move_run`.
@@ -70,7 +70,6 @@ pub unsafe fn shift<const N: usize>(array: &mut [u8; N], from: usize, to: usize,
 /// </details>
 #[inline(always)]
 pub unsafe fn move_run<const N: usize>(array: &mut [u8; N], from: usize, to: usize, len: usize) {
-    known!(target: to + len <= N && to <= to + len);
     if N > 64 && len > 64 {
         // SAFETY: the proof of `move_run` in crates/arraystring_base/src/moves.rt shows `source`, `target` and `long` of `move_much`.
         unsafe { move_much(array, from, to, len) };
@@ -101,9 +100,8 @@ pub unsafe fn move_run<const N: usize>(array: &mut [u8; N], from: usize, to: usi
 /// [How to read a contract](crate::contracts)
 ///
 /// </details>
-#[inline(always)]
+#[inline]
 unsafe fn move_short_run<const N: usize>(array: &mut [u8; N], from: usize, to: usize, len: usize) {
-    known!(source: from + len <= N && from <= from + len);
     if len >= 4 {
         if len >= 8 {
             // SAFETY: the proof of `move_short_run` in crates/arraystring_base/src/moves.rt shows `source`, `target`, `least` and `most` of `move_ends`.
@@ -140,7 +138,7 @@ unsafe fn move_short_run<const N: usize>(array: &mut [u8; N], from: usize, to: u
 /// [How to read a contract](crate::contracts)
 ///
 /// </details>
-#[inline(always)]
+#[inline]
 unsafe fn move_long_run<const N: usize>(array: &mut [u8; N], from: usize, to: usize, len: usize) {
     if N > 32 && len > 32 {
         // SAFETY: the proof of `move_long_run` in crates/arraystring_base/src/moves.rt shows `source`, `target`, `least` and `most` of `move_ends`.
@@ -169,7 +167,7 @@ unsafe fn move_long_run<const N: usize>(array: &mut [u8; N], from: usize, to: us
 /// [How to read a contract](crate::contracts)
 ///
 /// </details>
-#[inline(always)]
+#[inline]
 unsafe fn move_much<const N: usize>(array: &mut [u8; N], from: usize, to: usize, len: usize) {
     if len <= 128 {
         // SAFETY: the proof of `move_much` in crates/arraystring_base/src/moves.rt shows `source`, `target`, `least` and `most` of `move_ends`.
@@ -226,7 +224,7 @@ unsafe fn move_any_run<const N: usize>(array: &mut [u8; N], from: usize, to: usi
 /// [How to read a contract](crate::contracts)
 ///
 /// </details>
-#[inline(always)]
+#[inline]
 unsafe fn move_ends<const N: usize, const K: usize>(array: &mut [u8; N], from: usize, to: usize, len: usize) {
     known!(target: to + len <= N && to <= to + len);
     let rest = len - K;
@@ -260,7 +258,7 @@ unsafe fn move_ends<const N: usize, const K: usize>(array: &mut [u8; N], from: u
 /// [How to read a contract](crate::contracts)
 ///
 /// </details>
-#[inline(always)]
+#[inline]
 unsafe fn move_pairs<const N: usize, const K: usize>(array: &mut [u8; N], from: usize, to: usize, len: usize) {
     known!(source: from + len <= N && from <= from + len);
     let rest = len - (K + K);
@@ -296,7 +294,7 @@ unsafe fn move_pairs<const N: usize, const K: usize>(array: &mut [u8; N], from: 
 /// [How to read a contract](crate::contracts)
 ///
 /// </details>
-#[inline(always)]
+#[inline]
 pub unsafe fn write_over<const N: usize>(array: &mut [u8; N], at: usize, given: &[u8]) {
     if given.len() >= 16 {
         // SAFETY: the proof of `write_over` in crates/arraystring_base/src/moves.rt shows `room` and `least` of `write_long_run`.
@@ -324,9 +322,8 @@ pub unsafe fn write_over<const N: usize>(array: &mut [u8; N], at: usize, given: 
 /// [How to read a contract](crate::contracts)
 ///
 /// </details>
-#[inline(always)]
+#[inline]
 unsafe fn write_short_run<const N: usize>(array: &mut [u8; N], at: usize, given: &[u8]) {
-    known!(room: at + given.len() <= N && at <= at + given.len());
     let len = given.len();
     if len >= 4 {
         if len >= 8 {
@@ -362,9 +359,8 @@ unsafe fn write_short_run<const N: usize>(array: &mut [u8; N], at: usize, given:
 /// [How to read a contract](crate::contracts)
 ///
 /// </details>
-#[inline(always)]
+#[inline]
 unsafe fn write_long_run<const N: usize>(array: &mut [u8; N], at: usize, given: &[u8]) {
-    known!(room: at + given.len() <= N && at <= at + given.len());
     let len = given.len();
     if N > 64 && len > 64 {
         // SAFETY: the proof of `write_long_run` in crates/arraystring_base/src/moves.rt shows the precondition of `write_any_run`.
@@ -396,7 +392,6 @@ unsafe fn write_long_run<const N: usize>(array: &mut [u8; N], at: usize, given: 
 /// </details>
 #[inline(never)]
 unsafe fn write_any_run<const N: usize>(array: &mut [u8; N], at: usize, given: &[u8]) {
-    known!(precondition: at + given.len() <= N && at <= at + given.len());
     let all = &mut array[..];
     copy_from_slice_unchecked!(all, at..at + given.len(), given);
 }
@@ -419,7 +414,7 @@ unsafe fn write_any_run<const N: usize>(array: &mut [u8; N], at: usize, given: &
 /// [How to read a contract](crate::contracts)
 ///
 /// </details>
-#[inline(always)]
+#[inline]
 unsafe fn copy_ends<const N: usize, const K: usize>(array: &mut [u8; N], at: usize, given: &[u8]) {
     let rest = given.len() - K;
     // SAFETY: the proof of `copy_ends` in crates/arraystring_base/src/moves.rt shows the precondition of `bytes_of`.
@@ -448,9 +443,8 @@ unsafe fn copy_ends<const N: usize, const K: usize>(array: &mut [u8; N], at: usi
 /// [How to read a contract](crate::contracts)
 ///
 /// </details>
-#[inline(always)]
+#[inline]
 unsafe fn bytes_of<const K: usize>(given: &[u8], at: usize) -> Simd<u8, K> {
-    known!(precondition: at + K <= given.len() && at <= at + K);
     Simd::<u8, K>::from_slice(get_unchecked!(given, at..at + K))
 }
 
@@ -470,9 +464,8 @@ unsafe fn bytes_of<const K: usize>(given: &[u8], at: usize) -> Simd<u8, K> {
 /// [How to read a contract](crate::contracts)
 ///
 /// </details>
-#[inline(always)]
+#[inline]
 unsafe fn put_bytes<const N: usize, const K: usize>(array: &mut [u8; N], at: usize, bytes: Simd<u8, K>) {
-    known!(precondition: at + K <= N && at <= at + K);
     let all = &mut array[..];
     bytes.copy_to_slice(get_unchecked_mut!(all, at..at + K));
 }
@@ -493,7 +486,7 @@ unsafe fn put_bytes<const N: usize, const K: usize>(array: &mut [u8; N], at: usi
 /// [How to read a contract](crate::contracts)
 ///
 /// </details>
-#[inline(always)]
+#[inline]
 unsafe fn put_pair<const N: usize, const K: usize>(
     array: &mut [u8; N],
     at: usize,

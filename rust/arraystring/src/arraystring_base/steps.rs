@@ -120,12 +120,6 @@ impl Steps {
     pub(crate) fn count_moves(&mut self, len: usize) {
         self.moved = self.moved.saturating_add(len as u64);
     }
-
-    /// Counts a look.
-    #[inline]
-    pub(crate) fn count_look(&mut self) {
-        self.looked = self.looked.saturating_add(1);
-    }
 }
 
 /// Returns the byte at the index `at`, counted as one look.
@@ -160,8 +154,19 @@ impl Steps {
 /// </details>
 #[inline]
 pub fn look(bytes: &[u8], at: usize, steps: &mut Steps) -> u8 {
-    steps.count_look();
+    steps.looked = steps.looked.saturating_add(1);
     bytes[at]
+}
+
+/// `look` where bodies call it, without a test.
+///
+/// # Safety
+///
+/// The clause `in_bounds` of `look` must hold.
+#[inline(always)]
+pub(crate) unsafe fn look_unchecked(bytes: &[u8], at: usize, steps: &mut Steps) -> u8 {
+    steps.looked = steps.looked.saturating_add(1);
+    *get_unchecked!(bytes, at)
 }
 
 #[cfg(test)]

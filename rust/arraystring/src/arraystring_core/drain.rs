@@ -1,7 +1,7 @@
 // Made from crates/arraystring_core/src/drain.rt by rust/erase. A change goes there.
 //! `Drain`: the characters that were removed from a string, from both ends. `traits` has its impls of traits.
 
-use core::str;
+use crate::by_hand::str;
 
 mod traits;
 
@@ -81,8 +81,6 @@ impl<const N: usize> Drain<N> {
     /// </details>
     #[inline]
     pub fn as_str(&self) -> &str {
-        known!(invariant: self.start as usize + self.size as usize <= crate::ArrayString::<N>::capacity() as usize);
-        known!(proved: self.front <= self.size);
         let all = &self.array[..];
         let start = self.start as usize;
         let (front, end) = (start + self.front as usize, start + self.size as usize);

@@ -128,7 +128,6 @@ impl<const N: usize> ArrayString<N> {
 /// </details>
 #[inline]
 unsafe fn uppercase_bytes<const N: usize>(array: &mut [u8; N], start: usize, end: usize) {
-    known!(within: end <= N);
     let all = &mut array[..];
     get_unchecked_mut!(all, start..end).make_ascii_uppercase();
 }
@@ -152,7 +151,6 @@ unsafe fn uppercase_bytes<const N: usize>(array: &mut [u8; N], start: usize, end
 /// </details>
 #[inline]
 unsafe fn lowercase_bytes<const N: usize>(array: &mut [u8; N], start: usize, end: usize) {
-    known!(within: end <= N);
     let all = &mut array[..];
     get_unchecked_mut!(all, start..end).make_ascii_lowercase();
 }

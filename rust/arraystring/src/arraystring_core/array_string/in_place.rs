@@ -113,7 +113,6 @@ impl<const N: usize> ArrayString<N> {
         self.size = (at + (len + (text.size - at))) as u8;
         // SAFETY: the proof of `put_char` in crates/arraystring_core/src/array_string/in_place.rt shows `order`, `within`, `held` and `room` of `open_gap`.
         unsafe { open_gap(&mut self.array, text, at, at, len, &mut Steps::new()) };
-        known!(proved: text.offset + at < N);
         // SAFETY: the proof of `put_char` in crates/arraystring_core/src/array_string/in_place.rt shows the precondition of `encode`.
         unsafe { encode(ch, &mut self.array, text.offset + at) };
     }
@@ -138,14 +137,12 @@ impl<const N: usize> ArrayString<N> {
     #[cold]
     #[inline(never)]
     pub(super) unsafe fn compact_and_insert(&mut self, at: usize, ch: char) {
-        known!(invariant: self.start as usize + self.size as usize <= crate::ArrayString::<N>::capacity() as usize);
         let text = Span::new(self.start, self.size);
         let len = ch.len_utf8();
         self.start = 0;
         self.size = (at + (len + (text.size - at))) as u8;
         // SAFETY: the proof of `compact_and_insert` in crates/arraystring_core/src/array_string/in_place.rt shows `order`, `within`, `held` and `room` of `compact_and_open_gap`.
         unsafe { compact_and_open_gap(&mut self.array, text, at, at, len, &mut Steps::new()) };
-        known!(proved: at < N);
         // SAFETY: the proof of `compact_and_insert` in crates/arraystring_core/src/array_string/in_place.rt shows the precondition of `encode`.
         unsafe { encode(ch, &mut self.array, at) };
     }

@@ -538,7 +538,6 @@ unsafe fn make_room<const N: usize>(array: &mut [u8; N], start: &mut u8, size: u
 unsafe fn compact_and_append<const N: usize>(array: &mut [u8; N], start: usize, size: usize, ch: char) -> usize {
     // SAFETY: the proof of `compact_and_append` in crates/arraystring_core/src/array_string/push.rt shows `source` and `target` of `move_run`.
     unsafe { move_run(array, start, 0, size) };
-    known!(proved: size < N);
     // SAFETY: the proof of `compact_and_append` in crates/arraystring_core/src/array_string/push.rt shows the precondition of `encode`.
     size + unsafe { encode(ch, array, size) }
 }
@@ -615,7 +614,6 @@ impl<const N: usize> ArrayString<N> {
         self.start = 0;
         // SAFETY: the proof of `compact_and_push` in crates/arraystring_core/src/array_string/push.rt shows `source` and `target` of `move_run`.
         unsafe { move_run(&mut self.array, start, 0, size) };
-        known!(proved: size < N);
         // SAFETY: the proof of `compact_and_push` in crates/arraystring_core/src/array_string/push.rt shows the precondition of `encode`.
         let len = unsafe { encode(ch, &mut self.array, size) };
         self.size = (size + len) as u8;

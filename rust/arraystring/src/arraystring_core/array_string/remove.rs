@@ -5,7 +5,7 @@
 use crate::arraystring_base::error::{Error, Utf8};
 use crate::arraystring_base::utils::{Steps, last_char, shift};
 use crate::arraystring_core::ArrayString;
-use core::str;
+use crate::by_hand::str;
 
 impl<const N: usize> ArrayString<N> {
     /// Shortens the text to its first `size` bytes. Nothing changes if it has no more.
@@ -408,12 +408,10 @@ unsafe fn retain_at<const N: usize, F: FnMut(char) -> bool>(
     size: usize,
     mut f: F,
 ) {
-    known!(held: offset + size <= N && offset <= offset + size);
     // From `read` on no byte was moved.
     *kept = 0;
     let mut read = 0;
     while read < size {
-        known!(proved: offset + read < N);
         // A byte of ASCII is its character; others take the decoder.
         let first = *get_unchecked!(array, offset + read);
         if first < 0x80 {

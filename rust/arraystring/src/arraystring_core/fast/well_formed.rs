@@ -2,7 +2,7 @@
 //! The test of UTF-8, which std makes here.
 
 use crate::arraystring_base::error::Utf8;
-use core::str;
+use crate::by_hand::str;
 
 /// Returns the text whose UTF-8 is `given`, or `Err(Utf8)` if `given` is not well-formed.
 ///
