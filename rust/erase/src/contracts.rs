@@ -17,6 +17,11 @@ impl Clause {
         if self.name.is_empty() { "the precondition".to_string() } else { format!("`{}`", self.name) }
     }
 
+    /// The clause as documentation quotes it.
+    pub fn shown(&self) -> String {
+        format!("`{}`", self.text.split_whitespace().collect::<Vec<_>>().join(" "))
+    }
+
     /// Whether Rust does without the clause, so that nothing may rest on it.
     pub fn is_given_up(&self) -> bool {
         GIVEN_UP.iter().any(|words| self.text.contains(words))

@@ -63,8 +63,8 @@ fn target(krate: &str, module: &str) -> String {
     }
 }
 
-/// Each rule has matched.
-pub fn all_used(tally: &Tally) -> Result<(), String> {
+/// The entries of all lists of rules, each of which has to match.
+pub fn entries() -> Vec<String> {
     let names = FATES.iter().map(|(name, _)| name.to_string());
     let names = names.chain(WIDER.iter().map(|rule| format!("wider {}", rule.call)));
     let names = names.chain(REPLACED.iter().map(|rule| format!("line {}", rule.from)));
@@ -83,8 +83,12 @@ pub fn all_used(tally: &Tally) -> Result<(), String> {
     let names = names.chain(TWINS.iter().map(|rule| format!("twin called {}", rule.call)));
     let names = names.chain(TWINS.iter().map(|rule| format!("twin {}", rule.of)));
     let names = names.chain(TESTED.iter().map(|rule| format!("tests {}", rule.path)));
-    let mut names = names.chain(LEFT_OUT.iter().map(|rule| rule.name.to_string()));
-    match names.find(|name| !tally.used.contains(name)) {
+    names.chain(LEFT_OUT.iter().map(|rule| rule.name.to_string())).collect()
+}
+
+/// Each rule has matched.
+pub fn all_used(tally: &Tally) -> Result<(), String> {
+    match entries().iter().find(|name| !tally.used.contains(*name)) {
         Some(name) => Err(format!("rust/erase/src/rules.rs: nothing in the sources matches the entry `{name}`")),
         None => Ok(()),
     }

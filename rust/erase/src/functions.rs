@@ -9,9 +9,7 @@ use crate::edits::Edits;
 use crate::erase::Source;
 use crate::items::{File, Inside, Lead};
 use crate::known::test_of;
-use crate::rules::{
-    BEHIND, BODIES, CONSTANT, FATES, Fate, KNOWN, LEFT_OUT, ONCE, Once, PRIVATE, PROVED, TWINS, WALK, WIDER,
-};
+use crate::rules::{BEHIND, BODIES, CONSTANT, FATES, Fate, KNOWN, LEFT_OUT, ONCE, Once, PROVED, TWINS, WALK, WIDER};
 use crate::sections::{example, section};
 
 /// A function as it was read.
@@ -28,6 +26,21 @@ struct Function {
     /// Behind its last bracket.
     end: usize,
     tokens: Vec<Token>,
+}
+
+impl Function {
+    /// The preconditions on which something rests in Rust.
+    fn kept(&self) -> impl Iterator<Item = &Clause> {
+        self.preconditions.iter().filter(|clause| !clause.is_given_up())
+    }
+}
+
+/// What stands under `# Safety` of a private function that keeps these clauses.
+fn safety(kept: &[String]) -> String {
+    match kept {
+        [only] => format!("The contract requires {only}."),
+        _ => format!("The contract requires each of these: {}.", kept.join(", ")),
+    }
 }
 
 /// The clauses of a function: where they are, and its preconditions.
@@ -177,7 +190,8 @@ impl<'a> File<'a, '_> {
                 if rests {
                     self.tally.count("private functions that are `unsafe` in Rust");
                     self.edits.replace(function.head.start..function.head.start + "fn".len(), "unsafe fn");
-                    self.in_its_place(lead, section(&self.indent(lead.docs_end), "Safety", PRIVATE));
+                    let words = safety(&function.kept().map(Clause::shown).collect::<Vec<_>>());
+                    self.in_its_place(lead, section(&self.indent(lead.docs_end), "Safety", &words));
                 }
                 return match lead.precondition {
                     Some(_) if !rests => Err(Fault::new(lead.start, format!("`{call}` has no precondition in Rust"))),
@@ -310,10 +324,15 @@ impl<'a> File<'a, '_> {
         let indent = self.indent(lead.docs_end);
         let put = match fate {
             Fate::Unsafe(words, lines) => {
+                let kept = function.kept().count();
+                if words.len() != kept {
+                    let why = format!("`{}` keeps {kept} clauses, and {} sentences say so", function.call, words.len());
+                    return Err(Fault::new(function.head.start, why));
+                }
                 self.edits.replace(function.head.start..function.head.start + "fn".len(), "unsafe fn");
                 self.tally.count("calls that are `unsafe` in Rust");
                 let more = if lines.is_empty() { String::new() } else { example(&indent, lines) };
-                section(&indent, "Safety", words) + &more
+                section(&indent, "Safety", &words.join(" ")) + &more
             }
             Fate::Panics(words, line) => {
                 if let Some(line) = line {

@@ -62,8 +62,9 @@ pub struct LeftOut {
 
 /// What becomes of a public call that has a precondition.
 pub enum Fate {
-    /// It is an `unsafe fn`, with these words under `# Safety`, and an example if it is public in Rust too.
-    Unsafe(&'static str, &'static [&'static str]),
+    /// It is an `unsafe fn`, with a sentence under `# Safety` for each clause that is kept, and an example if it is public in Rust
+    /// too.
+    Unsafe(&'static [&'static str], &'static [&'static str]),
     /// It panics, with these words under `# Panics`; the second is a line that is put behind `plain_ends` to do so.
     Panics(&'static str, Option<&'static str>),
     /// It is safe and defined without the precondition, as these words under `# In Rust` say.
@@ -72,11 +73,12 @@ pub enum Fate {
 
 use Fate::{Panics, Safe, Unsafe};
 
-const MUST_FIT: &str = "The text after the call must fit into the capacity.";
-const MUST_BE_A_PLACE: &str =
-    "The index must be a boundary of the text, and the text after the call must fit into the capacity.";
-const MUST_BE_TEXT: &str = "The bytes must be well-formed UTF-8, and must fit into the capacity.";
-const MUST_LIE_IN_ARRAY: &str = "What is written must lie in the array.";
+const MUST_FIT: &[&str] = &["The text after the call must fit into the capacity."];
+const MUST_BE_A_PLACE: &[&str] =
+    &["The index must be a boundary of the text.", "The text after the call must fit into the capacity."];
+const MUST_BE_TEXT: &[&str] = &["The bytes must be well-formed UTF-8.", "They must fit into the capacity."];
+const MUST_LIE_IN_ARRAY: &[&str] = &["What is written must lie in the array."];
+const BOTH_RUNS: &[&str] = &["The run that is moved must lie in the array.", "So must the run that is written over."];
 const ENDS: &str = "An iterator that never ends, or that panics, is allowed. The call stops at the first item that does not fit, \
                     so only empty pieces without an end keep it. What was taken before a panic is a text.";
 const COUNTS: &str = "A count that would pass 2^64 - 1 stays there.";
@@ -235,11 +237,11 @@ pub const FATES: &[(&str, Fate)] = &[
         ),
     ),
     ("moves::write_over", Unsafe(MUST_LIE_IN_ARRAY, &[])),
-    ("moves::move_run", Unsafe("Both runs must lie in the array.", &[])),
+    ("moves::move_run", Unsafe(BOTH_RUNS, &[])),
     (
         "moves::shift",
         Unsafe(
-            "Both runs must lie in the array.",
+            BOTH_RUNS,
             &[
                 "let (mut array, mut steps) = (*b\"abcd\", Steps::new());",
                 "// SAFETY: the bytes 0..3 and 1..4 lie in the array.",
@@ -512,10 +514,6 @@ pub const SHOWN: &[Shown] = &[
 
 /// The calls on a part that write into it, beside `copy_from_slice`.
 pub const WRITES: &[&str] = &["make_ascii_uppercase", "make_ascii_lowercase"];
-
-/// What stands under `# Safety` of a private function.
-pub const PRIVATE: &str =
-    "Each clause `requires` of the contract must hold, but for those on counts, on iterators and on closures.";
 
 /// The clauses that stand at the start of a body as known, by their function and their name, if they have one. An access needs
 /// none, since it has no test. These are for cells of rust/bench/cells.md at 255: without them `try_insert`, `try_insert_str`,

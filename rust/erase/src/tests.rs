@@ -58,7 +58,7 @@ use core::fmt;
 ///
 /// # Safety
 ///
-/// Each clause `requires` of the contract must hold, but for those on counts, on iterators and on closures.
+/// The contract requires `n < 255`.
 ///
 /// <details><summary>Contract</summary>
 ///

@@ -13,7 +13,7 @@ use crate::by_hand::simd::Simd;
 ///
 /// # Safety
 ///
-/// Both runs must lie in the array.
+/// The run that is moved must lie in the array. So must the run that is written over.
 ///
 /// # Examples
 ///
@@ -55,7 +55,7 @@ pub unsafe fn shift<const N: usize>(array: &mut [u8; N], from: usize, to: usize,
 ///
 /// # Safety
 ///
-/// Both runs must lie in the array.
+/// The run that is moved must lie in the array. So must the run that is written over.
 ///
 /// <details><summary>Contract</summary>
 ///
@@ -86,7 +86,7 @@ pub unsafe fn move_run<const N: usize>(array: &mut [u8; N], from: usize, to: usi
 ///
 /// # Safety
 ///
-/// Each clause `requires` of the contract must hold, but for those on counts, on iterators and on closures.
+/// The contract requires each of these: `from + len ≤ N`, `to + len ≤ N`, `len < 16`.
 ///
 /// <details><summary>Contract</summary>
 ///
@@ -123,7 +123,7 @@ unsafe fn move_short_run<const N: usize>(array: &mut [u8; N], from: usize, to: u
 ///
 /// # Safety
 ///
-/// Each clause `requires` of the contract must hold, but for those on counts, on iterators and on closures.
+/// The contract requires each of these: `from + len ≤ N`, `to + len ≤ N`, `16 ≤ len`, `len ≤ 64`.
 ///
 /// <details><summary>Contract</summary>
 ///
@@ -153,7 +153,7 @@ unsafe fn move_long_run<const N: usize>(array: &mut [u8; N], from: usize, to: us
 ///
 /// # Safety
 ///
-/// Each clause `requires` of the contract must hold, but for those on counts, on iterators and on closures.
+/// The contract requires each of these: `from + len ≤ N`, `to + len ≤ N`, `64 < len`.
 ///
 /// <details><summary>Contract</summary>
 ///
@@ -185,7 +185,7 @@ unsafe fn move_much<const N: usize>(array: &mut [u8; N], from: usize, to: usize,
 ///
 /// # Safety
 ///
-/// Each clause `requires` of the contract must hold, but for those on counts, on iterators and on closures.
+/// The contract requires each of these: `from + len ≤ N`, `to + len ≤ N`.
 ///
 /// <details><summary>Contract</summary>
 ///
@@ -209,7 +209,7 @@ unsafe fn move_any_run<const N: usize>(array: &mut [u8; N], from: usize, to: usi
 ///
 /// # Safety
 ///
-/// Each clause `requires` of the contract must hold, but for those on counts, on iterators and on closures.
+/// The contract requires each of these: `from + len ≤ N`, `to + len ≤ N`, `K ≤ len`, `len - K ≤ K`.
 ///
 /// <details><summary>Contract</summary>
 ///
@@ -243,7 +243,7 @@ unsafe fn move_ends<const N: usize, const K: usize>(array: &mut [u8; N], from: u
 ///
 /// # Safety
 ///
-/// Each clause `requires` of the contract must hold, but for those on counts, on iterators and on closures.
+/// The contract requires each of these: `from + len ≤ N`, `to + len ≤ N`, `K + K ≤ len`, `len - (K + K) ≤ K + K`.
 ///
 /// <details><summary>Contract</summary>
 ///
@@ -309,7 +309,7 @@ pub unsafe fn write_over<const N: usize>(array: &mut [u8; N], at: usize, given: 
 ///
 /// # Safety
 ///
-/// Each clause `requires` of the contract must hold, but for those on counts, on iterators and on closures.
+/// The contract requires each of these: `at + length given.now ≤ N`, `length given.now < 16`.
 ///
 /// <details><summary>Contract</summary>
 ///
@@ -346,7 +346,7 @@ unsafe fn write_short_run<const N: usize>(array: &mut [u8; N], at: usize, given:
 ///
 /// # Safety
 ///
-/// Each clause `requires` of the contract must hold, but for those on counts, on iterators and on closures.
+/// The contract requires each of these: `at + length given.now ≤ N`, `16 ≤ length given.now`.
 ///
 /// <details><summary>Contract</summary>
 ///
@@ -378,7 +378,7 @@ unsafe fn write_long_run<const N: usize>(array: &mut [u8; N], at: usize, given: 
 ///
 /// # Safety
 ///
-/// Each clause `requires` of the contract must hold, but for those on counts, on iterators and on closures.
+/// The contract requires `at + length given.now ≤ N`.
 ///
 /// <details><summary>Contract</summary>
 ///
@@ -400,7 +400,8 @@ unsafe fn write_any_run<const N: usize>(array: &mut [u8; N], at: usize, given: &
 ///
 /// # Safety
 ///
-/// Each clause `requires` of the contract must hold, but for those on counts, on iterators and on closures.
+/// The contract requires each of these: `at + length given.now ≤ N`, `K ≤ length given.now`, `length given.now - K ≤
+/// K`.
 ///
 /// <details><summary>Contract</summary>
 ///
@@ -431,7 +432,7 @@ unsafe fn copy_ends<const N: usize, const K: usize>(array: &mut [u8; N], at: usi
 ///
 /// # Safety
 ///
-/// Each clause `requires` of the contract must hold, but for those on counts, on iterators and on closures.
+/// The contract requires `at + K ≤ length given.now`.
 ///
 /// <details><summary>Contract</summary>
 ///
@@ -452,7 +453,7 @@ unsafe fn bytes_of<const K: usize>(given: &[u8], at: usize) -> Simd<u8, K> {
 ///
 /// # Safety
 ///
-/// Each clause `requires` of the contract must hold, but for those on counts, on iterators and on closures.
+/// The contract requires `at + K ≤ N`.
 ///
 /// <details><summary>Contract</summary>
 ///
@@ -474,7 +475,7 @@ unsafe fn put_bytes<const N: usize, const K: usize>(array: &mut [u8; N], at: usi
 ///
 /// # Safety
 ///
-/// Each clause `requires` of the contract must hold, but for those on counts, on iterators and on closures.
+/// The contract requires `at + (K + K) ≤ N`.
 ///
 /// <details><summary>Contract</summary>
 ///

@@ -106,7 +106,7 @@ pub fn truncate_str_counted<'a>(text: &'a str, size: u8, steps: &mut Steps) -> &
 ///
 /// # Safety
 ///
-/// Each clause `requires` of the contract must hold, but for those on counts, on iterators and on closures.
+/// The contract requires `limit < length text.now`.
 ///
 /// <details><summary>Contract</summary>
 ///
@@ -192,7 +192,7 @@ pub fn last_char(text: &str, steps: &mut Steps) -> Option<(usize, char)> {
 ///
 /// # Safety
 ///
-/// Each clause `requires` of the contract must hold, but for those on counts, on iterators and on closures.
+/// The contract requires `0 < length text.now`.
 ///
 /// <details><summary>Contract</summary>
 ///

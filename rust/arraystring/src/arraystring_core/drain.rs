@@ -39,7 +39,7 @@ impl<const N: usize> Drain<N> {
     ///
     /// # Safety
     ///
-    /// Each clause `requires` of the contract must hold, but for those on counts, on iterators and on closures.
+    /// The contract requires `IsStored N array start size`.
     ///
     /// <details><summary>Contract</summary>
     ///

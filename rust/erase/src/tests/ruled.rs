@@ -137,7 +137,7 @@ fn a_body_calls_the_twin_of_what_panics() {
 fn what_is_always_inlined_in_a_source_need_not_be_here() {
     let function = |public: &str, name: &str| {
         format!(
-            "/// Moves.\n#[inline(always)]\n{public}fn {name}(at: usize)\n    requires source {{ at < 3 }}\n{{\n    f();\n}}\n\n"
+            "/// Moves.\n#[inline(always)]\n{public}fn {name}(at: usize)\n    requires source {{ at < 3 }}\n    requires target {{ at < 4 }}\n{{\n    f();\n}}\n\n"
         )
     };
     let source = function("pub ", "move_run") + &function("", "move_much");

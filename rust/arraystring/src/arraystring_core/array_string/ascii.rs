@@ -62,7 +62,8 @@ impl<const N: usize> ArrayString<N> {
     ///
     /// # Safety
     ///
-    /// Each clause `requires` of the contract must hold, but for those on counts, on iterators and on closures.
+    /// The contract requires each of these: `start ≤ end`, `IsTrue (boundary self.old.text start)`, `IsTrue (boundary
+    /// self.old.text end)`.
     ///
     /// <details><summary>Contract</summary>
     ///
@@ -87,7 +88,8 @@ impl<const N: usize> ArrayString<N> {
     ///
     /// # Safety
     ///
-    /// Each clause `requires` of the contract must hold, but for those on counts, on iterators and on closures.
+    /// The contract requires each of these: `start ≤ end`, `IsTrue (boundary self.old.text start)`, `IsTrue (boundary
+    /// self.old.text end)`.
     ///
     /// <details><summary>Contract</summary>
     ///
@@ -113,7 +115,7 @@ impl<const N: usize> ArrayString<N> {
 ///
 /// # Safety
 ///
-/// Each clause `requires` of the contract must hold, but for those on counts, on iterators and on closures.
+/// The contract requires each of these: `start ≤ end`, `end ≤ N`.
 ///
 /// <details><summary>Contract</summary>
 ///
@@ -136,7 +138,7 @@ unsafe fn uppercase_bytes<const N: usize>(array: &mut [u8; N], start: usize, end
 ///
 /// # Safety
 ///
-/// Each clause `requires` of the contract must hold, but for those on counts, on iterators and on closures.
+/// The contract requires each of these: `start ≤ end`, `end ≤ N`.
 ///
 /// <details><summary>Contract</summary>
 ///

@@ -441,7 +441,7 @@ impl<const N: usize> ArrayString<N> {
     ///
     /// # Safety
     ///
-    /// The bytes must be well-formed UTF-8, and must fit into the capacity.
+    /// The bytes must be well-formed UTF-8. They must fit into the capacity.
     ///
     /// # Examples
     ///

@@ -9,7 +9,7 @@ use crate::arraystring_core::ArrayString;
 ///
 /// # Safety
 ///
-/// Each clause `requires` of the contract must hold, but for those on counts, on iterators and on closures.
+/// The contract requires `length given.now ≤ N`.
 ///
 /// <details><summary>Contract</summary>
 ///
@@ -65,7 +65,7 @@ pub(super) fn try_fill<const N: usize>(array: &mut [u8; N], given: &[u8]) -> (bo
 ///
 /// # Safety
 ///
-/// Each clause `requires` of the contract must hold, but for those on counts, on iterators and on closures.
+/// The contract requires `N ≤ 64`.
 ///
 /// <details><summary>Contract</summary>
 ///
@@ -94,7 +94,7 @@ unsafe fn try_fill_small<const N: usize>(array: &mut [u8; N], given: &[u8]) -> (
 ///
 /// # Safety
 ///
-/// Each clause `requires` of the contract must hold, but for those on counts, on iterators and on closures.
+/// The contract requires `at + length given.now ≤ N`.
 ///
 /// <details><summary>Contract</summary>
 ///

@@ -11,7 +11,8 @@ impl<const N: usize> ArrayString<N> {
     ///
     /// # Safety
     ///
-    /// Each clause `requires` of the contract must hold, but for those on counts, on iterators and on closures.
+    /// The contract requires each of these: `start ≤ end`, `IsTrue (boundary self.old.text start)`, `IsTrue (boundary
+    /// self.old.text end)`, `size self.old.text - (end - start) + size (chars given.now) ≤ cap N`.
     ///
     /// <details><summary>Contract</summary>
     ///
@@ -52,7 +53,8 @@ impl<const N: usize> ArrayString<N> {
     ///
     /// # Safety
     ///
-    /// Each clause `requires` of the contract must hold, but for those on counts, on iterators and on closures.
+    /// The contract requires each of these: `start ≤ end`, `IsTrue (boundary self.old.text start)`, `IsTrue (boundary
+    /// self.old.text end)`, `size self.old.text - (end - start) + size (chars given.now) ≤ cap N`.
     ///
     /// <details><summary>Contract</summary>
     ///
@@ -89,7 +91,8 @@ impl<const N: usize> ArrayString<N> {
     ///
     /// # Safety
     ///
-    /// Each clause `requires` of the contract must hold, but for those on counts, on iterators and on closures.
+    /// The contract requires each of these: `IsTrue (boundary self.old.text at)`, `size self.old.text + width ch ≤ cap
+    /// N`.
     ///
     /// <details><summary>Contract</summary>
     ///
@@ -121,7 +124,8 @@ impl<const N: usize> ArrayString<N> {
     ///
     /// # Safety
     ///
-    /// Each clause `requires` of the contract must hold, but for those on counts, on iterators and on closures.
+    /// The contract requires each of these: `IsTrue (boundary self.old.text at)`, `size self.old.text + width ch ≤ cap
+    /// N`.
     ///
     /// <details><summary>Contract</summary>
     ///
@@ -151,7 +155,8 @@ impl<const N: usize> ArrayString<N> {
     ///
     /// # Safety
     ///
-    /// Each clause `requires` of the contract must hold, but for those on counts, on iterators and on closures.
+    /// The contract requires each of these: `start ≤ end`, `IsTrue (boundary self.old.text start)`, `IsTrue (boundary
+    /// self.old.text end)`.
     ///
     /// <details><summary>Contract</summary>
     ///
@@ -188,7 +193,7 @@ impl<const N: usize> ArrayString<N> {
     ///
     /// # Safety
     ///
-    /// Each clause `requires` of the contract must hold, but for those on counts, on iterators and on closures.
+    /// The contract requires `IsTrue (boundary self.old.text end)`.
     ///
     /// <details><summary>Contract</summary>
     ///
@@ -210,7 +215,7 @@ impl<const N: usize> ArrayString<N> {
     ///
     /// # Safety
     ///
-    /// Each clause `requires` of the contract must hold, but for those on counts, on iterators and on closures.
+    /// The contract requires `IsTrue (boundary self.old.text size)`.
     ///
     /// <details><summary>Contract</summary>
     ///

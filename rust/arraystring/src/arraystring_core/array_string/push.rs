@@ -317,7 +317,7 @@ impl<const N: usize> ArrayString<N> {
     ///
     /// # Safety
     ///
-    /// Each clause `requires` of the contract must hold, but for those on counts, on iterators and on closures.
+    /// The contract requires `IsStored N array.old start.old len.old`.
     ///
     /// <details><summary>Contract</summary>
     ///
@@ -367,7 +367,7 @@ impl<const N: usize> ArrayString<N> {
     ///
     /// # Safety
     ///
-    /// Each clause `requires` of the contract must hold, but for those on counts, on iterators and on closures.
+    /// The contract requires `IsStored N array.old start.old len.old`.
     ///
     /// <details><summary>Contract</summary>
     ///
@@ -405,7 +405,7 @@ impl<const N: usize> ArrayString<N> {
     ///
     /// # Safety
     ///
-    /// Each clause `requires` of the contract must hold, but for those on counts, on iterators and on closures.
+    /// The contract requires `IsStored N array.old start.old len.old`.
     ///
     /// <details><summary>Contract</summary>
     ///
@@ -447,7 +447,7 @@ impl<const N: usize> ArrayString<N> {
     ///
     /// # Safety
     ///
-    /// Each clause `requires` of the contract must hold, but for those on counts, on iterators and on closures.
+    /// The contract requires each of these: `IsStored N array.old start.old len.old`, `end ≡ start.old + len.old`.
     ///
     /// <details><summary>Contract</summary>
     ///
@@ -489,7 +489,7 @@ impl<const N: usize> ArrayString<N> {
 ///
 /// # Safety
 ///
-/// Each clause `requires` of the contract must hold, but for those on counts, on iterators and on closures.
+/// The contract requires each of these: `IsStored N array.old start.old size`, `size + more ≤ cap N`.
 ///
 /// <details><summary>Contract</summary>
 ///
@@ -518,7 +518,7 @@ unsafe fn make_room<const N: usize>(array: &mut [u8; N], start: &mut u8, size: u
 ///
 /// # Safety
 ///
-/// Each clause `requires` of the contract must hold, but for those on counts, on iterators and on closures.
+/// The contract requires each of these: `IsStored N array.old start size`, `size + width ch ≤ cap N`.
 ///
 /// <details><summary>Contract</summary>
 ///
@@ -548,7 +548,7 @@ impl<const N: usize> ArrayString<N> {
     ///
     /// # Safety
     ///
-    /// Each clause `requires` of the contract must hold, but for those on counts, on iterators and on closures.
+    /// The contract requires `len ≤ 255`.
     ///
     /// <details><summary>Contract</summary>
     ///
@@ -595,7 +595,7 @@ impl<const N: usize> ArrayString<N> {
     ///
     /// # Safety
     ///
-    /// Each clause `requires` of the contract must hold, but for those on counts, on iterators and on closures.
+    /// The contract requires `size self.old.text + width ch ≤ cap N`.
     ///
     /// <details><summary>Contract</summary>
     ///
@@ -623,7 +623,7 @@ impl<const N: usize> ArrayString<N> {
     ///
     /// # Safety
     ///
-    /// Each clause `requires` of the contract must hold, but for those on counts, on iterators and on closures.
+    /// The contract requires `size self.old.text + size (chars string.now) ≤ cap N`.
     ///
     /// <details><summary>Contract</summary>
     ///

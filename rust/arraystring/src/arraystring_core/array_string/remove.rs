@@ -323,7 +323,7 @@ impl<const N: usize> ArrayString<N> {
     ///
     /// # Safety
     ///
-    /// Each clause `requires` of the contract must hold, but for those on counts, on iterators and on closures.
+    /// The contract requires each of these: `IsTrue (boundary self.now.text at)`, `at < size self.now.text`.
     ///
     /// <details><summary>Contract</summary>
     ///
@@ -350,7 +350,7 @@ impl<const N: usize> ArrayString<N> {
 ///
 /// # Safety
 ///
-/// Each clause `requires` of the contract must hold, but for those on counts, on iterators and on closures.
+/// The contract requires `0 < length text.now`.
 ///
 /// <details><summary>Contract</summary>
 ///
@@ -382,7 +382,8 @@ unsafe fn first_char(text: &str) -> (char, usize) {
 ///
 /// # Safety
 ///
-/// Each clause `requires` of the contract must hold, but for those on counts, on iterators and on closures.
+/// The contract requires each of these: `offset + size ≤ N`, `size ≤ 255`, `IsUtf8 (take size (drop offset
+/// array.old))`.
 ///
 /// <details><summary>Contract</summary>
 ///

@@ -187,7 +187,7 @@ impl<const N: usize> ArrayString<N> {
     ///
     /// # Safety
     ///
-    /// Each clause `requires` of the contract must hold, but for those on counts, on iterators and on closures.
+    /// The contract requires `IsTrue (boundary self.old.text end)`.
     ///
     /// <details><summary>Contract</summary>
     ///

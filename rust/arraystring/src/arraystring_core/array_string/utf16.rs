@@ -169,7 +169,7 @@ impl<const N: usize> ArrayString<N> {
     ///
     /// # Safety
     ///
-    /// Each clause `requires` of the contract must hold, but for those on counts, on iterators and on closures.
+    /// The contract requires `IsStored N array.old 0 end`.
     ///
     /// <details><summary>Contract</summary>
     ///
