@@ -109,6 +109,7 @@ esac"""
         self.write("rust/arraystring/LICENSE", "a license")
         self.stand_in("rust/erase/run")
         self.stand_in("rust/bench/time")
+        self.stand_in("rust/no_panic/links")
         self.reference_has('id="method.new" id="method.try_from_str" id="method.len"')
 
     def reference_has(self, page):
@@ -116,7 +117,7 @@ esac"""
 
     def test_each_call_is_enough_to_fail(self):
         calls = self.assert_each_call_is_enough_to_fail(["cargo fmt --version", "cargo clippy --version"])
-        for needed in ("run --check", "time 1", "cargo test", "cargo doc", "cargo package"):
+        for needed in ("run --check", "time 1", "links", "cargo test", "cargo doc", "cargo package"):
             self.assertTrue(any(it.startswith(needed) for it in calls), needed)
         for crate in self.CRATES:
             self.assertTrue(any(f"{crate}/Cargo.toml" in it for it in calls), crate)
