@@ -112,7 +112,7 @@ CAUSES = [
         "its width is told by its first byte, and its bytes are joined",
         [
             (
-                "    let mut rest = text.chars();\n    let Some(ch) = rest.next() else {\n        unreachable!();\n    };\n    (ch, text.len() - rest.as_str().len())\n",
+                "    let mut rest = text.chars();\n    let Some(ch) = rest.next() else {\n        unreachable_unchecked!();\n    };\n    (ch, text.len() - rest.as_str().len())\n",
                 """    let at = |index: usize| unsafe { *text.as_bytes().get_unchecked(index) as u32 };
     let first = at(0);
     let (code, width) = match first {

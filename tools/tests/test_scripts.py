@@ -150,7 +150,7 @@ rust: cargo test --quiet --offline --manifest-path arraystring/Cargo.toml --feat
 rust: cargo doc --quiet --offline --no-deps --all-features --manifest-path arraystring/Cargo.toml
 rust: cargo run --quiet --offline --manifest-path example/Cargo.toml
 rust: cargo run --quiet --offline --manifest-path example_names/Cargo.toml
-rust: cargo run --quiet --offline --release --manifest-path no_panic/Cargo.toml
+rust: links
 rust: cargo build --quiet --offline --manifest-path static_library/Cargo.toml
 rust: cargo build --quiet --offline --manifest-path static_library/Cargo.toml --release
 rust: time 1
@@ -186,6 +186,7 @@ esac"""
         self.stand_in("rust/bench/time")
         (self.root / "bin/ls").unlink()
         self.serde_is_there(True)
+        self.stand_in("rust/no_panic/links")
         self.reference_has('id="method.new" id="method.try_from_str" id="method.len"')
 
     def serde_is_there(self, is_there):

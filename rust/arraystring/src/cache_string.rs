@@ -461,7 +461,7 @@ impl CacheString {
     ///
     /// # Safety
     ///
-    /// The bytes must be well-formed UTF-8, and must fit into the capacity.
+    /// The bytes must be well-formed UTF-8. They must fit into the capacity.
     ///
     /// # Examples
     ///

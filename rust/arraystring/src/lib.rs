@@ -13,6 +13,9 @@
 compile_error!("the crate was tried where a `usize` has 32 or 64 bits, and nowhere else");
 
 #[macro_use]
+#[path = "by_hand/access.rs"]
+mod access;
+#[macro_use]
 #[path = "by_hand/known.rs"]
 mod known;
 

@@ -1,10 +1,13 @@
 //! The body of a function: its paths, and its calls that are `unsafe` in Rust.
 
+use std::ops::Range;
+
+use crate::access;
 use crate::contracts::Called;
 use crate::cursor::{Fault, Kind, Token};
 use crate::edits::Edits;
 use crate::erase::Tally;
-use crate::rules::{CRATES, INSIDE, PROOFS_ALONE};
+use crate::rules::{CRATES, PROOFS_ALONE, SHOWN, Shown, TWINS};
 
 /// Where a body stands.
 pub struct Here<'a> {
@@ -17,8 +20,29 @@ pub struct Here<'a> {
     pub call: &'a str,
     /// Whether a line that was put into it tests its precondition.
     pub is_tested: bool,
-    /// Whether what `prove!` says in it is a fact in Rust: no clause that its proof may need is given up.
+    /// Whether Rust gives up a clause of the function itself.
+    pub gives_up: bool,
+    /// Whether what is proved in it is a fact in Rust: no clause that its proof may need is given up.
     pub proves: bool,
+}
+
+impl Here<'_> {
+    /// Fails if a worker is called whose precondition may be proved from a clause that is given up.
+    fn shows(&self, worker: &str, at: usize, tally: &mut Tally) -> Result<(), Fault> {
+        if !self.gives_up {
+            return Ok(());
+        }
+        let is_listed = |shown: &Shown| shown.calls.iter().any(|(call, by)| *call == self.call && by.contains(&worker));
+        if !SHOWN.iter().any(is_listed) {
+            let call = self.call;
+            let why = format!(
+                "`{call}`, of which Rust gives up a clause, calls `{worker}`, and SHOWN does not say why it may"
+            );
+            return Err(Fault::new(at, why));
+        }
+        tally.used.insert(format!("shown {} {worker}", self.call));
+        Ok(())
+    }
 }
 
 /// Rewrites a body, which is given by its tokens.
@@ -27,17 +51,15 @@ pub fn rewrite(source: &str, tokens: &[Token], here: &Here, edits: &mut Edits, t
     let body = Body { source, tokens };
     let (mut safe_until, mut inner_until) = (0, 0);
     for at in 0..tokens.len() {
+        if here.proves {
+            access::rewrite(&body, at, edits, tally)?;
+        }
         if PROOFS_ALONE.contains(&body.text(at)) && body.text(at + 1) == "(" {
-            body.leave_out(at, edits)?;
+            body.leave_out(at, at + 1, edits)?;
             tally.count("calls for the proof alone");
         } else if [0, 1, 2].map(|next| body.text(at + next)) == ["prove", "!", "("] {
-            if !here.proves {
-                let why = format!("a `prove!` in `{}`, of which Rust gives up a clause", here.call);
-                return Err(Fault::new(tokens[at].at.start, why));
-            }
-            edits.replace(tokens[at].at.clone(), "known");
-            edits.insert(tokens[at + 2].at.end, "proved: ");
-            tally.count("tests that are proved, and known");
+            body.leave_out(at, at + 2, edits)?;
+            tally.count("tests for the proof alone");
         } else if body.text(at) == "unsafe" && body.text(at + 1) == "{" {
             safe_until = body.closing(at + 1)?;
             if at < inner_until {
@@ -54,14 +76,23 @@ pub fn rewrite(source: &str, tokens: &[Token], here: &Here, edits: &mut Edits, t
             if matches!(called, Called::Behind("str")) && body.text(at).ends_with("_unchecked") {
                 return Err(Fault::new(tokens[at].at.start, "a call of std that is in no `unsafe` block"));
             }
-            let inside = INSIDE.iter().find(|rule| rule.call == body.text(at) && matches!(called, Called::Free));
-            let shown = match inside {
+            let twin = TWINS.iter().find(|rule| rule.call == body.text(at) && matches!(called, Called::Free));
+            let shown = match twin {
                 Some(rule) => {
-                    edits.replace(tokens[at].at.clone(), rule.by_hand);
-                    tally.used.insert(format!("inside {}", rule.call));
+                    edits.replace(tokens[at].at.clone(), rule.twin);
+                    tally.used.insert(format!("twin called {}", rule.call));
                     Some(format!("`{}` of `{}`", rule.clause, rule.call))
                 }
-                None => tally.contracts.shown_by(body.text(at), &called, here.owner),
+                None => {
+                    tally.contracts.note_call(here.call, body.text(at));
+                    match tally.contracts.shown_by(body.text(at), &called, here.owner) {
+                        Some((worker, shown)) => {
+                            here.shows(&worker, tokens[at].at.start, tally)?;
+                            Some(shown)
+                        }
+                        None => None,
+                    }
+                }
             };
             let Some(shown) = shown else { continue };
             let start = start?;
@@ -94,6 +125,9 @@ pub fn paths(source: &str, tokens: &[Token], krate: &str, edits: &mut Edits, tal
         let name = body.text(at);
         let put = match name {
             "std" if body.text(at + 3) == "simd" => "crate::by_hand".to_string(),
+            // The module, and not what is in it.
+            "std" if body.text(at + 3) == "str" && body.text(at + 4) != ":" => "crate::by_hand".to_string(),
+            "char" if body.text(at + 3) == "from_u32_unchecked" => "crate::by_hand::char".to_string(),
             "std" => "core".to_string(),
             "crate" if body.text(at + 3) == "by_hand" || CRATES.last() == Some(&krate) => continue,
             "crate" => format!("crate::{krate}"),
@@ -105,19 +139,46 @@ pub fn paths(source: &str, tokens: &[Token], krate: &str, edits: &mut Edits, tal
     }
 }
 
-struct Body<'a> {
+/// The tokens of a body.
+pub struct Body<'a> {
     source: &'a str,
     tokens: &'a [Token],
 }
 
 impl<'a> Body<'a> {
     /// The text of a token; `""` where there is none.
-    fn text(&self, at: usize) -> &'a str {
+    pub fn text(&self, at: usize) -> &'a str {
         self.tokens.get(at).map_or("", |token| &self.source[token.at.clone()])
     }
 
+    /// What the token at `at` is.
+    pub fn kind(&self, at: usize) -> Kind {
+        self.tokens[at].kind
+    }
+
+    /// Where the token at `at` is in the source.
+    pub fn at(&self, at: usize) -> Range<usize> {
+        self.tokens[at].at.clone()
+    }
+
+    /// The token that opens the bracket that is closed at `at`.
+    pub fn opening(&self, at: usize) -> Result<usize, Fault> {
+        let mut depth = 0usize;
+        for start in (0..=at).rev() {
+            match self.text(start) {
+                ")" | "}" | "]" => depth += 1,
+                "(" | "{" | "[" => depth -= 1,
+                _ => {}
+            }
+            if depth == 0 {
+                return Ok(start);
+            }
+        }
+        Err(Fault::new(self.tokens[at].at.start, "a bracket that is not opened"))
+    }
+
     /// The token that closes the bracket at `at`.
-    fn closing(&self, at: usize) -> Result<usize, Fault> {
+    pub fn closing(&self, at: usize) -> Result<usize, Fault> {
         let mut depth = 0usize;
         for end in at..self.tokens.len() {
             match self.text(end) {
@@ -163,10 +224,10 @@ impl<'a> Body<'a> {
         }
     }
 
-    /// Takes out the statement that is the call at `at`.
-    fn leave_out(&self, at: usize, edits: &mut Edits) -> Result<(), Fault> {
+    /// Takes out the statement that is the call at `at`, whose bracket opens at `opens`.
+    fn leave_out(&self, at: usize, opens: usize, edits: &mut Edits) -> Result<(), Fault> {
         let start = self.tokens[at].at.start;
-        let end = self.tokens.get(self.closing(at + 1)? + 1).map_or(start, |token| token.at.end);
+        let end = self.tokens.get(self.closing(opens)? + 1).map_or(start, |token| token.at.end);
         let line = self.source[..start].rfind('\n').map_or(0, |end| end + 1);
         let is_statement = self.source[line..start].trim().is_empty() && self.source[..end].ends_with(';');
         if !is_statement || !self.source[end..].starts_with('\n') {

@@ -17,6 +17,11 @@ impl Clause {
         if self.name.is_empty() { "the precondition".to_string() } else { format!("`{}`", self.name) }
     }
 
+    /// The clause as documentation quotes it.
+    pub fn shown(&self) -> String {
+        format!("`{}`", self.text.split_whitespace().collect::<Vec<_>>().join(" "))
+    }
+
     /// Whether Rust does without the clause, so that nothing may rest on it.
     pub fn is_given_up(&self) -> bool {
         GIVEN_UP.iter().any(|words| self.text.contains(words))
@@ -49,14 +54,12 @@ pub enum Called<'a> {
 pub struct Contracts {
     /// The preconditions on which something rests in Rust, as comments call them.
     requires: BTreeMap<String, Vec<String>>,
-    /// The head of each function, and the name and the text of each of its postconditions.
-    ensures: BTreeMap<String, (String, Vec<(String, String)>)>,
-    /// The declaration of each type.
-    declared: BTreeMap<String, String>,
-    /// The invariant of each type that has one.
-    invariants: BTreeMap<String, String>,
-    /// The definitions by which invariants are read, by their name.
-    definitions: BTreeMap<String, String>,
+    /// All functions.
+    functions: BTreeSet<String>,
+    /// The functions of which Rust gives up a clause.
+    given_up: BTreeSet<String>,
+    /// The names of what each function calls.
+    calls: BTreeMap<String, BTreeSet<String>>,
     /// The public ones.
     public: BTreeSet<String>,
     /// Whether all functions were read.
@@ -65,13 +68,39 @@ pub struct Contracts {
 
 impl Contracts {
     /// Notes the clauses of a function.
-    pub fn note(&mut self, call: &str, head: &str, preconditions: &[Clause], postconditions: &[Clause]) {
-        let ensured = postconditions.iter().map(|clause| (clause.name.clone(), clause.text.clone())).collect();
-        self.ensures.insert(call.to_string(), (head.to_string(), ensured));
+    pub fn note(&mut self, call: &str, preconditions: &[Clause]) {
+        self.functions.insert(call.to_string());
         let clauses: Vec<_> = preconditions.iter().filter(|clause| !clause.is_given_up()).map(Clause::told).collect();
         if !clauses.is_empty() && !FATES.iter().any(|(name, fate)| *name == call && matches!(fate, Fate::Panics(..))) {
             self.requires.insert(call.to_string(), clauses);
         }
+    }
+
+    /// Notes that Rust gives up a clause of a function.
+    pub fn note_given_up(&mut self, call: &str) {
+        self.given_up.insert(call.to_string());
+    }
+
+    /// Notes that a function calls what has this name.
+    pub fn note_call(&mut self, call: &str, name: &str) {
+        self.calls.entry(call.to_string()).or_default().insert(name.to_string());
+    }
+
+    /// Whether Rust gives up a clause of a function, or of what it calls, however deep. A call is taken for one of each
+    /// function of its name.
+    pub fn is_given_up(&self, call: &str) -> bool {
+        let (mut seen, mut waiting) = (BTreeSet::new(), vec![call]);
+        while let Some(call) = waiting.pop() {
+            if self.given_up.contains(call) {
+                return true;
+            }
+            if seen.insert(call) {
+                let Some(names) = self.calls.get(call) else { continue };
+                let is_named = |call: &&String| call.rsplit("::").next().is_some_and(|name| names.contains(name));
+                waiting.extend(self.functions.iter().filter(is_named).map(String::as_str));
+            }
+        }
+        false
     }
 
     /// Notes that a function is public.
@@ -89,39 +118,10 @@ impl Contracts {
         self.requires.contains_key(call)
     }
 
-    /// Notes the declaration of a type.
-    pub fn declare(&mut self, name: &str, declaration: &str) {
-        self.declared.insert(name.to_string(), declaration.to_string());
-    }
-
-    /// Notes the invariant of a type, given by the member of its model: `invariant = { .. };`.
-    pub fn note_invariant(&mut self, owner: &str, member: &str) {
-        let text = member.strip_prefix("invariant = {").and_then(|rest| rest.strip_suffix("};"));
-        self.invariants.extend(text.map(|text| (owner.to_string(), text.trim().to_string())));
-    }
-
-    /// Notes a definition by which an invariant is read.
-    pub fn define(&mut self, name: &str, definition: &str) {
-        self.definitions.insert(name.to_string(), definition.to_string());
-    }
-
-    /// The declaration of a type, and its invariant, if that begins with one of the definitions, which come along.
-    pub fn invariant_of(&self, owner: &str) -> Option<(&str, &str, &BTreeMap<String, String>)> {
-        let invariant = self.invariants.get(owner)?;
-        let is_read = self.definitions.contains_key(invariant.split(' ').nth(2)?);
-        is_read.then_some((self.declared.get(owner)?, invariant, &self.definitions))
-    }
-
-    /// The head of a function, and the text of the postcondition of this name.
-    pub fn ensured(&self, call: &str, name: &str) -> Option<(&str, &str)> {
-        let (head, clauses) = self.ensures.get(call)?;
-        clauses.iter().find(|(of, _)| of == name).map(|(_, text)| (head.as_str(), text.as_str()))
-    }
-
-    /// What a call has to show, in words, if what it calls is `unsafe` in Rust.
-    pub fn shown_by(&self, name: &str, called: &Called, owner: &str) -> Option<String> {
+    /// If what a call names is `unsafe` in Rust, its whole name, and what the call has to show, in words.
+    pub fn shown_by(&self, name: &str, called: &Called, owner: &str) -> Option<(String, String)> {
         let is_type = |owner: &str| owner.starts_with(char::is_uppercase);
-        let (_, clauses) = self.requires.iter().find(|(call, _)| {
+        let (call, clauses) = self.requires.iter().find(|(call, _)| {
             let Some((of, its)) = call.split_once("::") else { return false };
             let is_meant = match called {
                 Called::Method => is_type(of),
@@ -133,6 +133,6 @@ impl Contracts {
         })?;
         let (last, first) = clauses.split_last()?;
         let clauses = if first.is_empty() { last.clone() } else { format!("{} and {last}", first.join(", ")) };
-        Some(format!("{clauses} of `{name}`"))
+        Some((call.clone(), format!("{clauses} of `{name}`")))
     }
 }

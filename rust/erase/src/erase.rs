@@ -2,6 +2,7 @@
 
 use std::collections::{BTreeMap, BTreeSet};
 
+use crate::access::ACCESSES;
 use crate::contracts::Contracts;
 use crate::cursor::{Cursor, Fault};
 use crate::edits::tidied;
@@ -32,8 +33,6 @@ pub struct Erased {
 pub struct Tally {
     pub counts: BTreeMap<&'static str, usize>,
     pub used: BTreeSet<String>,
-    /// The lines that `by_hand` has to have.
-    pub by_hand: BTreeSet<String>,
     /// What was read of all functions before.
     pub contracts: Contracts,
 }
@@ -41,6 +40,11 @@ pub struct Tally {
 impl Tally {
     pub fn count(&mut self, what: &'static str) {
         *self.counts.entry(what).or_default() += 1;
+    }
+
+    /// How many accesses lost their test.
+    pub fn accesses(&self) -> usize {
+        self.counts.get(ACCESSES).copied().unwrap_or_default()
     }
 }
 

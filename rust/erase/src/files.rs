@@ -8,8 +8,8 @@ use std::process::{Command, Stdio};
 
 use crate::erase::{Source, Tally, erase, line_of};
 use crate::rules::{
-    ADDED, AGAIN, BODIES, BY_HAND, BY_STD, CONSTANT, CRATES, DEFINITIONS, FATES, INSIDE, INVARIANTS, KNOWN, LEFT_OUT,
-    MORE, ORDER, REPLACED, TESTED, WIDER,
+    ADDED, BODIES, BY_HAND, BY_STD, CONSTANT, CRATES, FATES, KNOWN, LEFT_OUT, MORE, ONCE, ORDER, PROVED, REPLACED,
+    SHOWN, TESTED, TWINS, WIDER,
 };
 use crate::width;
 
@@ -30,11 +30,6 @@ pub fn made(crates: &Path) -> Result<(Made, Tally), String> {
 /// Makes all files by what is known of the contracts.
 fn read_all(crates: &Path, mut tally: Tally) -> Result<(Made, Tally), String> {
     let mut made = Made::new();
-    for (file, name) in DEFINITIONS {
-        let text = read(&crates.join(file))?;
-        let record = text.split("\n\n").find_map(|part| Some(&part[part.find(&format!("pub record {name} "))?..]));
-        tally.contracts.define(name, record.ok_or(format!("crates/{file}: the record `{name}` is not there"))?);
-    }
     for krate in CRATES {
         let mut left = sources(&crates.join(krate).join("src"))?;
         let mut waiting = vec!["lib".to_string()];
@@ -68,24 +63,32 @@ fn target(krate: &str, module: &str) -> String {
     }
 }
 
-/// Each rule has matched.
-pub fn all_used(tally: &Tally) -> Result<(), String> {
+/// The entries of all lists of rules, each of which has to match.
+pub fn entries() -> Vec<String> {
     let names = FATES.iter().map(|(name, _)| name.to_string());
     let names = names.chain(WIDER.iter().map(|rule| format!("wider {}", rule.call)));
     let names = names.chain(REPLACED.iter().map(|rule| format!("line {}", rule.from)));
     let names = names.chain(BY_STD.iter().map(|rule| format!("by std {}", rule.file)));
     let names = names.chain(KNOWN.iter().map(|(call, clause)| format!("known {call} {clause}")));
-    let names = names.chain(AGAIN.iter().map(|rule| format!("again {} {}", rule.call, rule.before)));
+    let names = names.chain(PROVED.iter().map(|(call, _)| format!("proved {call}")));
+    let shown = SHOWN.iter().flat_map(|shown| shown.calls);
+    let shown = shown.flat_map(|(call, workers)| workers.iter().map(move |worker| format!("shown {call} {worker}")));
+    let names = names.chain(shown);
     let names = names.chain(BODIES.iter().map(|rule| format!("body {}", rule.call)));
     let names = names.chain(CONSTANT.iter().map(|call| format!("constant {call}")));
     let names = names.chain(ADDED.iter().map(|rule| format!("added {}", rule.head)));
+    let names = names.chain(ONCE.iter().map(|rule| format!("once {}", rule.file)));
     let names = names.chain(ORDER.iter().map(|rule| format!("order {}", rule.file)));
     let names = names.chain(MORE.iter().map(|rule| format!("more {}", rule.of)));
-    let names = names.chain(INSIDE.iter().map(|rule| format!("inside {}", rule.call)));
-    let names = names.chain(INVARIANTS.iter().map(|call| format!("invariant {call}")));
+    let names = names.chain(TWINS.iter().map(|rule| format!("twin called {}", rule.call)));
+    let names = names.chain(TWINS.iter().map(|rule| format!("twin {}", rule.of)));
     let names = names.chain(TESTED.iter().map(|rule| format!("tests {}", rule.path)));
-    let mut names = names.chain(LEFT_OUT.iter().map(|rule| rule.name.to_string()));
-    match names.find(|name| !tally.used.contains(name)) {
+    names.chain(LEFT_OUT.iter().map(|rule| rule.name.to_string())).collect()
+}
+
+/// Each rule has matched.
+pub fn all_used(tally: &Tally) -> Result<(), String> {
+    match entries().iter().find(|name| !tally.used.contains(*name)) {
         Some(name) => Err(format!("rust/erase/src/rules.rs: nothing in the sources matches the entry `{name}`")),
         None => Ok(()),
     }
@@ -115,15 +118,6 @@ pub fn read(path: &Path) -> Result<String, String> {
 
 fn is_by_hand(path: &str) -> bool {
     BY_HAND.iter().any(|by_hand| path == *by_hand || (by_hand.ends_with('/') && path.starts_with(by_hand)))
-}
-
-/// The file `by_hand.rs` has each of these lines.
-pub fn by_hand_has<'a>(lines: impl IntoIterator<Item = &'a String>, target: &Path) -> Result<(), String> {
-    let text = read(&target.join("by_hand.rs"))?;
-    match lines.into_iter().find(|line| !text.lines().any(|found| found.trim() == *line)) {
-        Some(line) => Err(format!("rust/arraystring/src/by_hand.rs does not have the line `{line}`")),
-        None => Ok(()),
-    }
 }
 
 /// Writes the files, and takes out those that are no longer made.

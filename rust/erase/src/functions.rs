@@ -5,13 +5,11 @@ use std::ops::Range;
 use crate::body::{self, Here};
 use crate::contracts::Clause;
 use crate::cursor::{Cursor, Fault, Token};
+use crate::edits::Edits;
 use crate::erase::Source;
 use crate::items::{File, Inside, Lead};
-use crate::known::{Names, test_of, test_of_invariant};
-use crate::rules::{
-    AGAIN, BEHIND, BODIES, CONSTANT, FATES, Fate, INSIDE, INVARIANTS, KNOWN, LEFT_OUT, PRIVATE, PROVED, WALK, WIDER,
-    Why,
-};
+use crate::known::test_of;
+use crate::rules::{BEHIND, BODIES, CONSTANT, FATES, Fate, KNOWN, LEFT_OUT, ONCE, Once, PROVED, TWINS, WALK, WIDER};
 use crate::sections::{example, section};
 
 /// A function as it was read.
@@ -23,7 +21,6 @@ struct Function {
     head: Range<usize>,
     clauses: Option<Range<usize>>,
     preconditions: Vec<Clause>,
-    postconditions: Vec<Clause>,
     /// Behind the bracket of its body.
     body: usize,
     /// Behind its last bracket.
@@ -31,8 +28,23 @@ struct Function {
     tokens: Vec<Token>,
 }
 
-/// The clauses of a function: where they are, its preconditions and its postconditions.
-type Clauses = (Option<Range<usize>>, [Vec<Clause>; 2]);
+impl Function {
+    /// The preconditions on which something rests in Rust.
+    fn kept(&self) -> impl Iterator<Item = &Clause> {
+        self.preconditions.iter().filter(|clause| !clause.is_given_up())
+    }
+}
+
+/// What stands under `# Safety` of a private function that keeps these clauses.
+fn safety(kept: &[String]) -> String {
+    match kept {
+        [only] => format!("The contract requires {only}."),
+        _ => format!("The contract requires each of these: {}.", kept.join(", ")),
+    }
+}
+
+/// The clauses of a function: where they are, and its preconditions.
+type Clauses = (Option<Range<usize>>, Vec<Clause>);
 
 impl<'a> File<'a, '_> {
     /// Reads a function and erases it. The word is its `fn`.
@@ -52,21 +64,19 @@ impl<'a> File<'a, '_> {
             self.tally.used.insert(name.to_string());
             return Ok(());
         }
-        let head = &self.text[function.head.clone()];
-        self.tally.contracts.note(&function.call, head, &function.preconditions, &function.postconditions);
+        self.tally.contracts.note(&function.call, &function.preconditions);
         if is_public {
             self.tally.contracts.note_public(&function.call);
         }
         if is_public || inside.of_trait {
             self.linked(lead, name);
         }
-        self.by_hand(&function)?;
+        self.twin(&function)?;
         self.head(function.head.clone());
         self.wider(&function)?;
         self.constant(&function);
         let has_words = self.precondition(&function, lead, inside)?;
         self.known(&function)?;
-        self.again(&function)?;
         self.contract(&function, lead, has_words)?;
         self.hint(&function, lead);
         if self.other_body(&function) {
@@ -76,9 +86,18 @@ impl<'a> File<'a, '_> {
         let fate = FATES.iter().find(|(call, _)| *call == function.call).map(|(_, fate)| fate);
         let is_tested = matches!(fate, Some(Fate::Panics(_, Some(_))));
         let gives_up = matches!(fate, Some(Fate::Panics(..))) || function.preconditions.iter().any(Clause::is_given_up);
-        let proves = !gives_up || PROVED.iter().any(|(call, _)| *call == function.call);
-        let here = Here { krate, path, owner: inside.owner, call: &function.call, is_tested, proves };
-        body::rewrite(self.text, &function.tokens, &here, &mut self.edits, self.tally)
+        if gives_up && !function.tokens.is_empty() {
+            self.tally.contracts.note_given_up(&function.call);
+        }
+        let is_listed = PROVED.iter().any(|(call, _)| *call == function.call);
+        let proves = is_listed || !self.tally.contracts.is_given_up(&function.call);
+        let here = Here { krate, path, owner: inside.owner, call: &function.call, is_tested, gives_up, proves };
+        let before = self.tally.accesses();
+        body::rewrite(self.text, &function.tokens, &here, &mut self.edits, self.tally)?;
+        if is_listed && self.tally.accesses() > before && self.tally.contracts.is_given_up(&function.call) {
+            self.tally.used.insert(format!("proved {}", function.call));
+        }
+        Ok(())
     }
 
     fn read_function(
@@ -94,17 +113,17 @@ impl<'a> File<'a, '_> {
         let call = format!("{}::{}", inside.owner, cursor.text(&name));
         let head = self.up_to(cursor, word.at.start, &["{", "requires", "ensures"])?;
         cursor.at = head.end;
-        let (clauses, [preconditions, postconditions]) = self.clauses(cursor)?;
+        let (clauses, preconditions) = self.clauses(cursor)?;
         let body = cursor.at;
         let tokens = self.block(cursor, body)?;
-        Ok(Function { call, is_public, head, clauses, preconditions, postconditions, body, end: cursor.at, tokens })
+        Ok(Function { call, is_public, head, clauses, preconditions, body, end: cursor.at, tokens })
     }
 
-    /// Reads the clauses of a function up to its body, whose bracket is taken. Returns where they are, the
-    /// preconditions and the postconditions.
+    /// Reads the clauses of a function up to its body, whose bracket is taken. Returns where they are, and the
+    /// preconditions.
     fn clauses(&mut self, cursor: &mut Cursor<'a>) -> Result<Clauses, Fault> {
         let start = cursor.at;
-        let (mut found, mut clauses): (Option<Range<usize>>, _) = (None, [Vec::new(), Vec::new()]);
+        let (mut found, mut preconditions): (Option<Range<usize>>, _) = (None, Vec::new());
         loop {
             let Some(token) = cursor.next_code()? else { return Err(Fault::new(start, "a function without its body")) };
             match cursor.text(&token) {
@@ -117,10 +136,12 @@ impl<'a> File<'a, '_> {
                     let opened = cursor.expect("{")?;
                     cursor.pass_clause()?;
                     let text = self.text[opened.at.end..cursor.at - 1].trim().to_string();
-                    clauses[usize::from(word == "ensures")].push(Clause { name, text });
+                    if word == "requires" {
+                        preconditions.push(Clause { name, text });
+                    }
                     found = Some(found.map_or(token.at.start, |at| at.start)..cursor.at);
                 }
-                "{" => return Ok((found, clauses)),
+                "{" => return Ok((found, preconditions)),
                 other => return Err(Fault::new(token.at.start, format!("`{other}` among the clauses of a function"))),
             }
         }
@@ -169,7 +190,8 @@ impl<'a> File<'a, '_> {
                 if rests {
                     self.tally.count("private functions that are `unsafe` in Rust");
                     self.edits.replace(function.head.start..function.head.start + "fn".len(), "unsafe fn");
-                    self.in_its_place(lead, section(&self.indent(lead.docs_end), "Safety", PRIVATE));
+                    let words = safety(&function.kept().map(Clause::shown).collect::<Vec<_>>());
+                    self.in_its_place(lead, section(&self.indent(lead.docs_end), "Safety", &words));
                 }
                 return match lead.precondition {
                     Some(_) if !rests => Err(Fault::new(lead.start, format!("`{call}` has no precondition in Rust"))),
@@ -182,101 +204,50 @@ impl<'a> File<'a, '_> {
         Err(Fault::new(function.head.start, why))
     }
 
-    /// Puts what is known at the start of a body: clauses that the function requires, and the invariant of its type.
+    /// Puts the clauses that are known at the start of a body.
     fn known(&mut self, function: &Function) -> Result<(), Fault> {
         let Function { call, body, .. } = function;
-        let mut tests = Vec::new();
-        if INVARIANTS.contains(&call.as_str()) {
-            tests.extend(self.invariant(function)?.map(|test| ("invariant", test)));
-            self.tally.used.insert(format!("invariant {call}"));
-        }
-        for (_, clause) in KNOWN.iter().filter(|(name, _)| name == call) {
-            let name = if clause.is_empty() { "precondition" } else { *clause };
-            tests.push((name, self.test(function, clause)?));
-            self.tally.used.insert(format!("known {call} {clause}"));
-        }
         let line = self.text[*body..].split('\n').nth(1).unwrap_or_default();
         let indent = &line[..line.len() - line.trim_start().len()];
-        for (clause, test) in tests {
-            self.edits.insert(*body, format!("\n{indent}known!({clause}: {test});"));
+        for (_, clause) in KNOWN.iter().filter(|(name, _)| name == call) {
+            let name = if clause.is_empty() { "precondition" } else { *clause };
+            let test = self.test(function, clause)?;
+            self.edits.insert(*body, format!("\n{indent}known!({name}: {test});"));
             self.tally.count("clauses that are known");
+            self.tally.used.insert(format!("known {call} {clause}"));
         }
         Ok(())
     }
 
-    /// Puts what is known once more before the lines of a body at which it is to stand.
-    fn again(&mut self, function: &Function) -> Result<(), Fault> {
-        for rule in AGAIN.iter().filter(|rule| rule.call == function.call) {
-            let fault = |why: String| Fault::new(function.head.start, format!("`{}`: {why}", rule.call));
-            let (test, comment) = match &rule.why {
-                Why::Requires => (self.test(function, rule.clause)?, String::new()),
-                Why::Ensures(callee, result) => {
-                    let contracts = &self.tally.contracts;
-                    let Some((head, says)) = contracts.ensured(callee, rule.clause) else {
-                        if contracts.is_whole {
-                            return Err(fault(format!("`{callee}` does not ensure a clause `{}`", rule.clause)));
-                        }
-                        continue;
-                    };
-                    let test = test_of(says, &Names { head, result: Some(*result) }).map_err(fault)?;
-                    let name = callee.rsplit("::").next().unwrap_or_default();
-                    let named = named_in(says, head);
-                    if !self.has_result(function, result, name, &named) {
-                        return Err(fault(format!("`{result}` is not what `{name}` returns of the same names")));
-                    }
-                    (test, format!("// What `{name}` ensures.\n"))
-                }
-            };
-            let name = if rule.clause.is_empty() { "precondition" } else { rule.clause };
-            let body = &self.text[function.body..function.end];
-            let lines = body.match_indices('\n').map(|(at, _)| function.body + at + 1);
-            for at in
-                lines.filter(|at| self.text[*at..].trim_start_matches(' ').starts_with(rule.before)).collect::<Vec<_>>()
-            {
-                let indent = self.indent(at);
-                let comment = if comment.is_empty() { String::new() } else { format!("{indent}{comment}") };
-                self.edits.insert(at, format!("{comment}{indent}known!({name}: {test});\n"));
-                self.tally.count("clauses that are known once more");
-                self.tally.used.insert(format!("again {} {}", rule.call, rule.before));
-            }
+    /// Puts the twin of a function behind it, with the same body but for the tests of its accesses.
+    fn twin(&mut self, function: &Function) -> Result<(), Fault> {
+        let Some(rule) = TWINS.iter().find(|rule| rule.of == function.call) else { return Ok(()) };
+        if !function.preconditions.iter().any(|clause| clause.name == rule.clause && !clause.is_given_up()) {
+            let why = format!("`{}`: it has no clause `{}` that its twin could need", rule.of, rule.clause);
+            return Err(Fault::new(function.head.start, why));
         }
+        let body = &self.text[function.body..function.end - 1];
+        let (mut cursor, mut tokens, mut edits) = (Cursor::new(body), Vec::new(), Edits::default());
+        while let Some(token) = cursor.next_code()? {
+            tokens.push(token);
+        }
+        let Source { krate, path, .. } = *self.source;
+        let here = Here { krate, path, owner: "", call: rule.of, is_tested: false, gives_up: false, proves: true };
+        body::rewrite(body, &tokens, &here, &mut edits, self.tally)?;
+        let head = self.text[function.head.clone()].replacen(rule.call, rule.twin, 1);
+        let words = format!("The clause `{}` of `{}` must hold.", rule.clause, rule.call);
+        self.edits.insert(
+            function.end,
+            format!(
+                "\n\n/// `{}` where bodies call it, without a test.\n///\n{}#[inline(always)]\npub(crate) unsafe {}{{{}}}",
+                rule.call,
+                section("", "Safety", &words),
+                head.trim_end().to_string() + " ",
+                edits.apply(body),
+            ),
+        );
+        self.tally.used.insert(format!("twin {}", rule.of));
         Ok(())
-    }
-
-    /// Notes the line by which a function of `by_hand` knows a clause of this one.
-    fn by_hand(&mut self, function: &Function) -> Result<(), Fault> {
-        let Some(rule) = INSIDE.iter().find(|rule| rule.of == function.call) else { return Ok(()) };
-        let fault = |why: String| Fault::new(function.head.start, format!("`{}`: {why}", rule.of));
-        let found = function.preconditions.iter().find(|clause| clause.name == rule.clause && !clause.is_given_up());
-        let found = found.ok_or_else(|| fault(format!("it has no clause `{}` that could be known", rule.clause)))?;
-        let names = Names { head: &self.text[function.head.clone()], result: None };
-        let test = test_of(&found.text, &names).map_err(fault)?;
-        self.tally.by_hand.insert(format!("known!({}: {test});", rule.clause));
-        Ok(())
-    }
-
-    /// Whether a body has the line `let RESULT = NAME(..);`, with each of these arguments.
-    fn has_result(&self, function: &Function, result: &str, name: &str, arguments: &[&str]) -> bool {
-        let given = |line: &'a str| -> Option<Vec<&'a str>> {
-            let call = line.trim().strip_prefix(&format!("let {result} = "))?.strip_suffix(");")?;
-            let (before, given) = call.split_once(&format!("{name}("))?;
-            (before.is_empty() || before.ends_with('.')).then(|| given.split(", ").collect())
-        };
-        let given = self.text[function.body..function.end].lines().find_map(given);
-        given.is_some_and(|given| arguments.iter().all(|argument| given.contains(argument)))
-    }
-
-    /// The test of the first field of the invariant of a function's type, once the type was read.
-    fn invariant(&self, function: &Function) -> Result<Option<String>, Fault> {
-        let Function { call, head, .. } = function;
-        let owner = call.split("::").next().unwrap_or_default();
-        let contracts = &self.tally.contracts;
-        let Some((declared, invariant, definitions)) = contracts.invariant_of(owner) else {
-            let why = || Fault::new(head.start, format!("`{owner}` has no invariant by a definition that is read"));
-            return if contracts.is_whole { Err(why()) } else { Ok(None) };
-        };
-        let test = test_of_invariant(invariant, definitions, &Names { head: declared, result: None });
-        test.map(Some).map_err(|why| Fault::new(head.start, format!("`{call}`: {why}")))
     }
 
     /// The test of a clause that a function requires, and that something in Rust may rest on.
@@ -288,7 +259,7 @@ impl<'a> File<'a, '_> {
         if found.is_given_up() || !self.tally.contracts.is_unsafe(call) {
             return Err(fault(format!("`{clause}` is no fact in Rust, since safe calls do not show it")));
         }
-        test_of(&found.text, &Names { head: &self.text[head.clone()], result: None }).map_err(fault)
+        test_of(&found.text, &self.text[head.clone()]).map_err(fault)
     }
 
     /// Puts another body in the place of that of a function, if a rule has one.
@@ -322,6 +293,21 @@ impl<'a> File<'a, '_> {
             self.edits.insert(lead.docs_end, format!("{}#[inline]\n", self.indent(function.head.start)));
             self.tally.count("functions that may be inlined");
         }
+        self.once(function, lead);
+    }
+
+    /// Lets rustc decide whether a body is inlined that its source always inlines, if a rule says so.
+    fn once(&mut self, function: &Function, lead: &Lead) {
+        let always = "#[inline(always)]";
+        let name = function.call.rsplit("::").next().unwrap_or_default();
+        let is_meant = |rule: &&Once| rule.file == self.source.path && !rule.but.contains(&name);
+        let Some(rule) = ONCE.iter().find(is_meant) else { return };
+        if let Some(at) = self.text[lead.docs_end..function.head.start].find(always) {
+            let at = lead.docs_end + at;
+            self.edits.replace(at..at + always.len(), "#[inline]");
+            self.tally.count("functions that need not be inlined");
+            self.tally.used.insert(format!("once {}", rule.file));
+        }
     }
 
     /// Does what is to become of a public call with a precondition.
@@ -330,10 +316,15 @@ impl<'a> File<'a, '_> {
         let indent = self.indent(lead.docs_end);
         let put = match fate {
             Fate::Unsafe(words, lines) => {
+                let kept = function.kept().count();
+                if words.len() != kept {
+                    let why = format!("`{}` keeps {kept} clauses, and {} sentences say so", function.call, words.len());
+                    return Err(Fault::new(function.head.start, why));
+                }
                 self.edits.replace(function.head.start..function.head.start + "fn".len(), "unsafe fn");
                 self.tally.count("calls that are `unsafe` in Rust");
                 let more = if lines.is_empty() { String::new() } else { example(&indent, lines) };
-                section(&indent, "Safety", words) + &more
+                section(&indent, "Safety", &words.join(" ")) + &more
             }
             Fate::Panics(words, line) => {
                 if let Some(line) = line {
@@ -400,10 +391,4 @@ impl<'a> File<'a, '_> {
         self.tally.count("lines put into bodies");
         Ok(())
     }
-}
-
-/// The parameters of a function that a clause of it names.
-fn named_in<'a>(clause: &'a str, head: &str) -> Vec<&'a str> {
-    let words = clause.split([' ', '(', ')']).map(|word| word.split('.').next().unwrap_or(word));
-    words.filter(|word| head.contains(&format!("{word}: "))).collect()
 }

@@ -203,15 +203,14 @@ impl<'a, 't> File<'a, 't> {
         let inside = Inside { owner: &owner, of_trait: !of.is_empty(), is_block: true };
         let ghosts = self.items(cursor, &inside)?;
         self.added(&head, self.line_start(cursor.at));
-        let members = ghosts.iter().filter(|at| !at.is_empty()).map(|at| self.dedented(at.clone()));
-        let members: Vec<_> = members.map(|member| member.trim_start_matches("ghost ").to_string()).collect();
         if is_model {
-            members.iter().for_each(|member| self.tally.contracts.note_invariant(&owner, member));
             self.edits.replace(self.lines(lead.start..cursor.at), "");
             self.tally.count("models");
             return Ok(());
         }
         self.linked(lead, "");
+        let members = ghosts.iter().filter(|at| !at.is_empty()).map(|at| self.dedented(at.clone()));
+        let members: Vec<_> = members.map(|member| member.trim_start_matches("ghost ").to_string()).collect();
         if !members.is_empty() {
             let shown: Vec<_> = members.iter().map(|member| shown(member)).collect();
             self.folded(lead.docs_end, &shown.join("\n"), lead.has_docs);
@@ -284,7 +283,6 @@ impl<'a, 't> File<'a, 't> {
                 _ => {}
             }
         }
-        self.tally.contracts.declare(name, &self.text[first.at.start..cursor.at]);
         self.head(first.at.start..cursor.at);
         Ok(())
     }

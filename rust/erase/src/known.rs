@@ -3,57 +3,15 @@
 //! Clauses speak of numbers without an upper bound. So a sum on the left of a comparison is tested not to wrap, and a
 //! difference stops at 0, as it does in a clause. What can't be read so is refused.
 
-use std::collections::BTreeMap;
-
-/// What the names of a clause are in its function, or in its type.
-pub struct Names<'a> {
-    /// From `fn` to the clauses, or the declaration of the type.
-    pub head: &'a str,
-    /// What has the name `result`.
-    pub result: Option<&'a str>,
-}
-
-/// The test of a clause.
-pub fn test_of(clause: &str, names: &Names) -> Result<String, String> {
+/// The test of a clause of a function, whose head goes from `fn` to the clauses.
+pub fn test_of(clause: &str, head: &str) -> Result<String, String> {
     let words = words(clause);
-    let mut reader = Reader { words: &words, at: 0, names };
+    let mut reader = Reader { words: &words, at: 0, head };
     let test = reader.fact()?;
     match reader.words.get(reader.at) {
         None => Ok(test),
         Some(word) => Err(format!("`{word}` in a clause that is to be known")),
     }
-}
-
-/// The test of the first field of an invariant: of `λ s. IsStored N s.array s.start s.size`, by the record
-/// `IsStored (array_size : ℕ) (array : List ℕ) (start n : ℕ)` with `start + n ≤ cap array_size`, `s.start + s.size ≤ cap N`.
-/// A field that is a fact of the definitions itself stands for its own first field.
-pub fn test_of_invariant(
-    invariant: &str,
-    definitions: &BTreeMap<String, String>,
-    names: &Names,
-) -> Result<String, String> {
-    let fault = || format!("the invariant `{invariant}` by its definition");
-    let (value, fact) = invariant.strip_prefix("λ ").and_then(|rest| rest.split_once(". ")).ok_or_else(fault)?;
-    let own =
-        |word: &str| word.strip_prefix(value).filter(|rest| rest.starts_with('.')).map(|rest| format!("self{rest}"));
-    let mut fact: Vec<_> = fact.split(' ').map(|word| own(word).unwrap_or_else(|| word.to_string())).collect();
-    while let Some(definition) = definitions.get(&fact[0]) {
-        fact = first_field(definition, &fact[1..]).ok_or_else(fault)?;
-    }
-    test_of(&fact.join(" "), names)
-}
-
-/// The words of the first field of a record, with these arguments for its parameters.
-fn first_field(record: &str, arguments: &[String]) -> Option<Vec<String>> {
-    let (head, fields) = record.split_once(" : Type 0 where\n")?;
-    let bound = head.split(['(', ')']).filter_map(|bound| bound.split_once(" : "));
-    let parameters: Vec<_> = bound.flat_map(|(names, _)| names.split(' ')).collect();
-    let (_, clause) = fields.lines().next()?.strip_prefix("  pub ")?.split_once(" : ")?;
-    let put = |word: String| match parameters.iter().position(|parameter| *parameter == word) {
-        Some(at) => arguments[at].clone(),
-        None => word,
-    };
-    (parameters.len() == arguments.len()).then(|| words(clause).into_iter().map(put).collect())
 }
 
 /// A number that a clause names.
@@ -116,7 +74,7 @@ fn words(clause: &str) -> Vec<String> {
 struct Reader<'a> {
     words: &'a [String],
     at: usize,
-    names: &'a Names<'a>,
+    head: &'a str,
 }
 
 impl Reader<'_> {
@@ -234,19 +192,14 @@ impl Reader<'_> {
     /// A number that has a name, or is written.
     fn name(&self, word: &str) -> Result<Number, String> {
         let (first, field) = word.split_once('.').unwrap_or((word, ""));
-        let is_known = |kind: &str| self.names.head.contains(&format!("{first}: {kind}"));
+        let is_known = |kind: &str| self.head.contains(&format!("{first}: {kind}"));
         let is_constant = first.chars().all(|ch| ch.is_ascii_uppercase()) && is_known("usize");
         let plain = || Ok(Number::Plain(word.to_string()));
-        match (first, field, self.names.result) {
-            ("result", "", Some(name)) => Ok(Number::Plain(name.to_string())),
-            (_, "", _) if word.chars().all(|ch| ch.is_ascii_digit()) => plain(),
-            (_, "", _) if is_constant || is_known("usize") || word == "N" => plain(),
-            (_, "", _) if is_known("u8") => Ok(Number::Byte(format!("usize::from({word})"))),
-            // In a call that is `const`, too.
-            ("self", field, _) if self.names.head.contains(&format!("\n    {field}: u8,\n")) => {
-                Ok(Number::Byte(format!("{word} as usize")))
-            }
-            (_, "offset" | "size", _) if is_known("Span") => plain(),
+        match (first, field) {
+            (_, "") if word.chars().all(|ch| ch.is_ascii_digit()) => plain(),
+            (_, "") if is_constant || is_known("usize") || word == "N" => plain(),
+            (_, "") if is_known("u8") => Ok(Number::Byte(format!("usize::from({word})"))),
+            (_, "offset" | "size") if is_known("Span") => plain(),
             _ => Err(format!("`{word}` in a clause that is to be known")),
         }
     }
@@ -259,70 +212,7 @@ mod tests {
     fn told(clause: &str) -> Result<String, String> {
         let head = "fn f<const N: usize, const K: usize>(&mut self, from: usize, to: usize, len: usize, at: u8, \
                     given: &[u8], ch: char, text: Span, size: usize)";
-        test_of(clause, &Names { head, result: Some("end") })
-    }
-
-    const STORED: &str = "\
-pub record IsStored (array_size : ℕ) (array : List ℕ) (start n : ℕ) : Type 0 where
-  pub within : start + n ≤ cap array_size
-  pub length : length array ≡ array_size
-";
-
-    const DRAINED: &str = "\
-pub record IsDrained (array_size : ℕ) (array : List ℕ) (start n i : ℕ) : Type 0 where
-  pub held : IsStored array_size array start n
-  pub at : IsTrue (boundary (stored array start n).text i)
-";
-
-    fn of_type(invariant: &str, definition: &str) -> Result<String, String> {
-        let definitions = [("IsStored", definition), ("IsDrained", DRAINED)];
-        let definitions = definitions.map(|(name, text)| (name.to_string(), text.to_string())).into();
-        let head = "struct S<const N: usize> {\n    start: u8,\n    size: u8,\n    len: usize,\n    array: [u8; N],\n}";
-        test_of_invariant(invariant, &definitions, &Names { head, result: None })
-    }
-
-    #[test]
-    fn the_first_field_of_an_invariant_is_read_off_its_definition() {
-        let invariant = "λ s. IsStored N s.array s.start s.size";
-        let capacity = "crate::ArrayString::<N>::capacity() as usize";
-        let sum = "self.start as usize + self.size as usize";
-        for (invariant, definition, test) in [
-            (invariant, STORED.to_string(), format!("{sum} <= {capacity}")),
-            ("λ d. IsDrained N d.array d.start d.size d.len", STORED.to_string(), format!("{sum} <= {capacity}")),
-            ("λ of. IsStored N of.array of.size of.start", STORED.to_string(), {
-                format!("self.size as usize + self.start as usize <= {capacity}")
-            }),
-            (invariant, STORED.replace("cap array_size", "array_size"), format!("{sum} <= N")),
-            (invariant, STORED.replace("start + n ≤", "n <"), format!("self.size as usize < {capacity}")),
-            (invariant, STORED.replace("start + n", "start + 1 + n"), {
-                let more = "self.start as usize + 1";
-                format!(
-                    "{more} + self.size as usize <= {capacity} && self.start as usize <= {more} \
-                     && {more} <= {more} + self.size as usize"
-                )
-            }),
-        ] {
-            assert_eq!(of_type(invariant, &definition), Ok(test), "{invariant}: {definition}");
-        }
-        for (invariant, definition) in [
-            ("λ s. IsKept N s.array s.start s.size", STORED),
-            ("λ s. IsStored N s.array s.start s.size × IsDrained N s.start", STORED),
-            ("λ d. IsDrained N d.array d.start d.size", STORED),
-            ("λ d. IsDrained N d.array d.start d.len d.size", STORED),
-            ("λ s. IsStored N s.array s.start", STORED),
-            ("IsStored N s.array s.start s.size", STORED),
-            ("λ s. IsStored N s.array s.start s.len", STORED),
-            ("λ s. IsStored N s.array s.start s.array", STORED),
-            ("λ s. IsStored N s.array (s.start + 1) s.size", STORED),
-            ("λ s. IsStored N s.array t.start s.size", STORED),
-            ("λ s. IsStored 7 s.array s.start s.size", STORED),
-            (invariant, "IsStored array_size array start n = start + n ≤ cap array_size"),
-            (invariant, "pub record IsStored (n : ℕ) : Type 0 where\n  pub within : n ≤ cap n\n"),
-            (invariant, &STORED.replace("start + n ≤ cap array_size", "∥ IsUtf8 (take n (drop start array)) ∥₁")),
-            (invariant, &STORED.replace("  pub within", "  pub utf8 : IsUtf8 array\n  pub within")),
-        ] {
-            assert!(of_type(invariant, definition).is_err(), "{invariant}: {:?}", of_type(invariant, definition));
-        }
+        test_of(clause, head)
     }
 
     #[test]
@@ -338,8 +228,7 @@ pub record IsDrained (array_size : ℕ) (array : List ℕ) (start n i : ℕ) : T
             ("at < length given.now", "usize::from(at) < given.len()".to_string()),
             ("K ≤ 64", "K <= 64".to_string()),
             ("at + at ≤ cap N", format!("usize::from(at) + usize::from(at) <= {capacity}")),
-            ("result ≤ length given.now", "end <= given.len()".to_string()),
-            ("IsCharBoundary given.now result", "given.is_char_boundary(end)".to_string()),
+            ("IsCharBoundary given.now from", "given.is_char_boundary(from)".to_string()),
             ("from + size ≤ N", "from + size <= N && from <= from + size".to_string()),
             ("length given.now - K ≤ K", "given.len().saturating_sub(K) <= K".to_string()),
             ("length given.now ≡ K", "given.len() == K".to_string()),
@@ -378,7 +267,7 @@ pub record IsDrained (array_size : ℕ) (array : List ℕ) (start n i : ℕ) : T
             "(from ≤ N",
             "length self.old.text ≤ N",
             "self.size ≤ N",
-            "result.0 ≤ N",
+            "result ≤ N",
             "IsCharBoundary self.old.text from",
         ] {
             assert!(told(clause).is_err(), "{clause}: {:?}", told(clause));

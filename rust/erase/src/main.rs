@@ -6,6 +6,7 @@
 //! Without `--check` it writes `rust/arraystring/src`; with it, it says whether that is as the sources say. The folder is
 //! the repository, by default the one that the eraser was built in. What it can't read stops it.
 
+mod access;
 mod body;
 mod contracts;
 mod cursor;
@@ -51,7 +52,6 @@ fn run(root: &std::path::Path, is_check: bool) -> Result<(), String> {
     let (mut made, tally) = files::made(&root.join("crates"))?;
     let is_formatted = files::format(&mut made, &root.join("rust"))?;
     let target = root.join("rust/arraystring/src");
-    files::by_hand_has(&tally.by_hand, &target)?;
     let explained = words::explained(&made, &files::read(&target.join(words::PAGE))?)?;
     if is_check {
         files::compare(&made, &target, is_formatted)?;
@@ -79,6 +79,14 @@ fn run(root: &std::path::Path, is_check: bool) -> Result<(), String> {
     }
     for rule in width::BOUNDED {
         println!("products and shifts: {}: {} in `{}`: {}", rule.file, rule.count, rule.function, rule.why);
+    }
+    for (call, why) in rules::PROVED {
+        println!("proved where a clause is given up: `{call}`: {why}");
+    }
+    for shown in rules::SHOWN {
+        let calls: Vec<_> =
+            shown.calls.iter().map(|(call, workers)| format!("{call} of {}", workers.join(", "))).collect();
+        println!("shown where a clause is given up: {}: {}", calls.join("; "), shown.why);
     }
     for rule in rules::TESTED {
         println!("tests by hand: {} has {}: {}", rule.file, rule.path, rule.why);

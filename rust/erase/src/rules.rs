@@ -24,6 +24,9 @@ pub const ROOT: &str = "\
 compile_error!(\"the crate was tried where a `usize` has 32 or 64 bits, and nowhere else\");
 
 #[macro_use]
+#[path = \"by_hand/access.rs\"]
+mod access;
+#[macro_use]
 #[path = \"by_hand/known.rs\"]
 mod known;
 
@@ -60,8 +63,9 @@ pub struct LeftOut {
 
 /// What becomes of a public call that has a precondition.
 pub enum Fate {
-    /// It is an `unsafe fn`, with these words under `# Safety`, and an example if it is public in Rust too.
-    Unsafe(&'static str, &'static [&'static str]),
+    /// It is an `unsafe fn`, with a sentence under `# Safety` for each clause that is kept, and an example if it is public in Rust
+    /// too.
+    Unsafe(&'static [&'static str], &'static [&'static str]),
     /// It panics, with these words under `# Panics`; the second is a line that is put behind `plain_ends` to do so.
     Panics(&'static str, Option<&'static str>),
     /// It is safe and defined without the precondition, as these words under `# In Rust` say.
@@ -70,11 +74,12 @@ pub enum Fate {
 
 use Fate::{Panics, Safe, Unsafe};
 
-const MUST_FIT: &str = "The text after the call must fit into the capacity.";
-const MUST_BE_A_PLACE: &str =
-    "The index must be a boundary of the text, and the text after the call must fit into the capacity.";
-const MUST_BE_TEXT: &str = "The bytes must be well-formed UTF-8, and must fit into the capacity.";
-const MUST_LIE_IN_ARRAY: &str = "What is written must lie in the array.";
+const MUST_FIT: &[&str] = &["The text after the call must fit into the capacity."];
+const MUST_BE_A_PLACE: &[&str] =
+    &["The index must be a boundary of the text.", "The text after the call must fit into the capacity."];
+const MUST_BE_TEXT: &[&str] = &["The bytes must be well-formed UTF-8.", "They must fit into the capacity."];
+const MUST_LIE_IN_ARRAY: &[&str] = &["What is written must lie in the array."];
+const BOTH_RUNS: &[&str] = &["The run that is moved must lie in the array.", "So must the run that is written over."];
 const ENDS: &str = "An iterator that never ends, or that panics, is allowed. The call stops at the first item that does not fit, \
                     so only empty pieces without an end keep it. What was taken before a panic is a text.";
 const COUNTS: &str = "A count that would pass 2^64 - 1 stays there.";
@@ -232,11 +237,11 @@ pub const FATES: &[(&str, Fate)] = &[
         ),
     ),
     ("moves::write_over", Unsafe(MUST_LIE_IN_ARRAY, &[])),
-    ("moves::move_run", Unsafe("Both runs must lie in the array.", &[])),
+    ("moves::move_run", Unsafe(BOTH_RUNS, &[])),
     (
         "moves::shift",
         Unsafe(
-            "Both runs must lie in the array.",
+            BOTH_RUNS,
             &[
                 "let (mut array, mut steps) = (*b\"abcd\", Steps::new());",
                 "// SAFETY: the bytes 0..3 and 1..4 lie in the array.",
@@ -415,73 +420,100 @@ pub const GIVEN_UP: &[&str] = &[
     "FindsChar",
 ];
 
-/// The functions that give up a clause, and whose `prove!` are facts all the same, with the reason.
-pub const PROVED: &[(&str, &str)] = &[(
-    "remove::retain_at",
-    "that an index is below N follows from `held`, and not from what the closure may be asked",
-)];
-
-/// What stands under `# Safety` of a private function.
-pub const PRIVATE: &str =
-    "Each clause `requires` of the contract must hold, but for those on counts, on iterators and on closures.";
-
-/// The clauses that stand at the start of a body as known, by their function and their name, if they have one. They are few,
-/// since each costs the compiler time and some cost speed. Without any one of them `rust/no_panic` does not link, or
-/// `rust/bench/run` tells of more instructions or of more bytes of code.
-pub const KNOWN: &[(&str, &str)] = &[
-    ("moves::move_run", "target"),
-    ("moves::move_short_run", "source"),
-    ("moves::move_ends", "target"),
-    ("moves::move_pairs", "source"),
-    ("moves::write_short_run", "room"),
-    ("moves::write_long_run", "room"),
-    ("moves::write_any_run", ""),
-    ("moves::bytes_of", ""),
-    ("moves::put_bytes", ""),
-    ("remove::retain_at", "held"),
-    ("ascii::uppercase_bytes", "within"),
-    ("ascii::lowercase_bytes", "within"),
+/// The functions that give up a clause, or call one that does, and whose accesses are within all the same, with the reason. Any
+/// other such function keeps the tests of its accesses.
+pub const PROVED: &[(&str, &str)] = &[
+    ("utf8::truncate_str_counted", "`last_boundary` returns a boundary, whatever was counted"),
+    ("remove::retain_at", "where it reads follows from `held` and `text`, and not from what the closure may be asked"),
+    ("ArrayString::drop_leading_ascii", "its loop tests the index, whatever the closure answers"),
+    ("Drain::next_back", "where it reads follows from the invariant, before anything is counted"),
 ];
 
-/// What is known once more in the middle of a body, where the compiler knows which branch was taken.
-pub struct Again {
-    pub call: &'static str,
-    /// It stands before each line of the body that begins with these words.
-    pub before: &'static str,
-    pub clause: &'static str,
-    pub why: Why,
+/// Calls of `unsafe` workers by functions that give up a clause. The precondition of the worker is proved there from all clauses,
+/// so each is listed with the reason that it needs none of those that are given up.
+pub struct Shown {
+    pub why: &'static str,
+    /// The function, and the workers that it calls.
+    pub calls: &'static [(&'static str, &'static [&'static str])],
 }
 
-/// Why something is known there.
-pub enum Why {
-    /// The function requires the clause, and what it names is not changed in the body.
-    Requires,
-    /// A callee ensures the clause, and this is the name of its result.
-    Ensures(&'static str, &'static str),
-}
-
-pub const AGAIN: &[Again] = &[
-    // Not in the branch of ASCII: the room that a caller has tested is enough there, and loops get slower by the clause.
-    Again { call: "utf8::encode", before: "all[at..", clause: "", why: Why::Requires },
-    Again {
-        call: "utf8::truncate_str_counted",
-        before: "&text[..end]",
-        clause: "boundary",
-        why: Why::Ensures("utf8::last_boundary", "end"),
+pub const SHOWN: &[Shown] = &[
+    Shown {
+        why: "places and sizes follow from the text and its array; a counter is only added to",
+        calls: &[
+            ("moves::shift", &["moves::move_run"]),
+            ("gap::open_gap", &["moves::shift"]),
+            ("gap::compact_and_open_gap", &["moves::shift"]),
+            ("utf8::truncate_str_counted", &["utf8::last_boundary"]),
+            ("utf8::last_char", &["utf8::char_before_end"]),
+            ("ArrayString::splice", &["ArrayString::compact_and_splice", "gap::open_gap", "moves::write_over"]),
+            ("ArrayString::compact_and_splice", &["gap::compact_and_open_gap", "moves::write_over"]),
+            ("ArrayString::take_out", &["ArrayString::drop_front", "moves::shift"]),
+            ("ArrayString::try_insert_str_counted", &["ArrayString::splice"]),
+            ("ArrayString::replace_between", &["ArrayString::splice"]),
+            ("ArrayString::pop_counted", &["ArrayString::keep"]),
+            ("ArrayString::remove_counted", &["ArrayString::char_at", "ArrayString::take_out"]),
+            ("ArrayString::drain_counted", &["ArrayString::take_out", "Drain::new"]),
+        ],
     },
-    Again {
-        call: "ArrayString::write_prefix",
-        before: "for item in",
-        clause: "within",
-        why: Why::Ensures("utf16::write_ascii", "run"),
+    Shown {
+        why: "what is written was tested to fit, item by item, and each item leaves a text, whether or not the iterator ends",
+        calls: &[
+            ("ArrayString::append_chars", &["ArrayString::append_char"]),
+            ("ArrayString::append_strs", &["ArrayString::append_past_end", "moves::write_over"]),
+            ("ArrayString::add_chars", &["ArrayString::append_chars"]),
+            ("ArrayString::add_strs", &["ArrayString::append_strs"]),
+            ("ArrayString::try_from_chars", &["ArrayString::append_chars"]),
+            ("ArrayString::from_chars", &["ArrayString::append_chars"]),
+            ("ArrayString::try_from_iterator", &["ArrayString::append_strs"]),
+            ("ArrayString::from_iterator", &["ArrayString::append_strs"]),
+        ],
     },
-    Again {
-        call: "ArrayString::from_utf16_lossy",
-        before: "for item in",
-        clause: "within",
-        why: Why::Ensures("utf16::write_ascii", "run"),
+    Shown {
+        why: "the caller promises that all items fit, so an iterator that does not end is promised away",
+        calls: &[
+            ("ArrayString::from_iterator_unchecked", &["moves::write_over"]),
+            ("CacheString::from_iterator_unchecked", &["ArrayString::from_iterator_unchecked"]),
+            ("CacheString::from_chars_unchecked", &["ArrayString::from_chars_unchecked"]),
+        ],
+    },
+    Shown {
+        why: "where characters begin and end follows from the text, whatever a closure answers; behind one that panics nothing is done",
+        calls: &[
+            ("ArrayString::drop_trailing", &["ArrayString::keep"]),
+            ("ArrayString::drop_leading_ascii", &["ArrayString::drop_run"]),
+            ("ArrayString::drop_leading_decoded", &["ArrayString::drop_front"]),
+            ("ArrayString::retain", &["remove::retain_at"]),
+            ("remove::retain_at", &["moves::shift", "remove::first_char"]),
+        ],
+    },
+    Shown {
+        why: "the index that Rust puts before it tests the range, as the precondition does",
+        calls: &[
+            ("ArrayString::make_ascii_uppercase_in", &["ArrayString::uppercase_between"]),
+            ("ArrayString::make_ascii_lowercase_in", &["ArrayString::lowercase_between"]),
+        ],
     },
 ];
+
+/// The calls on a part that write into it, beside `copy_from_slice`.
+pub const WRITES: &[&str] = &["make_ascii_uppercase", "make_ascii_lowercase"];
+
+/// The clauses that stand at the start of a body as known, by their function and their name, if they have one. An access needs
+/// none, since it has no test. These are for cells of rust/bench/cells.md at 255: without them `try_insert`, `try_insert_str`,
+/// `replace_range` and `remove` in the middle take some twenty instructions more.
+pub const KNOWN: &[(&str, &str)] = &[("moves::move_ends", "target"), ("moves::move_pairs", "source")];
+
+/// A file whose functions rustc need not inline, though their sources always do.
+pub struct Once {
+    pub file: &'static str,
+    /// Functions of it that are inlined all the same.
+    pub but: &'static [&'static str],
+}
+
+/// Workers that are large stand once where code is made small, which takes a quarter of its bytes there. The cells of
+/// rust/bench/cells.md are as many; without `always` elsewhere, too, they are more.
+pub const ONCE: &[Once] = &[Once { file: "arraystring_base/src/moves.rt", but: &["move_run"] }];
 
 /// A function whose body is another one in the Rust crate.
 pub struct Body {
@@ -502,7 +534,7 @@ pub const BODIES: &[Body] = &[
         call: "ArrayString::as_str",
         lines: &[
             "let (size, start) = (self.size as usize, self.start as usize);",
-            "let (_, text) = self.array.split_at(start + size).0.split_at(start);",
+            "let (_, text) = split_at_unchecked!(split_at_unchecked!(self.array, start + size).0, start);",
             "// SAFETY: the type's `invariant`: the `size` bytes from `start` on are UTF-8.",
             "unsafe { str::from_utf8_unchecked(text) }",
         ],
@@ -512,7 +544,7 @@ pub const BODIES: &[Body] = &[
         call: "ArrayString::as_bytes",
         lines: &[
             "let (size, start) = (self.size as usize, self.start as usize);",
-            "self.array.split_at(start + size).0.split_at(start).1",
+            "split_at_unchecked!(split_at_unchecked!(self.array, start + size).0, start).1",
         ],
         why: BY_SPLIT,
     },
@@ -543,31 +575,15 @@ pub const ADDED: &[Added] = &[Added {
     why: "callers that make room ask for it",
 }];
 
-/// Calls of what is public, safe and panics, which bodies make by a function of `by_hand` that knows a clause instead, by the
-/// line that comes of that clause.
-pub struct Inside {
+/// What is public, safe and panics in Rust, and has a twin beside it, which is `unsafe` and what bodies call: they prove the clause.
+pub struct Twin {
     pub of: &'static str,
     pub call: &'static str,
-    pub by_hand: &'static str,
+    pub twin: &'static str,
     pub clause: &'static str,
 }
 
-pub const INSIDE: &[Inside] =
-    &[Inside { of: "steps::look", call: "look", by_hand: "crate::by_hand::look", clause: "in_bounds" }];
-
-/// Calls in which the first field of the invariant of their type stands as known: what is stored ends within the capacity.
-pub const INVARIANTS: &[&str] = &[
-    "ArrayString::as_str",
-    "ArrayString::as_bytes",
-    "ArrayString::compact_and_insert",
-    "Drain::as_str",
-    "Drain::next",
-    "Drain::next_back",
-];
-
-/// The records by which invariants are read, with their file in the folder of crates.
-pub const DEFINITIONS: &[(&str, &str)] =
-    &[("arraystring_core/specs/Layout.antt", "IsStored"), ("arraystring_core/specs/Layout.antt", "IsDrained")];
+pub const TWINS: &[Twin] = &[Twin { of: "steps::look", call: "look", twin: "look_unchecked", clause: "in_bounds" }];
 
 /// A file in which std does what a function of the source does.
 pub struct ByStd {
@@ -606,10 +622,10 @@ pub const BY_STD: &[ByStd] = &[
     ByStd {
         file: "arraystring_core/src/fast/well_formed.rt",
         module: "The test of UTF-8, which std makes here.",
-        imports: "use crate::arraystring_base::error::Utf8;\nuse core::str;",
+        imports: "use crate::arraystring_base::error::Utf8;\nuse crate::by_hand::str;",
         function: "read_utf8",
         docs: "Returns the text whose UTF-8 is `given`, or `Err(Utf8)` if `given` is not well-formed.",
-        body: "let (blocks, last) = (given.len() / 32 * 32, given.len().saturating_sub(32));\n    if given[..blocks].is_ascii() && given[last..].is_ascii() {\n        // SAFETY: the blocks of 32 bytes in front and the last 32 bytes are all of them, and ASCII is UTF-8.\n        return Ok(unsafe { str::from_utf8_unchecked(given) });\n    }\n    str::from_utf8(given).map_err(Utf8::from)",
+        body: "let (blocks, last) = (given.len() / 32 * 32, given.len().saturating_sub(32));\n    if get_unchecked!(given, ..blocks).is_ascii() && get_unchecked!(given, last..).is_ascii() {\n        // SAFETY: the blocks of 32 bytes in front and the last 32 bytes are all of them, and ASCII is UTF-8.\n        return Ok(unsafe { str::from_utf8_unchecked(given) });\n    }\n    str::from_utf8(given).map_err(Utf8::from)",
         why: "std's vectors are the machine's, where those of `by_hand` are arrays",
     },
 ];
@@ -743,8 +759,8 @@ pub const REPLACED: &[Replaced] = &[
     Replaced {
         file: "arraystring_base/src/utf8.rt",
         from: "use crate::steps::{Steps, look};",
-        to: "use crate::steps::Steps;",
-        why: "bodies look by hand",
+        to: "use crate::steps::{Steps, look_unchecked};",
+        why: "bodies call its twin",
     },
     Replaced {
         file: "arraystring/src/lib.rt",

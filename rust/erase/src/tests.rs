@@ -2,6 +2,8 @@
 
 use super::*;
 
+#[path = "tests/accesses.rs"]
+mod accesses;
 #[path = "tests/odd.rs"]
 mod odd;
 #[path = "tests/pages.rs"]
@@ -56,7 +58,7 @@ use core::fmt;
 ///
 /// # Safety
 ///
-/// Each clause `requires` of the contract must hold, but for those on counts, on iterators and on closures.
+/// The contract requires `n < 255`.
 ///
 /// <details><summary>Contract</summary>
 ///
@@ -214,57 +216,78 @@ fn f(text: &Text) {
 
 /// What comes of a file of the lowest crate that has a name of its own.
 fn made_as(path: &str, text: &str) -> Result<String, String> {
-    made_with(path, text, false)
-}
-
-/// What comes of a file, where all functions are in it or not.
-fn made_with(path: &str, text: &str, is_whole: bool) -> Result<String, String> {
     let source = Source { krate: "arraystring_base", path, text };
     let mut tally = Tally::default();
-    let stored = "pub record IsStored (array_size : ℕ) (array : List ℕ) (start n : ℕ) : Type 0 where\n  \
-                  pub within : start + n ≤ cap array_size\n  pub length : length array ≡ array_size\n";
-    tally.contracts.define("IsStored", stored);
     let _ = erase(&source, &mut tally);
-    tally.contracts.is_whole = is_whole;
     erase(&source, &mut tally).map(|erased| erased.text).map_err(|fault| fault.why)
+}
+
+/// What comes of a worker in whose body a clause is known.
+fn move_ends(requires: &str) -> Result<String, String> {
+    let text = format!(
+        "/// Moves.\nfn move_ends<const N: usize>(array: &mut [u8; N], to: usize, len: usize)\n    requires {requires}\n{{\n    write(array);\n}}\n"
+    );
+    made_as("arraystring_base/src/moves.rt", &text)
 }
 
 #[test]
 fn a_clause_of_the_list_is_known_at_the_start_of_its_body() {
-    let write_any_run = |clause: &str| {
-        let text = format!(
-            "/// Writes.\nfn write_any_run<const N: usize>(array: &mut [u8; N], at: usize, given: &[u8])\n    requires {clause}\n{{\n    write(array, at, given);\n}}\n"
-        );
-        made_as("arraystring_base/src/moves.rt", &text)
-    };
-    let known =
-        "given: &[u8]) {\n    known!(precondition: at + given.len() <= N && at <= at + given.len());\n    write(array";
-    let text = write_any_run("{ at + length given.now ≤ N }").unwrap();
+    let known = "len: usize) {\n    known!(target: to + len <= N && to <= to + len);\n    write(array";
+    let text = move_ends("target { to + len ≤ N }").unwrap();
     assert!(text.contains(known), "{text}");
-    let name = "`moves::write_any_run`: it has no clause `` that could be known";
-    assert_eq!(write_any_run("room { at + length given.now ≤ N }").unwrap_err(), name);
-    let unread = "`moves::write_any_run`: `≢` in a clause that is to be known";
-    assert_eq!(write_any_run("{ at ≢ N }").unwrap_err(), unread);
-    let given_up = "`moves::write_any_run`: `` is no fact in Rust, since safe calls do not show it";
-    assert_eq!(write_any_run("{ steps.old.moved < 3 }").unwrap_err(), given_up);
+    let name = "`moves::move_ends`: it has no clause `target` that could be known";
+    assert_eq!(move_ends("room { to + len ≤ N }").unwrap_err(), name);
+    let unread = "`moves::move_ends`: `≢` in a clause that is to be known";
+    assert_eq!(move_ends("target { to ≢ N }").unwrap_err(), unread);
 }
 
 #[test]
 fn a_clause_that_is_given_up_is_never_known() {
-    let text = "fn bytes_of<const K: usize>(at: usize)\n    requires { steps.old.moved < at }\n{\n    f();\n}\n";
-    let why = made_as("arraystring_base/src/moves.rt", text).unwrap_err();
-    assert_eq!(why, "`moves::bytes_of`: `` is no fact in Rust, since safe calls do not show it");
+    let why = "`moves::move_ends`: `target` is no fact in Rust, since safe calls do not show it";
+    assert_eq!(move_ends("target { steps.old.moved < to }").unwrap_err(), why);
 }
 
 #[test]
-fn what_is_proved_in_a_body_is_known_unless_a_clause_is_given_up() {
-    let body = |requires: &str| {
-        format!("fn find(at: usize)\n    requires {{ {requires} }}\n{{\n    prove!(at < 3);\n    f();\n}}\n")
-    };
-    let made = made_as("arraystring_base/src/sample.rt", &body("at < 3")).unwrap();
-    assert!(made.contains("\n    known!(proved: at < 3);\n"), "{made}");
-    let why = made_as("arraystring_base/src/sample.rt", &body("steps.old.moved < at")).unwrap_err();
-    assert_eq!(why, "a `prove!` in `sample::find`, of which Rust gives up a clause");
+fn what_is_tested_for_the_proof_alone_goes() {
+    let body = "fn find(at: usize) {\n    prove!(at < 3);\n    f();\n}\n";
+    let made = made_as("arraystring_base/src/sample.rt", body).unwrap();
+    assert!(made.contains("fn find(at: usize) {\n    f();\n}"), "{made}");
+    let why =
+        made_as("arraystring_base/src/sample.rt", &body.replace("prove!(at < 3);", "g(prove!(at < 3));")).unwrap_err();
+    assert_eq!(why, "a call for the proof alone that is no statement on a line of its own");
+}
+
+#[test]
+fn what_is_made_without_a_test_is_made_by_hand() {
+    let source = "\
+use std::str;
+use std::str::FromStr;
+
+fn f(bytes: &[u8]) -> (&str, char) {
+    // SAFETY: so it is.
+    unsafe { (str::from_utf8_unchecked(bytes), char::from_u32_unchecked(1)) }
+}
+
+fn g() -> Option<char> {
+    char::from_u32(1)
+}
+";
+    let wanted = "\
+use crate::by_hand::str;
+use core::str::FromStr;
+
+#[inline]
+fn f(bytes: &[u8]) -> (&str, char) {
+    // SAFETY: so it is.
+    unsafe { (str::from_utf8_unchecked(bytes), crate::by_hand::char::from_u32_unchecked(1)) }
+}
+
+#[inline]
+fn g() -> Option<char> {
+    char::from_u32(1)
+}
+";
+    assert_eq!(made(source).unwrap(), wanted);
 }
 
 #[test]

@@ -1,6 +1,8 @@
 //! Each safe call of the string, made in a program without `std`. What the program does where something panics has no
 //! definition, so it links only where the machine code of no call can panic.
 //!
+//! The feature `one_panics` puts a call that can panic in their place, and then the program must not link.
+//!
 //! Left out are the calls that panic as those of `str` do (the index, `slice`, the case calls on a range, `utils::look`) and
 //! `Debug`, which is printed by `core`'s own code. What a caller's closure or iterator does is its own.
 #![no_std]
@@ -240,13 +242,23 @@ fn all_at<const N: usize>(text: &str, bytes: &[u8], units: &[u16], at: u8, end: 
     told + removed(&mut string, at, &mut steps) as usize
 }
 
+/// The call that can panic.
+#[inline(never)]
+fn one_that_panics(text: &str, at: u8) -> usize {
+    Text::<23>::from(text).slice(at..).len()
+}
+
 #[unsafe(no_mangle)]
 extern "C" fn main(count: i32) -> i32 {
     let (text, bytes, units) = black_box(("aé€🤔", &b"a\xC3\xA9"[..], &[0x61, 0xE9, 0xD83E, 0xDD14][..]));
     let (at, end, ch) = black_box((count as u8, 3, 'é'));
-    let told = all_at::<23>(text, bytes, units, at, end, ch)
-        + all_at::<63>(text, bytes, units, at, end, ch)
-        + all_at::<255>(text, bytes, units, at, end, ch)
+    if cfg!(feature = "one_panics") {
+        return black_box(one_that_panics(text, at)) as i32;
+    }
+    macro_rules! all_at_each {
+        ($($capacity:literal)*) => { 0 $(+ all_at::<$capacity>(text, bytes, units, at, end, ch))* };
+    }
+    let told = all_at_each!(0 1 23 63 255 256 257 300 1000)
         + of_no_string(text, units, at, &mut Steps::default())
         + cached(text, bytes, units, at);
     black_box(told);

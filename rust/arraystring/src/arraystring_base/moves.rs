@@ -13,7 +13,7 @@ use crate::by_hand::simd::Simd;
 ///
 /// # Safety
 ///
-/// Both runs must lie in the array.
+/// The run that is moved must lie in the array. So must the run that is written over.
 ///
 /// # Examples
 ///
@@ -41,7 +41,7 @@ use crate::by_hand::simd::Simd;
 /// [How to read a contract](crate::contracts)
 ///
 /// </details>
-#[inline(always)]
+#[inline]
 pub unsafe fn shift<const N: usize>(array: &mut [u8; N], from: usize, to: usize, len: usize, steps: &mut Steps) {
     if from != to {
         // SAFETY: the proof of `shift` in crates/arraystring_base/src/moves.rt shows `source` and `target` of `move_run`.
@@ -55,7 +55,7 @@ pub unsafe fn shift<const N: usize>(array: &mut [u8; N], from: usize, to: usize,
 ///
 /// # Safety
 ///
-/// Both runs must lie in the array.
+/// The run that is moved must lie in the array. So must the run that is written over.
 ///
 /// <details><summary>Contract</summary>
 ///
@@ -70,7 +70,6 @@ pub unsafe fn shift<const N: usize>(array: &mut [u8; N], from: usize, to: usize,
 /// </details>
 #[inline(always)]
 pub unsafe fn move_run<const N: usize>(array: &mut [u8; N], from: usize, to: usize, len: usize) {
-    known!(target: to + len <= N && to <= to + len);
     if N > 64 && len > 64 {
         // SAFETY: the proof of `move_run` in crates/arraystring_base/src/moves.rt shows `source`, `target` and `long` of `move_much`.
         unsafe { move_much(array, from, to, len) };
@@ -87,7 +86,7 @@ pub unsafe fn move_run<const N: usize>(array: &mut [u8; N], from: usize, to: usi
 ///
 /// # Safety
 ///
-/// Each clause `requires` of the contract must hold, but for those on counts, on iterators and on closures.
+/// The contract requires each of these: `from + len ≤ N`, `to + len ≤ N`, `len < 16`.
 ///
 /// <details><summary>Contract</summary>
 ///
@@ -101,9 +100,8 @@ pub unsafe fn move_run<const N: usize>(array: &mut [u8; N], from: usize, to: usi
 /// [How to read a contract](crate::contracts)
 ///
 /// </details>
-#[inline(always)]
+#[inline]
 unsafe fn move_short_run<const N: usize>(array: &mut [u8; N], from: usize, to: usize, len: usize) {
-    known!(source: from + len <= N && from <= from + len);
     if len >= 4 {
         if len >= 8 {
             // SAFETY: the proof of `move_short_run` in crates/arraystring_base/src/moves.rt shows `source`, `target`, `least` and `most` of `move_ends`.
@@ -125,7 +123,7 @@ unsafe fn move_short_run<const N: usize>(array: &mut [u8; N], from: usize, to: u
 ///
 /// # Safety
 ///
-/// Each clause `requires` of the contract must hold, but for those on counts, on iterators and on closures.
+/// The contract requires each of these: `from + len ≤ N`, `to + len ≤ N`, `16 ≤ len`, `len ≤ 64`.
 ///
 /// <details><summary>Contract</summary>
 ///
@@ -140,7 +138,7 @@ unsafe fn move_short_run<const N: usize>(array: &mut [u8; N], from: usize, to: u
 /// [How to read a contract](crate::contracts)
 ///
 /// </details>
-#[inline(always)]
+#[inline]
 unsafe fn move_long_run<const N: usize>(array: &mut [u8; N], from: usize, to: usize, len: usize) {
     if N > 32 && len > 32 {
         // SAFETY: the proof of `move_long_run` in crates/arraystring_base/src/moves.rt shows `source`, `target`, `least` and `most` of `move_ends`.
@@ -155,7 +153,7 @@ unsafe fn move_long_run<const N: usize>(array: &mut [u8; N], from: usize, to: us
 ///
 /// # Safety
 ///
-/// Each clause `requires` of the contract must hold, but for those on counts, on iterators and on closures.
+/// The contract requires each of these: `from + len ≤ N`, `to + len ≤ N`, `64 < len`.
 ///
 /// <details><summary>Contract</summary>
 ///
@@ -169,7 +167,7 @@ unsafe fn move_long_run<const N: usize>(array: &mut [u8; N], from: usize, to: us
 /// [How to read a contract](crate::contracts)
 ///
 /// </details>
-#[inline(always)]
+#[inline]
 unsafe fn move_much<const N: usize>(array: &mut [u8; N], from: usize, to: usize, len: usize) {
     if len <= 128 {
         // SAFETY: the proof of `move_much` in crates/arraystring_base/src/moves.rt shows `source`, `target`, `least` and `most` of `move_ends`.
@@ -187,7 +185,7 @@ unsafe fn move_much<const N: usize>(array: &mut [u8; N], from: usize, to: usize,
 ///
 /// # Safety
 ///
-/// Each clause `requires` of the contract must hold, but for those on counts, on iterators and on closures.
+/// The contract requires each of these: `from + len ≤ N`, `to + len ≤ N`.
 ///
 /// <details><summary>Contract</summary>
 ///
@@ -204,14 +202,14 @@ unsafe fn move_much<const N: usize>(array: &mut [u8; N], from: usize, to: usize,
 #[inline(never)]
 unsafe fn move_any_run<const N: usize>(array: &mut [u8; N], from: usize, to: usize, len: usize) {
     let all = &mut array[..];
-    all.copy_within(from..from + len, to);
+    copy_within_unchecked!(all, from..from + len, to);
 }
 
 /// The same for `K` to `2 * K` bytes.
 ///
 /// # Safety
 ///
-/// Each clause `requires` of the contract must hold, but for those on counts, on iterators and on closures.
+/// The contract requires each of these: `from + len ≤ N`, `to + len ≤ N`, `K ≤ len`, `len - K ≤ K`.
 ///
 /// <details><summary>Contract</summary>
 ///
@@ -226,7 +224,7 @@ unsafe fn move_any_run<const N: usize>(array: &mut [u8; N], from: usize, to: usi
 /// [How to read a contract](crate::contracts)
 ///
 /// </details>
-#[inline(always)]
+#[inline]
 unsafe fn move_ends<const N: usize, const K: usize>(array: &mut [u8; N], from: usize, to: usize, len: usize) {
     known!(target: to + len <= N && to <= to + len);
     let rest = len - K;
@@ -245,7 +243,7 @@ unsafe fn move_ends<const N: usize, const K: usize>(array: &mut [u8; N], from: u
 ///
 /// # Safety
 ///
-/// Each clause `requires` of the contract must hold, but for those on counts, on iterators and on closures.
+/// The contract requires each of these: `from + len ≤ N`, `to + len ≤ N`, `K + K ≤ len`, `len - (K + K) ≤ K + K`.
 ///
 /// <details><summary>Contract</summary>
 ///
@@ -260,7 +258,7 @@ unsafe fn move_ends<const N: usize, const K: usize>(array: &mut [u8; N], from: u
 /// [How to read a contract](crate::contracts)
 ///
 /// </details>
-#[inline(always)]
+#[inline]
 unsafe fn move_pairs<const N: usize, const K: usize>(array: &mut [u8; N], from: usize, to: usize, len: usize) {
     known!(source: from + len <= N && from <= from + len);
     let rest = len - (K + K);
@@ -296,7 +294,7 @@ unsafe fn move_pairs<const N: usize, const K: usize>(array: &mut [u8; N], from: 
 /// [How to read a contract](crate::contracts)
 ///
 /// </details>
-#[inline(always)]
+#[inline]
 pub unsafe fn write_over<const N: usize>(array: &mut [u8; N], at: usize, given: &[u8]) {
     if given.len() >= 16 {
         // SAFETY: the proof of `write_over` in crates/arraystring_base/src/moves.rt shows `room` and `least` of `write_long_run`.
@@ -311,7 +309,7 @@ pub unsafe fn write_over<const N: usize>(array: &mut [u8; N], at: usize, given: 
 ///
 /// # Safety
 ///
-/// Each clause `requires` of the contract must hold, but for those on counts, on iterators and on closures.
+/// The contract requires each of these: `at + length given.now ≤ N`, `length given.now < 16`.
 ///
 /// <details><summary>Contract</summary>
 ///
@@ -324,9 +322,8 @@ pub unsafe fn write_over<const N: usize>(array: &mut [u8; N], at: usize, given: 
 /// [How to read a contract](crate::contracts)
 ///
 /// </details>
-#[inline(always)]
+#[inline]
 unsafe fn write_short_run<const N: usize>(array: &mut [u8; N], at: usize, given: &[u8]) {
-    known!(room: at + given.len() <= N && at <= at + given.len());
     let len = given.len();
     if len >= 4 {
         if len >= 8 {
@@ -349,7 +346,7 @@ unsafe fn write_short_run<const N: usize>(array: &mut [u8; N], at: usize, given:
 ///
 /// # Safety
 ///
-/// Each clause `requires` of the contract must hold, but for those on counts, on iterators and on closures.
+/// The contract requires each of these: `at + length given.now ≤ N`, `16 ≤ length given.now`.
 ///
 /// <details><summary>Contract</summary>
 ///
@@ -362,9 +359,8 @@ unsafe fn write_short_run<const N: usize>(array: &mut [u8; N], at: usize, given:
 /// [How to read a contract](crate::contracts)
 ///
 /// </details>
-#[inline(always)]
+#[inline]
 unsafe fn write_long_run<const N: usize>(array: &mut [u8; N], at: usize, given: &[u8]) {
-    known!(room: at + given.len() <= N && at <= at + given.len());
     let len = given.len();
     if N > 64 && len > 64 {
         // SAFETY: the proof of `write_long_run` in crates/arraystring_base/src/moves.rt shows the precondition of `write_any_run`.
@@ -382,7 +378,7 @@ unsafe fn write_long_run<const N: usize>(array: &mut [u8; N], at: usize, given: 
 ///
 /// # Safety
 ///
-/// Each clause `requires` of the contract must hold, but for those on counts, on iterators and on closures.
+/// The contract requires `at + length given.now ≤ N`.
 ///
 /// <details><summary>Contract</summary>
 ///
@@ -396,16 +392,16 @@ unsafe fn write_long_run<const N: usize>(array: &mut [u8; N], at: usize, given: 
 /// </details>
 #[inline(never)]
 unsafe fn write_any_run<const N: usize>(array: &mut [u8; N], at: usize, given: &[u8]) {
-    known!(precondition: at + given.len() <= N && at <= at + given.len());
     let all = &mut array[..];
-    all[at..at + given.len()].copy_from_slice(given);
+    copy_from_slice_unchecked!(all, at..at + given.len(), given);
 }
 
 /// The same for `K` to `2 * K` bytes.
 ///
 /// # Safety
 ///
-/// Each clause `requires` of the contract must hold, but for those on counts, on iterators and on closures.
+/// The contract requires each of these: `at + length given.now ≤ N`, `K ≤ length given.now`, `length given.now - K ≤
+/// K`.
 ///
 /// <details><summary>Contract</summary>
 ///
@@ -419,7 +415,7 @@ unsafe fn write_any_run<const N: usize>(array: &mut [u8; N], at: usize, given: &
 /// [How to read a contract](crate::contracts)
 ///
 /// </details>
-#[inline(always)]
+#[inline]
 unsafe fn copy_ends<const N: usize, const K: usize>(array: &mut [u8; N], at: usize, given: &[u8]) {
     let rest = given.len() - K;
     // SAFETY: the proof of `copy_ends` in crates/arraystring_base/src/moves.rt shows the precondition of `bytes_of`.
@@ -436,7 +432,7 @@ unsafe fn copy_ends<const N: usize, const K: usize>(array: &mut [u8; N], at: usi
 ///
 /// # Safety
 ///
-/// Each clause `requires` of the contract must hold, but for those on counts, on iterators and on closures.
+/// The contract requires `at + K ≤ length given.now`.
 ///
 /// <details><summary>Contract</summary>
 ///
@@ -448,17 +444,16 @@ unsafe fn copy_ends<const N: usize, const K: usize>(array: &mut [u8; N], at: usi
 /// [How to read a contract](crate::contracts)
 ///
 /// </details>
-#[inline(always)]
+#[inline]
 unsafe fn bytes_of<const K: usize>(given: &[u8], at: usize) -> Simd<u8, K> {
-    known!(precondition: at + K <= given.len() && at <= at + K);
-    Simd::<u8, K>::from_slice(&given[at..at + K])
+    Simd::<u8, K>::from_slice(get_unchecked!(given, at..at + K))
 }
 
 /// Writes `K` bytes from `at` on.
 ///
 /// # Safety
 ///
-/// Each clause `requires` of the contract must hold, but for those on counts, on iterators and on closures.
+/// The contract requires `at + K ≤ N`.
 ///
 /// <details><summary>Contract</summary>
 ///
@@ -470,18 +465,17 @@ unsafe fn bytes_of<const K: usize>(given: &[u8], at: usize) -> Simd<u8, K> {
 /// [How to read a contract](crate::contracts)
 ///
 /// </details>
-#[inline(always)]
+#[inline]
 unsafe fn put_bytes<const N: usize, const K: usize>(array: &mut [u8; N], at: usize, bytes: Simd<u8, K>) {
-    known!(precondition: at + K <= N && at <= at + K);
     let all = &mut array[..];
-    bytes.copy_to_slice(&mut all[at..at + K]);
+    bytes.copy_to_slice(get_unchecked_mut!(all, at..at + K));
 }
 
 /// Writes `2 * K` bytes from `at` on.
 ///
 /// # Safety
 ///
-/// Each clause `requires` of the contract must hold, but for those on counts, on iterators and on closures.
+/// The contract requires `at + (K + K) ≤ N`.
 ///
 /// <details><summary>Contract</summary>
 ///
@@ -493,7 +487,7 @@ unsafe fn put_bytes<const N: usize, const K: usize>(array: &mut [u8; N], at: usi
 /// [How to read a contract](crate::contracts)
 ///
 /// </details>
-#[inline(always)]
+#[inline]
 unsafe fn put_pair<const N: usize, const K: usize>(
     array: &mut [u8; N],
     at: usize,

@@ -158,6 +158,17 @@ pub fn look(bytes: &[u8], at: usize, steps: &mut Steps) -> u8 {
     bytes[at]
 }
 
+/// `look` where bodies call it, without a test.
+///
+/// # Safety
+///
+/// The clause `in_bounds` of `look` must hold.
+#[inline(always)]
+pub(crate) unsafe fn look_unchecked(bytes: &[u8], at: usize, steps: &mut Steps) -> u8 {
+    steps.looked = steps.looked.saturating_add(1);
+    *get_unchecked!(bytes, at)
+}
+
 #[cfg(test)]
 #[path = "../by_hand/count_tests.rs"]
 mod tests;

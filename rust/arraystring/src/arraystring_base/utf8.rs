@@ -2,7 +2,7 @@
 //! The UTF-8 of texts and characters: boundaries, cuts, the last character of a text, and the bytes of a
 //! character. Sizes and indices count bytes of UTF-8.
 
-use crate::arraystring_base::steps::Steps;
+use crate::arraystring_base::steps::{Steps, look_unchecked};
 use core::char;
 
 /// Returns whether `at` is a boundary of `text`, the size of one of its prefixes of whole
@@ -98,9 +98,7 @@ pub fn truncate_str_counted<'a>(text: &'a str, size: u8, steps: &mut Steps) -> &
     }
     // SAFETY: the proof of `truncate_str_counted` in crates/arraystring_base/src/utf8.rt shows `within` of `last_boundary`.
     let end = unsafe { last_boundary(text, limit, steps) };
-    // What `last_boundary` ensures.
-    known!(boundary: text.is_char_boundary(end));
-    &text[..end]
+    get_unchecked!(text, ..end)
 }
 
 /// The last boundary that is not past `limit`. It looks once at each byte from `limit` back to it,
@@ -108,7 +106,7 @@ pub fn truncate_str_counted<'a>(text: &'a str, size: u8, steps: &mut Steps) -> &
 ///
 /// # Safety
 ///
-/// Each clause `requires` of the contract must hold, but for those on counts, on iterators and on closures.
+/// The contract requires `limit < length text.now`.
 ///
 /// <details><summary>Contract</summary>
 ///
@@ -134,7 +132,7 @@ unsafe fn last_boundary(text: &str, limit: usize, steps: &mut Steps) -> usize {
     let mut end = limit;
     // At most three bytes continue a character. The bound is for the compiler, which unrolls the loop.
     // SAFETY: the proof of `last_boundary` in crates/arraystring_base/src/utf8.rt shows `in_bounds` of `look`.
-    while end > 0 && continues(unsafe { crate::by_hand::look(all, end, steps) }) && limit - end < 3 {
+    while end > 0 && continues(unsafe { look_unchecked(all, end, steps) }) && limit - end < 3 {
         end -= 1;
     }
     end
@@ -194,7 +192,7 @@ pub fn last_char(text: &str, steps: &mut Steps) -> Option<(usize, char)> {
 ///
 /// # Safety
 ///
-/// Each clause `requires` of the contract must hold, but for those on counts, on iterators and on closures.
+/// The contract requires `0 < length text.now`.
 ///
 /// <details><summary>Contract</summary>
 ///
@@ -216,31 +214,31 @@ unsafe fn char_before_end(text: &str, steps: &mut Steps) -> (usize, char) {
     let all = text.as_bytes();
     let end = all.len();
     // SAFETY: the proof of `char_before_end` in crates/arraystring_base/src/utf8.rt shows `in_bounds` of `look`.
-    let last = unsafe { crate::by_hand::look(all, end - 1, steps) } as u32;
+    let last = unsafe { look_unchecked(all, end - 1, steps) } as u32;
     if last < 0x80 {
         // SAFETY: a number below 0x80 is a scalar value, as `from_u32_unchecked` requires.
-        return (end - 1, unsafe { char::from_u32_unchecked(last) });
+        return (end - 1, unsafe { crate::by_hand::char::from_u32_unchecked(last) });
     }
     // SAFETY: the proof of `char_before_end` in crates/arraystring_base/src/utf8.rt shows `in_bounds` of `look`.
-    let second = unsafe { crate::by_hand::look(all, end - 2, steps) } as u32;
+    let second = unsafe { look_unchecked(all, end - 2, steps) } as u32;
     if second >= 0xC0 {
         let code = (second - 0xC0) * 64 + (last - 0x80);
         // SAFETY: the bytes of a `&str` are UTF-8 (the clause of `as_bytes`), so these two spell a scalar value.
-        return (end - 2, unsafe { char::from_u32_unchecked(code) });
+        return (end - 2, unsafe { crate::by_hand::char::from_u32_unchecked(code) });
     }
     // SAFETY: the proof of `char_before_end` in crates/arraystring_base/src/utf8.rt shows `in_bounds` of `look`.
-    let third = unsafe { crate::by_hand::look(all, end - 3, steps) } as u32;
+    let third = unsafe { look_unchecked(all, end - 3, steps) } as u32;
     if third >= 0xC0 {
         let code = (third - 0xE0) * 4096 + (second - 0x80) * 64 + (last - 0x80);
         // SAFETY: the bytes of a `&str` are UTF-8 (the clause of `as_bytes`), so these three spell a scalar value.
-        return (end - 3, unsafe { char::from_u32_unchecked(code) });
+        return (end - 3, unsafe { crate::by_hand::char::from_u32_unchecked(code) });
     }
     // SAFETY: the proof of `char_before_end` in crates/arraystring_base/src/utf8.rt shows `in_bounds` of `look`.
-    let fourth = unsafe { crate::by_hand::look(all, end - 4, steps) } as u32;
+    let fourth = unsafe { look_unchecked(all, end - 4, steps) } as u32;
     let front = (fourth - 0xF0) * 262_144 + (third - 0x80) * 4096;
     let code = front + (second - 0x80) * 64 + (last - 0x80);
     // SAFETY: the bytes of a `&str` are UTF-8 (the clause of `as_bytes`), so these four spell a scalar value.
-    (end - 4, unsafe { char::from_u32_unchecked(code) })
+    (end - 4, unsafe { crate::by_hand::char::from_u32_unchecked(code) })
 }
 
 /// Writes the UTF-8 of `ch` into the array, from the offset `at` on, and returns how many bytes it
@@ -277,28 +275,25 @@ pub unsafe fn encode<const N: usize>(ch: char, array: &mut [u8; N], at: usize) -
     let code = ch as u32;
     let all = &mut array[..];
     if code < 0x80 {
-        all[at] = code as u8;
+        *get_unchecked_mut!(all, at) = code as u8;
         1
     } else if code < 0x800 {
         let first = (0xC0 + code / 64) as u8;
         let second = (0x80 + code % 64) as u8;
-        known!(precondition: at + ch.len_utf8() <= N && at <= at + ch.len_utf8());
-        all[at..at + 2].copy_from_slice(&[first, second]);
+        copy_from_slice_unchecked!(all, at..at + 2, &[first, second]);
         2
     } else if code < 0x1_0000 {
         let first = (0xE0 + code / 4096) as u8;
         let second = (0x80 + code / 64 % 64) as u8;
         let third = (0x80 + code % 64) as u8;
-        known!(precondition: at + ch.len_utf8() <= N && at <= at + ch.len_utf8());
-        all[at..at + 3].copy_from_slice(&[first, second, third]);
+        copy_from_slice_unchecked!(all, at..at + 3, &[first, second, third]);
         3
     } else {
         let first = (0xF0 + code / 262_144) as u8;
         let second = (0x80 + code / 4096 % 64) as u8;
         let third = (0x80 + code / 64 % 64) as u8;
         let fourth = (0x80 + code % 64) as u8;
-        known!(precondition: at + ch.len_utf8() <= N && at <= at + ch.len_utf8());
-        all[at..at + 4].copy_from_slice(&[first, second, third, fourth]);
+        copy_from_slice_unchecked!(all, at..at + 4, &[first, second, third, fourth]);
         4
     }
 }

@@ -3,7 +3,7 @@
 //! `traits` its impls of traits, and `in_place` the private calls that put bytes into its array or take
 //! them out.
 
-use core::str;
+use crate::by_hand::str;
 
 mod empty {
     use super::*;
@@ -144,9 +144,8 @@ mod views {
         /// </details>
         #[inline]
         pub const fn as_str(&self) -> &str {
-            known!(invariant: self.start as usize + self.size as usize <= crate::ArrayString::<N>::capacity() as usize);
             let (size, start) = (self.size as usize, self.start as usize);
-            let (_, text) = self.array.split_at(start + size).0.split_at(start);
+            let (_, text) = split_at_unchecked!(split_at_unchecked!(self.array, start + size).0, start);
             // SAFETY: the type's `invariant`: the `size` bytes from `start` on are UTF-8.
             unsafe { str::from_utf8_unchecked(text) }
         }
@@ -177,9 +176,8 @@ mod views {
         /// </details>
         #[inline]
         pub const fn as_bytes(&self) -> &[u8] {
-            known!(invariant: self.start as usize + self.size as usize <= crate::ArrayString::<N>::capacity() as usize);
             let (size, start) = (self.size as usize, self.start as usize);
-            self.array.split_at(start + size).0.split_at(start).1
+            split_at_unchecked!(split_at_unchecked!(self.array, start + size).0, start).1
         }
 
         /// Whether a character begins at `at`, or the text ends there.

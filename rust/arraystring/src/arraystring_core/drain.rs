@@ -1,7 +1,7 @@
 // Made from crates/arraystring_core/src/drain.rt by rust/erase. A change goes there.
 //! `Drain`: the characters that were removed from a string, from both ends. `traits` has its impls of traits.
 
-use core::str;
+use crate::by_hand::str;
 
 mod traits;
 
@@ -39,7 +39,7 @@ impl<const N: usize> Drain<N> {
     ///
     /// # Safety
     ///
-    /// Each clause `requires` of the contract must hold, but for those on counts, on iterators and on closures.
+    /// The contract requires `IsStored N array start size`.
     ///
     /// <details><summary>Contract</summary>
     ///
@@ -81,12 +81,10 @@ impl<const N: usize> Drain<N> {
     /// </details>
     #[inline]
     pub fn as_str(&self) -> &str {
-        known!(invariant: self.start as usize + self.size as usize <= crate::ArrayString::<N>::capacity() as usize);
-        known!(proved: self.front <= self.size);
         let all = &self.array[..];
         let start = self.start as usize;
         let (front, end) = (start + self.front as usize, start + self.size as usize);
         // SAFETY: the type's `invariant`: the removed text is UTF-8, with a boundary at `self.front`.
-        unsafe { str::from_utf8_unchecked(&all[front..end]) }
+        unsafe { str::from_utf8_unchecked(get_unchecked!(all, front..end)) }
     }
 }

@@ -19,30 +19,46 @@ impl<const K: usize> Simd<u8, K> {
     #[inline(always)]
     pub(crate) fn from_slice(slice: &[u8]) -> Self {
         const { assert!(K <= 64) };
-        let (mut bytes, mut words) = ([0; K], [0; 8]);
-        if Self::IN_WORDS {
-            for (word, eight) in words.iter_mut().zip(slice[..K].chunks_exact(8)) {
-                let mut bytes = [0; 8];
-                bytes.copy_from_slice(eight);
-                *word = u64::from_le_bytes(bytes);
-            }
-        } else {
-            bytes.copy_from_slice(&slice[..K]);
+        let Some(given) = slice.first_chunk::<K>() else { too_short() };
+        if !Self::IN_WORDS {
+            return Simd { bytes: *given, words: [0; 8], lanes: PhantomData };
         }
-        Simd { bytes, words, lanes: PhantomData }
+        // One by one, since a loop would stay one where code is made small.
+        let word = |at: usize| match given.get(8 * at..).and_then(<[u8]>::first_chunk) {
+            Some(eight) => u64::from_ne_bytes(*eight),
+            None => 0,
+        };
+        let words = [word(0), word(1), word(2), word(3), word(4), word(5), word(6), word(7)];
+        Simd { bytes: [0; K], words, lanes: PhantomData }
     }
 
     /// Writes over the first `K` bytes of a slice. It panics where there are fewer.
     #[inline(always)]
     pub(crate) fn copy_to_slice(self, slice: &mut [u8]) {
-        if Self::IN_WORDS {
-            for (eight, word) in slice[..K].chunks_exact_mut(8).zip(self.words) {
-                eight.copy_from_slice(&word.to_le_bytes());
-            }
-        } else {
-            slice[..K].copy_from_slice(&self.bytes);
+        let Some(target) = slice.first_chunk_mut::<K>() else { too_short() };
+        if !Self::IN_WORDS {
+            *target = self.bytes;
+            return;
         }
+        let mut write = |at: usize| {
+            if let Some(eight) = target.get_mut(8 * at..).and_then(<[u8]>::first_chunk_mut) {
+                *eight = self.words[at].to_ne_bytes();
+            }
+        };
+        write(0);
+        write(1);
+        write(2);
+        write(3);
+        write(4);
+        write(5);
+        write(6);
+        write(7);
     }
+}
+
+#[cold]
+fn too_short() -> ! {
+    panic!("fewer bytes than a vector has")
 }
 
 #[cfg(test)]

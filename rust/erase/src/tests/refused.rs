@@ -68,9 +68,52 @@ fn a_call_in_a_list_without_its_precondition_is_refused() {
 }
 
 #[test]
+fn a_call_that_says_less_than_its_clauses_is_refused() {
+    let insert = |clauses: &str| {
+        let text =
+            format!("impl ArrayString {{\n    /// It.\n    pub fn insert_unchecked(at: u8)\n{clauses}    {{}}\n}}\n");
+        made_as("arraystring_core/src/sample.rt", &text)
+    };
+    let (index, room) = ("        requires index { at < 3 }\n", "        requires room { at < 4 }\n");
+    let count = "        requires { steps.old.moved < 3 }\n";
+    let made = insert(&[index, room, count].concat()).unwrap();
+    let words =
+        "/// # Safety\n    ///\n    /// The index must be a boundary of the text. The text after the call must fit";
+    assert!(made.contains(words), "{made}");
+    let told = |kept: usize| format!("`ArrayString::insert_unchecked` keeps {kept} clauses, and 2 sentences say so");
+    assert_eq!(insert(index).unwrap_err(), told(1));
+    assert_eq!(insert(&[index, room, index].concat()).unwrap_err(), told(3));
+}
+
+#[test]
+fn a_private_function_says_each_clause_that_is_kept() {
+    let source = "fn f(at: u8)\n    requires one { at < 3 }\n    requires { steps.old.moved < 3 }\n    requires two { at\n      < 4 }\n{\n    g();\n}\n";
+    let made = made(source).unwrap();
+    assert!(
+        made.contains("/// # Safety\n///\n/// The contract requires each of these: `at < 3`, `at < 4`.\n"),
+        "{made}"
+    );
+}
+
+#[test]
 fn a_rule_that_matches_nothing_is_told() {
-    let why = crate::files::all_used(&Tally::default()).unwrap_err();
-    assert_eq!(why, "rust/erase/src/rules.rs: nothing in the sources matches the entry `ArrayString::push_unchecked`");
+    use crate::files::{all_used, entries};
+    use crate::rules::*;
+    let crates = concat!(env!("CARGO_MANIFEST_DIR"), "/../../crates");
+    let (_, mut tally) = crate::files::made(std::path::Path::new(crates)).unwrap();
+    let workers = SHOWN.iter().flat_map(|shown| shown.calls).map(|(_, workers)| workers.len()).sum::<usize>();
+    let lists = [FATES.len(), WIDER.len(), REPLACED.len(), BY_STD.len(), KNOWN.len(), PROVED.len(), BODIES.len()];
+    let more = [CONSTANT.len(), ADDED.len(), ONCE.len(), ORDER.len(), MORE.len(), TESTED.len(), LEFT_OUT.len()];
+    let all = lists.iter().chain(&more).sum::<usize>() + workers + 2 * TWINS.len();
+    let names = entries();
+    assert_eq!(names.len(), all);
+    for name in names {
+        assert!(tally.used.remove(&name), "{name}");
+        let why = format!("rust/erase/src/rules.rs: nothing in the sources matches the entry `{name}`");
+        assert_eq!(all_used(&tally), Err(why));
+        tally.used.insert(name);
+    }
+    assert_eq!(all_used(&tally), Ok(()));
 }
 
 #[test]

@@ -30,7 +30,10 @@ pub fn look(bytes: &[u8], at: usize, steps: &mut Steps) -> u8
 fn a_line_is_another_one_and_tests_by_hand_lie_in_a_module() {
     let parts = [
         "        self.moved = self.moved.saturating_add(len as u64);\n",
-        "    steps.looked = steps.looked.saturating_add(1);\n",
+        "    steps.looked = steps.looked.saturating_add(1);\n    bytes[at]\n}\n\n/// `look` where bodies call it, without a test.\n///\n\
+         /// # Safety\n///\n/// The clause `in_bounds` of `look` must hold.\n#[inline(always)]\npub(crate) unsafe fn look_unchecked(\
+         bytes: &[u8], at: usize, steps: &mut Steps) -> u8 {\n    steps.looked = steps.looked.saturating_add(1);\n    \
+         *get_unchecked!(bytes, at)\n}\n",
         "/// # Panics\n///\n/// Where the index is not below the length.\n///\n/// <details>",
         "\npub fn look(bytes: &[u8], at: usize",
         "\n#[cfg(test)]\n#[path = \"../by_hand/count_tests.rs\"]\nmod tests;\n",
@@ -50,7 +53,7 @@ fn a_derive_is_put_before_a_type() {
 #[test]
 fn what_is_left_out_goes_with_its_imports() {
     let source = "\
-use crate::a::{between, told, other};
+use crate::a::{between, laws, other};
 
 mod integration;
 mod kept;
@@ -67,92 +70,7 @@ mod tests;
     assert!(made.ends_with("\nuse crate::arraystring_base::a::{other};\n\nmod kept;\n"), "{made}");
 }
 
-#[test]
-fn a_clause_is_known_once_more_in_the_middle_of_a_body() {
-    let encode = "\
-/// Writes.
-pub fn encode<const N: usize>(ch: char, all: &mut [u8; N], at: usize)
-    requires { at + width ch ≤ N }
-{
-    if ch.is_ascii() {
-        all[at] = 1;
-    }
-    all[at..].fill(2);
-}
-";
-    let known =
-        "    known!(precondition: at + ch.len_utf8() <= N && at <= at + ch.len_utf8());\n    all[at..].fill(2);\n";
-    let safety = "/// # Safety\n///\n/// What is written must lie in the array.\n";
-    has(
-        "arraystring_base/src/sample/utf8.rt",
-        encode,
-        &[known, safety, "\npub unsafe fn encode<", "        all[at] = 1;\n"],
-    );
-}
-
-/// A callee that ensures a clause in these words, and what knows it behind the call.
-fn cut(ensured: &str) -> String {
-    format!(
-        "\
-/// Cuts.
-pub fn truncate_str_counted<'a>(text: &'a str, size: u8, steps: &mut Steps) -> &'a str
-    requires {{ steps.old.looked ≤ 3 }}
-{{
-    let end = last_boundary(text, size);
-    &text[..end]
-}}
-
-fn last_boundary(text: &str, size: u8) -> usize
-    requires within {{ size ≤ 3 }}
-    ensures boundary {{ {ensured} }}
-{{
-    size as usize
-}}
-"
-    )
-}
-
-#[test]
-fn what_a_callee_ensures_is_known_behind_the_call() {
-    let says = "IsCharBoundary text.now result";
-    let parts = [
-        "    // What `last_boundary` ensures.\n    known!(boundary: text.is_char_boundary(end));\n    &text[..end]\n",
-        "/// # In Rust\n///\n/// A count that would pass 2^64 - 1 stays there.\n",
-        "\npub fn truncate_str_counted<'a>(",
-        "shows `within` of `last_boundary`.\n    let end = unsafe { last_boundary(text, size) };\n",
-        "unsafe fn last_boundary(text: &str, size: u8) -> usize {\n    size as usize\n",
-    ];
-    has("arraystring_base/src/sample/utf8.rt", &cut(says), &parts);
-    let why = |text: &str| made_with("arraystring_base/src/sample/utf8.rt", text, true).err();
-    let of = |why: &str| Some(format!("`utf8::truncate_str_counted`: {why}"));
-    assert_eq!(why(&cut(says)), None);
-    assert_eq!(why(&cut("result ≤ length text.now")), None);
-    assert_eq!(why(&cut("IsCharBoundary text.now limit")), of("`limit` in a clause that is to be known"));
-    let other = cut(says).replace("ensures boundary", "ensures other");
-    assert_eq!(why(&other), of("`utf8::last_boundary` does not ensure a clause `boundary`"));
-    let no_result = of("`end` is not what `last_boundary` returns of the same names");
-    for (line, other) in [
-        ("last_boundary(text, size);", "last_boundary(rest, size);"),
-        ("last_boundary(text, size);", "last_boundary(text, size) + 1;"),
-        ("last_boundary(text, size);", "not_last_boundary(text, size);"),
-        ("let end =", "let to ="),
-    ] {
-        assert_eq!(why(&cut(says).replace(line, other)), no_result, "{other}");
-    }
-}
-
 const STRING: &str = "\
-/// A string.
-pub struct ArrayString<const N: usize> {
-    start: u8,
-    size: u8,
-    array: [u8; N],
-}
-
-impl<const N: usize> Model for ArrayString<N> {
-    ghost invariant = { λ s. IsStored N s.array s.start s.size };
-}
-
 impl<const N: usize> ArrayString<N> {
     /// The text.
     pub fn as_str(&self) -> &str
@@ -169,10 +87,9 @@ impl<const N: usize> ArrayString<N> {
 ";
 
 #[test]
-fn a_body_is_another_one_and_a_call_is_constant_and_knows_the_invariant() {
+fn a_body_is_another_one_and_a_call_is_constant() {
     let parts = [
-        "    pub const fn as_str(&self) -> &str {\n        known!(invariant: self.start as usize + self.size as usize \
-         <= crate::ArrayString::<N>::capacity() as usize);\n        let (size, start) =",
+        "    pub const fn as_str(&self) -> &str {\n        let (size, start) =",
         "        // SAFETY: the type's `invariant`: the `size` bytes from `start` on are UTF-8.\n        unsafe { str",
         "    pub fn get(&self, range: R) -> Option<&str> {\n        let (start, end) = plain_ends(range, self.len());\n        \
          self.as_str().get(start..end)\n    }\n",
@@ -180,14 +97,6 @@ fn a_body_is_another_one_and_a_call_is_constant_and_knows_the_invariant() {
     has("arraystring_core/src/array_string/sample.rt", STRING, &parts);
     let made = made_as("arraystring_core/src/array_string/sample.rt", STRING).unwrap();
     assert!(!made.contains("self.array[..]") && !made.contains("between"), "{made}");
-    let of_bytes = STRING.replace("size: u8", "size: u16");
-    let why = made_as("arraystring_core/src/array_string/sample.rt", &of_bytes).unwrap_err();
-    assert_eq!(why, "`ArrayString::as_str`: `self.size` in a clause that is to be known");
-    let other = STRING.replace("IsStored", "IsKept");
-    let made = made_as("arraystring_core/src/array_string/sample.rt", &other).unwrap();
-    assert!(!made.contains("known!"), "{made}");
-    let why = made_with("arraystring_core/src/array_string/sample.rt", &other, true).unwrap_err();
-    assert_eq!(why, "`ArrayString` has no invariant by a definition that is read");
 }
 
 #[test]
@@ -214,33 +123,29 @@ impl<const N: usize> FusedIterator for Drain<N> {}
 }
 
 #[test]
-fn a_body_looks_by_hand() {
+fn a_body_calls_the_twin_of_what_panics() {
     let source = "fn first(bytes: &[u8], steps: &mut Steps) -> u8 {\n    look(bytes, 0, steps)\n}\n";
     let made = "    // SAFETY: the proof of `first` in crates/arraystring_base/src/sample.rt shows `in_bounds` of `look`.\n    \
-                unsafe { crate::by_hand::look(bytes, 0, steps) }\n";
+                unsafe { look_unchecked(bytes, 0, steps) }\n";
     has("arraystring_base/src/sample.rt", source, &[made]);
+    let without = STEPS.replace("requires in_bounds", "requires within");
+    let why = made_as("arraystring_base/src/steps.rt", &without).unwrap_err();
+    assert_eq!(why, "`steps::look`: it has no clause `in_bounds` that its twin could need");
 }
 
 #[test]
-fn by_hand_has_the_line_of_the_clause_that_it_knows() {
-    let known = |clause: &str| {
-        let text = STEPS.replace("in_bounds { at < length bytes.now }", clause);
-        let source = Source { krate: "arraystring_base", path: "arraystring_base/src/steps.rt", text: &text };
-        let mut tally = Tally::default();
-        let why = erase(&source, &mut tally).err().map(|fault| fault.why);
-        why.map_or(Ok(tally.by_hand.into_iter().collect::<Vec<_>>()), Err)
+fn what_is_always_inlined_in_a_source_need_not_be_here() {
+    let function = |public: &str, name: &str| {
+        format!(
+            "/// Moves.\n#[inline(always)]\n{public}fn {name}(at: usize)\n    requires source {{ at < 3 }}\n    requires target {{ at < 4 }}\n{{\n    f();\n}}\n\n"
+        )
     };
-    let is_there = |line: &str| {
-        let target = concat!(env!("CARGO_MANIFEST_DIR"), "/../arraystring/src");
-        crate::files::by_hand_has([&line.to_string()], std::path::Path::new(target))
-    };
-    let (line, other) = ("known!(in_bounds: at < bytes.len());", "known!(in_bounds: at <= bytes.len());");
-    let missing = format!("rust/arraystring/src/by_hand.rs does not have the line `{other}`");
-    assert_eq!(known("in_bounds { at < length bytes.now }"), Ok(vec![line.to_string()]));
-    assert_eq!(known("in_bounds { at ≤ length bytes.now }"), Ok(vec![other.to_string()]));
-    assert_eq!((is_there(line), is_there(other)), (Ok(()), Err(missing)));
-    let none = "`steps::look`: it has no clause `in_bounds` that could be known";
-    assert_eq!(known("within { at < length bytes.now }"), Err(none.to_string()));
+    let source = function("pub ", "move_run") + &function("", "move_much");
+    let always = "#[inline(always)]\n";
+    let parts = [&format!("{always}pub unsafe fn move_run("), "#[inline]\nunsafe fn move_much("];
+    has("arraystring_base/src/moves.rt", &source, &parts);
+    let made = made_as("arraystring_base/src/sample/moves.rt", &source).unwrap();
+    assert_eq!(made.matches(always).count(), 2, "{made}");
 }
 
 #[test]
@@ -291,13 +196,13 @@ impl<const N: usize> ArrayString<N> {{
         requires order {{ from < 3 }}
     {{
         {line}
-        shift(start, end);
+        self.uppercase_between(start, end);
     }}
-}}
 
-fn shift(start: usize, end: usize)
-    requires room {{ start < 3 }}
-{{}}
+    fn uppercase_between(&mut self, start: usize, end: usize)
+        requires room {{ start < 3 }}
+    {{}}
+}}
 "
         )
     };
@@ -305,7 +210,8 @@ fn shift(start: usize, end: usize)
     let parts = [
         "        let (start, end) = plain_ends(range, self.len());\n        let _ = &self.as_str()[start..end];\n",
         "        // SAFETY: by what the index above tests, the proof of `make_ascii_uppercase_in` in \
-         crates/arraystring_core/src/ascii.rt shows `room` of `shift`.\n        unsafe { shift(start, end) };\n",
+         crates/arraystring_core/src/ascii.rt shows `room` of `uppercase_between`.\n        \
+         unsafe { self.uppercase_between(start, end) };\n",
         "    /// # Panics\n",
     ];
     has("arraystring_core/src/ascii.rt", &found, &parts);
@@ -314,13 +220,16 @@ fn shift(start: usize, end: usize)
 }
 
 #[test]
-fn a_function_that_gives_up_a_clause_proves_only_by_its_rule() {
-    let source = "fn retain_at(at: usize)\n    requires held { at < 3 }\n    requires { IsCallableInTurn f }\n{\n    prove!(at < 3);\n}\n";
-    has(
-        "arraystring_core/src/array_string/remove.rt",
-        source,
-        &["    known!(held: at < 3);\n    known!(proved: at < 3);\n", "\nunsafe fn retain_at("],
-    );
+fn a_function_that_gives_up_a_clause_keeps_its_tests_unless_a_rule_has_it() {
+    let source = |name: &str| {
+        format!(
+            "fn {name}(array: &[u8], at: usize)\n    requires held {{ at < 3 }}\n    requires {{ IsCallableInTurn f }}\n{{\n    \
+             f(array[at]);\n}}\n"
+        )
+    };
+    let path = "arraystring_core/src/sample/remove.rt";
+    has(path, &source("retain_at"), &["    f(*get_unchecked!(array, at));\n", "\nunsafe fn retain_at("]);
+    has(path, &source("retain_all"), &["    f(array[at]);\n"]);
 }
 
 #[test]

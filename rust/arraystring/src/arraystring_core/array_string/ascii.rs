@@ -62,7 +62,8 @@ impl<const N: usize> ArrayString<N> {
     ///
     /// # Safety
     ///
-    /// Each clause `requires` of the contract must hold, but for those on counts, on iterators and on closures.
+    /// The contract requires each of these: `start ≤ end`, `IsTrue (boundary self.old.text start)`, `IsTrue (boundary
+    /// self.old.text end)`.
     ///
     /// <details><summary>Contract</summary>
     ///
@@ -87,7 +88,8 @@ impl<const N: usize> ArrayString<N> {
     ///
     /// # Safety
     ///
-    /// Each clause `requires` of the contract must hold, but for those on counts, on iterators and on closures.
+    /// The contract requires each of these: `start ≤ end`, `IsTrue (boundary self.old.text start)`, `IsTrue (boundary
+    /// self.old.text end)`.
     ///
     /// <details><summary>Contract</summary>
     ///
@@ -113,7 +115,7 @@ impl<const N: usize> ArrayString<N> {
 ///
 /// # Safety
 ///
-/// Each clause `requires` of the contract must hold, but for those on counts, on iterators and on closures.
+/// The contract requires each of these: `start ≤ end`, `end ≤ N`.
 ///
 /// <details><summary>Contract</summary>
 ///
@@ -128,16 +130,15 @@ impl<const N: usize> ArrayString<N> {
 /// </details>
 #[inline]
 unsafe fn uppercase_bytes<const N: usize>(array: &mut [u8; N], start: usize, end: usize) {
-    known!(within: end <= N);
     let all = &mut array[..];
-    all[start..end].make_ascii_uppercase();
+    get_unchecked_mut!(all, start..end).make_ascii_uppercase();
 }
 
 /// Changes the letters A..Z among the bytes from `start` to `end`.
 ///
 /// # Safety
 ///
-/// Each clause `requires` of the contract must hold, but for those on counts, on iterators and on closures.
+/// The contract requires each of these: `start ≤ end`, `end ≤ N`.
 ///
 /// <details><summary>Contract</summary>
 ///
@@ -152,7 +153,6 @@ unsafe fn uppercase_bytes<const N: usize>(array: &mut [u8; N], start: usize, end
 /// </details>
 #[inline]
 unsafe fn lowercase_bytes<const N: usize>(array: &mut [u8; N], start: usize, end: usize) {
-    known!(within: end <= N);
     let all = &mut array[..];
-    all[start..end].make_ascii_lowercase();
+    get_unchecked_mut!(all, start..end).make_ascii_lowercase();
 }

@@ -6,7 +6,7 @@ use crate::arraystring_base::utils::{truncate_str, write_over};
 use crate::arraystring_core::ArrayString;
 use crate::arraystring_core::array_string::fill::{fill, try_fill};
 use crate::arraystring_core::fast::well_formed::read_utf8;
-use core::str;
+use crate::by_hand::str;
 
 impl<const N: usize> ArrayString<N> {
     /// Creates a string from `string`.
@@ -441,7 +441,7 @@ impl<const N: usize> ArrayString<N> {
     ///
     /// # Safety
     ///
-    /// The bytes must be well-formed UTF-8, and must fit into the capacity.
+    /// The bytes must be well-formed UTF-8. They must fit into the capacity.
     ///
     /// # Examples
     ///

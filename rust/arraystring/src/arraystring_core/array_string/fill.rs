@@ -9,7 +9,7 @@ use crate::arraystring_core::ArrayString;
 ///
 /// # Safety
 ///
-/// Each clause `requires` of the contract must hold, but for those on counts, on iterators and on closures.
+/// The contract requires `length given.now ≤ N`.
 ///
 /// <details><summary>Contract</summary>
 ///
@@ -57,7 +57,7 @@ pub(super) fn try_fill<const N: usize>(array: &mut [u8; N], given: &[u8]) -> (bo
     let refused = given.len() > ArrayString::<N>::capacity() as usize;
     let size = if refused { 0 } else { given.len() };
     // SAFETY: the proof of `try_fill` in crates/arraystring_core/src/array_string/fill.rt shows the precondition of `write_by_call`.
-    unsafe { write_by_call(array, 0, &given[..size]) };
+    unsafe { write_by_call(array, 0, get_unchecked!(given, ..size)) };
     (refused, size as u8)
 }
 
@@ -65,7 +65,7 @@ pub(super) fn try_fill<const N: usize>(array: &mut [u8; N], given: &[u8]) -> (bo
 ///
 /// # Safety
 ///
-/// Each clause `requires` of the contract must hold, but for those on counts, on iterators and on closures.
+/// The contract requires `N ≤ 64`.
 ///
 /// <details><summary>Contract</summary>
 ///
@@ -94,7 +94,7 @@ unsafe fn try_fill_small<const N: usize>(array: &mut [u8; N], given: &[u8]) -> (
 ///
 /// # Safety
 ///
-/// Each clause `requires` of the contract must hold, but for those on counts, on iterators and on closures.
+/// The contract requires `at + length given.now ≤ N`.
 ///
 /// <details><summary>Contract</summary>
 ///
@@ -109,5 +109,5 @@ unsafe fn try_fill_small<const N: usize>(array: &mut [u8; N], given: &[u8]) -> (
 #[inline(always)]
 unsafe fn write_by_call<const N: usize>(array: &mut [u8; N], at: usize, given: &[u8]) {
     let all = &mut array[..];
-    all[at..at + given.len()].copy_from_slice(given);
+    copy_from_slice_unchecked!(all, at..at + given.len(), given);
 }

@@ -34,7 +34,8 @@ impl Span {
 ///
 /// # Safety
 ///
-/// Each clause `requires` of the contract must hold, but for those on counts, on iterators and on closures.
+/// The contract requires each of these: `start ≤ end`, `end ≤ text.size`, `text.offset + text.size ≤ cap N`,
+/// `text.offset + (start + (len + (text.size - end))) ≤ cap N`.
 ///
 /// <details><summary>Contract</summary>
 ///
@@ -74,7 +75,8 @@ pub(super) unsafe fn open_gap<const N: usize>(
 ///
 /// # Safety
 ///
-/// Each clause `requires` of the contract must hold, but for those on counts, on iterators and on closures.
+/// The contract requires each of these: `start ≤ end`, `end ≤ text.size`, `text.offset + text.size ≤ cap N`, `start +
+/// (len + (text.size - end)) ≤ cap N`.
 ///
 /// <details><summary>Contract</summary>
 ///

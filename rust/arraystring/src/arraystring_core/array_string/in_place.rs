@@ -11,7 +11,8 @@ impl<const N: usize> ArrayString<N> {
     ///
     /// # Safety
     ///
-    /// Each clause `requires` of the contract must hold, but for those on counts, on iterators and on closures.
+    /// The contract requires each of these: `start ≤ end`, `IsTrue (boundary self.old.text start)`, `IsTrue (boundary
+    /// self.old.text end)`, `size self.old.text - (end - start) + size (chars given.now) ≤ cap N`.
     ///
     /// <details><summary>Contract</summary>
     ///
@@ -52,7 +53,8 @@ impl<const N: usize> ArrayString<N> {
     ///
     /// # Safety
     ///
-    /// Each clause `requires` of the contract must hold, but for those on counts, on iterators and on closures.
+    /// The contract requires each of these: `start ≤ end`, `IsTrue (boundary self.old.text start)`, `IsTrue (boundary
+    /// self.old.text end)`, `size self.old.text - (end - start) + size (chars given.now) ≤ cap N`.
     ///
     /// <details><summary>Contract</summary>
     ///
@@ -89,7 +91,8 @@ impl<const N: usize> ArrayString<N> {
     ///
     /// # Safety
     ///
-    /// Each clause `requires` of the contract must hold, but for those on counts, on iterators and on closures.
+    /// The contract requires each of these: `IsTrue (boundary self.old.text at)`, `size self.old.text + width ch ≤ cap
+    /// N`.
     ///
     /// <details><summary>Contract</summary>
     ///
@@ -113,7 +116,6 @@ impl<const N: usize> ArrayString<N> {
         self.size = (at + (len + (text.size - at))) as u8;
         // SAFETY: the proof of `put_char` in crates/arraystring_core/src/array_string/in_place.rt shows `order`, `within`, `held` and `room` of `open_gap`.
         unsafe { open_gap(&mut self.array, text, at, at, len, &mut Steps::new()) };
-        known!(proved: text.offset + at < N);
         // SAFETY: the proof of `put_char` in crates/arraystring_core/src/array_string/in_place.rt shows the precondition of `encode`.
         unsafe { encode(ch, &mut self.array, text.offset + at) };
     }
@@ -122,7 +124,8 @@ impl<const N: usize> ArrayString<N> {
     ///
     /// # Safety
     ///
-    /// Each clause `requires` of the contract must hold, but for those on counts, on iterators and on closures.
+    /// The contract requires each of these: `IsTrue (boundary self.old.text at)`, `size self.old.text + width ch ≤ cap
+    /// N`.
     ///
     /// <details><summary>Contract</summary>
     ///
@@ -138,14 +141,12 @@ impl<const N: usize> ArrayString<N> {
     #[cold]
     #[inline(never)]
     pub(super) unsafe fn compact_and_insert(&mut self, at: usize, ch: char) {
-        known!(invariant: self.start as usize + self.size as usize <= crate::ArrayString::<N>::capacity() as usize);
         let text = Span::new(self.start, self.size);
         let len = ch.len_utf8();
         self.start = 0;
         self.size = (at + (len + (text.size - at))) as u8;
         // SAFETY: the proof of `compact_and_insert` in crates/arraystring_core/src/array_string/in_place.rt shows `order`, `within`, `held` and `room` of `compact_and_open_gap`.
         unsafe { compact_and_open_gap(&mut self.array, text, at, at, len, &mut Steps::new()) };
-        known!(proved: at < N);
         // SAFETY: the proof of `compact_and_insert` in crates/arraystring_core/src/array_string/in_place.rt shows the precondition of `encode`.
         unsafe { encode(ch, &mut self.array, at) };
     }
@@ -154,7 +155,8 @@ impl<const N: usize> ArrayString<N> {
     ///
     /// # Safety
     ///
-    /// Each clause `requires` of the contract must hold, but for those on counts, on iterators and on closures.
+    /// The contract requires each of these: `start ≤ end`, `IsTrue (boundary self.old.text start)`, `IsTrue (boundary
+    /// self.old.text end)`.
     ///
     /// <details><summary>Contract</summary>
     ///
@@ -191,7 +193,7 @@ impl<const N: usize> ArrayString<N> {
     ///
     /// # Safety
     ///
-    /// Each clause `requires` of the contract must hold, but for those on counts, on iterators and on closures.
+    /// The contract requires `IsTrue (boundary self.old.text end)`.
     ///
     /// <details><summary>Contract</summary>
     ///
@@ -213,7 +215,7 @@ impl<const N: usize> ArrayString<N> {
     ///
     /// # Safety
     ///
-    /// Each clause `requires` of the contract must hold, but for those on counts, on iterators and on closures.
+    /// The contract requires `IsTrue (boundary self.old.text size)`.
     ///
     /// <details><summary>Contract</summary>
     ///

@@ -58,7 +58,7 @@ impl<const N: usize> ArrayString<N> {
     ///
     /// # Safety
     ///
-    /// The index must be a boundary of the text, and the text after the call must fit into the capacity.
+    /// The index must be a boundary of the text. The text after the call must fit into the capacity.
     ///
     /// # Examples
     ///
@@ -234,7 +234,7 @@ impl<const N: usize> ArrayString<N> {
     ///
     /// # Safety
     ///
-    /// The index must be a boundary of the text, and the text after the call must fit into the capacity.
+    /// The index must be a boundary of the text. The text after the call must fit into the capacity.
     ///
     /// # Examples
     ///

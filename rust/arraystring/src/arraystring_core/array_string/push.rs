@@ -2,7 +2,7 @@
 //! What is appended: characters, texts, and what an iterator gives.
 
 use crate::arraystring_base::error::OutOfBounds;
-use crate::arraystring_base::utils::{Steps, encode, move_run, truncate_str, write_over};
+use crate::arraystring_base::utils::{Steps, encode, shift, truncate_str, write_over};
 use crate::arraystring_core::ArrayString;
 
 impl<const N: usize> ArrayString<N> {
@@ -317,7 +317,7 @@ impl<const N: usize> ArrayString<N> {
     ///
     /// # Safety
     ///
-    /// Each clause `requires` of the contract must hold, but for those on counts, on iterators and on closures.
+    /// The contract requires `IsStored N array.old start.old len.old`.
     ///
     /// <details><summary>Contract</summary>
     ///
@@ -367,7 +367,7 @@ impl<const N: usize> ArrayString<N> {
     ///
     /// # Safety
     ///
-    /// Each clause `requires` of the contract must hold, but for those on counts, on iterators and on closures.
+    /// The contract requires `IsStored N array.old start.old len.old`.
     ///
     /// <details><summary>Contract</summary>
     ///
@@ -405,7 +405,7 @@ impl<const N: usize> ArrayString<N> {
     ///
     /// # Safety
     ///
-    /// Each clause `requires` of the contract must hold, but for those on counts, on iterators and on closures.
+    /// The contract requires `IsStored N array.old start.old len.old`.
     ///
     /// <details><summary>Contract</summary>
     ///
@@ -447,7 +447,7 @@ impl<const N: usize> ArrayString<N> {
     ///
     /// # Safety
     ///
-    /// Each clause `requires` of the contract must hold, but for those on counts, on iterators and on closures.
+    /// The contract requires each of these: `IsStored N array.old start.old len.old`, `end ≡ start.old + len.old`.
     ///
     /// <details><summary>Contract</summary>
     ///
@@ -489,7 +489,7 @@ impl<const N: usize> ArrayString<N> {
 ///
 /// # Safety
 ///
-/// Each clause `requires` of the contract must hold, but for those on counts, on iterators and on closures.
+/// The contract requires each of these: `IsStored N array.old start.old size`, `size + more ≤ cap N`.
 ///
 /// <details><summary>Contract</summary>
 ///
@@ -509,8 +509,8 @@ unsafe fn make_room<const N: usize>(array: &mut [u8; N], start: &mut u8, size: u
     let from = *start as usize;
     if from + size + more > ArrayString::<N>::capacity() as usize {
         *start = 0;
-        // SAFETY: the proof of `make_room` in crates/arraystring_core/src/array_string/push.rt shows `source` and `target` of `move_run`.
-        unsafe { move_run(array, from, 0, size) };
+        // SAFETY: the proof of `make_room` in crates/arraystring_core/src/array_string/push.rt shows `source` and `target` of `shift`.
+        unsafe { shift(array, from, 0, size, &mut Steps::new()) };
     }
 }
 
@@ -518,7 +518,7 @@ unsafe fn make_room<const N: usize>(array: &mut [u8; N], start: &mut u8, size: u
 ///
 /// # Safety
 ///
-/// Each clause `requires` of the contract must hold, but for those on counts, on iterators and on closures.
+/// The contract requires each of these: `IsStored N array.old start size`, `size + width ch ≤ cap N`.
 ///
 /// <details><summary>Contract</summary>
 ///
@@ -536,9 +536,8 @@ unsafe fn make_room<const N: usize>(array: &mut [u8; N], start: &mut u8, size: u
 #[cold]
 #[inline(never)]
 unsafe fn compact_and_append<const N: usize>(array: &mut [u8; N], start: usize, size: usize, ch: char) -> usize {
-    // SAFETY: the proof of `compact_and_append` in crates/arraystring_core/src/array_string/push.rt shows `source` and `target` of `move_run`.
-    unsafe { move_run(array, start, 0, size) };
-    known!(proved: size < N);
+    // SAFETY: the proof of `compact_and_append` in crates/arraystring_core/src/array_string/push.rt shows `source` and `target` of `shift`.
+    unsafe { shift(array, start, 0, size, &mut Steps::new()) };
     // SAFETY: the proof of `compact_and_append` in crates/arraystring_core/src/array_string/push.rt shows the precondition of `encode`.
     size + unsafe { encode(ch, array, size) }
 }
@@ -549,7 +548,7 @@ impl<const N: usize> ArrayString<N> {
     ///
     /// # Safety
     ///
-    /// Each clause `requires` of the contract must hold, but for those on counts, on iterators and on closures.
+    /// The contract requires `len ≤ 255`.
     ///
     /// <details><summary>Contract</summary>
     ///
@@ -596,7 +595,7 @@ impl<const N: usize> ArrayString<N> {
     ///
     /// # Safety
     ///
-    /// Each clause `requires` of the contract must hold, but for those on counts, on iterators and on closures.
+    /// The contract requires `size self.old.text + width ch ≤ cap N`.
     ///
     /// <details><summary>Contract</summary>
     ///
@@ -613,9 +612,8 @@ impl<const N: usize> ArrayString<N> {
     unsafe fn compact_and_push(&mut self, ch: char) {
         let (start, size) = (self.start as usize, self.size as usize);
         self.start = 0;
-        // SAFETY: the proof of `compact_and_push` in crates/arraystring_core/src/array_string/push.rt shows `source` and `target` of `move_run`.
-        unsafe { move_run(&mut self.array, start, 0, size) };
-        known!(proved: size < N);
+        // SAFETY: the proof of `compact_and_push` in crates/arraystring_core/src/array_string/push.rt shows `source` and `target` of `shift`.
+        unsafe { shift(&mut self.array, start, 0, size, &mut Steps::new()) };
         // SAFETY: the proof of `compact_and_push` in crates/arraystring_core/src/array_string/push.rt shows the precondition of `encode`.
         let len = unsafe { encode(ch, &mut self.array, size) };
         self.size = (size + len) as u8;
@@ -625,7 +623,7 @@ impl<const N: usize> ArrayString<N> {
     ///
     /// # Safety
     ///
-    /// Each clause `requires` of the contract must hold, but for those on counts, on iterators and on closures.
+    /// The contract requires `size self.old.text + size (chars string.now) ≤ cap N`.
     ///
     /// <details><summary>Contract</summary>
     ///

@@ -5,7 +5,7 @@
 use crate::arraystring_base::error::{Error, Utf8};
 use crate::arraystring_base::utils::{Steps, last_char, shift};
 use crate::arraystring_core::ArrayString;
-use core::str;
+use crate::by_hand::str;
 
 impl<const N: usize> ArrayString<N> {
     /// Shortens the text to its first `size` bytes. Nothing changes if it has no more.
@@ -286,7 +286,7 @@ impl<const N: usize> ArrayString<N> {
             return Err(Error::Utf8);
         }
         // SAFETY: the proof of `split_off` in crates/arraystring_core/src/array_string/remove.rt shows the precondition of `from_str_unchecked`.
-        let rest = unsafe { Self::from_str_unchecked(&self.as_str()[at as usize..]) };
+        let rest = unsafe { Self::from_str_unchecked(get_unchecked!(self.as_str(), at as usize..)) };
         // SAFETY: the proof of `split_off` in crates/arraystring_core/src/array_string/remove.rt shows the precondition of `keep`.
         unsafe { self.keep(at) };
         Ok(rest)
@@ -323,7 +323,7 @@ impl<const N: usize> ArrayString<N> {
     ///
     /// # Safety
     ///
-    /// Each clause `requires` of the contract must hold, but for those on counts, on iterators and on closures.
+    /// The contract requires each of these: `IsTrue (boundary self.now.text at)`, `at < size self.now.text`.
     ///
     /// <details><summary>Contract</summary>
     ///
@@ -342,7 +342,7 @@ impl<const N: usize> ArrayString<N> {
     #[inline]
     unsafe fn char_at(&self, at: usize) -> (char, usize) {
         // SAFETY: the proof of `char_at` in crates/arraystring_core/src/array_string/remove.rt shows the precondition of `first_char`.
-        unsafe { first_char(&self.as_str()[at..]) }
+        unsafe { first_char(get_unchecked!(self.as_str(), at..)) }
     }
 }
 
@@ -350,7 +350,7 @@ impl<const N: usize> ArrayString<N> {
 ///
 /// # Safety
 ///
-/// Each clause `requires` of the contract must hold, but for those on counts, on iterators and on closures.
+/// The contract requires `0 < length text.now`.
 ///
 /// <details><summary>Contract</summary>
 ///
@@ -369,7 +369,7 @@ impl<const N: usize> ArrayString<N> {
 unsafe fn first_char(text: &str) -> (char, usize) {
     let mut rest = text.chars();
     let Some(ch) = rest.next() else {
-        unreachable!();
+        unreachable_unchecked!();
     };
     (ch, text.len() - rest.as_str().len())
 }
@@ -382,7 +382,8 @@ unsafe fn first_char(text: &str) -> (char, usize) {
 ///
 /// # Safety
 ///
-/// Each clause `requires` of the contract must hold, but for those on counts, on iterators and on closures.
+/// The contract requires each of these: `offset + size ≤ N`, `size ≤ 255`, `IsUtf8 (take size (drop offset
+/// array.old))`.
 ///
 /// <details><summary>Contract</summary>
 ///
@@ -408,14 +409,12 @@ unsafe fn retain_at<const N: usize, F: FnMut(char) -> bool>(
     size: usize,
     mut f: F,
 ) {
-    known!(held: offset + size <= N && offset <= offset + size);
     // From `read` on no byte was moved.
     *kept = 0;
     let mut read = 0;
     while read < size {
-        known!(proved: offset + read < N);
         // A byte of ASCII is its character; others take the decoder.
-        let first = array[offset + read];
+        let first = *get_unchecked!(array, offset + read);
         if first < 0x80 {
             if f(first as char) {
                 let to = offset + *kept as usize;
@@ -427,7 +426,7 @@ unsafe fn retain_at<const N: usize, F: FnMut(char) -> bool>(
         } else {
             let all = &array[..];
             // SAFETY: the clause `text`: what was not read yet is UTF-8, since a character begins at `read`.
-            let text = unsafe { str::from_utf8_unchecked(&all[offset + read..offset + size]) };
+            let text = unsafe { str::from_utf8_unchecked(get_unchecked!(all, offset + read..offset + size)) };
             // SAFETY: the proof of `retain_at` in crates/arraystring_core/src/array_string/remove.rt shows the precondition of `first_char`.
             let (ch, width) = unsafe { first_char(text) };
             if f(ch) {

@@ -170,8 +170,8 @@ impl<const N: usize> ArrayString<N> {
     fn drop_leading_ascii<F: Fn(char) -> bool>(&mut self, drops: &F) -> bool {
         let bytes = self.as_bytes();
         let mut run = 0;
-        while run < bytes.len() && bytes[run] < 0x80 {
-            if !drops(bytes[run] as char) {
+        while run < bytes.len() && *get_unchecked!(bytes, run) < 0x80 {
+            if !drops(*get_unchecked!(bytes, run) as char) {
                 // SAFETY: the proof of `drop_leading_ascii` in crates/arraystring_core/src/array_string/trim.rt shows the precondition of `drop_run`.
                 unsafe { self.drop_run(run) };
                 return true;
@@ -187,7 +187,7 @@ impl<const N: usize> ArrayString<N> {
     ///
     /// # Safety
     ///
-    /// Each clause `requires` of the contract must hold, but for those on counts, on iterators and on closures.
+    /// The contract requires `IsTrue (boundary self.old.text end)`.
     ///
     /// <details><summary>Contract</summary>
     ///

@@ -119,9 +119,7 @@ impl<const N: usize> ArrayString<N> {
         let mut array = [0; N];
         let run = write_ascii(&mut array, units);
         let mut end = run;
-        // What `write_ascii` ensures.
-        known!(within: run <= units.len());
-        for item in Units::new(&units[run..]) {
+        for item in Units::new(get_unchecked!(units, run..)) {
             // SAFETY: the proof of `from_utf16_lossy` in crates/arraystring_core/src/array_string/utf16.rt shows the precondition of `write_char`.
             match unsafe { Self::write_char(&mut array, end, shown(item)) } {
                 Some(next) => {
@@ -151,9 +149,7 @@ impl<const N: usize> ArrayString<N> {
         // A run of ASCII first, at once: its units are its bytes.
         let run = write_ascii(array, units);
         let mut end = run;
-        // What `write_ascii` ensures.
-        known!(within: run <= units.len());
-        for item in Units::new(&units[run..]) {
+        for item in Units::new(get_unchecked!(units, run..)) {
             match item {
                 // SAFETY: the proof of `write_prefix` in crates/arraystring_core/src/array_string/utf16.rt shows the precondition of `write_char`.
                 Unit16::Char(ch) => match unsafe { Self::write_char(array, end, ch) } {
@@ -173,7 +169,7 @@ impl<const N: usize> ArrayString<N> {
     ///
     /// # Safety
     ///
-    /// Each clause `requires` of the contract must hold, but for those on counts, on iterators and on closures.
+    /// The contract requires `IsStored N array.old 0 end`.
     ///
     /// <details><summary>Contract</summary>
     ///
@@ -217,9 +213,8 @@ impl<const N: usize> ArrayString<N> {
 fn write_ascii<const N: usize>(array: &mut [u8; N], units: &[u16]) -> usize {
     let most = units.len().min(ArrayString::<N>::capacity() as usize);
     let mut run = 0;
-    while run < most && units[run] < 0x80 {
-        known!(proved: run < N);
-        array[run] = units[run] as u8;
+    while run < most && *get_unchecked!(units, run) < 0x80 {
+        *get_unchecked_mut!(array, run) = *get_unchecked!(units, run) as u8;
         run += 1;
     }
     run

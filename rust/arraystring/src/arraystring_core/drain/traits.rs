@@ -79,12 +79,10 @@ impl<const N: usize> DoubleEndedIterator for Drain<N> {
     /// after that.
     #[inline(always)]
     fn next_back(&mut self) -> Option<char> {
-        known!(invariant: self.start as usize + self.size as usize <= crate::ArrayString::<N>::capacity() as usize);
         if self.size == self.front {
             return None;
         }
-        known!(proved: self.front < self.size);
-        let last = self.array[self.start as usize + self.size as usize - 1];
+        let last = *get_unchecked!(self.array, self.start as usize + self.size as usize - 1);
         if last < 0x80 {
             self.size -= 1;
             return Some(last as char);
@@ -189,13 +187,11 @@ impl<const N: usize> Iterator for Drain<N> {
     /// after that.
     #[inline(always)]
     fn next(&mut self) -> Option<char> {
-        known!(invariant: self.start as usize + self.size as usize <= crate::ArrayString::<N>::capacity() as usize);
         if self.front == self.size {
             return None;
         }
-        known!(proved: self.front < self.size);
         // A byte of ASCII is its character; others take the decoder.
-        let first = self.array[self.start as usize + self.front as usize];
+        let first = *get_unchecked!(self.array, self.start as usize + self.front as usize);
         if first < 0x80 {
             self.front += 1;
             return Some(first as char);

@@ -2,7 +2,7 @@
 //! The test of UTF-8, which std makes here.
 
 use crate::arraystring_base::error::Utf8;
-use core::str;
+use crate::by_hand::str;
 
 /// Returns the text whose UTF-8 is `given`, or `Err(Utf8)` if `given` is not well-formed.
 ///
@@ -18,7 +18,7 @@ use core::str;
 #[inline]
 pub(crate) fn read_utf8(given: &[u8]) -> Result<&str, Utf8> {
     let (blocks, last) = (given.len() / 32 * 32, given.len().saturating_sub(32));
-    if given[..blocks].is_ascii() && given[last..].is_ascii() {
+    if get_unchecked!(given, ..blocks).is_ascii() && get_unchecked!(given, last..).is_ascii() {
         // SAFETY: the blocks of 32 bytes in front and the last 32 bytes are all of them, and ASCII is UTF-8.
         return Ok(unsafe { str::from_utf8_unchecked(given) });
     }

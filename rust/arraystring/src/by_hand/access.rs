@@ -1,0 +1,92 @@
+//! What a proved body reads and writes, without a test that it is there.
+//!
+//! A function of the sources is accepted only if it is proved never to panic. So each index and each part in it is within, each
+//! copy is between parts of one length, and no `unreachable!()` is reached. rustc can't see that proof, and would test all
+//! this again. So the eraser writes each by a macro of this file, which has the name of what it stands for in std.
+//!
+//! (An `unsafe` block of a body may lie around an access, whose own one is not needed then.)
+
+/// Whether that is tested all the same: with debug assertions, or with the feature `checked`.
+pub(crate) const IS_TESTED: bool = cfg!(any(debug_assertions, feature = "checked"));
+
+/// An item or a part of a slice, an array or a text: `get_unchecked!(text, ..end)` for `&text[..end]`.
+macro_rules! get_unchecked {
+    ($of:expr, $at:expr) => {
+        if crate::access::IS_TESTED {
+            &$of[$at]
+        } else {
+            #[allow(unused_unsafe)]
+            // SAFETY: this stands for an index of a proved body, which is within.
+            let it = unsafe { $of.get_unchecked($at) };
+            it
+        }
+    };
+}
+
+/// The same, to write: `get_unchecked_mut!(all, start..end)` for `&mut all[start..end]`.
+macro_rules! get_unchecked_mut {
+    ($of:expr, $at:expr) => {
+        if crate::access::IS_TESTED {
+            &mut $of[$at]
+        } else {
+            #[allow(unused_unsafe)]
+            // SAFETY: this stands for an index of a proved body, which is within.
+            let it = unsafe { $of.get_unchecked_mut($at) };
+            it
+        }
+    };
+}
+
+/// Two parts of a slice or an array, also in a constant: `split_at_unchecked!(all, at)` for `all.split_at(at)`.
+macro_rules! split_at_unchecked {
+    ($of:expr, $at:expr) => {
+        if crate::access::IS_TESTED {
+            $of.split_at($at)
+        } else {
+            #[allow(unused_unsafe)]
+            // SAFETY: this stands for a part of a proved body, which is within.
+            let it = unsafe { $of.split_at_unchecked($at) };
+            it
+        }
+    };
+}
+
+/// Writes bytes over a part of as many: `copy_from_slice_unchecked!(all, start..end, given)` for
+/// `all[start..end].copy_from_slice(given)`.
+macro_rules! copy_from_slice_unchecked {
+    ($of:expr, $at:expr, $given:expr) => {{
+        let (at, given): (core::ops::Range<usize>, &[u8]) = ($at, $given);
+        if crate::access::IS_TESTED {
+            $of[at].copy_from_slice(given)
+        } else {
+            // SAFETY: this stands for a copy of a proved body: the part is within, as long as what is given, and lent apart.
+            unsafe { core::ptr::copy_nonoverlapping(given.as_ptr(), $of.as_mut_ptr().add(at.start), given.len()) }
+        }
+    }};
+}
+
+/// Moves bytes of a slice: `copy_within_unchecked!(all, from..end, to)` for `all.copy_within(from..end, to)`.
+macro_rules! copy_within_unchecked {
+    ($of:expr, $at:expr, $to:expr) => {{
+        let (at, to): (core::ops::Range<usize>, usize) = ($at, $to);
+        if crate::access::IS_TESTED {
+            $of.copy_within(at, to)
+        } else {
+            let bytes: *mut u8 = $of.as_mut_ptr();
+            // SAFETY: this stands for a move of a proved body: both parts are within.
+            unsafe { core::ptr::copy(bytes.add(at.start), bytes.add(to), at.end - at.start) }
+        }
+    }};
+}
+
+/// What is never reached: `unreachable_unchecked!()` for `unreachable!()`.
+macro_rules! unreachable_unchecked {
+    () => {
+        if crate::access::IS_TESTED {
+            unreachable!()
+        } else {
+            // SAFETY: this stands for what a proved body does not reach.
+            unsafe { core::hint::unreachable_unchecked() }
+        }
+    };
+}

@@ -1,0 +1,95 @@
+//! What the feature `checked` tests: a call whose precondition is broken panics, at the call or where the text is read then.
+#![cfg(feature = "checked")]
+
+use std::panic::{AssertUnwindSafe, catch_unwind};
+
+use arraystring::utils::{Steps, encode, shift};
+use arraystring::{ArrayString, CacheString};
+
+type Text = ArrayString<4>;
+
+/// A string at its capacity.
+fn full() -> Text {
+    Text::from("abcd")
+}
+
+/// Texts that are too large for a `CacheString`, each by another amount.
+fn too_large() -> impl Iterator<Item = String> {
+    (64..=300).map(|size| "a".repeat(size))
+}
+
+/// The names of the calls that did not panic.
+fn without_panic(calls: &[(&'static str, &dyn Fn() -> usize)]) -> Vec<&'static str> {
+    let quiet = calls.iter().filter(|(_, call)| catch_unwind(AssertUnwindSafe(call)).is_ok());
+    quiet.map(|(name, _)| *name).collect()
+}
+
+/// What a text has after an edit.
+fn after(mut string: Text, edit: impl Fn(&mut Text)) -> usize {
+    edit(&mut string);
+    string.as_str().chars().count()
+}
+
+#[test]
+fn a_broken_precondition_panics() {
+    // SAFETY: of no call here the precondition holds, so each has to end before it could do harm.
+    let calls: [(&str, &dyn Fn() -> usize); 13] = unsafe {
+        [
+            ("push", &|| after(full(), |string| string.push_unchecked('e'))),
+            ("push wide", &|| after(Text::from("abc"), |string| string.push_unchecked('é'))),
+            ("push text", &|| after(Text::from("abc"), |string| string.push_str_unchecked("de"))),
+            ("insert", &|| after(full(), |string| string.insert_unchecked(2, 'e'))),
+            ("insert inside a character", &|| after(Text::from("é"), |string| string.insert_unchecked(1, 'e'))),
+            ("insert past the text", &|| after(Text::from("a"), |string| string.insert_unchecked(3, 'e'))),
+            ("insert text", &|| after(full(), |string| string.insert_str_unchecked(0, "e"))),
+            ("insert text inside", &|| after(Text::from("é"), |string| string.insert_str_unchecked(1, "e"))),
+            ("from text", &|| Text::from_str_unchecked("abcde").as_str().len()),
+            ("from pieces", &|| Text::from_iterator_unchecked(["abc", "de"]).as_str().len()),
+            ("from bytes", &|| Text::from_utf8_unchecked([0xC3]).as_str().len()),
+            ("encode", &|| encode('é', &mut [0; 2], 1)),
+            ("from bytes of a surrogate", &|| Text::from_utf8_unchecked([0xED, 0xA0, 0x80]).as_str().len()),
+        ]
+    };
+    assert_eq!(without_panic(&calls), [""; 0]);
+}
+
+#[test]
+fn a_text_that_is_too_large_panics_at_each_size() {
+    let mut count = 0;
+    for text in too_large() {
+        // SAFETY: the text does not fit, so each has to end before it could do harm.
+        let calls: [(&str, &dyn Fn() -> usize); 2] = unsafe {
+            [
+                ("from text", &|| CacheString::from_str_unchecked(&text).as_str().len()),
+                ("push text", &|| {
+                    let mut string = CacheString::new();
+                    string.push_str_unchecked(&text);
+                    string.as_str().len()
+                }),
+            ]
+        };
+        assert_eq!(without_panic(&calls), [""; 0], "{}", text.len());
+        count += calls.len();
+    }
+    assert_eq!(count, 474);
+}
+
+/// Each run of bytes that does not lie in an array of 80 is refused to be moved.
+#[test]
+fn a_move_past_the_array_panics_at_each_length() {
+    let mut count = 0;
+    for len in 1..=80usize {
+        for (from, to) in [(81 - len, 0), (0, 81 - len), (81 - len, 80 - len), (80 - len, 81 - len)] {
+            // SAFETY: one of the runs ends past the array, so it has to end before it could do harm.
+            let call = || unsafe {
+                shift(&mut [0; 80], from, to, len, &mut Steps::new());
+                0
+            };
+            if from != to {
+                assert_eq!(without_panic(&[("shift", &call)]), [""; 0], "{from} {to} {len}");
+                count += 1;
+            }
+        }
+    }
+    assert_eq!(count, 320);
+}

@@ -1,0 +1,145 @@
+//! Samples of accesses, which lose their tests where what is proved is a fact in Rust, and keep them elsewhere.
+
+use super::*;
+
+/// What comes of a line of a body.
+fn line(given: &str) -> Result<String, String> {
+    let made = made(&format!("fn f(all: &mut [u8]) {{\n    {given}\n}}\n"))?;
+    Ok(made.lines().nth(2).unwrap().trim().to_string())
+}
+
+#[test]
+fn each_form_of_an_access_is_written_without_a_test() {
+    for (given, wanted) in [
+        ("let a = all[at];", "let a = *get_unchecked!(all, at);"),
+        ("all[at] = 1;", "*get_unchecked_mut!(all, at) = 1;"),
+        ("while at < end && all[at] == 1 {}", "while at < end && *get_unchecked!(all, at) == 1 {}"),
+        ("one[at] = two[at] as u8;", "*get_unchecked_mut!(one, at) = *get_unchecked!(two, at) as u8;"),
+        ("f(self.array[self.start as usize + 1]);", "f(*get_unchecked!(self.array, self.start as usize + 1));"),
+        ("f(all[other[at]]);", "f(*get_unchecked!(all, *get_unchecked!(other, at)));"),
+        ("&text[..end]", "get_unchecked!(text, ..end)"),
+        ("&mut all[at..]", "get_unchecked_mut!(all, at..)"),
+        ("f(&self.as_str()[at as usize..]);", "f(get_unchecked!(self.as_str(), at as usize..));"),
+        ("f(&g(a, b[c])[1..=2]);", "f(get_unchecked!(g(a, *get_unchecked!(b, c)), 1..=2));"),
+        ("all[a..b].is_ascii();", "get_unchecked!(all, a..b).is_ascii();"),
+        ("all[a..b].make_ascii_uppercase();", "get_unchecked_mut!(all, a..b).make_ascii_uppercase();"),
+        ("all[a..b].make_ascii_lowercase();", "get_unchecked_mut!(all, a..b).make_ascii_lowercase();"),
+        ("all[a..a + 2].copy_from_slice(&[b, c]);", "copy_from_slice_unchecked!(all, a..a + 2, &[b, c]);"),
+        ("all.copy_within(a..b, to);", "copy_within_unchecked!(all, a..b, to);"),
+        ("self.array.copy_within(a..b, to);", "copy_within_unchecked!(self.array, a..b, to);"),
+        ("let Some(a) = b else { unreachable!() };", "let Some(a) = b else { unreachable_unchecked!() };"),
+    ] {
+        assert_eq!(line(given), Ok(wanted.to_string()), "{given}");
+    }
+}
+
+#[test]
+fn what_is_no_access_stays() {
+    for given in [
+        "let all = &mut array[..];",
+        "let a = [0; 4];",
+        "f([a, b], &[c]);",
+        "for a in [b, c] {}",
+        "let [a, b] = c;",
+        "return [a];",
+        "let a: &mut [u8] = b;",
+        "if let [a] = b {}",
+        "a.copy_from_slice(b);",
+        "let a = unreachable;",
+    ] {
+        assert_eq!(line(given), Ok(given.to_string()), "{given}");
+    }
+}
+
+#[test]
+fn a_form_that_no_macro_has_is_refused() {
+    for (given, why) in [
+        ("let a = all[b..c];", "2: a part that is neither borrowed nor called on"),
+        ("all[at].f();", "2: an item with something behind it"),
+        ("all[at][b];", "2: an item with something behind it"),
+        ("all[at](b);", "2: an item with something behind it"),
+        ("all[at]?;", "2: an item with something behind it"),
+        ("(a)[b];", "2: an index of what has no name"),
+        ("a?[b];", "2: an index of what has no name"),
+    ] {
+        assert_eq!(line(given).unwrap_err(), why, "{given}");
+    }
+}
+
+/// A function that indexes and gives up a clause, or calls one that does, or one that calls such a one.
+fn resting(requires: &str) -> String {
+    format!(
+        "\
+fn first(all: &[u8]) -> u8 {{
+    second(all);
+    all[0]
+}}
+
+fn second(all: &[u8]) -> u8 {{
+    third(all);
+    all[1]
+}}
+
+fn third(all: &[u8]) -> u8
+{requires}{{
+    all[2]
+}}
+"
+    )
+}
+
+#[test]
+fn accesses_are_tested_where_a_clause_is_given_up_however_deep() {
+    let tests = |requires: &str| {
+        let made = made(&resting(requires)).unwrap();
+        ["    all[0]\n", "    all[1]\n", "    all[2]\n"].map(|line| made.contains(line))
+    };
+    assert_eq!(tests(""), [false; 3]);
+    assert_eq!(tests("    requires { 2 < length all.now }\n"), [false; 3]);
+    for given_up in crate::rules::GIVEN_UP {
+        assert_eq!(tests(&format!("    requires {{ {given_up} x }}\n")), [true; 3], "{given_up}");
+    }
+}
+
+#[test]
+fn a_call_that_panics_keeps_its_tests() {
+    let source = "\
+impl ArrayString {
+    /// A part.
+    pub fn slice(&self, from: usize) -> &str
+        requires order { from < 3 }
+    {
+        &self.text[from..]
+    }
+}
+";
+    let made = made_as("arraystring_core/src/sample.rt", source).unwrap();
+    assert!(made.contains("        &self.text[from..]\n"), "{made}");
+}
+
+#[test]
+fn a_worker_is_called_where_a_clause_is_given_up_only_by_its_rule() {
+    let source = |caller: &str, worker: &str, given_up: &str| {
+        format!(
+            "\
+fn {caller}(all: &mut [u8], steps: &mut Steps)
+    requires counted {{ {given_up} }}
+{{
+    {worker}(all, 0);
+}}
+
+fn {worker}(all: &mut [u8], at: usize)
+    requires within {{ at < length all.old }}
+{{
+    all[at] = 1;
+}}
+"
+        )
+    };
+    let why = "`sample::f`, of which Rust gives up a clause, calls `sample::put`, and SHOWN does not say why it may";
+    assert_eq!(made(&source("f", "put", "steps.old.moved < 3")).unwrap_err(), format!("4: {why}"));
+    assert!(made(&source("f", "put", "0 < 3")).unwrap().contains("unsafe { put(all, 0) };"));
+    let listed = source("last_char", "char_before_end", "steps.old.looked < 3").replacen("fn", "/// It.\npub fn", 1);
+    let listed = made_as("arraystring_base/src/sample/utf8.rt", &listed).unwrap();
+    assert!(listed.contains("unsafe { char_before_end(all, 0) };"), "{listed}");
+}

@@ -1,0 +1,86 @@
+//! The program as it is called: what it prints, what it ends with, and which files it leaves.
+
+use std::fs;
+use std::path::{Path, PathBuf};
+use std::process::{Command, Output};
+
+const ROOT: &str = concat!(env!("CARGO_MANIFEST_DIR"), "/../..");
+
+/// What the eraser reads, and what it writes.
+const READ: &[&str] = &["crates/arraystring_base", "crates/arraystring_core", "crates/arraystring"];
+const WRITTEN: &str = "rust/arraystring/src";
+
+fn copy(from: &Path, to: &Path) {
+    fs::create_dir_all(to).unwrap();
+    for entry in fs::read_dir(from).unwrap().map(Result::unwrap) {
+        let (from, to) = (entry.path(), to.join(entry.file_name()));
+        if from.is_dir() {
+            copy(&from, &to);
+        } else {
+            fs::copy(&from, &to).unwrap();
+        }
+    }
+}
+
+/// A copy of the tree, which goes when it is dropped.
+struct Tree(PathBuf);
+
+impl Tree {
+    fn new() -> Self {
+        let folder = std::env::temp_dir().join(format!("erase-main-{}", std::process::id()));
+        for krate in READ {
+            copy(&Path::new(ROOT).join(krate).join("src"), &folder.join(krate).join("src"));
+        }
+        copy(&Path::new(ROOT).join(WRITTEN), &folder.join(WRITTEN));
+        fs::copy(Path::new(ROOT).join("rust/rustfmt.toml"), folder.join("rust/rustfmt.toml")).unwrap();
+        Tree(folder)
+    }
+
+    fn run(&self, words: &[&str]) -> Output {
+        Command::new(env!("CARGO_BIN_EXE_erase")).args(words).arg("--root").arg(&self.0).output().unwrap()
+    }
+
+    /// The end and the last line of each stream.
+    fn told(&self, words: &[&str]) -> (Option<i32>, String, String) {
+        let output = self.run(words);
+        let last = |bytes: &[u8]| String::from_utf8_lossy(bytes).lines().last().unwrap_or_default().to_string();
+        (output.status.code(), last(&output.stdout), last(&output.stderr))
+    }
+}
+
+impl Drop for Tree {
+    fn drop(&mut self) {
+        fs::remove_dir_all(&self.0).unwrap();
+    }
+}
+
+#[test]
+fn a_stale_file_is_told_and_made_anew() {
+    let tree = Tree::new();
+    let file = tree.0.join(WRITTEN).join("arraystring_base/moves.rs");
+    let fresh = fs::read_to_string(&file).unwrap();
+    let none = String::new();
+    let (status, printed, faults) = tree.told(&["--check"]);
+    assert_eq!((status, &faults), (Some(0), &none));
+    assert!(printed.ends_with(" files are as in rust/arraystring/src"), "{printed}");
+
+    fs::write(&file, fresh.replace("from != to", "from == to")).unwrap();
+    let why = "erase: rust/arraystring/src/arraystring_base/moves.rs is not as its source says: run rust/erase/run";
+    assert_eq!(tree.told(&["--check"]), (Some(1), none.clone(), why.to_string()));
+
+    let (status, printed, faults) = tree.told(&[]);
+    assert_eq!((status, faults), (Some(0), none.clone()));
+    assert!(printed.ends_with(" files written to rust/arraystring/src"), "{printed}");
+    assert_eq!(fs::read_to_string(&file).unwrap(), fresh);
+
+    fs::write(tree.0.join(WRITTEN).join("left.rs"), "").unwrap();
+    let why = "erase: rust/arraystring/src/left.rs has no source and is not written by hand";
+    assert_eq!(tree.told(&["--check"]), (Some(1), none, why.to_string()));
+}
+
+#[test]
+fn words_that_are_no_arguments_are_refused() {
+    let output = Command::new(env!("CARGO_BIN_EXE_erase")).arg("--write").output().unwrap();
+    assert_eq!(output.status.code(), Some(2));
+    assert_eq!(String::from_utf8_lossy(&output.stderr), "erase: the arguments are [--check] [--root FOLDER]\n");
+}
