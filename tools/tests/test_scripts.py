@@ -1,5 +1,6 @@
 """What .ci/run, rust/check and the try of the program refuse: the scripts themselves, over stand-ins for what they call."""
 import os
+import re
 import shutil
 import subprocess
 
@@ -87,7 +88,8 @@ class Gate(ScriptTest):
 
     def test_each_call_is_enough_to_fail(self):
         calls = self.assert_each_call_is_enough_to_fail()
-        self.assertEqual(calls, ["run check", "rt ci", f"try {self.PROGRAM}", "check "])
+        calls = [re.sub("(?<=--refused ).*", "LOG", it) for it in calls]
+        self.assertEqual(calls, ["run check", "rt ci", "run evidence --refused LOG", f"try {self.PROGRAM}", "check "])
 
     def test_a_test_without_memory_that_has_not_run_is_counted(self):
         self.proves(self.RAN, "    not run: the checker of addresses of `rt try` has memory set aside")
@@ -138,7 +140,7 @@ rust: cargo clippy --quiet --offline --release --manifest-path static_library/Ca
 rust: cargo clippy --quiet --offline --manifest-path arraystring/Cargo.toml --features alloc -- -D warnings
 rust: cargo clippy --quiet --offline --manifest-path erase/Cargo.toml --all-targets -- -D warnings
 rust: cargo clippy --quiet --offline --manifest-path arraystring/Cargo.toml --features alloc --tests -- -D warnings \
--A clippy::incompatible_msrv -A clippy::needless_borrows_for_generic_args -A clippy::unit_arg
+-A clippy::needless_borrows_for_generic_args -A clippy::unit_arg
 arraystring_serde: cargo clippy --quiet --offline --all-targets -- -D warnings
 """
 WITH_FLAGS = """\
