@@ -13,6 +13,7 @@ WITH_VECTORS = [
     ("#![no_std]", "#![no_std]\n#![feature(portable_simd)]"),
     ("use crate::by_hand::simd::Simd;", "use core::simd::Simd;"),
 ]
+HELD = "self.start as usize + self.size as usize <= crate::ArrayString::<N>::capacity() as usize"
 REMOVALS = ["`remove` in the middle"]
 QUEUE = ["`remove(0)`, `try_push`, full"]
 DRAINS = ["`drain` at the front, walked", "`drain` in the middle, walked", "`drain`, walked from the back"]
@@ -140,6 +141,17 @@ CAUSES = [
         "A drain has an index for each end, and reads the array by them.",
         "its text is walked by the pointers of `chars`",
         settings=["walked_by_std"],
+    ),
+    Cause(
+        DRAINS,
+        "`Drain::next` reads a byte without a test of its index. rustc makes another loop of it than of a test that it can prove.",
+        "it tests the index, and is told what proves that",
+        [
+            ("        let first = *get_unchecked!(self.array, self.start as usize + self.front as usize);\n",
+             f"        known!(held: {HELD} && self.front < self.size);\n"
+             "        let first = self.array[self.start as usize + self.front as usize];\n"),
+            ("        let all = &self.array[..];\n", f"        known!(held: {HELD});\n        let all = &self.array[..];\n"),
+        ],
     ),
     Cause(
         ["`cmp` of equal texts", "`<`, the last character differs"],

@@ -74,22 +74,26 @@ fn a_text_that_is_too_large_panics_at_each_size() {
     assert_eq!(count, 474);
 }
 
-/// Each run of bytes that does not lie in an array of 80 is refused to be moved.
-#[test]
-fn a_move_past_the_array_panics_at_each_length() {
+/// Asserts that each run of bytes that does not lie in an array is refused to be moved. Returns how many were tried.
+fn moved_past<const N: usize>() -> usize {
     let mut count = 0;
-    for len in 1..=80usize {
-        for (from, to) in [(81 - len, 0), (0, 81 - len), (81 - len, 80 - len), (80 - len, 81 - len)] {
+    for len in 1..=N {
+        let last = N - len;
+        for (from, to) in [(last + 1, 0), (0, last + 1), (last + 1, last), (last, last + 1)] {
             // SAFETY: one of the runs ends past the array, so it has to end before it could do harm.
             let call = || unsafe {
-                shift(&mut [0; 80], from, to, len, &mut Steps::new());
+                shift(&mut [0; N], from, to, len, &mut Steps::new());
                 0
             };
-            if from != to {
-                assert_eq!(without_panic(&[("shift", &call)]), [""; 0], "{from} {to} {len}");
-                count += 1;
-            }
+            assert_eq!(without_panic(&[("shift", &call)]), [""; 0], "{from} {to} {len}");
+            count += 1;
         }
     }
-    assert_eq!(count, 320);
+    count
+}
+
+#[test]
+fn a_move_past_the_array_panics_at_each_length() {
+    let counts = [moved_past::<4>(), moved_past::<23>(), moved_past::<80>(), moved_past::<300>()];
+    assert_eq!(counts, [16, 92, 320, 1200]);
 }

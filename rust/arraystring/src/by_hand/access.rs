@@ -90,3 +90,58 @@ macro_rules! unreachable_unchecked {
         }
     };
 }
+
+#[cfg(test)]
+mod tests {
+    extern crate std;
+
+    use std::panic::catch_unwind;
+
+    const LETTERS: [u8; 6] = *b"abcdef";
+
+    /// Each place within gives what the plain access gives.
+    #[test]
+    fn what_is_within_is_as_it_is_plainly() {
+        for start in 0..=LETTERS.len() {
+            let (front, back) = split_at_unchecked!(LETTERS, start);
+            assert_eq!((front, back), LETTERS.split_at(start));
+            for end in start..=LETTERS.len() {
+                assert_eq!(get_unchecked!(LETTERS, start..end), &LETTERS[start..end]);
+                let (mut one, mut other) = (LETTERS, LETTERS);
+                get_unchecked_mut!(one, start..end).make_ascii_uppercase();
+                other[start..end].make_ascii_uppercase();
+                assert_eq!(one, other);
+                copy_from_slice_unchecked!(one, start..end, &b"123456"[..end - start]);
+                other[start..end].copy_from_slice(&b"123456"[..end - start]);
+                assert_eq!(one, other);
+                for to in 0..=LETTERS.len() - (end - start) {
+                    copy_within_unchecked!(one, start..end, to);
+                    other.copy_within(start..end, to);
+                    assert_eq!(one, other);
+                }
+            }
+        }
+    }
+
+    /// What is not within panics, where that is tested.
+    #[test]
+    fn what_is_not_within_panics_where_it_is_tested() {
+        if !super::IS_TESTED {
+            return;
+        }
+        let panics = |edit: fn(&mut [u8], usize), past: usize| {
+            assert!(catch_unwind(|| edit(&mut { LETTERS }, past)).is_err(), "{past}");
+        };
+        for past in 7..=300 {
+            assert!(catch_unwind(|| *get_unchecked!(LETTERS, past - 1)).is_err());
+            assert!(catch_unwind(|| get_unchecked!(LETTERS, ..past).len()).is_err());
+            assert!(catch_unwind(|| split_at_unchecked!(LETTERS, past).0.len()).is_err());
+            panics(|all, past| get_unchecked_mut!(all, past..).fill(1), past);
+            panics(|all, past| copy_from_slice_unchecked!(all, past..past + 1, b"1"), past);
+            panics(|all, past| copy_within_unchecked!(all, 0..1, past), past);
+            panics(|all, past| copy_within_unchecked!(all, past..past + 1, 0), past);
+        }
+        panics(|all, _| copy_from_slice_unchecked!(all, 0..1, b"12"), 0);
+        assert!(catch_unwind(|| unreachable_unchecked!()).is_err());
+    }
+}
