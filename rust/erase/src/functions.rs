@@ -9,7 +9,9 @@ use crate::edits::Edits;
 use crate::erase::Source;
 use crate::items::{File, Inside, Lead};
 use crate::known::test_of;
-use crate::rules::{BEHIND, BODIES, CONSTANT, FATES, Fate, KNOWN, LEFT_OUT, ONCE, Once, PROVED, TWINS, WALK, WIDER};
+use crate::rules::{
+    BEHIND, BODIES, BY_STD, CONSTANT, FATES, Fate, KNOWN, LEFT_OUT, ONCE, Once, PROVED, TWINS, WALK, WIDER,
+};
 use crate::sections::{example, section};
 
 /// A function as it was read.
@@ -90,7 +92,9 @@ impl<'a> File<'a, '_> {
             self.tally.contracts.note_given_up(&function.call);
         }
         let is_listed = PROVED.iter().any(|(call, _)| *call == function.call);
-        let proves = is_listed || !self.tally.contracts.is_given_up(&function.call);
+        // (what std does instead has no body of the source)
+        let is_left = !BY_STD.iter().any(|rule| rule.file == path);
+        let proves = is_left && (is_listed || !self.tally.contracts.is_given_up(&function.call));
         let here = Here { krate, path, owner: inside.owner, call: &function.call, is_tested, gives_up, proves };
         let before = self.tally.accesses();
         body::rewrite(self.text, &function.tokens, &here, &mut self.edits, self.tally)?;
