@@ -302,13 +302,13 @@ impl<'a> File<'a, '_> {
 
     /// Lets rustc decide whether a body is inlined that its source always inlines, if a rule says so.
     fn once(&mut self, function: &Function, lead: &Lead) {
-        let always = "#[inline(always)]";
+        let always = format!("{}#[inline(always)]\n", self.indent(function.head.start));
         let name = function.call.rsplit("::").next().unwrap_or_default();
         let is_meant = |rule: &&Once| rule.file == self.source.path && !rule.but.contains(&name);
         let Some(rule) = ONCE.iter().find(is_meant) else { return };
-        if let Some(at) = self.text[lead.docs_end..function.head.start].find(always) {
+        if let Some(at) = self.text[lead.docs_end..function.head.start].find(&always) {
             let at = lead.docs_end + at;
-            self.edits.replace(at..at + always.len(), "#[inline]");
+            self.edits.replace(at..at + always.len(), "");
             self.tally.count("functions that need not be inlined");
             self.tally.used.insert(format!("once {}", rule.file));
         }

@@ -504,15 +504,16 @@ pub const WRITES: &[&str] = &["make_ascii_uppercase", "make_ascii_lowercase"];
 /// `replace_range` and `remove` in the middle take some twenty instructions more.
 pub const KNOWN: &[(&str, &str)] = &[("moves::move_ends", "target"), ("moves::move_pairs", "source")];
 
-/// A file whose functions rustc need not inline, though their sources always do.
+/// A file of generic functions that rustc inlines by their size alone, though their sources always do.
 pub struct Once {
     pub file: &'static str,
     /// Functions of it that are inlined all the same.
     pub but: &'static [&'static str],
 }
 
-/// Workers that are large stand once where code is made small, which takes a quarter of its bytes there. The cells of
-/// rust/bench/cells.md are as many; without `always` elsewhere, too, they are more.
+/// Workers that are large stand once where code is made small, which takes a quarter of its bytes there. They have no
+/// `#[inline]` either, since at `s` that counts as much as at 3. Eight more cells of rust/bench/cells.md are behind so, all at
+/// 255; without `always` elsewhere, too, there are more.
 pub const ONCE: &[Once] = &[Once { file: "arraystring_base/src/moves.rt", but: &["move_run"] }];
 
 /// A function whose body is another one in the Rust crate.

@@ -41,7 +41,6 @@ use crate::by_hand::simd::Simd;
 /// [How to read a contract](crate::contracts)
 ///
 /// </details>
-#[inline]
 pub unsafe fn shift<const N: usize>(array: &mut [u8; N], from: usize, to: usize, len: usize, steps: &mut Steps) {
     if from != to {
         // SAFETY: the proof of `shift` in crates/arraystring_base/src/moves.rt shows `source` and `target` of `move_run`.
@@ -100,7 +99,6 @@ pub unsafe fn move_run<const N: usize>(array: &mut [u8; N], from: usize, to: usi
 /// [How to read a contract](crate::contracts)
 ///
 /// </details>
-#[inline]
 unsafe fn move_short_run<const N: usize>(array: &mut [u8; N], from: usize, to: usize, len: usize) {
     if len >= 4 {
         if len >= 8 {
@@ -138,7 +136,6 @@ unsafe fn move_short_run<const N: usize>(array: &mut [u8; N], from: usize, to: u
 /// [How to read a contract](crate::contracts)
 ///
 /// </details>
-#[inline]
 unsafe fn move_long_run<const N: usize>(array: &mut [u8; N], from: usize, to: usize, len: usize) {
     if N > 32 && len > 32 {
         // SAFETY: the proof of `move_long_run` in crates/arraystring_base/src/moves.rt shows `source`, `target`, `least` and `most` of `move_ends`.
@@ -167,7 +164,6 @@ unsafe fn move_long_run<const N: usize>(array: &mut [u8; N], from: usize, to: us
 /// [How to read a contract](crate::contracts)
 ///
 /// </details>
-#[inline]
 unsafe fn move_much<const N: usize>(array: &mut [u8; N], from: usize, to: usize, len: usize) {
     if len <= 128 {
         // SAFETY: the proof of `move_much` in crates/arraystring_base/src/moves.rt shows `source`, `target`, `least` and `most` of `move_ends`.
@@ -224,7 +220,6 @@ unsafe fn move_any_run<const N: usize>(array: &mut [u8; N], from: usize, to: usi
 /// [How to read a contract](crate::contracts)
 ///
 /// </details>
-#[inline]
 unsafe fn move_ends<const N: usize, const K: usize>(array: &mut [u8; N], from: usize, to: usize, len: usize) {
     known!(target: to + len <= N && to <= to + len);
     let rest = len - K;
@@ -258,7 +253,6 @@ unsafe fn move_ends<const N: usize, const K: usize>(array: &mut [u8; N], from: u
 /// [How to read a contract](crate::contracts)
 ///
 /// </details>
-#[inline]
 unsafe fn move_pairs<const N: usize, const K: usize>(array: &mut [u8; N], from: usize, to: usize, len: usize) {
     known!(source: from + len <= N && from <= from + len);
     let rest = len - (K + K);
@@ -294,7 +288,6 @@ unsafe fn move_pairs<const N: usize, const K: usize>(array: &mut [u8; N], from: 
 /// [How to read a contract](crate::contracts)
 ///
 /// </details>
-#[inline]
 pub unsafe fn write_over<const N: usize>(array: &mut [u8; N], at: usize, given: &[u8]) {
     if given.len() >= 16 {
         // SAFETY: the proof of `write_over` in crates/arraystring_base/src/moves.rt shows `room` and `least` of `write_long_run`.
@@ -322,7 +315,6 @@ pub unsafe fn write_over<const N: usize>(array: &mut [u8; N], at: usize, given: 
 /// [How to read a contract](crate::contracts)
 ///
 /// </details>
-#[inline]
 unsafe fn write_short_run<const N: usize>(array: &mut [u8; N], at: usize, given: &[u8]) {
     let len = given.len();
     if len >= 4 {
@@ -359,7 +351,6 @@ unsafe fn write_short_run<const N: usize>(array: &mut [u8; N], at: usize, given:
 /// [How to read a contract](crate::contracts)
 ///
 /// </details>
-#[inline]
 unsafe fn write_long_run<const N: usize>(array: &mut [u8; N], at: usize, given: &[u8]) {
     let len = given.len();
     if N > 64 && len > 64 {
@@ -415,7 +406,6 @@ unsafe fn write_any_run<const N: usize>(array: &mut [u8; N], at: usize, given: &
 /// [How to read a contract](crate::contracts)
 ///
 /// </details>
-#[inline]
 unsafe fn copy_ends<const N: usize, const K: usize>(array: &mut [u8; N], at: usize, given: &[u8]) {
     let rest = given.len() - K;
     // SAFETY: the proof of `copy_ends` in crates/arraystring_base/src/moves.rt shows the precondition of `bytes_of`.
@@ -444,7 +434,6 @@ unsafe fn copy_ends<const N: usize, const K: usize>(array: &mut [u8; N], at: usi
 /// [How to read a contract](crate::contracts)
 ///
 /// </details>
-#[inline]
 unsafe fn bytes_of<const K: usize>(given: &[u8], at: usize) -> Simd<u8, K> {
     Simd::<u8, K>::from_slice(get_unchecked!(given, at..at + K))
 }
@@ -465,7 +454,6 @@ unsafe fn bytes_of<const K: usize>(given: &[u8], at: usize) -> Simd<u8, K> {
 /// [How to read a contract](crate::contracts)
 ///
 /// </details>
-#[inline]
 unsafe fn put_bytes<const N: usize, const K: usize>(array: &mut [u8; N], at: usize, bytes: Simd<u8, K>) {
     let all = &mut array[..];
     bytes.copy_to_slice(get_unchecked_mut!(all, at..at + K));
@@ -487,7 +475,6 @@ unsafe fn put_bytes<const N: usize, const K: usize>(array: &mut [u8; N], at: usi
 /// [How to read a contract](crate::contracts)
 ///
 /// </details>
-#[inline]
 unsafe fn put_pair<const N: usize, const K: usize>(
     array: &mut [u8; N],
     at: usize,
