@@ -39,12 +39,12 @@ class ScriptTest(TreeTest):
         self.write(path, STAND_IN.replace("FOLDER", self.FOLDER).replace("FLAGS", self.FLAGS) + "".join(f"{line}\n" for line in lines))
         (self.root / path).chmod(0o755)
 
-    def called(self, fault=0):
+    def called(self, fault=0, words=()):
         """Whether the script fails if the call with this number does, what it prints, and the calls that it made."""
         calls = self.root / "calls"
         calls.write_text("", encoding="utf-8")
         settings = {"PATH": str(self.root / "bin"), "CALLS": str(calls), "FAULT": str(fault), "TMPDIR": str(self.root)}
-        run = subprocess.run(["bash", self.SCRIPT], cwd=self.root, env=settings, stdout=subprocess.PIPE,
+        run = subprocess.run(["bash", self.SCRIPT, *words], cwd=self.root, env=settings, stdout=subprocess.PIPE,
                              stderr=subprocess.STDOUT, encoding="utf-8")
         return run.returncode != 0, run.stdout, calls.read_text(encoding="utf-8").splitlines()
 
@@ -91,7 +91,8 @@ class Gate(ScriptTest):
     def test_each_call_is_enough_to_fail(self):
         calls = self.assert_each_call_is_enough_to_fail()
         calls = [re.sub("(?<=--refused ).*", "LOG", it) for it in calls]
-        self.assertEqual(calls, ["run check", "rt ci", "run evidence --refused LOG", f"try {self.PROGRAM}", "check "])
+        self.assertEqual(calls, ["run check", "rt ci", "run evidence --refused LOG", "run proved --check",
+                                 f"try {self.PROGRAM}", "check "])
 
     def test_a_test_without_memory_that_has_not_run_is_counted(self):
         self.proves(self.RAN, "    not run: the checker of addresses of `rt try` has memory set aside")
@@ -229,6 +230,14 @@ esac"""
         self.assertEqual((len(with_it), len(calls)), (4, len(self.due()) - 4))
         printed = self.called(calls.index("rust: cargo fmt --version") + 1)[1]
         self.assertTrue(printed.endswith("rust/check: 9 passed, 2 skipped: rustfmt serde\n"), printed)
+
+    def test_unproved_sources_are_taken_by_a_flag_alone(self):
+        _, printed, calls = self.called(words=["--unproved"])
+        self.assertTrue(printed.endswith(self.PASSED))
+        self.assertEqual(calls[0], "rust: run --check --unproved")
+        for words in (["--unprove"], ["--unproved", "--unproved"], [""]):
+            failed, printed, calls = self.called(words=words)
+            self.assertEqual((failed, printed, calls), (True, "rust/check: the argument is --unproved, or none\n", []))
 
     def test_versions_of_another_registry_are_forgotten(self):
         self.write("rust/arraystring_serde/Cargo.lock", "of crates.io")
