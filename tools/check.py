@@ -1,8 +1,8 @@
 """What a change has to pass before anything is proved: the tests of the tools; specs/ has definitions alone and the page has
 them; something cites each lemma and uses each import of a proof; the pages are as the files that they quote, name each public
 call and trait of the string and have no long sentence; every move goes through `shift`; a wrong body touches each public
-function and impl; and each control is as it was when it proved. What a part says that it looked at has to be at least what
-LEAST says.
+function and impl; and each control and each source of the Rust crate is as it was when it proved. What a part says that it
+looked at has to be at least what LEAST says.
 
 tools/run check             writes nothing
 tools/run check --write     first lays out each crate by `rt fmt`, makes the Rust crate by rust/erase/run where cargo is there,
@@ -21,6 +21,7 @@ import controls
 import dead
 import evidence
 import moves
+import proved
 import quotes
 import repository
 import sentences
@@ -39,6 +40,7 @@ LEAST = {
     "no sentence of {} pages": 18,
     "wrong bodies try {} functions": 189,
     "{} controls are as they were": 120,
+    "{} sources of the Rust crate are as they were proved": 250,
 }
 
 
@@ -71,6 +73,7 @@ def parts_fail(root):
     failed = tests_fail()
     for command, words in (
         (trusted, []), (dead, []), (quotes, []), (calls, []), (sentences, []), (moves, []), (evidence, []), (controls, ["--check"]),
+        (proved, ["--check"]),
     ):
         failed = bool(command.main(words, root)) or failed
     return failed

@@ -17,7 +17,7 @@ class Door(unittest.TestCase):
             self.assertIn("The commands are check, trusted,", printed)
 
     def test_a_command_says_what_it_does(self):
-        for command in ("check", "trusted", "dead", "quotes", "calls", "sentences", "evidence", "controls", "costs", "profile", "grinds"):
+        for command in ("check", "trusted", "dead", "quotes", "calls", "sentences", "evidence", "controls", "proved", "costs", "profile", "grinds"):
             status, printed = self.called(command, "--help")
             self.assertEqual(status, 0)
             self.assertTrue(printed.strip())

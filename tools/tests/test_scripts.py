@@ -24,6 +24,8 @@ class ScriptTest(TreeTest):
     SCRIPT = ""
     # What a stand-in writes down before its name, and behind its arguments.
     FOLDER, FLAGS = "", ""
+    # What it prints last where all has passed.
+    PASSED = "all passed"
     PROGRAMS = "bash sh dirname id ls cmp grep sed paste rm mkdir cat wc mktemp sha256sum sleep tee"
 
     def setUp(self):
@@ -37,23 +39,23 @@ class ScriptTest(TreeTest):
         self.write(path, STAND_IN.replace("FOLDER", self.FOLDER).replace("FLAGS", self.FLAGS) + "".join(f"{line}\n" for line in lines))
         (self.root / path).chmod(0o755)
 
-    def called(self, fault=0):
+    def called(self, fault=0, words=()):
         """Whether the script fails if the call with this number does, what it prints, and the calls that it made."""
         calls = self.root / "calls"
         calls.write_text("", encoding="utf-8")
         settings = {"PATH": str(self.root / "bin"), "CALLS": str(calls), "FAULT": str(fault), "TMPDIR": str(self.root)}
-        run = subprocess.run(["bash", self.SCRIPT], cwd=self.root, env=settings, stdout=subprocess.PIPE,
+        run = subprocess.run(["bash", self.SCRIPT, *words], cwd=self.root, env=settings, stdout=subprocess.PIPE,
                              stderr=subprocess.STDOUT, encoding="utf-8")
         return run.returncode != 0, run.stdout, calls.read_text(encoding="utf-8").splitlines()
 
     def assert_each_call_is_enough_to_fail(self, but=()):
         failed, printed, calls = self.called()
         self.assertFalse(failed, printed)
-        self.assertIn("all passed", printed)
+        self.assertIn(self.PASSED, printed)
         for number, call in enumerate(calls, 1):
             failed, printed, _ = self.called(number)
             self.assertEqual(failed, call not in but, call)
-            self.assertEqual("all passed" not in printed, failed, call)
+            self.assertEqual(self.PASSED not in printed, failed or call in but, call)
         return calls
 
     def assert_refused(self, wanted):
@@ -89,7 +91,8 @@ class Gate(ScriptTest):
     def test_each_call_is_enough_to_fail(self):
         calls = self.assert_each_call_is_enough_to_fail()
         calls = [re.sub("(?<=--refused ).*", "LOG", it) for it in calls]
-        self.assertEqual(calls, ["run check", "rt ci", "run evidence --refused LOG", f"try {self.PROGRAM}", "check "])
+        self.assertEqual(calls, ["run check", "rt ci", "run evidence --refused LOG", "run proved --check",
+                                 f"try {self.PROGRAM}", "check "])
 
     def test_a_test_without_memory_that_has_not_run_is_counted(self):
         self.proves(self.RAN, "    not run: the checker of addresses of `rt try` has memory set aside")
@@ -120,7 +123,7 @@ class Gate(ScriptTest):
 
 
 # The calls of rust/check, each with the folder in which it is made. The first are made before flags are set, the second with
-# those that make a warning an error. Where serde is not there, those in its folder are left out.
+# those that make a warning an error. Where serde is not there, those of its crate are left out.
 BEFORE_FLAGS = """\
 rust: run --check
 rust: cargo fmt --version
@@ -141,7 +144,7 @@ rust: cargo clippy --quiet --offline --manifest-path arraystring/Cargo.toml --fe
 rust: cargo clippy --quiet --offline --manifest-path erase/Cargo.toml --all-targets -- -D warnings
 rust: cargo clippy --quiet --offline --manifest-path arraystring/Cargo.toml --features alloc --tests -- -D warnings \
 -A clippy::needless_borrows_for_generic_args -A clippy::unit_arg
-arraystring_serde: cargo clippy --quiet --offline --all-targets -- -D warnings
+rust: cargo clippy --quiet --offline --manifest-path arraystring_serde/Cargo.toml REGISTRY --all-targets -- -D warnings
 """
 WITH_FLAGS = """\
 rust: cargo test --quiet --offline --manifest-path erase/Cargo.toml
@@ -159,14 +162,17 @@ rust: time 1
 rust: cargo package --quiet --offline --allow-dirty --manifest-path arraystring/Cargo.toml
 rust: cargo pkgid --offline --manifest-path arraystring/Cargo.toml
 rust: cargo test --quiet --offline --manifest-path TARGET/package/arraystring-0.1.0/Cargo.toml
-arraystring_serde: cargo test --quiet --offline
-arraystring_serde: cargo run --quiet --offline --example guests
-arraystring_serde: cargo doc --quiet --offline --no-deps
+rust: cargo test --quiet --offline --manifest-path arraystring_serde/Cargo.toml REGISTRY
+rust: cargo run --quiet --offline --manifest-path arraystring_serde/Cargo.toml REGISTRY --example guests
+rust: cargo doc --quiet --offline --manifest-path arraystring_serde/Cargo.toml REGISTRY --no-deps
 """
+# How cargo is told to take Debian's packages for those of crates.io.
+REGISTRY = "--config source.crates-io.replace-with='debian' --config source.debian.directory='/usr/share/cargo/registry'"
 
 
 class RustCheck(ScriptTest):
     SCRIPT = "rust/check"
+    PASSED = "rust/check: 11 passed, 0 skipped\n"
     FOLDER = "${PWD##*/}: "
     FLAGS = "${RUSTFLAGS:+ with$RUSTFLAGS}${RUSTDOCFLAGS:+ and$RUSTDOCFLAGS}"
     CRATES = ["arraystring", "arraystring_serde", "erase", "example", "example_names", "no_panic", "static_library"]
@@ -195,10 +201,10 @@ esac"""
         self.write("bin/ls", f"#!/bin/sh\nexit {0 if is_there else 2}\n")
         (self.root / "bin/ls").chmod(0o755)
 
-    def due(self, folders=""):
-        """The calls that are due, those in folders whose name begins so."""
+    def due(self):
+        """The calls that are due."""
         calls = [*BEFORE_FLAGS.splitlines(), *(f"{it} with -D warnings and -D warnings" for it in WITH_FLAGS.splitlines())]
-        return [it for it in calls if it.startswith(folders)]
+        return [it.replace("REGISTRY", REGISTRY) for it in calls]
 
     def reference_has(self, page):
         self.stand_in("bin/cargo", self.CARGO.format(self.REFERENCE, page))
@@ -210,13 +216,33 @@ esac"""
 
     def test_it_says_what_was_not_there(self):
         calls = self.called()[2]
-        for name, told in (("fmt", "rustfmt is not there"), ("clippy", "clippy is not there")):
-            self.assertIn(told, self.called(calls.index(f"rust: cargo {name} --version") + 1)[1])
+        for name, tool in (("fmt", "rustfmt"), ("clippy", "clippy")):
+            printed = self.called(calls.index(f"rust: cargo {name} --version") + 1)[1]
+            self.assertIn(f"rust/check: {tool} is not there", printed)
+            self.assertTrue(printed.endswith(f"rust/check: 10 passed, 1 skipped: {tool}\n"), printed)
         self.serde_is_there(False)
         failed, printed, calls = self.called()
         self.assertFalse(failed)
         self.assertIn("librust-serde-dev and librust-serde-json-dev are not there", printed)
-        self.assertEqual(len(calls), len(self.due("rust: ")))
+        self.assertTrue(printed.endswith("rust/check: 10 passed, 1 skipped: serde\n"), printed)
+        # (the form of what is written by hand is looked at without it)
+        with_it = [it for it in self.due() if "arraystring_serde" in it and "cargo fmt" not in it]
+        self.assertEqual((len(with_it), len(calls)), (4, len(self.due()) - 4))
+        printed = self.called(calls.index("rust: cargo fmt --version") + 1)[1]
+        self.assertTrue(printed.endswith("rust/check: 9 passed, 2 skipped: rustfmt serde\n"), printed)
+
+    def test_unproved_sources_are_taken_by_a_flag_alone(self):
+        _, printed, calls = self.called(words=["--unproved"])
+        self.assertTrue(printed.endswith(self.PASSED))
+        self.assertEqual(calls[0], "rust: run --check --unproved")
+        for words in (["--unprove"], ["--unproved", "--unproved"], [""]):
+            failed, printed, calls = self.called(words=words)
+            self.assertEqual((failed, printed, calls), (True, "rust/check: the argument is --unproved, or none\n", []))
+
+    def test_versions_of_another_registry_are_forgotten(self):
+        self.write("rust/arraystring_serde/Cargo.lock", "of crates.io")
+        self.called()
+        self.assertFalse((self.root / "rust/arraystring_serde/Cargo.lock").exists())
 
     def test_another_license_is_refused(self):
         self.write("rust/arraystring/LICENSE", "another")

@@ -95,7 +95,7 @@ pub fn all_used(tally: &Tally) -> Result<(), String> {
 }
 
 /// The paths of the files below a folder.
-fn sources(folder: &Path) -> Result<BTreeSet<String>, String> {
+pub fn sources(folder: &Path) -> Result<BTreeSet<String>, String> {
     let (mut found, mut waiting) = (BTreeSet::new(), vec![PathBuf::new()]);
     while let Some(below) = waiting.pop() {
         let path = folder.join(&below);

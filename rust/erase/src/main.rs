@@ -1,13 +1,15 @@
 //! Makes the Rust crate `arraystring` out of the proved sources: contracts become documentation, proofs go, and the bodies
 //! stay line for line.
 //!
-//!     cargo run --release --offline --manifest-path rust/erase/Cargo.toml -- [--check] [--root FOLDER]
+//!     cargo run --release --offline --manifest-path rust/erase/Cargo.toml -- [--check] [--unproved] [--root FOLDER]
 //!
 //! Without `--check` it writes `rust/arraystring/src`; with it, it says whether that is as the sources say. The folder is
-//! the repository, by default the one that the eraser was built in. What it can't read stops it.
+//! the repository, by default the one that the eraser was built in. What it can't read stops it, and so does a source that is
+//! not as it was when it was proved. With `--unproved` each file that is made says so instead.
 
 mod access;
 mod body;
+mod checksum;
 mod contracts;
 mod cursor;
 mod edits;
@@ -17,6 +19,7 @@ mod functions;
 mod items;
 mod known;
 mod pages;
+mod proved;
 mod rules;
 mod sections;
 mod width;
@@ -28,17 +31,19 @@ use std::process::ExitCode;
 fn main() -> ExitCode {
     let mut words = std::env::args().skip(1);
     let (mut is_check, mut root) = (false, PathBuf::from(concat!(env!("CARGO_MANIFEST_DIR"), "/../..")));
+    let mut is_unproved_allowed = false;
     while let Some(word) = words.next() {
         match word.as_str() {
             "--check" => is_check = true,
+            "--unproved" => is_unproved_allowed = true,
             "--root" => root = words.next().map(PathBuf::from).unwrap_or(root),
             _ => {
-                eprintln!("erase: the arguments are [--check] [--root FOLDER]");
+                eprintln!("erase: the arguments are [--check] [--unproved] [--root FOLDER]");
                 return ExitCode::from(2);
             }
         }
     }
-    match run(&root, is_check) {
+    match run(&root, is_check, is_unproved_allowed) {
         Ok(()) => ExitCode::SUCCESS,
         Err(why) => {
             eprintln!("erase: {why}");
@@ -48,8 +53,9 @@ fn main() -> ExitCode {
 }
 
 /// Makes or compares the files of the crate, and tells what was erased.
-fn run(root: &std::path::Path, is_check: bool) -> Result<(), String> {
+fn run(root: &std::path::Path, is_check: bool, is_unproved_allowed: bool) -> Result<(), String> {
     let (mut made, tally) = files::made(&root.join("crates"))?;
+    let proved = proved::told(&mut made, root, is_unproved_allowed)?;
     let is_formatted = files::format(&mut made, &root.join("rust"))?;
     let target = root.join("rust/arraystring/src");
     let explained = words::explained(&made, &files::read(&target.join(words::PAGE))?)?;
@@ -94,6 +100,7 @@ fn run(root: &std::path::Path, is_check: bool) -> Result<(), String> {
     if !is_formatted {
         println!("rustfmt is not there: no file was formatted, and files are compared by their words alone");
     }
+    println!("{proved}");
     println!("{} files {} rust/arraystring/src", made.len(), if is_check { "are as in" } else { "written to" });
     Ok(())
 }

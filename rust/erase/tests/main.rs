@@ -22,12 +22,18 @@ fn copy(from: &Path, to: &Path) {
     }
 }
 
-/// A copy of the tree, which goes when it is dropped.
+/// The texts of all files below a folder.
+fn texts(folder: &Path) -> Vec<String> {
+    let paths = fs::read_dir(folder).unwrap().map(|entry| entry.unwrap().path());
+    paths.flat_map(|path| if path.is_dir() { texts(&path) } else { vec![fs::read_to_string(&path).unwrap()] }).collect()
+}
+
+/// A copy of the tree without the record of what was proved, which goes when it is dropped.
 struct Tree(PathBuf);
 
 impl Tree {
-    fn new() -> Self {
-        let folder = std::env::temp_dir().join(format!("erase-main-{}", std::process::id()));
+    fn new(name: &str) -> Self {
+        let folder = std::env::temp_dir().join(format!("erase-{name}-{}", std::process::id()));
         for krate in READ {
             copy(&Path::new(ROOT).join(krate).join("src"), &folder.join(krate).join("src"));
         }
@@ -56,31 +62,58 @@ impl Drop for Tree {
 
 #[test]
 fn a_stale_file_is_told_and_made_anew() {
-    let tree = Tree::new();
+    let tree = Tree::new("stale");
+    let (make, check) = (["--unproved"], ["--check", "--unproved"]);
+    tree.run(&make);
     let file = tree.0.join(WRITTEN).join("arraystring_base/moves.rs");
     let fresh = fs::read_to_string(&file).unwrap();
     let none = String::new();
-    let (status, printed, faults) = tree.told(&["--check"]);
+    let (status, printed, faults) = tree.told(&check);
     assert_eq!((status, &faults), (Some(0), &none));
     assert!(printed.ends_with(" files are as in rust/arraystring/src"), "{printed}");
 
     fs::write(&file, fresh.replace("from != to", "from == to")).unwrap();
     let why = "erase: rust/arraystring/src/arraystring_base/moves.rs is not as its source says: run rust/erase/run";
-    assert_eq!(tree.told(&["--check"]), (Some(1), none.clone(), why.to_string()));
+    assert_eq!(tree.told(&check), (Some(1), none.clone(), why.to_string()));
 
-    let (status, printed, faults) = tree.told(&[]);
+    let (status, printed, faults) = tree.told(&make);
     assert_eq!((status, faults), (Some(0), none.clone()));
     assert!(printed.ends_with(" files written to rust/arraystring/src"), "{printed}");
     assert_eq!(fs::read_to_string(&file).unwrap(), fresh);
 
     fs::write(tree.0.join(WRITTEN).join("left.rs"), "").unwrap();
     let why = "erase: rust/arraystring/src/left.rs has no source and is not written by hand";
-    assert_eq!(tree.told(&["--check"]), (Some(1), none, why.to_string()));
+    assert_eq!(tree.told(&check), (Some(1), none, why.to_string()));
+}
+
+#[test]
+fn unproved_sources_stop_it_or_are_told_in_each_file() {
+    let tree = Tree::new("unproved");
+    let written = tree.0.join(WRITTEN);
+    let before = texts(&written);
+    for words in [&["--check"][..], &[]] {
+        let (status, printed, fault) = tree.told(words);
+        assert_eq!((status, printed), (Some(1), String::new()));
+        assert!(fault.contains("rust/proved.txt: No such file"), "{fault}");
+    }
+    assert_eq!(texts(&written), before);
+
+    let output = tree.run(&["--unproved"]);
+    let printed = String::from_utf8(output.stdout).unwrap();
+    assert!(output.status.success());
+    assert!(printed.contains("\nNOT PROVED, as the first line of each file says: "), "{printed}");
+    let (made, by_hand): (Vec<_>, Vec<_>) =
+        texts(&written).into_iter().partition(|text| text.contains("\n// Made from crates/"));
+    assert!(printed.ends_with(&format!("\n{} files written to {WRITTEN}\n", made.len())), "{printed}");
+    assert!(made.iter().all(|text| text.starts_with("// NOT PROVED: ")));
+    assert!(by_hand.iter().all(|text| !text.contains("NOT PROVED")));
+    assert_eq!(tree.told(&["--check", "--unproved"]).0, Some(0));
 }
 
 #[test]
 fn words_that_are_no_arguments_are_refused() {
     let output = Command::new(env!("CARGO_BIN_EXE_erase")).arg("--write").output().unwrap();
     assert_eq!(output.status.code(), Some(2));
-    assert_eq!(String::from_utf8_lossy(&output.stderr), "erase: the arguments are [--check] [--root FOLDER]\n");
+    let usage = "erase: the arguments are [--check] [--unproved] [--root FOLDER]\n";
+    assert_eq!(String::from_utf8_lossy(&output.stderr), usage);
 }
