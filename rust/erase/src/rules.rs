@@ -764,6 +764,12 @@ pub const REPLACED: &[Replaced] = &[
         why: "bodies call its twin",
     },
     Replaced {
+        file: "arraystring_base/src/utils.rt",
+        from: "pub use crate::moves::{move_run, shift, write_over};",
+        to: "pub use crate::moves::{shift, write_over};",
+        why: "nothing of the crate moves without a count, and no program reaches it",
+    },
+    Replaced {
         file: "arraystring/src/lib.rt",
         from: "//! Its tests are in `crates/arraystring_tests`.",
         to: "//! Its tests are in `tests`, beside `src`.",

@@ -3,7 +3,7 @@
 //! UTF-8.
 
 use crate::arraystring_base::error::OutOfBounds;
-pub use crate::arraystring_base::moves::{move_run, shift, write_over};
+pub use crate::arraystring_base::moves::{shift, write_over};
 pub use crate::arraystring_base::steps::{Steps, look};
 pub use crate::arraystring_base::utf8::{encode, is_boundary, last_char, truncate_str, truncate_str_counted};
 
