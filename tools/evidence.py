@@ -1,7 +1,7 @@
 """Fails where a public function or impl has no wrong body of its name, and where a wrong body has another name than it should.
 
 tools/run evidence                  looks at the files alone
-tools/run evidence --refused LOG    also at what `rt ci` or `rt must-fail` said in LOG of each wrong body
+tools/run evidence --refused LOG    also at what `rt must-fail` said in LOG of each wrong body
 
 A wrong body is crates/CRATE/must-fail/FUNCTION.WHAT_IS_WRONG.edit. FUNCTION is the name of a function of the crate, as
 `pop`. It has the type in front if two have that name, as `Drain.next_back`, and the trait in the function's place if that
@@ -11,8 +11,8 @@ the public one.
 
 Two are asked for where a function decides something, so that its contract has an equivalence or it returns a `bool`: one for each
 direction. In the log each wrong body is refused by a goal of src/ in the function of its name or in one that this names, or
-over a stored proof of such a one, and then it has a control. A goal of a clause about counts refuses only what is named for a
-function that counts.
+over a stored proof of such a one. Then it has a control, or the prover shows values at which the goal is false. A goal of a
+clause about counts refuses only what is named for a function that counts.
 
 Every public function that has a body is asked for, each function of a trait's impl that has clauses or ghost members and
 whose type is public, and of a program all functions but `main`; tests, what a trait declares and the crates FOR_TESTS are
@@ -31,6 +31,9 @@ FOR_TESTS = {"test_support"}  # only tests call it: a wrong body there is seen b
 
 # Laws that borrow what they speak of, so that the prover has the fact. Without the borrow they are as true.
 LAWS_THAT_BORROW = {"text_fits", "text_spelled", "left_fits"}
+
+# What the prover says before the values at which a goal is false; the log cuts it off somewhere behind.
+VALUES = "the goal does not follow from what it read. All of"
 
 VERDICT = re.compile(r"must-fail (\w+)/(\S+)\.edit: refused, as it must be: (.*)")
 
@@ -98,7 +101,8 @@ def refusal_fault(folder, name, said):
     stored = re.search(r"\bproofs/(?:\w+/)*(\w+)/\w+\.antt", said)
     if not stored or not any(it.name == stored[1] for it in rests_on):
         return f"refused neither by a goal of src/ nor over a stored proof of what it is named for: {said[:100]}"
-    return None if (folder / "controls" / f"{name}.edit").is_file() else "refused over a stored proof, and has no control"
+    is_shown = VALUES in said or (folder / "controls" / f"{name}.edit").is_file()
+    return None if is_shown else "refused over a stored proof, and has no control"
 
 
 def refusals(root, log):

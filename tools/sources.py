@@ -85,6 +85,9 @@ def functions_of(file, public):
             of_impl = range(at, last + 1)
             has_contract = re.search(r"(?m)^ *(ghost (?!use )|ensures )", "\n".join(lines[at:last]))
             continue
+        above = at
+        while lines[above - 1].startswith(f"{indent}#["):
+            above -= 1
         first = next((i + 1 for i in range(at, last) if re.fullmatch(rf"{indent}(\S.* )?\{{", lines[i])), last)
         is_of_trait = bool(indent and trait)
         if is_of_trait:
@@ -92,7 +95,7 @@ def functions_of(file, public):
         else:
             path = f"{kind}::{name}" if indent else name
             is_asked = visibility == "pub " or file.name == "main.rt" and name != "main"
-        place = of_impl if is_of_trait else range(at, last + 1)
+        place = of_impl if is_of_trait else range(above, last + 1)
         yield Function(path, is_asked, visibility != "pub " and not is_of_trait, place, lines[at:first], lines[first:last])
 
 

@@ -179,6 +179,15 @@ class Refusals(TreeTest):
         self.write("crates/moves/controls/plain.is_one.edit", "file: src/lib.rt\nold:     0\nnew:     { 0 }\n")
         self.assert_passes(evidence, *words)
 
+    def test_a_stored_proof_refuses_where_values_are_shown(self):
+        words = self.tell(plain__is_one="./proofs/move_all/Answers.antt:12:4: error: `returns-clause-text`: `omega`: the goal "
+                                        "does not follow from what it read. All of that holds, a")
+        self.assert_passes(evidence, *words)
+
+    def test_what_stands_above_a_function_is_its_own(self):
+        self.replace("crates/moves/src/lib.rt", "pub fn other()", "#[inline]\n#[cold]\npub fn other()")
+        self.assert_passes(evidence, *self.tell(other__is_zero=self.GOAL.format(20, "returns")))
+
     def test_a_stored_proof_of_another_function_refuses_nothing(self):
         words = self.tell(plain__is_one="./proofs/other/Answers.antt:12:4: error: `returns`: expected another")
         self.assert_fails("moves plain.is_one: refused neither by a goal", evidence, *words)

@@ -91,7 +91,7 @@ class Gate(ScriptTest):
     def test_each_call_is_enough_to_fail(self):
         calls = self.assert_each_call_is_enough_to_fail()
         calls = [re.sub("(?<=--refused ).*", "LOG", it) for it in calls]
-        self.assertEqual(calls, ["run check", "rt ci", "run evidence --refused LOG", "run proved --check",
+        self.assertEqual(calls, ["run check", "rt ci", "run proved --check", "rt must-fail", "run evidence --refused LOG",
                                  f"try {self.PROGRAM}", "check "])
 
     def test_a_test_without_memory_that_has_not_run_is_counted(self):
