@@ -66,6 +66,7 @@ impl<'a> File<'a, '_> {
             self.tally.used.insert(name.to_string());
             return Ok(());
         }
+        self.define(name, inside, word.at.start)?;
         self.tally.contracts.note(&function.call, &function.preconditions);
         if is_public {
             self.tally.contracts.note_public(&function.call);
@@ -96,6 +97,9 @@ impl<'a> File<'a, '_> {
         let is_left = !BY_STD.iter().any(|rule| rule.file == path);
         let proves = is_left && (is_listed || !self.tally.contracts.is_given_up(&function.call));
         let here = Here { krate, path, owner: inside.owner, call: &function.call, is_tested, gives_up, proves };
+        // (behind `fn` and its name)
+        self.are_meant(&self.tokens(function.head.clone())[2..])?;
+        self.are_meant(&function.tokens)?;
         let before = self.tally.accesses();
         body::rewrite(self.text, &function.tokens, &here, &mut self.edits, self.tally)?;
         if is_listed && self.tally.accesses() > before && self.tally.contracts.is_given_up(&function.call) {
@@ -141,7 +145,11 @@ impl<'a> File<'a, '_> {
                     cursor.pass_clause()?;
                     let text = self.text[opened.at.end..cursor.at - 1].trim().to_string();
                     if word == "requires" {
-                        preconditions.push(Clause { name, text });
+                        let clause = Clause::read(&name, &text).map_err(|why| Fault::new(token.at.start, why))?;
+                        if clause.is_given_up() {
+                            self.tally.used.insert(format!("given up {}", clause.shown()));
+                        }
+                        preconditions.push(clause);
                     }
                     found = Some(found.map_or(token.at.start, |at| at.start)..cursor.at);
                 }

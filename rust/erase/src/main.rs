@@ -16,6 +16,7 @@ mod files;
 mod functions;
 mod items;
 mod known;
+mod names;
 mod pages;
 mod rules;
 mod sections;

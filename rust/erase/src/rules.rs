@@ -408,16 +408,25 @@ It takes 65 bytes. What an [`ArrayString`](crate::ArrayString) has beside this i
     },
 ];
 
-/// Words of the clauses that Rust does without: counts, which stop at their end, iterators, which may go on for ever, and
-/// closures, which may panic. None of them is a fact here.
+/// Words for what is no fact in Rust: counts, which stop at their end, iterators, which may go on for ever, and closures, which may
+/// panic.
+pub const NO_FACTS: &[&str] = &["looked", "moved", "IsFiniteIterable", "IsCallableInTurn", "IsAlwaysCallable"];
+
+/// The clauses that Rust does without, each as a whole. Another one with a word of `NO_FACTS` stops the eraser: `steps.old.looked ≤
+/// length text.now` says of the text what a body may rest on.
 pub const GIVEN_UP: &[&str] = &[
-    "steps.old.looked",
-    "steps.old.moved",
-    "self.old.moved",
-    "IsFiniteIterable",
-    "IsCallableInTurn",
-    "IsAlwaysCallable",
-    "FindsChar",
+    "steps.old.looked ≤ 2 ^ 63",
+    "steps.old.looked < 2 ^ 64 - 1",
+    "steps.old.looked + 4 < 2 ^ 64",
+    "steps.old.moved ≤ 2 ^ 63",
+    "steps.old.moved + len < 2 ^ 64",
+    "self.old.moved + len < 2 ^ 64",
+    "IsFiniteIterable I.into_iter_gives I.IntoIter.can_next I.IntoIter.remaining characters",
+    "IsFiniteIterable I.into_iter_gives I.IntoIter.can_next I.IntoIter.remaining pieces",
+    "IsCallableInTurn F.pre F.step f self.old.text",
+    "IsCallableInTurn F.pre F.step f (chars (take size (drop offset array.old)))",
+    "F.IsAlwaysCallable drops",
+    "F.IsAlwaysCallable drops.now",
 ];
 
 /// The functions that give up a clause, or call one that does, and whose accesses are within all the same, with the reason. Any
@@ -445,7 +454,9 @@ pub const SHOWN: &[Shown] = &[
             ("gap::open_gap", &["moves::shift"]),
             ("gap::compact_and_open_gap", &["moves::shift"]),
             ("utf8::truncate_str_counted", &["utf8::last_boundary"]),
+            ("utf8::last_boundary", &["steps::look"]),
             ("utf8::last_char", &["utf8::char_before_end"]),
+            ("utf8::char_before_end", &["steps::look"]),
             ("ArrayString::splice", &["ArrayString::compact_and_splice", "gap::open_gap", "moves::write_over"]),
             ("ArrayString::compact_and_splice", &["gap::compact_and_open_gap", "moves::write_over"]),
             ("ArrayString::take_out", &["ArrayString::drop_front", "moves::shift"]),
@@ -630,6 +641,19 @@ pub const BY_STD: &[ByStd] = &[
     },
 ];
 
+/// A function that a rule knows by its name.
+pub struct Named {
+    pub name: &'static str,
+    /// That of its definition, and those by which it is public elsewhere.
+    pub paths: &'static [&'static str],
+}
+
+pub const NAMED: &[Named] = &[
+    Named { name: "look", paths: &["arraystring_base::steps::look", "arraystring_base::utils::look"] },
+    Named { name: "text_fits", paths: &["arraystring_core::laws::text_fits"] },
+    Named { name: "only_reading", paths: &["arraystring_base::laws::only_reading"] },
+];
+
 /// Laws that a body calls for its proof alone.
 pub const PROOFS_ALONE: &[&str] = &["text_fits", "only_reading"];
 
@@ -755,12 +779,6 @@ pub const REPLACED: &[Replaced] = &[
         from: "pub struct Units<'a> {",
         to: "#[derive(Clone, Debug)]\npub struct Units<'a> {",
         why: "an iterator is cloned and printed in Rust, as each of std's is",
-    },
-    Replaced {
-        file: "arraystring_base/src/utf8.rt",
-        from: "use crate::steps::{Steps, look};",
-        to: "use crate::steps::{Steps, look_unchecked};",
-        why: "bodies call its twin",
     },
     Replaced {
         file: "arraystring/src/lib.rt",

@@ -124,7 +124,8 @@ impl<const N: usize> FusedIterator for Drain<N> {}
 
 #[test]
 fn a_body_calls_the_twin_of_what_panics() {
-    let source = "fn first(bytes: &[u8], steps: &mut Steps) -> u8 {\n    look(bytes, 0, steps)\n}\n";
+    let source =
+        "use crate::steps::look;\n\nfn first(bytes: &[u8], steps: &mut Steps) -> u8 {\n    look(bytes, 0, steps)\n}\n";
     let made = "    // SAFETY: the proof of `first` in crates/arraystring_base/src/sample.rt shows `in_bounds` of `look`.\n    \
                 unsafe { look_unchecked(bytes, 0, steps) }\n";
     has("arraystring_base/src/sample.rt", source, &[made]);
@@ -164,7 +165,7 @@ impl<const N: usize> ArrayString<N> {
 
     /// From pieces.
     pub fn from_iterator<'a, I: IntoIterator<Item = &'a str>>(pieces: I) -> Self
-        requires { IsFiniteIterable pieces }
+        requires { IsFiniteIterable I.into_iter_gives I.IntoIter.can_next I.IntoIter.remaining pieces }
     {
         for piece in pieces {
             add(piece);
@@ -223,7 +224,7 @@ impl<const N: usize> ArrayString<N> {{
 fn a_function_that_gives_up_a_clause_keeps_its_tests_unless_a_rule_has_it() {
     let source = |name: &str| {
         format!(
-            "fn {name}(array: &[u8], at: usize)\n    requires held {{ at < 3 }}\n    requires {{ IsCallableInTurn f }}\n{{\n    \
+            "fn {name}(array: &[u8], at: usize)\n    requires held {{ at < 3 }}\n    requires {{ IsCallableInTurn F.pre F.step f self.old.text }}\n{{\n    \
              f(array[at]);\n}}\n"
         )
     };
