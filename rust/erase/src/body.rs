@@ -222,6 +222,12 @@ impl<'a> Body<'a> {
         (self.text(opens) == "(").then_some(opens)
     }
 
+    /// Whether a function is called by its name alone.
+    pub fn calls(&self, name: &str) -> bool {
+        let is_call = |at: usize| self.text(at) == name && self.text(at + 1) == "(";
+        (0..self.tokens.len()).any(|at| is_call(at) && matches!(self.called(at), Called::Free))
+    }
+
     /// How the call whose name is at `at` names what it calls.
     pub fn called(&self, at: usize) -> Called<'a> {
         let before = |steps: usize| at.checked_sub(steps).map_or("", |at| self.text(at));

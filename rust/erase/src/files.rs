@@ -71,6 +71,7 @@ pub fn entries() -> Vec<String> {
     let names = names.chain(WIDER.iter().map(|rule| format!("wider {}", rule.call)));
     let names = names.chain(REPLACED.iter().map(|rule| format!("line {}", rule.from)));
     let names = names.chain(BY_STD.iter().map(|rule| format!("by std {}", rule.file)));
+    let names = names.chain(BY_STD.iter().flat_map(|rule| rule.calls).map(|call| format!("by std {call}")));
     let names = names.chain(KNOWN.iter().map(|(call, clause)| format!("known {call} {clause}")));
     let names = names.chain(PROVED.iter().map(|(call, _)| format!("proved {call}")));
     let shown = SHOWN.iter().flat_map(|shown| shown.calls);

@@ -47,6 +47,8 @@ pub struct File<'a, 't> {
     pub text: &'a str,
     pub edits: Edits,
     pub tally: &'t mut Tally,
+    /// What those bodies of an impl do that are others here, and whose contract is that of the impl.
+    pub others: Vec<&'static str>,
     /// The functions that rules know by their names, and that it imports or defines.
     pub named: Vec<&'static str>,
     /// The modules that have a file of their own.
@@ -58,8 +60,8 @@ pub struct File<'a, 't> {
 impl<'a, 't> File<'a, 't> {
     /// Reads a whole file.
     pub fn read(source: &'a Source<'a>, text: &'a str, tally: &'t mut Tally) -> Result<Self, Fault> {
-        let (edits, named, modules, dropped) = Default::default();
-        let mut file = File { source, text, edits, tally, named, modules, dropped };
+        let (edits, others, named, modules, dropped) = Default::default();
+        let mut file = File { source, text, edits, tally, others, named, modules, dropped };
         let name = source.path.rsplit('/').next().unwrap_or(source.path);
         let owner = name.strip_suffix(".rt").unwrap_or(name);
         file.items(&mut Cursor::new(text), &Inside { owner, of_trait: false, is_block: false })?;
@@ -211,6 +213,7 @@ impl<'a, 't> File<'a, 't> {
         }
         let inside = Inside { owner: &owner, of_trait: !of.is_empty(), is_block: true };
         let ghosts = self.items(cursor, &inside)?;
+        let others = std::mem::take(&mut self.others);
         self.added(&head, self.line_start(cursor.at));
         if is_model {
             self.edits.replace(self.lines(lead.start..cursor.at), "");
@@ -222,7 +225,7 @@ impl<'a, 't> File<'a, 't> {
         let members: Vec<_> = members.map(|member| member.trim_start_matches("ghost ").to_string()).collect();
         if !members.is_empty() {
             let shown: Vec<_> = members.iter().map(|member| shown(member)).collect();
-            self.folded(lead.docs_end, &shown.join("\n"), lead.has_docs);
+            self.folded(lead.docs_end, &shown.join("\n"), lead.has_docs, &others);
         }
         Ok(())
     }

@@ -343,6 +343,8 @@ fn by_blocks() -> bool {
 /// [How to read a contract](crate::contracts)
 ///
 /// </details>
+///
+/// Another body runs here than the one that was proved: std compares the bytes of the texts.
 #[inline(always)]
 pub(crate) fn equal<const N: usize>(text: &str, other: &str) -> bool {
     text == other

@@ -103,9 +103,10 @@ fn a_rule_that_matches_nothing_is_told() {
     let (_, mut tally) = crate::files::made(std::path::Path::new(crates)).unwrap();
     let workers = SHOWN.iter().flat_map(|shown| shown.calls).map(|(_, workers)| workers.len()).sum::<usize>();
     let named = NAMED.iter().map(|named| named.paths.len()).sum::<usize>();
+    let of_std = BY_STD.iter().map(|rule| rule.calls.len()).sum::<usize>();
     let lists = [FATES.len(), WIDER.len(), REPLACED.len(), BY_STD.len(), KNOWN.len(), PROVED.len(), BODIES.len()];
     let more = [CONSTANT.len(), ADDED.len(), ONCE.len(), ORDER.len(), MORE.len(), TESTED.len(), LEFT_OUT.len()];
-    let all = lists.iter().chain(&more).sum::<usize>() + workers + 2 * TWINS.len() + GIVEN_UP.len() + named;
+    let all = lists.iter().chain(&more).sum::<usize>() + workers + 2 * TWINS.len() + GIVEN_UP.len() + named + of_std;
     let names = entries();
     assert_eq!(names.len(), all);
     for name in names {

@@ -245,3 +245,55 @@ fn the_root_has_its_modules_behind_its_documentation() {
     let why = made_as("arraystring/src/lib.rt", &source.replace("//! The root.\n", "\n")).unwrap_err();
     assert_eq!(why, "a root without documentation");
 }
+
+#[test]
+fn what_runs_here_is_said_below_a_contract_that_was_proved_of_another_body() {
+    let said =
+        |here: &str| format!("</details>\n///\n/// Another body runs here than the one that was proved: {here}.\n");
+    let count = |made: &str| made.matches("Another body runs here").count();
+    let path = "arraystring_core/src/array_string/sample.rt";
+    let made = made_as(path, STRING).unwrap().replace("    ///", "///");
+    assert!(made.contains(&said("the array is split twice, since that is `const`")), "{made}");
+    // (`get` has no contract in the sample)
+    assert_eq!(count(&made), 1, "{made}");
+    let steps = made_as("arraystring_base/src/steps.rt", STEPS).unwrap();
+    assert!(steps.contains(&said("a count stops at 2^64 - 1")) && count(&steps) == 1, "{steps}");
+}
+
+#[test]
+fn what_std_does_is_said_below_the_contract_of_each_call_or_of_its_impl() {
+    let source = "\
+impl<const N: usize> PartialOrd for ArrayString<N> {
+    ghost partial_cmp = { x };
+
+    fn partial_cmp(&self, other: &Self) -> Option<Ordering> {
+        Some(self.cmp(other))
+    }
+
+    fn lt(&self, other: &Self) -> bool
+        ensures { y }
+    {
+        f()
+    }
+}
+
+impl<const N: usize> Ord for ArrayString<N> {
+    ghost laws = { x };
+
+    fn cmp(&self, other: &Self) -> Ordering
+        ensures { y }
+    {
+        order(self, other)
+    }
+}
+";
+    let made = made_as("arraystring_core/src/array_string/traits.rt", source).unwrap();
+    let here = "Another body runs here than the one that was proved: std compares the bytes of the texts.\n";
+    let heads: Vec<_> = made.split(here).skip(1).map(|rest| rest.lines().find(|line| !line.contains('#'))).collect();
+    let wanted =
+        ["impl<const N: usize> PartialOrd for ArrayString<N> {", "    fn cmp(&self, other: &Self) -> Ordering {"];
+    assert_eq!(heads, wanted.map(Some), "{made}");
+    let other = source.replace("fn cmp", "fn compare");
+    let why = "`ArrayString::compare` calls `order`, and is not among the calls whose work std does";
+    assert_eq!(made_as("arraystring_core/src/array_string/traits.rt", &other).unwrap_err(), why);
+}
