@@ -416,6 +416,8 @@ impl CacheString {
     /// [How to read a contract](crate::contracts)
     ///
     /// </details>
+    ///
+    /// Another body runs here than the one that was proved: std tests UTF-8, behind a test for ASCII by hand.
     #[inline]
     pub fn try_from_utf8<B: AsRef<[u8]>>(given: B) -> Result<Self, Error> {
         let given = given.as_ref();
@@ -451,6 +453,8 @@ impl CacheString {
     /// [How to read a contract](crate::contracts)
     ///
     /// </details>
+    ///
+    /// Another body runs here than the one that was proved: std tests UTF-8, behind a test for ASCII by hand.
     #[inline]
     pub fn from_utf8<B: AsRef<[u8]>>(given: B) -> Result<Self, Utf8> {
         let given = given.as_ref();

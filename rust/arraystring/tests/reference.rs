@@ -130,6 +130,55 @@ fn each_contract_is_folded_and_says_how_to_read_it() {
     assert!(count >= 100, "{count} contracts");
 }
 
+/// The items below whose contract it is said that another body runs than the proved one, each by its file and its name.
+#[test]
+fn what_runs_in_place_of_a_proved_body_is_said_below_its_contract() {
+    let mut found = Vec::new();
+    for item in items() {
+        let is_said = |line: &&String| line.starts_with("Another body runs here than the one that was proved: ");
+        let said: Vec<_> = item.docs.iter().filter(is_said).collect();
+        if let [line] = said[..] {
+            assert_eq!(item.docs.last(), Some(line), "{}: {}", item.file, item.head);
+            assert_eq!(item.docs[item.docs.len() - 3], "</details>", "{}: {}", item.file, item.head);
+            let file = item.file.trim_start_matches("src/").trim_end_matches(".rs");
+            let name = match item.head.split_once("fn ") {
+                Some((_, rest)) => rest.split(['(', '<']).next().unwrap_or_default(),
+                None => item.head.trim_end_matches(" {"),
+            };
+            found.push(format!("{file}: {name}"));
+        } else {
+            assert!(said.is_empty(), "{}: {}", item.file, item.head);
+        }
+    }
+    found.sort();
+    let wanted = [
+        "arraystring_base/steps: count_moves",
+        "arraystring_base/steps: look",
+        "arraystring_core/array_string/construct: from_utf8",
+        "arraystring_core/array_string/construct: try_from_utf8",
+        "arraystring_core/array_string/range: get",
+        "arraystring_core/array_string/range: make_ascii_lowercase_in",
+        "arraystring_core/array_string/range: make_ascii_uppercase_in",
+        "arraystring_core/array_string/range: slice",
+        "arraystring_core/array_string/traits: cmp",
+        "arraystring_core/array_string/traits: impl<const N: usize> PartialEq for ArrayString<N>",
+        "arraystring_core/array_string/traits: impl<const N: usize> PartialOrd for ArrayString<N>",
+        "arraystring_core/array_string: as_bytes",
+        "arraystring_core/array_string: as_str",
+        "arraystring_core/drain/traits: cmp",
+        "arraystring_core/drain/traits: impl<const N: usize> PartialOrd for Drain<N>",
+        "arraystring_core/fast/equal: equal",
+        "arraystring_core/fast/order: order",
+        "arraystring_core/fast/well_formed: read_utf8",
+        "cache_string/traits: cmp",
+        "cache_string/traits: impl PartialEq for CacheString",
+        "cache_string/traits: impl PartialOrd for CacheString",
+        "cache_string: from_utf8",
+        "cache_string: try_from_utf8",
+    ];
+    assert_eq!(found, wanted);
+}
+
 #[test]
 fn no_link_leaves_the_crate() {
     for (file, line) in documentation() {

@@ -48,13 +48,14 @@ impl Here<'_> {
 /// Rewrites a body, which is given by its tokens.
 pub fn rewrite(source: &str, tokens: &[Token], here: &Here, edits: &mut Edits, tally: &mut Tally) -> Result<(), Fault> {
     paths(source, tokens, here.krate, edits, tally);
-    let body = Body { source, tokens };
+    let body = Body::new(source, tokens);
     let (mut safe_until, mut inner_until) = (0, 0);
     for at in 0..tokens.len() {
         if here.proves {
             access::rewrite(&body, at, edits, tally)?;
         }
-        if PROOFS_ALONE.contains(&body.text(at)) && body.text(at + 1) == "(" {
+        let is_free = matches!(body.called(at), Called::Free);
+        if is_free && PROOFS_ALONE.contains(&body.text(at)) && body.text(at + 1) == "(" {
             body.leave_out(at, at + 1, edits)?;
             tally.count("calls for the proof alone");
         } else if [0, 1, 2].map(|next| body.text(at + next)) == ["prove", "!", "("] {
@@ -80,14 +81,17 @@ pub fn rewrite(source: &str, tokens: &[Token], here: &Here, edits: &mut Edits, t
             let shown = match twin {
                 Some(rule) => {
                     edits.replace(tokens[at].at.clone(), rule.twin);
+                    here.shows(rule.of, tokens[at].at.start, tally)?;
                     tally.used.insert(format!("twin called {}", rule.call));
                     Some(format!("`{}` of `{}`", rule.clause, rule.call))
                 }
                 None => {
                     tally.contracts.note_call(here.call, body.text(at));
-                    match tally.contracts.shown_by(body.text(at), &called, here.owner) {
+                    let name_at = tokens[at].at.start;
+                    let shown = tally.contracts.shown_by(body.text(at), &called, here.owner);
+                    match shown.map_err(|why| Fault::new(name_at, why))? {
                         Some((worker, shown)) => {
-                            here.shows(&worker, tokens[at].at.start, tally)?;
+                            here.shows(&worker, name_at, tally)?;
                             Some(shown)
                         }
                         None => None,
@@ -116,7 +120,7 @@ pub fn rewrite(source: &str, tokens: &[Token], here: &Here, edits: &mut Edits, t
 
 /// Rewrites the paths that begin with the name of a crate.
 pub fn paths(source: &str, tokens: &[Token], krate: &str, edits: &mut Edits, tally: &mut Tally) {
-    let body = Body { source, tokens };
+    let body = Body::new(source, tokens);
     for (at, token) in tokens.iter().enumerate() {
         let is_path = body.text(at + 1) == ":" && body.text(at + 2) == ":";
         if !is_path || (at > 1 && body.text(at - 1) == ":" && body.text(at - 2) == ":") {
@@ -146,6 +150,10 @@ pub struct Body<'a> {
 }
 
 impl<'a> Body<'a> {
+    pub fn new(source: &'a str, tokens: &'a [Token]) -> Self {
+        Body { source, tokens }
+    }
+
     /// The text of a token; `""` where there is none.
     pub fn text(&self, at: usize) -> &'a str {
         self.tokens.get(at).map_or("", |token| &self.source[token.at.clone()])
@@ -214,8 +222,14 @@ impl<'a> Body<'a> {
         (self.text(opens) == "(").then_some(opens)
     }
 
+    /// Whether a function is called by its name alone.
+    pub fn calls(&self, name: &str) -> bool {
+        let is_call = |at: usize| self.text(at) == name && self.text(at + 1) == "(";
+        (0..self.tokens.len()).any(|at| is_call(at) && matches!(self.called(at), Called::Free))
+    }
+
     /// How the call whose name is at `at` names what it calls.
-    fn called(&self, at: usize) -> Called<'a> {
+    pub fn called(&self, at: usize) -> Called<'a> {
         let before = |steps: usize| at.checked_sub(steps).map_or("", |at| self.text(at));
         match (before(1), before(2)) {
             (".", _) => Called::Method,

@@ -2,16 +2,30 @@
 
 use std::collections::{BTreeMap, BTreeSet};
 
-use crate::rules::{FATES, Fate, GIVEN_UP};
+use crate::rules::{FATES, Fate, GIVEN_UP, NO_FACTS};
 
 /// A clause of a function.
 pub struct Clause {
     /// Its name, or `""`.
     pub name: String,
     pub text: String,
+    is_given_up: bool,
 }
 
 impl Clause {
+    /// Reads a clause. Fails if it speaks of what is no fact in Rust, and is none that Rust does without.
+    pub fn read(name: &str, text: &str) -> Result<Self, String> {
+        let whole = text.split_whitespace().collect::<Vec<_>>().join(" ");
+        let is_given_up = GIVEN_UP.contains(&whole.as_str());
+        let mut words = text.split(|ch: char| !ch.is_alphanumeric() && ch != '_');
+        match words.find(|word| NO_FACTS.contains(word)) {
+            Some(word) if !is_given_up => {
+                Err(format!("`{whole}`: a clause with `{word}` that is in no list of src/rules.rs"))
+            }
+            _ => Ok(Clause { name: name.to_string(), text: text.to_string(), is_given_up }),
+        }
+    }
+
     /// How a comment calls the clause.
     pub fn told(&self) -> String {
         if self.name.is_empty() { "the precondition".to_string() } else { format!("`{}`", self.name) }
@@ -24,7 +38,7 @@ impl Clause {
 
     /// Whether Rust does without the clause, so that nothing may rest on it.
     pub fn is_given_up(&self) -> bool {
-        GIVEN_UP.iter().any(|words| self.text.contains(words))
+        self.is_given_up
     }
 }
 
@@ -118,10 +132,11 @@ impl Contracts {
         self.requires.contains_key(call)
     }
 
-    /// If what a call names is `unsafe` in Rust, its whole name, and what the call has to show, in words.
-    pub fn shown_by(&self, name: &str, called: &Called, owner: &str) -> Option<(String, String)> {
+    /// If what a call names is `unsafe` in Rust, its whole name, and what the call has to show, in words. Fails if it may name
+    /// another one that is, too.
+    pub fn shown_by(&self, name: &str, called: &Called, owner: &str) -> Result<Option<(String, String)>, String> {
         let is_type = |owner: &str| owner.starts_with(char::is_uppercase);
-        let (call, clauses) = self.requires.iter().find(|(call, _)| {
+        let mut meant = self.requires.iter().filter(|(call, _)| {
             let Some((of, its)) = call.split_once("::") else { return false };
             let is_meant = match called {
                 Called::Method => is_type(of),
@@ -130,9 +145,15 @@ impl Contracts {
                 Called::Behind(_) | Called::Free => !is_type(of),
             };
             its == name && is_meant
-        })?;
-        let (last, first) = clauses.split_last()?;
-        let clauses = if first.is_empty() { last.clone() } else { format!("{} and {last}", first.join(", ")) };
-        Some((call.clone(), format!("{clauses} of `{name}`")))
+        });
+        let Some((call, clauses)) = meant.next() else { return Ok(None) };
+        if let Some((other, _)) = meant.next() {
+            return Err(format!("`{name}` may be `{call}` or `{other}`"));
+        }
+        let clauses = match clauses.split_last() {
+            Some((last, first)) if !first.is_empty() => format!("{} and {last}", first.join(", ")),
+            _ => clauses.concat(),
+        };
+        Ok(Some((call.clone(), format!("{clauses} of `{name}`"))))
     }
 }

@@ -7,9 +7,10 @@ use std::path::{Path, PathBuf};
 use std::process::{Command, Stdio};
 
 use crate::erase::{Source, Tally, erase, line_of};
+use crate::names;
 use crate::rules::{
-    ADDED, BODIES, BY_HAND, BY_STD, CONSTANT, CRATES, FATES, KNOWN, LEFT_OUT, MORE, ONCE, ORDER, PROVED, REPLACED,
-    SHOWN, TESTED, TWINS, WIDER,
+    ADDED, BODIES, BY_HAND, BY_STD, CONSTANT, CRATES, FATES, GIVEN_UP, KNOWN, LEFT_OUT, MORE, NAMED, ONCE, ORDER,
+    PROVED, REPLACED, SHOWN, TESTED, TWINS, WIDER,
 };
 use crate::width;
 
@@ -23,6 +24,7 @@ pub fn made(crates: &Path) -> Result<(Made, Tally), String> {
     read.contracts.is_whole = true;
     let (made, tally) = read_all(crates, Tally { contracts: read.contracts, ..Tally::default() })?;
     all_used(&tally)?;
+    names::laws_change_nothing(|path| self::read(&crates.join(path)))?;
     width::bounded(&made)?;
     Ok((made, tally))
 }
@@ -69,11 +71,14 @@ pub fn entries() -> Vec<String> {
     let names = names.chain(WIDER.iter().map(|rule| format!("wider {}", rule.call)));
     let names = names.chain(REPLACED.iter().map(|rule| format!("line {}", rule.from)));
     let names = names.chain(BY_STD.iter().map(|rule| format!("by std {}", rule.file)));
+    let names = names.chain(BY_STD.iter().flat_map(|rule| rule.calls).map(|call| format!("by std {call}")));
     let names = names.chain(KNOWN.iter().map(|(call, clause)| format!("known {call} {clause}")));
     let names = names.chain(PROVED.iter().map(|(call, _)| format!("proved {call}")));
     let shown = SHOWN.iter().flat_map(|shown| shown.calls);
     let shown = shown.flat_map(|(call, workers)| workers.iter().map(move |worker| format!("shown {call} {worker}")));
     let names = names.chain(shown);
+    let names = names.chain(GIVEN_UP.iter().map(|clause| format!("given up `{clause}`")));
+    let names = names.chain(NAMED.iter().flat_map(|named| named.paths).map(|path| format!("named {path}")));
     let names = names.chain(BODIES.iter().map(|rule| format!("body {}", rule.call)));
     let names = names.chain(CONSTANT.iter().map(|call| format!("constant {call}")));
     let names = names.chain(ADDED.iter().map(|rule| format!("added {}", rule.head)));

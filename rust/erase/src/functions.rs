@@ -2,7 +2,7 @@
 
 use std::ops::Range;
 
-use crate::body::{self, Here};
+use crate::body::{self, Body, Here};
 use crate::contracts::Clause;
 use crate::cursor::{Cursor, Fault, Token};
 use crate::edits::Edits;
@@ -10,7 +10,8 @@ use crate::erase::Source;
 use crate::items::{File, Inside, Lead};
 use crate::known::test_of;
 use crate::rules::{
-    BEHIND, BODIES, BY_STD, CONSTANT, FATES, Fate, KNOWN, LEFT_OUT, ONCE, Once, PROVED, TWINS, WALK, WIDER,
+    BEHIND, BODIES, BY_STD, CONSTANT, FATES, Fate, KNOWN, LEFT_OUT, ONCE, Once, PROVED, REPLACED, TESTS_RANGE, TWINS,
+    WALK, WIDER,
 };
 use crate::sections::{example, section};
 
@@ -66,6 +67,7 @@ impl<'a> File<'a, '_> {
             self.tally.used.insert(name.to_string());
             return Ok(());
         }
+        self.define(name, inside, word.at.start)?;
         self.tally.contracts.note(&function.call, &function.preconditions);
         if is_public {
             self.tally.contracts.note_public(&function.call);
@@ -79,7 +81,11 @@ impl<'a> File<'a, '_> {
         self.constant(&function);
         let has_words = self.precondition(&function, lead, inside)?;
         self.known(&function)?;
-        self.contract(&function, lead, has_words)?;
+        let others = self.others(&function)?;
+        self.contract(&function, lead, has_words, &others)?;
+        if function.clauses.is_none() && inside.of_trait {
+            self.others.extend(others);
+        }
         self.hint(&function, lead);
         if self.other_body(&function) {
             return Ok(());
@@ -96,6 +102,9 @@ impl<'a> File<'a, '_> {
         let is_left = !BY_STD.iter().any(|rule| rule.file == path);
         let proves = is_left && (is_listed || !self.tally.contracts.is_given_up(&function.call));
         let here = Here { krate, path, owner: inside.owner, call: &function.call, is_tested, gives_up, proves };
+        // (behind `fn` and its name)
+        self.are_meant(&self.tokens(function.head.clone())[2..])?;
+        self.are_meant(&function.tokens)?;
         let before = self.tally.accesses();
         body::rewrite(self.text, &function.tokens, &here, &mut self.edits, self.tally)?;
         if is_listed && self.tally.accesses() > before && self.tally.contracts.is_given_up(&function.call) {
@@ -141,7 +150,11 @@ impl<'a> File<'a, '_> {
                     cursor.pass_clause()?;
                     let text = self.text[opened.at.end..cursor.at - 1].trim().to_string();
                     if word == "requires" {
-                        preconditions.push(Clause { name, text });
+                        let clause = Clause::read(&name, &text).map_err(|why| Fault::new(token.at.start, why))?;
+                        if clause.is_given_up() {
+                            self.tally.used.insert(format!("given up {}", clause.shown()));
+                        }
+                        preconditions.push(clause);
                     }
                     found = Some(found.map_or(token.at.start, |at| at.start)..cursor.at);
                 }
@@ -266,6 +279,31 @@ impl<'a> File<'a, '_> {
         test_of(&found.text, &self.text[head.clone()]).map_err(fault)
     }
 
+    /// What the body of a function does here, if another one runs than the proved.
+    fn others(&mut self, function: &Function) -> Result<Vec<&'static str>, Fault> {
+        let Function { call, tokens, .. } = function;
+        let text = &self.text[function.body..function.end];
+        let has = |line: &str| text.lines().any(|found| found.trim() == line);
+        let replaced = REPLACED.iter().filter(|rule| rule.file == self.source.path && has(rule.to));
+        let bodies = BODIES.iter().filter(|rule| rule.call == *call).map(|rule| rule.here);
+        let is_tested = |fate: &Fate| matches!(fate, Fate::Panics(_, Some(_)));
+        let tested = FATES.iter().filter(|(name, fate)| name == call && is_tested(fate)).map(|_| TESTS_RANGE);
+        let mut others: Vec<_> = replaced.filter_map(|rule| rule.here).chain(bodies).chain(tested).collect();
+        for rule in BY_STD {
+            let is_it = rule.file == self.source.path && call.ends_with(&format!("::{}", rule.function));
+            if rule.calls.contains(&call.as_str()) {
+                self.tally.used.insert(format!("by std {call}"));
+                others.push(rule.here);
+            } else if is_it {
+                others.push(rule.here);
+            } else if rule.file != self.source.path && Body::new(self.text, tokens).calls(rule.function) {
+                let why = format!("`{call}` calls `{}`, and is not among the calls whose work std does", rule.function);
+                return Err(Fault::new(function.head.start, why));
+            }
+        }
+        Ok(others)
+    }
+
     /// Puts another body in the place of that of a function, if a rule has one.
     fn other_body(&mut self, function: &Function) -> bool {
         let Some(rule) = BODIES.iter().find(|rule| rule.call == function.call) else { return false };
@@ -278,14 +316,14 @@ impl<'a> File<'a, '_> {
     }
 
     /// Makes a section of the clauses, and takes them out of the code.
-    fn contract(&mut self, function: &Function, lead: &Lead, has_words: bool) -> Result<(), Fault> {
+    fn contract(&mut self, function: &Function, lead: &Lead, has_words: bool, others: &[&str]) -> Result<(), Fault> {
         let Some(at) = function.clauses.clone() else { return Ok(()) };
         let first = self.line_start(at.start);
         if !self.text[first..at.start].trim().is_empty() {
             return Err(Fault::new(at.start, "a clause that is not on a line of its own"));
         }
         let text = self.dedented(at);
-        self.folded(lead.docs_end, &text, lead.has_docs || has_words);
+        self.folded(lead.docs_end, &text, lead.has_docs || has_words, others);
         // The bracket of the body, which stands on a line of its own behind clauses, ends the signature.
         self.edits.replace(function.head.end..function.body - 1, " ");
         Ok(())

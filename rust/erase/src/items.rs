@@ -16,7 +16,14 @@ pub struct Inside<'a> {
     pub owner: &'a str,
     pub of_trait: bool,
     /// Whether a bracket ends them.
-    is_block: bool,
+    pub is_block: bool,
+}
+
+impl Inside<'_> {
+    /// Whether they are those of a type.
+    pub fn is_type(&self) -> bool {
+        self.owner.starts_with(char::is_uppercase)
+    }
 }
 
 /// What comes before an item.
@@ -40,6 +47,10 @@ pub struct File<'a, 't> {
     pub text: &'a str,
     pub edits: Edits,
     pub tally: &'t mut Tally,
+    /// What those bodies of an impl do that are others here, and whose contract is that of the impl.
+    pub others: Vec<&'static str>,
+    /// The functions that rules know by their names, and that it imports or defines.
+    pub named: Vec<&'static str>,
     /// The modules that have a file of their own.
     pub modules: Vec<String>,
     /// Those that were dropped.
@@ -49,8 +60,8 @@ pub struct File<'a, 't> {
 impl<'a, 't> File<'a, 't> {
     /// Reads a whole file.
     pub fn read(source: &'a Source<'a>, text: &'a str, tally: &'t mut Tally) -> Result<Self, Fault> {
-        let (edits, modules, dropped) = Default::default();
-        let mut file = File { source, text, edits, tally, modules, dropped };
+        let (edits, others, named, modules, dropped) = Default::default();
+        let mut file = File { source, text, edits, tally, others, named, modules, dropped };
         let name = source.path.rsplit('/').next().unwrap_or(source.path);
         let owner = name.strip_suffix(".rt").unwrap_or(name);
         file.items(&mut Cursor::new(text), &Inside { owner, of_trait: false, is_block: false })?;
@@ -202,6 +213,7 @@ impl<'a, 't> File<'a, 't> {
         }
         let inside = Inside { owner: &owner, of_trait: !of.is_empty(), is_block: true };
         let ghosts = self.items(cursor, &inside)?;
+        let others = std::mem::take(&mut self.others);
         self.added(&head, self.line_start(cursor.at));
         if is_model {
             self.edits.replace(self.lines(lead.start..cursor.at), "");
@@ -213,7 +225,7 @@ impl<'a, 't> File<'a, 't> {
         let members: Vec<_> = members.map(|member| member.trim_start_matches("ghost ").to_string()).collect();
         if !members.is_empty() {
             let shown: Vec<_> = members.iter().map(|member| shown(member)).collect();
-            self.folded(lead.docs_end, &shown.join("\n"), lead.has_docs);
+            self.folded(lead.docs_end, &shown.join("\n"), lead.has_docs, &others);
         }
         Ok(())
     }
@@ -295,6 +307,7 @@ impl<'a, 't> File<'a, 't> {
             self.tally.count("imports of `Model`");
             return Ok(());
         }
+        self.import(at.clone())?;
         if PROOFS_ALONE.iter().any(|law| self.text[at.clone()].ends_with(&format!("::laws::{law}"))) {
             self.edits.replace(self.lines(at.start..cursor.at), "");
             return Ok(());
@@ -351,12 +364,14 @@ impl<'a, 't> File<'a, 't> {
         if text.contains("fmt<W: fmt::Write>(") {
             self.tally.count("formatters without a type parameter");
         }
-        let mut cursor = Cursor { source: &self.text[..at.end], at: at.start };
-        let mut tokens = Vec::new();
-        while let Ok(Some(token)) = cursor.next_code() {
-            tokens.push(token);
-        }
+        let tokens = self.tokens(at);
         body::paths(self.text, &tokens, self.source.krate, &mut self.edits, self.tally);
+    }
+
+    /// The tokens of a part, comments left out.
+    pub fn tokens(&self, at: Range<usize>) -> Vec<Token> {
+        let mut cursor = Cursor { source: &self.text[..at.end], at: at.start };
+        std::iter::from_fn(|| cursor.next_code().ok().flatten()).collect()
     }
 
     /// Passes over a head up to one of these words, which is taken, and returns where the head is.

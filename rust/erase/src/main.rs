@@ -18,6 +18,7 @@ mod files;
 mod functions;
 mod items;
 mod known;
+mod names;
 mod pages;
 mod proved;
 mod rules;

@@ -408,16 +408,25 @@ It takes 65 bytes. What an [`ArrayString`](crate::ArrayString) has beside this i
     },
 ];
 
-/// Words of the clauses that Rust does without: counts, which stop at their end, iterators, which may go on for ever, and
-/// closures, which may panic. None of them is a fact here.
+/// Words for what is no fact in Rust: counts, which stop at their end, iterators, which may go on for ever, and closures, which may
+/// panic.
+pub const NO_FACTS: &[&str] = &["looked", "moved", "IsFiniteIterable", "IsCallableInTurn", "IsAlwaysCallable"];
+
+/// The clauses that Rust does without, each as a whole. Another one with a word of `NO_FACTS` stops the eraser: `steps.old.looked ≤
+/// length text.now` says of the text what a body may rest on.
 pub const GIVEN_UP: &[&str] = &[
-    "steps.old.looked",
-    "steps.old.moved",
-    "self.old.moved",
-    "IsFiniteIterable",
-    "IsCallableInTurn",
-    "IsAlwaysCallable",
-    "FindsChar",
+    "steps.old.looked ≤ 2 ^ 63",
+    "steps.old.looked < 2 ^ 64 - 1",
+    "steps.old.looked + 4 < 2 ^ 64",
+    "steps.old.moved ≤ 2 ^ 63",
+    "steps.old.moved + len < 2 ^ 64",
+    "self.old.moved + len < 2 ^ 64",
+    "IsFiniteIterable I.into_iter_gives I.IntoIter.can_next I.IntoIter.remaining characters",
+    "IsFiniteIterable I.into_iter_gives I.IntoIter.can_next I.IntoIter.remaining pieces",
+    "IsCallableInTurn F.pre F.step f self.old.text",
+    "IsCallableInTurn F.pre F.step f (chars (take size (drop offset array.old)))",
+    "F.IsAlwaysCallable drops",
+    "F.IsAlwaysCallable drops.now",
 ];
 
 /// The functions that give up a clause, or call one that does, and whose accesses are within all the same, with the reason. Any
@@ -445,7 +454,9 @@ pub const SHOWN: &[Shown] = &[
             ("gap::open_gap", &["moves::shift"]),
             ("gap::compact_and_open_gap", &["moves::shift"]),
             ("utf8::truncate_str_counted", &["utf8::last_boundary"]),
+            ("utf8::last_boundary", &["steps::look"]),
             ("utf8::last_char", &["utf8::char_before_end"]),
+            ("utf8::char_before_end", &["steps::look"]),
             ("ArrayString::splice", &["ArrayString::compact_and_splice", "gap::open_gap", "moves::write_over"]),
             ("ArrayString::compact_and_splice", &["gap::compact_and_open_gap", "moves::write_over"]),
             ("ArrayString::take_out", &["ArrayString::drop_front", "moves::shift"]),
@@ -520,15 +531,19 @@ pub const ONCE: &[Once] = &[Once { file: "arraystring_base/src/moves.rt", but: &
 pub struct Body {
     pub call: &'static str,
     pub lines: &'static [&'static str],
+    /// What the body does here, as the reference says below its contract.
+    pub here: &'static str,
     pub why: &'static str,
 }
 
 const BY_SPLIT: &str = "stable Rust has no index of a slice in a constant";
+const SPLITS: &str = "the array is split twice, since that is `const`";
 
 pub const BODIES: &[Body] = &[
     Body {
         call: "ArrayString::get",
         lines: &["let (start, end) = plain_ends(range, self.len());", "self.as_str().get(start..end)"],
+        here: "std finds the part, by `str::get`",
         why: "std makes the same tests, and the index behind them makes none again",
     },
     Body {
@@ -539,6 +554,7 @@ pub const BODIES: &[Body] = &[
             "// SAFETY: the type's `invariant`: the `size` bytes from `start` on are UTF-8.",
             "unsafe { str::from_utf8_unchecked(text) }",
         ],
+        here: SPLITS,
         why: BY_SPLIT,
     },
     Body {
@@ -547,6 +563,7 @@ pub const BODIES: &[Body] = &[
             "let (size, start) = (self.size as usize, self.start as usize);",
             "split_at_unchecked!(split_at_unchecked!(self.array, start + size).0, start).1",
         ],
+        here: SPLITS,
         why: BY_SPLIT,
     },
 ];
@@ -596,10 +613,15 @@ pub struct ByStd {
     pub function: &'static str,
     pub docs: &'static str,
     pub body: &'static str,
+    /// The public calls whose work it is: what calls it, and what calls that and no more.
+    pub calls: &'static [&'static str],
+    /// What does it here, as the reference says below the contract of each.
+    pub here: &'static str,
     pub why: &'static str,
 }
 
 const MEMCMP: &str = "std compares by `memcmp`, which has larger vectors";
+const STD_COMPARES: &str = "std compares the bytes of the texts";
 
 pub const BY_STD: &[ByStd] = &[
     ByStd {
@@ -609,6 +631,8 @@ pub const BY_STD: &[ByStd] = &[
         function: "equal",
         docs: "Whether the texts of two strings are equal.",
         body: "text == other",
+        calls: &["ArrayString::eq", "CacheString::eq"],
+        here: STD_COMPARES,
         why: MEMCMP,
     },
     ByStd {
@@ -618,6 +642,15 @@ pub const BY_STD: &[ByStd] = &[
         function: "order",
         docs: "How the texts are ordered by their bytes.",
         body: "text.cmp(other)",
+        calls: &[
+            "ArrayString::cmp",
+            "ArrayString::partial_cmp",
+            "CacheString::cmp",
+            "CacheString::partial_cmp",
+            "Drain::cmp",
+            "Drain::partial_cmp",
+        ],
+        here: STD_COMPARES,
         why: MEMCMP,
     },
     ByStd {
@@ -627,8 +660,28 @@ pub const BY_STD: &[ByStd] = &[
         function: "read_utf8",
         docs: "Returns the text whose UTF-8 is `given`, or `Err(Utf8)` if `given` is not well-formed.",
         body: "let (blocks, last) = (given.len() / 32 * 32, given.len().saturating_sub(32));\n    if get_unchecked!(given, ..blocks).is_ascii() && get_unchecked!(given, last..).is_ascii() {\n        // SAFETY: the blocks of 32 bytes in front and the last 32 bytes are all of them, and ASCII is UTF-8.\n        return Ok(unsafe { str::from_utf8_unchecked(given) });\n    }\n    str::from_utf8(given).map_err(Utf8::from)",
+        calls: &[
+            "ArrayString::try_from_utf8",
+            "ArrayString::from_utf8",
+            "CacheString::try_from_utf8",
+            "CacheString::from_utf8",
+        ],
+        here: "std tests UTF-8, behind a test for ASCII by hand",
         why: "std's vectors are the machine's, where those of `by_hand` are arrays",
     },
+];
+
+/// A function that a rule knows by its name.
+pub struct Named {
+    pub name: &'static str,
+    /// That of its definition, and those by which it is public elsewhere.
+    pub paths: &'static [&'static str],
+}
+
+pub const NAMED: &[Named] = &[
+    Named { name: "look", paths: &["arraystring_base::steps::look", "arraystring_base::utils::look"] },
+    Named { name: "text_fits", paths: &["arraystring_core::laws::text_fits"] },
+    Named { name: "only_reading", paths: &["arraystring_base::laws::only_reading"] },
 ];
 
 /// Laws that a body calls for its proof alone.
@@ -747,50 +800,57 @@ pub struct Replaced {
     pub file: &'static str,
     pub from: &'static str,
     pub to: &'static str,
+    /// What the body does here, if it is a line of one, as the reference says below its contract.
+    pub here: Option<&'static str>,
     pub why: &'static str,
 }
+
+const COUNT_STOPS: Option<&str> = Some("a count stops at 2^64 - 1");
+
+/// What a body does here that tests its range first.
+pub const TESTS_RANGE: &str = "the range is tested first, by the index of `str`";
 
 pub const REPLACED: &[Replaced] = &[
     Replaced {
         file: "arraystring_base/src/utf16.rt",
         from: "pub struct Units<'a> {",
         to: "#[derive(Clone, Debug)]\npub struct Units<'a> {",
+        here: None,
         why: "an iterator is cloned and printed in Rust, as each of std's is",
-    },
-    Replaced {
-        file: "arraystring_base/src/utf8.rt",
-        from: "use crate::steps::{Steps, look};",
-        to: "use crate::steps::{Steps, look_unchecked};",
-        why: "bodies call its twin",
     },
     Replaced {
         file: "arraystring_base/src/utils.rt",
         from: "pub use crate::moves::{move_run, shift, write_over};",
         to: "pub use crate::moves::{shift, write_over};",
+        here: None,
         why: "nothing of the crate moves without a count, and no program reaches it",
     },
     Replaced {
         file: "arraystring/src/lib.rt",
         from: "//! Its tests are in `crates/arraystring_tests`.",
         to: "//! Its tests are in `tests`, beside `src`.",
+        here: None,
         why: "the Rust crate has tests of its own",
     },
     Replaced {
         file: "arraystring_base/src/steps.rt",
         from: "self.moved += len as u64;",
         to: "self.moved = self.moved.saturating_add(len as u64);",
+        here: COUNT_STOPS,
         why: "no precondition bounds the count",
     },
     Replaced {
         file: "arraystring_base/src/steps.rt",
         from: "steps.looked += 1;",
         to: "steps.looked = steps.looked.saturating_add(1);",
+        here: COUNT_STOPS,
         why: "no precondition bounds the count",
     },
     Replaced {
         file: "arraystring_core/src/array_string/range.rt",
         from: "self.between(start, end)",
         to: "&self.as_str()[start..end]",
+        here: Some("it is the index of `str`, which panics"),
         why: "no precondition bounds the range of `slice`, which panics as the index of `str` does",
     },
 ];

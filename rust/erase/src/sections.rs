@@ -33,6 +33,9 @@ pub fn imports(example: &str) -> String {
     found.into_iter().map(line).chain([blank.to_string()]).collect()
 }
 
+/// What is said below a contract that was proved of another body.
+const ANOTHER: &str = "Another body runs here than the one that was proved";
+
 /// Lines as a documentation.
 pub fn documented(indent: &str, lines: &str) -> String {
     lines.lines().map(|line| format!("{}\n", format!("{indent}/// {line}").trim_end())).collect()
@@ -109,13 +112,17 @@ impl File<'_, '_> {
         }
     }
 
-    /// Adds a contract to a documentation, folded.
-    pub fn folded(&mut self, at: usize, lines: &str, has_docs: bool) {
+    /// Adds a contract to a documentation, folded, and below it what the bodies do here that are others than the proved.
+    pub fn folded(&mut self, at: usize, lines: &str, has_docs: bool, others: &[&str]) {
         let blank = if has_docs { "\n" } else { "" };
         let put =
             format!("{blank}<details><summary>Contract</summary>\n\n```text\n{lines}\n```\n\n{HOW}\n\n</details>");
         self.edits.insert(at, documented(&self.indent(at), &put));
         self.tally.count("contracts");
+        for here in others {
+            self.edits.insert(at, documented(&self.indent(at), &format!("\n{ANOTHER}: {here}.")));
+            self.tally.count("contracts over another body than the proved one");
+        }
     }
 
     /// Makes links of the names between backticks, but for those in examples and that of the item itself.

@@ -116,6 +116,8 @@ impl Steps {
     /// [How to read a contract](crate::contracts)
     ///
     /// </details>
+    ///
+    /// Another body runs here than the one that was proved: a count stops at 2^64 - 1.
     #[inline]
     pub(crate) fn count_moves(&mut self, len: usize) {
         self.moved = self.moved.saturating_add(len as u64);
@@ -152,6 +154,8 @@ impl Steps {
 /// [How to read a contract](crate::contracts)
 ///
 /// </details>
+///
+/// Another body runs here than the one that was proved: a count stops at 2^64 - 1.
 #[inline]
 pub fn look(bytes: &[u8], at: usize, steps: &mut Steps) -> u8 {
     steps.looked = steps.looked.saturating_add(1);

@@ -142,6 +142,8 @@ mod views {
         /// [How to read a contract](crate::contracts)
         ///
         /// </details>
+        ///
+        /// Another body runs here than the one that was proved: the array is split twice, since that is `const`.
         #[inline]
         pub const fn as_str(&self) -> &str {
             let (size, start) = (self.size as usize, self.start as usize);
@@ -174,6 +176,8 @@ mod views {
         /// [How to read a contract](crate::contracts)
         ///
         /// </details>
+        ///
+        /// Another body runs here than the one that was proved: the array is split twice, since that is `const`.
         #[inline]
         pub const fn as_bytes(&self) -> &[u8] {
             let (size, start) = (self.size as usize, self.start as usize);

@@ -247,6 +247,8 @@ impl Ord for CacheString {
     /// [How to read a contract](crate::contracts)
     ///
     /// </details>
+    ///
+    /// Another body runs here than the one that was proved: std compares the bytes of the texts.
     #[inline]
     fn cmp(&self, other: &Self) -> Ordering {
         self.0.cmp(&other.0)
@@ -274,6 +276,8 @@ impl Ord for CacheString {
 /// [How to read a contract](crate::contracts)
 ///
 /// </details>
+///
+/// Another body runs here than the one that was proved: std compares the bytes of the texts.
 impl PartialEq for CacheString {
     #[inline]
     fn eq(&self, other: &Self) -> bool {
@@ -301,6 +305,8 @@ impl PartialEq for CacheString {
 /// [How to read a contract](crate::contracts)
 ///
 /// </details>
+///
+/// Another body runs here than the one that was proved: std compares the bytes of the texts.
 impl PartialOrd for CacheString {
     #[inline]
     fn partial_cmp(&self, other: &Self) -> Option<Ordering> {

@@ -97,7 +97,7 @@ fn accesses_are_tested_where_a_clause_is_given_up_however_deep() {
     assert_eq!(tests(""), [false; 3]);
     assert_eq!(tests("    requires { 2 < length all.now }\n"), [false; 3]);
     for given_up in crate::rules::GIVEN_UP {
-        assert_eq!(tests(&format!("    requires {{ {given_up} x }}\n")), [true; 3], "{given_up}");
+        assert_eq!(tests(&format!("    requires {{ {given_up} }}\n")), [true; 3], "{given_up}");
     }
 }
 
@@ -137,9 +137,10 @@ fn {worker}(all: &mut [u8], at: usize)
         )
     };
     let why = "`sample::f`, of which Rust gives up a clause, calls `sample::put`, and SHOWN does not say why it may";
-    assert_eq!(made(&source("f", "put", "steps.old.moved < 3")).unwrap_err(), format!("4: {why}"));
+    assert_eq!(made(&source("f", "put", "steps.old.moved ≤ 2 ^ 63")).unwrap_err(), format!("4: {why}"));
     assert!(made(&source("f", "put", "0 < 3")).unwrap().contains("unsafe { put(all, 0) };"));
-    let listed = source("last_char", "char_before_end", "steps.old.looked < 3").replacen("fn", "/// It.\npub fn", 1);
+    let listed =
+        source("last_char", "char_before_end", "steps.old.looked ≤ 2 ^ 63").replacen("fn", "/// It.\npub fn", 1);
     let listed = made_as("arraystring_base/src/sample/utf8.rt", &listed).unwrap();
     assert!(listed.contains("unsafe { char_before_end(all, 0) };"), "{listed}");
 }

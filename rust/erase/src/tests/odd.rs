@@ -10,7 +10,9 @@ const SOURCE: &str = "\
 #![tactic(auto)]
 ghost use Rattle.a.{b};
 
-use crate::laws::{text_fits, between, walks};
+use arraystring_base::utils::look;
+use arraystring_core::laws::text_fits;
+use crate::laws::{between, walks};
 
 /// A number.
 ///

@@ -41,7 +41,7 @@ fn what_is_not_read_is_refused_by_its_name() {
         ("#![inline]\n", "1: the attribute `#![inline]`"),
         ("fn f() {\n    #[cfg(unix)]\n    g();\n}\n", "2: the attribute `#[cfg(unix)]`"),
         ("fn f() {\n    str::from_utf8_unchecked(s)\n}\n", "2: a call of std that is in no `unsafe` block"),
-        ("fn f() {\n    text_fits(s\n}\n", "2: a bracket that is not closed"),
+        ("use arraystring_core::laws::text_fits;\nfn f() {\n    text_fits(s\n}\n", "3: a bracket that is not closed"),
         ("fn g()\n    requires { a }\n{}\n\nfn f() {\n    g(\n}\n", "6: a bracket that is not closed"),
         (
             "impl S {\n    fn g(self)\n        requires { a }\n    {}\n\n    fn f() {\n        (a).g();\n    }\n}\n",
@@ -75,7 +75,7 @@ fn a_call_that_says_less_than_its_clauses_is_refused() {
         made_as("arraystring_core/src/sample.rt", &text)
     };
     let (index, room) = ("        requires index { at < 3 }\n", "        requires room { at < 4 }\n");
-    let count = "        requires { steps.old.moved < 3 }\n";
+    let count = "        requires { steps.old.moved ≤ 2 ^ 63 }\n";
     let made = insert(&[index, room, count].concat()).unwrap();
     let words =
         "/// # Safety\n    ///\n    /// The index must be a boundary of the text. The text after the call must fit";
@@ -87,7 +87,7 @@ fn a_call_that_says_less_than_its_clauses_is_refused() {
 
 #[test]
 fn a_private_function_says_each_clause_that_is_kept() {
-    let source = "fn f(at: u8)\n    requires one { at < 3 }\n    requires { steps.old.moved < 3 }\n    requires two { at\n      < 4 }\n{\n    g();\n}\n";
+    let source = "fn f(at: u8)\n    requires one { at < 3 }\n    requires { steps.old.moved ≤ 2 ^ 63 }\n    requires two { at\n      < 4 }\n{\n    g();\n}\n";
     let made = made(source).unwrap();
     assert!(
         made.contains("/// # Safety\n///\n/// The contract requires each of these: `at < 3`, `at < 4`.\n"),
@@ -102,9 +102,11 @@ fn a_rule_that_matches_nothing_is_told() {
     let crates = concat!(env!("CARGO_MANIFEST_DIR"), "/../../crates");
     let (_, mut tally) = crate::files::made(std::path::Path::new(crates)).unwrap();
     let workers = SHOWN.iter().flat_map(|shown| shown.calls).map(|(_, workers)| workers.len()).sum::<usize>();
+    let named = NAMED.iter().map(|named| named.paths.len()).sum::<usize>();
+    let of_std = BY_STD.iter().map(|rule| rule.calls.len()).sum::<usize>();
     let lists = [FATES.len(), WIDER.len(), REPLACED.len(), BY_STD.len(), KNOWN.len(), PROVED.len(), BODIES.len()];
     let more = [CONSTANT.len(), ADDED.len(), ONCE.len(), ORDER.len(), MORE.len(), TESTED.len(), LEFT_OUT.len()];
-    let all = lists.iter().chain(&more).sum::<usize>() + workers + 2 * TWINS.len();
+    let all = lists.iter().chain(&more).sum::<usize>() + workers + 2 * TWINS.len() + GIVEN_UP.len() + named + of_std;
     let names = entries();
     assert_eq!(names.len(), all);
     for name in names {

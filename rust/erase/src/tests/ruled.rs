@@ -124,7 +124,8 @@ impl<const N: usize> FusedIterator for Drain<N> {}
 
 #[test]
 fn a_body_calls_the_twin_of_what_panics() {
-    let source = "fn first(bytes: &[u8], steps: &mut Steps) -> u8 {\n    look(bytes, 0, steps)\n}\n";
+    let source =
+        "use crate::steps::look;\n\nfn first(bytes: &[u8], steps: &mut Steps) -> u8 {\n    look(bytes, 0, steps)\n}\n";
     let made = "    // SAFETY: the proof of `first` in crates/arraystring_base/src/sample.rt shows `in_bounds` of `look`.\n    \
                 unsafe { look_unchecked(bytes, 0, steps) }\n";
     has("arraystring_base/src/sample.rt", source, &[made]);
@@ -164,7 +165,7 @@ impl<const N: usize> ArrayString<N> {
 
     /// From pieces.
     pub fn from_iterator<'a, I: IntoIterator<Item = &'a str>>(pieces: I) -> Self
-        requires { IsFiniteIterable pieces }
+        requires { IsFiniteIterable I.into_iter_gives I.IntoIter.can_next I.IntoIter.remaining pieces }
     {
         for piece in pieces {
             add(piece);
@@ -223,7 +224,7 @@ impl<const N: usize> ArrayString<N> {{
 fn a_function_that_gives_up_a_clause_keeps_its_tests_unless_a_rule_has_it() {
     let source = |name: &str| {
         format!(
-            "fn {name}(array: &[u8], at: usize)\n    requires held {{ at < 3 }}\n    requires {{ IsCallableInTurn f }}\n{{\n    \
+            "fn {name}(array: &[u8], at: usize)\n    requires held {{ at < 3 }}\n    requires {{ IsCallableInTurn F.pre F.step f self.old.text }}\n{{\n    \
              f(array[at]);\n}}\n"
         )
     };
@@ -243,4 +244,56 @@ fn the_root_has_its_modules_behind_its_documentation() {
     has("arraystring/src/lib.rt", source, &parts);
     let why = made_as("arraystring/src/lib.rt", &source.replace("//! The root.\n", "\n")).unwrap_err();
     assert_eq!(why, "a root without documentation");
+}
+
+#[test]
+fn what_runs_here_is_said_below_a_contract_that_was_proved_of_another_body() {
+    let said =
+        |here: &str| format!("</details>\n///\n/// Another body runs here than the one that was proved: {here}.\n");
+    let count = |made: &str| made.matches("Another body runs here").count();
+    let path = "arraystring_core/src/array_string/sample.rt";
+    let made = made_as(path, STRING).unwrap().replace("    ///", "///");
+    assert!(made.contains(&said("the array is split twice, since that is `const`")), "{made}");
+    // (`get` has no contract in the sample)
+    assert_eq!(count(&made), 1, "{made}");
+    let steps = made_as("arraystring_base/src/steps.rt", STEPS).unwrap();
+    assert!(steps.contains(&said("a count stops at 2^64 - 1")) && count(&steps) == 1, "{steps}");
+}
+
+#[test]
+fn what_std_does_is_said_below_the_contract_of_each_call_or_of_its_impl() {
+    let source = "\
+impl<const N: usize> PartialOrd for ArrayString<N> {
+    ghost partial_cmp = { x };
+
+    fn partial_cmp(&self, other: &Self) -> Option<Ordering> {
+        Some(self.cmp(other))
+    }
+
+    fn lt(&self, other: &Self) -> bool
+        ensures { y }
+    {
+        f()
+    }
+}
+
+impl<const N: usize> Ord for ArrayString<N> {
+    ghost laws = { x };
+
+    fn cmp(&self, other: &Self) -> Ordering
+        ensures { y }
+    {
+        order(self, other)
+    }
+}
+";
+    let made = made_as("arraystring_core/src/array_string/traits.rt", source).unwrap();
+    let here = "Another body runs here than the one that was proved: std compares the bytes of the texts.\n";
+    let heads: Vec<_> = made.split(here).skip(1).map(|rest| rest.lines().find(|line| !line.contains('#'))).collect();
+    let wanted =
+        ["impl<const N: usize> PartialOrd for ArrayString<N> {", "    fn cmp(&self, other: &Self) -> Ordering {"];
+    assert_eq!(heads, wanted.map(Some), "{made}");
+    let other = source.replace("fn cmp", "fn compare");
+    let why = "`ArrayString::compare` calls `order`, and is not among the calls whose work std does";
+    assert_eq!(made_as("arraystring_core/src/array_string/traits.rt", &other).unwrap_err(), why);
 }

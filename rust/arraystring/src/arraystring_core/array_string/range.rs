@@ -43,6 +43,8 @@ impl<const N: usize> ArrayString<N> {
     /// [How to read a contract](crate::contracts)
     ///
     /// </details>
+    ///
+    /// Another body runs here than the one that was proved: it is the index of `str`, which panics.
     #[inline]
     pub fn slice<R: RangeBounds<u8>>(&self, range: R) -> &str {
         let (start, end) = plain_ends(range, self.len());
@@ -75,6 +77,8 @@ impl<const N: usize> ArrayString<N> {
     /// [How to read a contract](crate::contracts)
     ///
     /// </details>
+    ///
+    /// Another body runs here than the one that was proved: std finds the part, by `str::get`.
     #[inline]
     pub fn get<R: RangeBounds<u8>>(&self, range: R) -> Option<&str> {
         let (start, end) = plain_ends(range, self.len());
@@ -314,6 +318,8 @@ impl<const N: usize> ArrayString<N> {
     /// [How to read a contract](crate::contracts)
     ///
     /// </details>
+    ///
+    /// Another body runs here than the one that was proved: the range is tested first, by the index of `str`.
     #[inline]
     pub fn make_ascii_uppercase_in<R: RangeBounds<u8>>(&mut self, range: R) {
         let (start, end) = plain_ends(range, self.len());
@@ -353,6 +359,8 @@ impl<const N: usize> ArrayString<N> {
     /// [How to read a contract](crate::contracts)
     ///
     /// </details>
+    ///
+    /// Another body runs here than the one that was proved: the range is tested first, by the index of `str`.
     #[inline]
     pub fn make_ascii_lowercase_in<R: RangeBounds<u8>>(&mut self, range: R) {
         let (start, end) = plain_ends(range, self.len());

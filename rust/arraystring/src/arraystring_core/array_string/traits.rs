@@ -269,6 +269,8 @@ impl<const N: usize> Ord for ArrayString<N> {
     /// [How to read a contract](crate::contracts)
     ///
     /// </details>
+    ///
+    /// Another body runs here than the one that was proved: std compares the bytes of the texts.
     #[inline(always)]
     fn cmp(&self, other: &Self) -> Ordering {
         // The other one is read first, so that no register has to be moved.
@@ -299,6 +301,8 @@ impl<const N: usize> Ord for ArrayString<N> {
 /// [How to read a contract](crate::contracts)
 ///
 /// </details>
+///
+/// Another body runs here than the one that was proved: std compares the bytes of the texts.
 impl<const N: usize> PartialEq for ArrayString<N> {
     #[inline]
     fn eq(&self, other: &Self) -> bool {
@@ -326,6 +330,8 @@ impl<const N: usize> PartialEq for ArrayString<N> {
 /// [How to read a contract](crate::contracts)
 ///
 /// </details>
+///
+/// Another body runs here than the one that was proved: std compares the bytes of the texts.
 impl<const N: usize> PartialOrd for ArrayString<N> {
     #[inline(always)]
     fn partial_cmp(&self, other: &Self) -> Option<Ordering> {

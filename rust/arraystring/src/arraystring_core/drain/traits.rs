@@ -248,6 +248,8 @@ impl<const N: usize> Ord for Drain<N> {
     /// [How to read a contract](crate::contracts)
     ///
     /// </details>
+    ///
+    /// Another body runs here than the one that was proved: std compares the bytes of the texts.
     #[inline(always)]
     fn cmp(&self, other: &Self) -> Ordering {
         order(self.as_str(), other.as_str())
@@ -304,6 +306,8 @@ impl<const N: usize> PartialEq for Drain<N> {
 /// [How to read a contract](crate::contracts)
 ///
 /// </details>
+///
+/// Another body runs here than the one that was proved: std compares the bytes of the texts.
 impl<const N: usize> PartialOrd for Drain<N> {
     #[inline(always)]
     fn partial_cmp(&self, other: &Self) -> Option<Ordering> {

@@ -12,6 +12,8 @@
 /// [How to read a contract](crate::contracts)
 ///
 /// </details>
+///
+/// Another body runs here than the one that was proved: std compares the bytes of the texts.
 #[inline(always)]
 pub(crate) fn equal(text: &str, other: &str) -> bool {
     text == other

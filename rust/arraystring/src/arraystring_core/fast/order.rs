@@ -14,6 +14,8 @@ use core::cmp::Ordering;
 /// [How to read a contract](crate::contracts)
 ///
 /// </details>
+///
+/// Another body runs here than the one that was proved: std compares the bytes of the texts.
 #[inline(always)]
 pub(crate) fn order(text: &str, other: &str) -> Ordering {
     text.cmp(other)

@@ -15,6 +15,8 @@ use crate::by_hand::str;
 /// [How to read a contract](crate::contracts)
 ///
 /// </details>
+///
+/// Another body runs here than the one that was proved: std tests UTF-8, behind a test for ASCII by hand.
 #[inline]
 pub(crate) fn read_utf8(given: &[u8]) -> Result<&str, Utf8> {
     let (blocks, last) = (given.len() / 32 * 32, given.len().saturating_sub(32));
