@@ -511,9 +511,9 @@ pub const SHOWN: &[Shown] = &[
 pub const WRITES: &[&str] = &["make_ascii_uppercase", "make_ascii_lowercase"];
 
 /// The clauses that stand at the start of a body as known, by their function and their name, if they have one. An access needs
-/// none, since it has no test. These are for cells of rust/bench/cells.md at 255: without them `try_insert`, `try_insert_str`,
+/// none, since it has no test. This one is for cells of rust/bench/cells.md at 255: without it `try_insert`, `try_insert_str`,
 /// `replace_range` and `remove` in the middle take some twenty instructions more.
-pub const KNOWN: &[(&str, &str)] = &[("moves::move_ends", "target"), ("moves::move_pairs", "source")];
+pub const KNOWN: &[(&str, &str)] = &[("moves::move_pairs", "source")];
 
 /// A file of generic functions that rustc inlines by their size alone, though their sources always do.
 pub struct Once {

@@ -225,28 +225,28 @@ fn made_as(path: &str, text: &str) -> Result<String, String> {
 }
 
 /// What comes of a worker in whose body a clause is known.
-fn move_ends(requires: &str) -> Result<String, String> {
+fn move_pairs(requires: &str) -> Result<String, String> {
     let text = format!(
-        "/// Moves.\nfn move_ends<const N: usize>(array: &mut [u8; N], to: usize, len: usize)\n    requires {requires}\n{{\n    write(array);\n}}\n"
+        "/// Moves.\nfn move_pairs<const N: usize>(array: &mut [u8; N], to: usize, len: usize)\n    requires {requires}\n{{\n    write(array);\n}}\n"
     );
     made_as("arraystring_base/src/moves.rt", &text)
 }
 
 #[test]
 fn a_clause_of_the_list_is_known_at_the_start_of_its_body() {
-    let known = "len: usize) {\n    known!(target: to + len <= N && to <= to + len);\n    write(array";
-    let text = move_ends("target { to + len ≤ N }").unwrap();
+    let known = "len: usize) {\n    known!(source: to + len <= N && to <= to + len);\n    write(array";
+    let text = move_pairs("source { to + len ≤ N }").unwrap();
     assert!(text.contains(known), "{text}");
-    let name = "`moves::move_ends`: it has no clause `target` that could be known";
-    assert_eq!(move_ends("room { to + len ≤ N }").unwrap_err(), name);
-    let unread = "`moves::move_ends`: `≢` in a clause that is to be known";
-    assert_eq!(move_ends("target { to ≢ N }").unwrap_err(), unread);
+    let name = "`moves::move_pairs`: it has no clause `source` that could be known";
+    assert_eq!(move_pairs("room { to + len ≤ N }").unwrap_err(), name);
+    let unread = "`moves::move_pairs`: `≢` in a clause that is to be known";
+    assert_eq!(move_pairs("source { to ≢ N }").unwrap_err(), unread);
 }
 
 #[test]
 fn a_clause_that_is_given_up_is_never_known() {
-    let why = "`moves::move_ends`: `target` is no fact in Rust, since safe calls do not show it";
-    assert_eq!(move_ends("target { steps.old.moved ≤ 2 ^ 63 }").unwrap_err(), why);
+    let why = "`moves::move_pairs`: `source` is no fact in Rust, since safe calls do not show it";
+    assert_eq!(move_pairs("source { steps.old.moved ≤ 2 ^ 63 }").unwrap_err(), why);
 }
 
 #[test]

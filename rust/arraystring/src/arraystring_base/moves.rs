@@ -221,7 +221,6 @@ unsafe fn move_any_run<const N: usize>(array: &mut [u8; N], from: usize, to: usi
 ///
 /// </details>
 unsafe fn move_ends<const N: usize, const K: usize>(array: &mut [u8; N], from: usize, to: usize, len: usize) {
-    known!(target: to + len <= N && to <= to + len);
     let rest = len - K;
     let all = &array[..];
     // SAFETY: the proof of `move_ends` in crates/arraystring_base/src/moves.rt shows the precondition of `bytes_of`.
