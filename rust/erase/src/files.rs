@@ -122,7 +122,7 @@ pub fn read(path: &Path) -> Result<String, String> {
 }
 
 fn is_by_hand(path: &str) -> bool {
-    BY_HAND.iter().any(|by_hand| path == *by_hand || (by_hand.ends_with('/') && path.starts_with(by_hand)))
+    BY_HAND.iter().any(|(file, _)| path == *file)
 }
 
 /// Writes the files, and takes out those that are no longer made.

@@ -1,5 +1,5 @@
 //! Makes the Rust crate `arraystring` out of the proved sources: contracts become documentation, proofs go, and the bodies
-//! stay line for line.
+//! stay line for line, but where a rule says otherwise, as the list in the README of the crate says, which is made, too.
 //!
 //!     cargo run --release --offline --manifest-path rust/erase/Cargo.toml -- [--check] [--unproved] [--root FOLDER]
 //!
@@ -18,6 +18,7 @@ mod files;
 mod functions;
 mod items;
 mod known;
+mod listed;
 mod names;
 mod pages;
 mod proved;
@@ -60,6 +61,7 @@ fn run(root: &std::path::Path, is_check: bool, is_unproved_allowed: bool) -> Res
     let is_formatted = files::format(&mut made, &root.join("rust"))?;
     let target = root.join("rust/arraystring/src");
     let explained = words::explained(&made, &files::read(&target.join(words::PAGE))?)?;
+    made.insert(listed::PAGE.to_string(), listed::with_list(&files::read(&target.join(listed::PAGE))?)?);
     if is_check {
         files::compare(&made, &target, is_formatted)?;
     } else {

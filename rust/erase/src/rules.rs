@@ -7,8 +7,27 @@
 /// The crates that are read, from the lowest. The last is the root of the Rust crate; each of the others is a module.
 pub const CRATES: &[&str] = &["arraystring_base", "arraystring_core", "arraystring"];
 
-/// Files of the Rust crate's `src` that are written by hand. Nothing else may lie beside what is made.
-pub const BY_HAND: &[&str] = &["by_hand.rs", "by_hand/"];
+/// Files of the Rust crate's `src` that are written by hand, and what is in each. Nothing else may lie beside what is made.
+pub const BY_HAND: &[(&str, &str)] = &[
+    ("by_hand.rs", "the module of what follows"),
+    (
+        "by_hand/convert.rs",
+        "`Deref`, `AsRef`, `Borrow`, `FromIterator`, `Extend`, `Index` and some `From`, each one call of the string. Nothing lends \
+         the text to be written (`DerefMut` to `str`, `AsMut`, `BorrowMut`, `IndexMut`): a write through it could break UTF-8. \
+         `DerefMut` of `CacheString` lends the string inside",
+    ),
+    ("by_hand/compare.rs", "`PartialEq` and `PartialOrd` with `str`, and `AddAssign`, each one call of the texts"),
+    ("by_hand/owned.rs", "the traits that name `String`, each one call of the string"),
+    ("by_hand/room.rs", "`is_full` and `remaining_capacity`"),
+    ("by_hand/read.rs", "`Debug` and `Default` of `Steps`, and `Hash` of the errors of one case"),
+    ("by_hand/simd.rs", "the vectors of the sources, as arrays or words. A fault in it could break UTF-8"),
+    ("by_hand/access.rs", "what is read and written without a test. A fault in it could break UTF-8"),
+    ("by_hand/known.rs", "what is told to rustc. A fault in it could break UTF-8"),
+    ("by_hand/str.rs", "`from_utf8_unchecked`, which `checked` tests"),
+    ("by_hand/char.rs", "`from_u32_unchecked`, which `checked` tests"),
+    ("by_hand/contracts.rs", "the page on contracts"),
+    ("by_hand/count_tests.rs", "tests"),
+];
 
 /// What the Rust crate begins with, behind the documentation of its root.
 pub const ROOT: &str = "\

@@ -38,7 +38,9 @@ impl Tree {
             copy(&Path::new(ROOT).join(krate).join("src"), &folder.join(krate).join("src"));
         }
         copy(&Path::new(ROOT).join(WRITTEN), &folder.join(WRITTEN));
-        fs::copy(Path::new(ROOT).join("rust/rustfmt.toml"), folder.join("rust/rustfmt.toml")).unwrap();
+        for file in ["rust/rustfmt.toml", "rust/arraystring/README.md"] {
+            fs::copy(Path::new(ROOT).join(file), folder.join(file)).unwrap();
+        }
         Tree(folder)
     }
 

@@ -130,7 +130,7 @@ fn files_are_compared_by_their_form_where_rustfmt_is_there_and_else_by_their_wor
     let folder = std::env::temp_dir().join(format!("erase-compared-{}", std::process::id()));
     std::fs::create_dir_all(folder.join("by_hand")).unwrap();
     std::fs::write(folder.join("a.rs"), "fn f(\n    a: u8,\n) {}\n").unwrap();
-    std::fs::write(folder.join("by_hand/b.rs"), "").unwrap();
+    std::fs::write(folder.join("by_hand/room.rs"), "").unwrap();
     let compared = |text: &str, is_formatted| {
         let made = crate::files::Made::from([("a.rs".to_string(), text.to_string())]);
         crate::files::compare(&made, &folder, is_formatted)
