@@ -41,6 +41,7 @@ use crate::by_hand::simd::Simd;
 /// [How to read a contract](crate::contracts)
 ///
 /// </details>
+#[inline(always)]
 pub unsafe fn shift<const N: usize>(array: &mut [u8; N], from: usize, to: usize, len: usize, steps: &mut Steps) {
     if from != to {
         // SAFETY: the proof of `shift` in crates/arraystring_base/src/moves.rt shows `source` and `target` of `move_run`.
@@ -67,7 +68,6 @@ pub unsafe fn shift<const N: usize>(array: &mut [u8; N], from: usize, to: usize,
 /// [How to read a contract](crate::contracts)
 ///
 /// </details>
-#[inline(always)]
 pub unsafe fn move_run<const N: usize>(array: &mut [u8; N], from: usize, to: usize, len: usize) {
     if N > 64 && len > 64 {
         // SAFETY: the proof of `move_run` in crates/arraystring_base/src/moves.rt shows `source`, `target` and `long` of `move_much`.

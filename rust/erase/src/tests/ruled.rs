@@ -141,9 +141,9 @@ fn what_is_always_inlined_in_a_source_need_not_be_here() {
             "/// Moves.\n#[inline(always)]\n{public}fn {name}(at: usize)\n    requires source {{ at < 3 }}\n    requires target {{ at < 4 }}\n{{\n    f();\n}}\n\n"
         )
     };
-    let source = function("pub ", "move_run") + &function("", "move_much");
+    let source = function("pub ", "shift") + &function("", "move_much");
     let always = "#[inline(always)]\n";
-    let parts = [&format!("{always}pub unsafe fn move_run("), "</details>\nunsafe fn move_much("];
+    let parts = [&format!("{always}pub unsafe fn shift("), "</details>\nunsafe fn move_much("];
     has("arraystring_base/src/moves.rt", &source, &parts);
     let made = made_as("arraystring_base/src/sample/moves.rt", &source).unwrap();
     assert_eq!(made.matches(always).count(), 2, "{made}");
