@@ -1,21 +1,40 @@
 //! The README's list of what is written by hand or changed by a rule, made from the rules.
 
 use std::collections::BTreeMap;
+use std::fs;
+use std::path::Path;
 
+use crate::files::read;
 use crate::rules::{
     ADDED, BODIES, BY_HAND, BY_STD, CONSTANT, FATES, Fate, KNOWN, LEFT_OUT, REPLACED, Replaced, TESTS_RANGE, TWINS,
     WIDER,
 };
 
-/// The page, from `src` of the Rust crate.
-pub const PAGE: &str = "../README.md";
+/// The page, from the top of the repository.
+const PAGE: &str = "rust/arraystring/README.md";
 
 /// What stands before and behind the list.
 const OPENS: &str = "<!-- made by rust/erase/run -->\n";
 const CLOSES: &str = "<!-- up to here -->\n";
 
+/// Whether the list is as the rules say, in a repository.
+pub fn compare(root: &Path) -> Result<(), String> {
+    let page = read(&root.join(PAGE))?;
+    if with_list(&page)? == page {
+        Ok(())
+    } else {
+        Err(format!("{PAGE}: its list is not as the rules say: run rust/erase/run"))
+    }
+}
+
+/// Writes the list into the page of a repository.
+pub fn write(root: &Path) -> Result<(), String> {
+    let page = with_list(&read(&root.join(PAGE))?)?;
+    fs::write(root.join(PAGE), page).map_err(|error| format!("{PAGE}: {error}"))
+}
+
 /// The page with the list as the rules say.
-pub fn with_list(page: &str) -> Result<String, String> {
+fn with_list(page: &str) -> Result<String, String> {
     let parts = page.split_once(OPENS).and_then(|(before, rest)| Some((before, rest.split_once(CLOSES)?.1)));
     let (before, behind) =
         parts.ok_or_else(|| format!("{PAGE}: the lines `{}` and `{}`", OPENS.trim(), CLOSES.trim()))?;

@@ -61,11 +61,12 @@ fn run(root: &std::path::Path, is_check: bool, is_unproved_allowed: bool) -> Res
     let is_formatted = files::format(&mut made, &root.join("rust"))?;
     let target = root.join("rust/arraystring/src");
     let explained = words::explained(&made, &files::read(&target.join(words::PAGE))?)?;
-    made.insert(listed::PAGE.to_string(), listed::with_list(&files::read(&target.join(listed::PAGE))?)?);
     if is_check {
         files::compare(&made, &target, is_formatted)?;
+        listed::compare(root)?;
     } else {
         files::write(&made, &target)?;
+        listed::write(root)?;
     }
     for (what, count) in &tally.counts {
         println!("{count:5} {what}");

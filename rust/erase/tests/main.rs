@@ -106,8 +106,7 @@ fn unproved_sources_stop_it_or_are_told_in_each_file() {
     assert!(printed.contains("\nNOT PROVED, as the first line of each file says: "), "{printed}");
     let (made, by_hand): (Vec<_>, Vec<_>) =
         texts(&written).into_iter().partition(|text| text.contains("\n// Made from crates/"));
-    // (one more is the page beside them that has the lists)
-    assert!(printed.ends_with(&format!("\n{} files written to {WRITTEN}\n", made.len() + 1)), "{printed}");
+    assert!(printed.ends_with(&format!("\n{} files written to {WRITTEN}\n", made.len())), "{printed}");
     assert!(made.iter().all(|text| text.starts_with("// NOT PROVED: ")));
     assert!(by_hand.iter().all(|text| !text.contains("NOT PROVED")));
     assert_eq!(tree.told(&["--check", "--unproved"]).0, Some(0));

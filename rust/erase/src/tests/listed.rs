@@ -9,9 +9,25 @@ fn the_list_is_put_between_its_lines_alone() {
     assert_eq!(made, page(&format!("\n{}\n", list())));
     assert_eq!(with_list(&made), Ok(made.clone()));
     for without in [OPENS, CLOSES] {
-        let why = "../README.md: the lines `<!-- made by rust/erase/run -->` and `<!-- up to here -->`";
+        let why = "rust/arraystring/README.md: the lines `<!-- made by rust/erase/run -->` and `<!-- up to here -->`";
         assert_eq!(with_list(&made.replace(without, "")), Err(why.to_string()));
     }
+}
+
+#[test]
+fn a_list_that_is_stale_is_told_and_made_anew() {
+    let root = std::env::temp_dir().join(format!("erase-listed-{}", std::process::id()));
+    fs::create_dir_all(root.join("rust/arraystring")).unwrap();
+    let page = with_list(&format!("# A page\n{OPENS}{CLOSES}\nMore.\n")).unwrap();
+    let stale = Err("rust/arraystring/README.md: its list is not as the rules say: run rust/erase/run".to_string());
+    for (change, put, told) in [("", "", Ok(())), ("`is_full`", "`is_empty`", stale.clone()), ("- `laws`", "-", stale)]
+    {
+        fs::write(root.join(PAGE), page.replacen(change, put, 1)).unwrap();
+        assert_eq!(compare(&root), told, "{change}");
+        write(&root).unwrap();
+        assert_eq!((compare(&root), read(&root.join(PAGE))), (Ok(()), Ok(page.clone())));
+    }
+    fs::remove_dir_all(root).unwrap();
 }
 
 #[test]
