@@ -1,5 +1,6 @@
 """What .ci/run, rust/check and the try of the program refuse: the scripts themselves, over stand-ins for what they call."""
 import os
+import re
 import shutil
 import subprocess
 
@@ -89,7 +90,9 @@ class Gate(ScriptTest):
 
     def test_each_call_is_enough_to_fail(self):
         calls = self.assert_each_call_is_enough_to_fail()
-        self.assertEqual(calls, ["run check", "rt ci", "run proved --check", f"try {self.PROGRAM}", "check "])
+        calls = [re.sub("(?<=--refused ).*", "LOG", it) for it in calls]
+        self.assertEqual(calls, ["run check", "rt ci", "run proved --check", "rt must-fail", "run evidence --refused LOG",
+                                 f"try {self.PROGRAM}", "check "])
 
     def test_a_test_without_memory_that_has_not_run_is_counted(self):
         self.proves(self.RAN, "    not run: the checker of addresses of `rt try` has memory set aside")
