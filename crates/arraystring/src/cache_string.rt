@@ -111,7 +111,7 @@ impl CacheString {
     ///
     /// # Precondition
     ///
-    /// See `ArrayString`, under Iterators.
+    /// The iterator must end, and until then the precondition of its `next` must hold.
     ///
     /// # Examples
     ///
@@ -136,7 +136,7 @@ impl CacheString {
     ///
     /// # Precondition
     ///
-    /// See `ArrayString`, under Iterators.
+    /// The iterator must end, and until then the precondition of its `next` must hold.
     ///
     /// # Examples
     ///
@@ -158,7 +158,8 @@ impl CacheString {
     ///
     /// # Precondition
     ///
-    /// All of the pieces must fit. See `ArrayString`, under Iterators.
+    /// All of the pieces must fit. The iterator must end, and until then the precondition of its
+    /// `next` must hold.
     pub fn from_iterator_unchecked<'a, I: IntoIterator<Item = &'a str> + Drop>(pieces: I) -> Self
         requires ends { IsFiniteIterable I.into_iter_gives I.IntoIter.can_next I.IntoIter.remaining pieces }
         requires fits { Fits I.into_iter_gives I.IntoIter.next_gives joined_pieces pieces 63 }
@@ -178,7 +179,7 @@ impl CacheString {
     ///
     /// # Precondition
     ///
-    /// See `ArrayString`, under Iterators.
+    /// The iterator must end, and until then the precondition of its `next` must hold.
     ///
     /// # Examples
     ///
@@ -203,7 +204,7 @@ impl CacheString {
     ///
     /// # Precondition
     ///
-    /// See `ArrayString`, under Iterators.
+    /// The iterator must end, and until then the precondition of its `next` must hold.
     ///
     /// # Examples
     ///
@@ -225,7 +226,8 @@ impl CacheString {
     ///
     /// # Precondition
     ///
-    /// All of the characters must fit. See `ArrayString`, under Iterators.
+    /// All of the characters must fit. The iterator must end, and until then the precondition of its
+    /// `next` must hold.
     pub fn from_chars_unchecked<I: IntoIterator<Item = char> + Drop>(characters: I) -> Self
         requires ends { IsFiniteIterable I.into_iter_gives I.IntoIter.can_next I.IntoIter.remaining characters }
         requires fits { Fits I.into_iter_gives I.IntoIter.next_gives (λ cs. cs) characters 63 }

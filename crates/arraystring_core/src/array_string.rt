@@ -24,17 +24,21 @@ mod utf16;
 /// A string of at most `N` bytes of UTF-8, and at most 255, stored inline. Sizes, indices and the
 /// capacity count bytes of UTF-8.
 ///
+/// A text *fits* if the string with it is not larger than the capacity. What does not fit is cut or
+/// refused, by the call:
+///
+/// - **Cut**, to the whole characters that fit: `from` and so `into`, `from_str_truncate`,
+///   `from_chars`, `from_iterator`, `from_utf8`, `from_utf16`, `from_utf16_lossy`, `push_str`, `+`,
+///   `extend_chars`, `extend_strs`, `insert_str`.
+/// - **Refused**, and then nothing has changed: `parse`, `try_from_str`, `try_from_chars`,
+///   `try_from_iterator`, `try_from_utf8`, `try_from_utf16`, `try_push`, `try_push_str`, `try_insert`,
+///   `try_insert_str`, `replace_range`, and each piece that `write!` writes.
+///
 /// A *boundary* is an index at which a character begins or the text ends. An index is *past* the
 /// text if it is greater than the length, and *inside* a character if it is less and no boundary.
-/// What is put in *fits* if the text with it is not larger than the capacity.
 ///
-/// Contracts name the text, the list of its characters, and no byte of the array.
-///
-/// # Ranges
-///
-/// A range that is passed in may be any `RangeBounds<u8>`. Contracts know its bounds if
-/// `has_bounds` holds of it. It holds of each range of std, except a `RangeInclusive` that was
-/// iterated to its end.
+/// A range that is passed in may be any `RangeBounds<u8>`. An iterator is asked for no item behind
+/// the first that does not fit.
 ///
 /// # Examples
 ///

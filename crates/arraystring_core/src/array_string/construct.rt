@@ -86,7 +86,7 @@ impl<const N: usize> ArrayString<N> {
     ///
     /// # Precondition
     ///
-    /// See `ArrayString`, under Iterators.
+    /// The iterator must end, and until then the precondition of its `next` must hold.
     ///
     /// # Examples
     ///
@@ -115,7 +115,7 @@ impl<const N: usize> ArrayString<N> {
     ///
     /// # Precondition
     ///
-    /// See `ArrayString`, under Iterators.
+    /// The iterator must end, and until then the precondition of its `next` must hold.
     ///
     /// # Examples
     ///
@@ -140,7 +140,8 @@ impl<const N: usize> ArrayString<N> {
     ///
     /// # Precondition
     ///
-    /// All of the pieces must fit. See `ArrayString`, under Iterators.
+    /// All of the pieces must fit. The iterator must end, and until then the precondition of its
+    /// `next` must hold.
     pub fn from_iterator_unchecked<'a, I: IntoIterator<Item = &'a str> + Drop>(pieces: I) -> Self
         requires ends { IsFiniteIterable I.into_iter_gives I.IntoIter.can_next I.IntoIter.remaining pieces }
         requires fits { Fits I.into_iter_gives I.IntoIter.next_gives joined_pieces pieces (cap N) }
@@ -170,7 +171,7 @@ impl<const N: usize> ArrayString<N> {
     ///
     /// # Precondition
     ///
-    /// See `ArrayString`, under Iterators.
+    /// The iterator must end, and until then the precondition of its `next` must hold.
     ///
     /// # Examples
     ///
@@ -198,7 +199,7 @@ impl<const N: usize> ArrayString<N> {
     ///
     /// # Precondition
     ///
-    /// See `ArrayString`, under Iterators.
+    /// The iterator must end, and until then the precondition of its `next` must hold.
     ///
     /// # Examples
     ///
@@ -223,7 +224,8 @@ impl<const N: usize> ArrayString<N> {
     ///
     /// # Precondition
     ///
-    /// All of the characters must fit. See `ArrayString`, under Iterators.
+    /// All of the characters must fit. The iterator must end, and until then the precondition of its
+    /// `next` must hold.
     pub fn from_chars_unchecked<I: IntoIterator<Item = char> + Drop>(characters: I) -> Self
         requires ends { IsFiniteIterable I.into_iter_gives I.IntoIter.can_next I.IntoIter.remaining characters }
         requires fits { Fits I.into_iter_gives I.IntoIter.next_gives (λ cs. cs) characters (cap N) }

@@ -126,7 +126,7 @@ impl<const N: usize> ArrayString<N> {
     ///
     /// # Precondition
     ///
-    /// See `ArrayString`, under Iterators.
+    /// The iterator must end, and until then the precondition of its `next` must hold.
     ///
     /// # Examples
     ///
@@ -149,7 +149,7 @@ impl<const N: usize> ArrayString<N> {
     ///
     /// # Precondition
     ///
-    /// See `ArrayString`, under Iterators.
+    /// The iterator must end, and until then the precondition of its `next` must hold.
     ///
     /// # Examples
     ///

@@ -22,7 +22,8 @@ impl<const N: usize> ArrayString<N> {
     ///
     /// # Precondition
     ///
-    /// - `has_bounds` must hold of the range.
+    /// - `has_bounds` must hold of the range. It holds of each range of std, except a
+    ///   `RangeInclusive` that was iterated to its end.
     /// - The range must not end before it starts.
     /// - Both ends must be boundaries.
     ///
@@ -236,7 +237,8 @@ impl<const N: usize> ArrayString<N> {
     ///
     /// # Precondition
     ///
-    /// - `has_bounds` must hold of the range.
+    /// - `has_bounds` must hold of the range. It holds of each range of std, except a
+    ///   `RangeInclusive` that was iterated to its end.
     /// - The range must not end before it starts.
     /// - Both ends, read as in `slice`, must be boundaries.
     ///
@@ -263,7 +265,8 @@ impl<const N: usize> ArrayString<N> {
     ///
     /// # Precondition
     ///
-    /// - `has_bounds` must hold of the range.
+    /// - `has_bounds` must hold of the range. It holds of each range of std, except a
+    ///   `RangeInclusive` that was iterated to its end.
     /// - The range must not end before it starts.
     /// - Both ends, read as in `slice`, must be boundaries.
     ///
