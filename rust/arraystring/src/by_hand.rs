@@ -10,6 +10,7 @@
 //! - `read`: what Rust prints, hashes and makes by default of small values.
 //! - `room`, a module of the string: the room that is left.
 //! - `simd`: the vectors of the sources, as arrays or words.
+//! - `trust`: a page on what is proved and what is trusted.
 //!
 //! `count_tests` are the tests of `steps` that set its counts.
 #![deny(unsafe_code)]
@@ -25,3 +26,4 @@ mod owned;
 mod read;
 pub(crate) mod simd;
 pub(crate) mod str;
+pub mod trust;

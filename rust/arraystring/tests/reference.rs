@@ -97,8 +97,8 @@ fn what_became_of_a_precondition_replaces_it() {
 /// The lines of documentation.
 fn documentation() -> Vec<(String, String)> {
     let mut lines = Vec::new();
-    let readme = ("README.md".to_string(), fs::read_to_string("README.md").expect("a text"));
-    for (file, text) in files(Path::new("src")).into_iter().chain([readme]) {
+    let pages = ["README.md", "TRUST.md"].map(|page| (page.to_string(), fs::read_to_string(page).expect("a text")));
+    for (file, text) in files(Path::new("src")).into_iter().chain(pages) {
         let is_page = file.ends_with(".md");
         let is_shown = |line: &&str| is_page || ["///", "//!"].iter().any(|sign| line.trim_start().starts_with(sign));
         lines.extend(text.lines().filter(is_shown).map(|line| (file.clone(), line.to_string())));

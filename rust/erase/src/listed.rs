@@ -1,4 +1,4 @@
-//! The README's list of what is written by hand or changed by a rule, made from the rules.
+//! The list in TRUST.md of what is written by hand or changed by a rule, made from the rules.
 
 use std::collections::BTreeMap;
 use std::fs;
@@ -11,7 +11,7 @@ use crate::rules::{
 };
 
 /// The page, from the top of the repository.
-const PAGE: &str = "rust/arraystring/README.md";
+const PAGE: &str = "rust/arraystring/TRUST.md";
 
 /// What stands before and behind the list.
 const OPENS: &str = "<!-- made by rust/erase/run -->\n";

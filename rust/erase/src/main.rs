@@ -1,5 +1,5 @@
 //! Makes the Rust crate `arraystring` out of the proved sources: contracts become documentation, proofs go, and the bodies
-//! stay line for line, but where a rule says otherwise, as the list in the README of the crate says, which is made, too.
+//! stay line for line, but where a rule says otherwise, as the list in TRUST.md of the crate says, which is made, too.
 //!
 //!     cargo run --release --offline --manifest-path rust/erase/Cargo.toml -- [--check] [--unproved] [--root FOLDER]
 //!

@@ -26,14 +26,15 @@ pub const BY_HAND: &[(&str, &str)] = &[
     ("by_hand/str.rs", "`from_utf8_unchecked`, which `checked` tests"),
     ("by_hand/char.rs", "`from_u32_unchecked`, which `checked` tests"),
     ("by_hand/contracts.rs", "the page on contracts"),
+    ("by_hand/trust.rs", "this page"),
     ("by_hand/count_tests.rs", "tests"),
 ];
 
 /// What the Rust crate begins with, behind the documentation of its root.
 pub const ROOT: &str = "\
 //!
-//! The calls are those of [`ArrayString`]. What is proved of each folds out under *Contract*, and [`contracts`] says how to read
-//! it.
+//! The calls are those of [`ArrayString`]. What is proved of each folds out under *Contract*: [`contracts`] says how to read it, and
+//! [`trust`] what it rests on.
 //!
 #![doc = include_str!(\"../README.md\")]
 #![no_std]
@@ -54,7 +55,7 @@ mod arraystring_core;
 
 mod by_hand;
 
-pub use by_hand::contracts;
+pub use by_hand::{contracts, trust};
 ";
 
 /// Tests by hand that lie inside a module, since they set what is private there.

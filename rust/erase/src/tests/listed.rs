@@ -1,4 +1,4 @@
-//! The list of the README: each rule and each file by hand is in it, and nothing round it changes.
+//! The list in TRUST.md: each rule and each file by hand is in it, and nothing round it changes.
 
 use super::*;
 
@@ -9,7 +9,7 @@ fn the_list_is_put_between_its_lines_alone() {
     assert_eq!(made, page(&format!("\n{}\n", list())));
     assert_eq!(with_list(&made), Ok(made.clone()));
     for without in [OPENS, CLOSES] {
-        let why = "rust/arraystring/README.md: the lines `<!-- made by rust/erase/run -->` and `<!-- up to here -->`";
+        let why = "rust/arraystring/TRUST.md: the lines `<!-- made by rust/erase/run -->` and `<!-- up to here -->`";
         assert_eq!(with_list(&made.replace(without, "")), Err(why.to_string()));
     }
 }
@@ -19,7 +19,7 @@ fn a_list_that_is_stale_is_told_and_made_anew() {
     let root = std::env::temp_dir().join(format!("erase-listed-{}", std::process::id()));
     fs::create_dir_all(root.join("rust/arraystring")).unwrap();
     let page = with_list(&format!("# A page\n{OPENS}{CLOSES}\nMore.\n")).unwrap();
-    let stale = Err("rust/arraystring/README.md: its list is not as the rules say: run rust/erase/run".to_string());
+    let stale = Err("rust/arraystring/TRUST.md: its list is not as the rules say: run rust/erase/run".to_string());
     for (change, put, told) in [("", "", Ok(())), ("`is_full`", "`is_empty`", stale.clone()), ("- `laws`", "-", stale)]
     {
         fs::write(root.join(PAGE), page.replacen(change, put, 1)).unwrap();
