@@ -51,9 +51,9 @@ mod utf16;
 /// ```
 #[derive(Clone, Copy)]
 pub struct ArrayString<const N: usize> {
-    /// The bytes of the text from its offset on. The others have no meaning.
+    /// The `size` bytes from `start` on are the text. They are UTF-8, and the others have no meaning.
     array: [u8; N],
-    /// The offset at which the text begins.
+    /// The offset at which the text begins. `start + size` is at most the lesser of `N` and 255.
     start: u8,
     /// The size of the text.
     size: u8,
@@ -165,7 +165,7 @@ impl<const N: usize> ArrayString<N> {
     {
         let (size, start) = (self.size as usize, self.start as usize);
         let all = &self.array[..];
-        // SAFETY: the type's `invariant`: the `size` bytes from `start` on are UTF-8.
+        // SAFETY: the `size` bytes from `start` on are UTF-8, as the fields of the type say.
         unsafe { str::from_utf8_unchecked(&all[start..start + size]) }
     }
 

@@ -307,7 +307,7 @@ impl<const N: usize> ArrayString<N> {
         ensures bytes { bytes result.text ≡ given.now }
         ensures text { IsText result.text }
     {
-        // SAFETY: the precondition `well_formed`.
+        // SAFETY: the caller gives well-formed UTF-8, as the precondition says.
         Self::from_str_unchecked(unsafe { str::from_utf8_unchecked(given) })
     }
 }

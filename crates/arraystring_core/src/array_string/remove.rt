@@ -291,7 +291,8 @@ fn retain_at<const N: usize, F: FnMut(char) -> bool + Drop>(
             read += 1;
         } else {
             let all = &array[..];
-            // SAFETY: the clause `text`: what was not read yet is UTF-8, since a character begins at `read`.
+            // SAFETY: the `size` bytes from `offset` on were UTF-8. No byte from `read` on was moved, and a
+            // character begins there.
             let text = unsafe { str::from_utf8_unchecked(&all[offset + read..offset + size]) };
             let (ch, width) = first_char(text);
             if f(ch) {
