@@ -4,13 +4,12 @@ tools/run controls [CRATE..]         those without a fresh line; with no name, o
 tools/run controls --all [CRATE..]   also those that have one
 tools/run controls --check           tries none, and fails where a control has no fresh line or a line no control
 
-A control is crates/CRATE/controls/NAME.edit, written as the edit crates/CRATE/must-fail/NAME.edit is. Each is put into
-a copy of the repository among the temporary files, checked there with what earlier checks kept in out/, and taken out
-again. Of each that proves .ci/controls.txt gets a line: its name and a checksum of what was tried. That is the control,
-its wrong body, the files that it changes, the stored proofs of the functions that it changes and of those that call them,
-and the logic that `rt version` names. The line is fresh while the checksum is the same. Nothing else of the repository is
-written. It fails where a control is refused, cannot be read, or has no edit. No other `rt` may write in out/ while the copy
-is made.
+A control stands in the edit of its wrong body, crates/CRATE/must-fail/NAME.edit, by lines `# right:`. Each is put into a
+copy of the repository among the temporary files, checked there with what earlier checks kept in out/, and taken out
+again. Of each that proves .ci/controls.txt gets a line: its name and a checksum of what was tried. That is the edit, the
+files that it changes, the stored proofs of the functions that it changes and of those that call them, and the logic that
+`rt version` names. The line is fresh while the checksum is the same. Nothing else of the repository is written. It fails
+where a control is refused or cannot be read. No other `rt` may write in out/ while the copy is made.
 """
 import hashlib
 
@@ -24,7 +23,14 @@ RECORD = ".ci/controls.txt"
 
 def controls_of(root, names):
     """The controls of some crates, as CRATE/NAME."""
-    return [f"{crate}/{it.stem}" for crate in names for it in sorted((root / "crates" / crate).glob("controls/*.edit"))]
+    edited = [(crate, it) for crate in names for it in sorted((root / "crates" / crate).glob("must-fail/*.edit"))]
+    return [f"{crate}/{it.stem}" for crate, it in edited if edits.has_control(it)]
+
+
+def edit_of(root, control):
+    """The edit in which a control stands, and the folder of its crate."""
+    crate, _, name = control.partition("/")
+    return root / "crates" / crate / "must-fail" / f"{name}.edit", root / "crates" / crate
 
 
 def recorded(root):
@@ -52,28 +58,23 @@ def stored_proofs(folder, places):
 
 def checksum_of(root, control, logic):
     """The checksum of what the control depends on; None where it cannot be applied."""
-    crate, _, name = control.partition("/")
-    folder = root / "crates" / crate
-    files = [folder / "controls" / f"{name}.edit", folder / "must-fail" / f"{name}.edit"]
+    edit, folder = edit_of(root, control)
     digest = hashlib.sha256(logic.encode())
     try:
-        texts, places = edits.applied(files[0], folder)
-        for file in [*files, *texts, *stored_proofs(folder, places)]:
+        texts, places = edits.applied(edit, folder, is_right=True)
+        for file in [edit, *texts, *stored_proofs(folder, places)]:
             digest.update(hashlib.sha256(file.read_bytes()).digest())
-    except (OSError, edits.BadEdit):
+    except edits.BadEdit:
         return None
     return digest.hexdigest()[:16]
 
 
 def fault(root, control):
     """What is wrong with the control in this copy of the repository; None where it proves."""
-    crate, _, name = control.partition("/")
-    folder = root / "crates" / crate
-    if not (folder / "must-fail" / f"{name}.edit").is_file():
-        return "NO EDIT of its name is in must-fail"
+    edit, folder = edit_of(root, control)
     try:
-        texts, _ = edits.applied(folder / "controls" / f"{name}.edit", folder)
-    except (OSError, edits.BadEdit) as error:
+        texts, _ = edits.applied(edit, folder, is_right=True)
+    except edits.BadEdit as error:
         return f"BAD CONTROL: {error}"
     with edits.put_in(texts):
         is_proved, said = rt.check(folder)

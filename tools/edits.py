@@ -1,4 +1,9 @@
-"""The edits of must-fail/ and controls/: lines `file: PATH`, `old: TEXT` and `new: TEXT`, each on what the ones before made."""
+"""The edits of must-fail/: lines `file: PATH`, `old: TEXT` and `new: TEXT`, each on what the ones before made.
+
+A line `# right: TEXT` behind a `new:` has the text that a control of the edit has there. Where there is none, a control has the
+new text too. `rt must-fail` takes the line for a comment.
+"""
+import re
 from contextlib import contextmanager
 
 from repository import read
@@ -9,8 +14,8 @@ class BadEdit(ValueError):
 
 
 def replacements(edit):
-    """The replacements of an edit in order: the path of the file in the crate's folder, the old text and the new."""
-    path, old = None, None
+    """The replacements of an edit in order: the path of the file in the crate's folder, the old text, the new one and the right one."""
+    path, old, found, before = None, None, [], ""
     for line in read(edit).splitlines():
         key, _, value = line.partition(":")
         value = value.removeprefix(" ")
@@ -19,26 +24,36 @@ def replacements(edit):
         elif key == "old" and path:
             old = value
         elif key == "new" and old is not None:
-            yield path, old, value
+            found.append((path, old, value, value))
             old = None
+        elif key == "# right" and before == "new":
+            found[-1] = (*found[-1][:3], value)
         else:
             raise BadEdit(f"no line of an edit: {line}")
+        before = key
+    return found
 
 
-def applied(edit, folder):
-    """The files of the crate in this folder that an edit changes, each with its text after, and where it changes them: pairs
-    of a file and a line of it, counted from 0."""
+def has_control(edit):
+    """Whether an edit says how its control reads."""
+    return bool(re.search("(?m)^# right:", read(edit)))
+
+
+def applied(edit, folder, is_right=False):
+    """The files of the crate in this folder that an edit changes, or its control, each with its text after, and where it changes
+    them: pairs of a file and a line of it, counted from 0."""
     texts, places = {}, []
-    for path, old, new in replacements(edit):
-        file = folder / path
+    for path, old, new, right in replacements(edit):
+        file, made = folder / path, right if is_right else new
         if file not in texts and not file.is_file():
             raise BadEdit(f"there is no file {path}")
         text = texts.get(file) or read(file)
         if text.count(old) != 1:
             raise BadEdit(f"{path} does not have this once: {old}")
         before, _, behind = text.partition(old)
-        places.append((file, before.count("\n")))
-        texts[file] = before + new + behind
+        if made != old:
+            places.append((file, before.count("\n")))
+        texts[file] = before + made + behind
     return texts, places
 
 

@@ -104,7 +104,7 @@ def refusal_fault(folder, name, said):
     stored = re.search(r"\bproofs/(?:\w+/)*(\w+)/\w+\.antt", said)
     if not stored or not any(it.name == stored[1] for it in rests_on):
         return f"refused neither by a goal of src/ nor over a stored proof of what it is named for: {said[:100]}"
-    is_shown = VALUES in said or name in STORED_FIRST or (folder / "controls" / f"{name}.edit").is_file()
+    is_shown = VALUES in said or name in STORED_FIRST or edits.has_control(folder / "must-fail" / f"{name}.edit")
     return None if is_shown else "refused over a stored proof, and has no control"
 
 

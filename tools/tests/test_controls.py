@@ -19,15 +19,16 @@ fn other() -> u8 {
     1
 }
 """
-EDIT = "file: src/lib.rt\nold:     value + value\nnew:     {}\n"
+EDIT = "file: src/lib.rt\nold:     value + value\nnew:     value + 0\n"
+RIGHT = "# right:     value + { value }\n"
 
 
 class Controls(TreeTest):
     FILES = {
         "crates.txt": "numbers:\n",
         "crates/numbers/src/lib.rt": SOURCE,
-        "crates/numbers/must-fail/twice_is_once.edit": EDIT.format("value + 0"),
-        "crates/numbers/controls/twice_is_once.edit": EDIT.format("value + { value }"),
+        "crates/numbers/must-fail/twice_is_once.edit": EDIT + RIGHT,
+        "crates/numbers/must-fail/twice_is_none.edit": EDIT,
         "crates/numbers/proofs/twice/Answers.antt": "a",
         "crates/numbers/proofs/quadrupled/Answers.antt": "b",
         "crates/numbers/proofs/other/Answers.antt": "c",
@@ -44,7 +45,7 @@ class Controls(TreeTest):
 
     def check(self, folder, *flags):
         """Stands for the check, and sees that the control is in place."""
-        self.assertIn("value + { value }", (folder / "src/lib.rt").read_text(encoding="utf-8"))
+        self.assertRegex((folder / "src/lib.rt").read_text(encoding="utf-8"), r"value \+ (\{ )+value( \})+\n")
         return self.outcome
 
     def test_a_control_that_proves_gets_a_line(self):
@@ -65,25 +66,28 @@ class Controls(TreeTest):
         for path in changed:
             self.assert_passes(controls)
             text = (self.root / "crates/numbers" / path).read_text(encoding="utf-8")
-            self.write(f"crates/numbers/{path}", text + "\n")
+            self.write(f"crates/numbers/{path}", text.replace("{ value }", "{ { value } }") if path.endswith(".edit") else text + "\n")
             self.assert_fails("not as it was when it proved", controls, "--check")
         self.assert_passes(controls)
+        self.write("crates/numbers/must-fail/twice_is_none.edit", EDIT.replace("+ 0", "- value"))
         self.write("crates/numbers/proofs/other/Answers.antt", "d")
         self.assert_passes(controls, "--check")
         with mock.patch.object(rt, "logic", lambda: "another logic"):
             self.assert_fails("not as it was when it proved", controls, "--check")
 
-    def test_a_control_belongs_to_a_wrong_body(self):
-        (self.root / "crates/numbers/must-fail/twice_is_once.edit").unlink()
-        self.assert_fails("NO EDIT of its name is in must-fail", controls)
-
     def test_a_control_that_cannot_be_applied_is_named(self):
-        self.write("crates/numbers/controls/twice_is_once.edit", EDIT.replace("value + value", "three").format("3"))
+        self.write("crates/numbers/must-fail/twice_is_once.edit", EDIT.replace("value + value", "three") + RIGHT)
         self.assert_fails("BAD CONTROL: src/lib.rt does not have this once", controls)
+
+    def test_a_right_text_stands_behind_a_wrong_one(self):
+        for text in (RIGHT + EDIT, EDIT + RIGHT + RIGHT, EDIT.replace("new:", RIGHT + "new:")):
+            self.write("crates/numbers/must-fail/twice_is_once.edit", text)
+            self.assert_fails("not tried", controls, "--check")
+            self.assert_fails("BAD CONTROL: no line of an edit: # right:     value + { value }", controls)
 
     def test_a_line_without_a_control_is_named_and_goes(self):
         self.assert_passes(controls)
-        (self.root / "crates/numbers/controls/twice_is_once.edit").unlink()
+        self.write("crates/numbers/must-fail/twice_is_once.edit", EDIT)
         self.assert_fails("numbers/twice_is_once: there is no such control", controls, "--check")
         self.assert_passes(controls)
         self.assertEqual((self.root / ".ci/controls.txt").read_text(encoding="utf-8"), "")

@@ -176,7 +176,8 @@ class Refusals(TreeTest):
     def test_a_stored_proof_refuses_where_there_is_a_control(self):
         words = self.tell(plain__is_one="./proofs/move_all/Answers.antt:12:4: error: `returns-clause-text`: expected another")
         self.assert_fails("moves plain.is_one: refused over a stored proof, and has no control", evidence, *words)
-        self.write("crates/moves/controls/plain.is_one.edit", "file: src/lib.rt\nold:     0\nnew:     { 0 }\n")
+        edit = "crates/moves/must-fail/plain.is_one.edit"
+        self.write(edit, self.FILES[edit] + "# right:     { 0 }\n")
         self.assert_passes(evidence, *words)
 
     def test_a_stored_proof_refuses_where_values_are_shown(self):
