@@ -20,12 +20,14 @@ impl Case {
     /// A text of about three quarters of the capacity, with an index at its front or in its middle and a range of
     /// about a quarter of it from there on.
     pub fn new(capacity: usize, mixed: bool, front: bool) -> Self {
-        let pattern = if mixed { "aé€🤔" } else { "abcdefghij" };
-        let tail = if mixed { "aé€" } else { "abcdef" };
-        let repeats = (capacity * 3 / 4 - 1) / 10;
-        let held = pattern.repeat(repeats) + tail;
-        let start = if front { 0 } else { held.floor_char_boundary(held.len() / 2) };
-        let end = held.floor_char_boundary(start + held.len() / 4);
+        Self::of((capacity * 3 / 4 - 1) / 10 * 10 + 6, mixed, front)
+    }
+
+    /// The same of a text of so many bytes.
+    pub fn of(size: usize, mixed: bool, front: bool) -> Self {
+        let held = filled(if mixed { "aé€🤔" } else { "abcdefghij" }, size);
+        let start = if front { 0 } else { held.floor_char_boundary(size / 2) };
+        let end = held.floor_char_boundary(start + size / 4);
         Case {
             units: held.encode_utf16().collect(),
             held,
@@ -64,6 +66,14 @@ impl Case {
         }
         self
     }
+}
+
+/// A pattern again and again, and `x` where a whole character has no room.
+pub fn filled(pattern: &str, size: usize) -> String {
+    let mut text = pattern.repeat(size / pattern.len() + 1);
+    text.truncate(text.floor_char_boundary(size));
+    text += &"x".repeat(size - text.len());
+    text
 }
 
 const FROM_STR_TRUNCATE: u8 = 2;

@@ -1,7 +1,9 @@
 """Counts the instructions of calls by callgrind, for both benches: that of the proved build, and that of the Rust crate."""
+import argparse
 import os
 import re
 import subprocess
+import tempfile
 from pathlib import Path
 
 BENCH = Path(__file__).resolve().parent
@@ -9,6 +11,8 @@ ROOT = BENCH.parent
 CAPACITIES = [23, 63, 255]
 TEXTS = ["ascii", "mixed"]
 TIMES = 50
+# How much longer the environment is made, which moves the stack.
+STACK_PLACES = [0, 2000]
 CPU = "x86-64-v2"
 RUSTC = ["rustc", "-O", "-C", "codegen-units=1", "-C", f"target-cpu={CPU}"]
 # (what callgrind prints names the sides)
@@ -56,6 +60,19 @@ ROWS = [
 LOOKUPS = ["found", "missed"]
 
 
+def arguments(says, folder, *flags):
+    """What a bench is told to do: one of the flags or `--curves NAMES`, and the folder to build in."""
+    parser = argparse.ArgumentParser(description=says, formatter_class=argparse.RawDescriptionHelpFormatter)
+    what = parser.add_mutually_exclusive_group()
+    for flag in flags:
+        what.add_argument(flag, action="store_true")
+    what.add_argument("--curves", metavar="NAMES", type=lambda names: [] if names == "all" else names.split(","))
+    parser.add_argument("folder", nargs="?", type=Path, default=Path(tempfile.gettempdir()) / f"{folder}-{os.getuid()}")
+    given = parser.parse_args()
+    given.folder = given.folder.resolve()
+    return given
+
+
 def written(*command):
     return subprocess.run(list(map(str, command)), stdout=subprocess.PIPE, text=True, check=True).stdout
 
@@ -64,11 +81,12 @@ def version(words):
     return written(*words).splitlines()[0]
 
 
-def under(tool, out, log, command, given=subprocess.DEVNULL):
+def under(tool, out, log, command, given=subprocess.DEVNULL, place=0):
     """What a tool of valgrind writes of a run."""
     subprocess.run(
         ["valgrind", f"--tool={tool}", f"--{tool}-out-file={out}", *command], check=True, stdin=given,
-        stdout=subprocess.DEVNULL, stderr=log.open("w"), env=dict(os.environ, LD_BIND_NOW="1"),
+        stdout=subprocess.DEVNULL, stderr=log.open("w"),
+        env=dict(os.environ, LD_BIND_NOW="1", PLACE_OF_STACK="x" * place),
     )
     return out.read_text()
 
@@ -91,6 +109,11 @@ def build_drive(out, words, place=0):
     command = [*RUSTC, "--edition=2024", *NAMED, *words, BENCH / "drive.rs", "-o", out]
     subprocess.run(command, check=True, env=dict(os.environ, PLACE=str(place)))
     return out
+
+
+def least(counts):
+    """The least of counts at some places of the stack, at each of which `memcmp` may look past the end of a page."""
+    return {key: min(it[key] for it in counts) for key in counts[0]}
 
 
 def is_more(counted, best):
@@ -118,7 +141,8 @@ class Sides:
     def count(self, drive, folder, capacity, text, place):
         """The instructions of one call, all that it calls included, by side and name."""
         command = ["--compress-strings=no", "--compress-pos=no", drive, str(capacity), text, place, str(TIMES)]
-        return self.counted(under("callgrind", folder / "callgrind.out", folder / "valgrind.log", command))
+        out, log = folder / "callgrind.out", folder / "valgrind.log"
+        return least([self.counted(under("callgrind", out, log, command, place=it)) for it in STACK_PLACES])
 
     def counted(self, told):
         """The same, of what callgrind wrote."""
@@ -137,23 +161,27 @@ class Sides:
                 callee, calls = None, 0
         return {key: round(total / calls) for key, (calls, total) in counts.items()}
 
-    def count_titled(self, drive, folder, capacity, mode):
-        """The instructions of each edge, of each short text or of a lookup, by side and title."""
+    def count_titled(self, drive, folder, capacity, mode, times=TIMES, names=()):
+        """The instructions of each edge, of each short text, of each length or of a lookup, by side and title."""
+        words = [drive, str(capacity), "ascii", mode]
+        titles = written(*words, "1", *names).splitlines()
+        command = ["--compress-strings=no", "--compress-pos=no", "--dump-before=*::next_edge*", *words, str(times), *names]
+        return least([self.by_title(folder, mode, titles, command, place) for place in STACK_PLACES])
+
+    def by_title(self, folder, mode, titles, command, place):
+        """The same at a place of the stack."""
         out = folder / f"{mode}.out"
         for part in folder.glob(f"{out.name}*"):
             part.unlink()
-        words = [drive, str(capacity), "ascii", mode]
-        titles = written(*words, "1").splitlines()
-        command = ["--compress-strings=no", "--compress-pos=no", "--dump-before=*::next_edge*", *words, str(TIMES)]
-        under("callgrind", out, folder / "valgrind.log", command)
+        under("callgrind", out, folder / "valgrind.log", command, place=place)
         # (the first part is what comes before the first edge, and the last one has no number)
         parts = [*(folder / f"{out.name}.{number}" for number in range(2, len(titles) + 1)), out]
         return {
             (side, title): count
             for title, part in zip(titles, parts)
             for (side, name), count in self.counted(part.read_text()).items()
-            # (the port's texts get behind an offset by it)
-            if name != "remove"
+            # (the port's short texts get behind an offset by it)
+            if name != "remove" or mode != "short"
         }
 
     def is_behind(self, counted, name):

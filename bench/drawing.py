@@ -1,65 +1,58 @@
-"""Draws what calls cost over sizes, from the first table of docs/speed.md."""
-import re
+"""Draws what calls take at each length, as both benches count it."""
 
 CALLS = [
-    "`try_push_str`", "`try_insert_str` in the middle", "`remove` in the middle",
-    "`drain` in the middle, walked", "`retain`, one in four dropped", "`cmp` of equal texts",
+    "`cmp`, the last differs", "`<`, the last differs", "`==`, equal",
+    "`try_push_str`", "`try_insert_str`", "`remove` in the middle",
+    "`try_from_str`", "`retain`, one in ten dropped", "`drain` of a quarter, walked",
 ]
-CAPACITIES = [23, 63, 255]
+CAPACITY = 255
 WIDTH, HEIGHT, MARGIN, LEFT, TOP = 250, 170, 14, 40, 34
-PORT, PEER = "#0b5cad", "#b3541e"
-
-
-def costs(table):
-    """The instructions of the port and of its best peer on ASCII, by the name of the call."""
-    found = {}
-    for line in table.splitlines():
-        name, *cells = line.strip("|").split("|")
-        if name in CALLS:
-            numbers = [[int(it) for it in re.findall(r"\d+", cell)] for cell in cells[::2]]
-            found[name] = [(port, min(peers)) for port, *peers in numbers]
-    return found
-
-
-def at(capacity, count, most):
-    """The point of a count in a panel, from its left upper corner."""
-    across = LEFT + (WIDTH - LEFT - MARGIN) * capacity / CAPACITIES[-1]
-    return f"{across:.0f},{HEIGHT - 24 - (HEIGHT - 24 - TOP) * count / most:.0f}"
-
-
-def line(counts, most, colour, dashes):
-    points = " ".join(at(capacity, count, most) for capacity, count in zip(CAPACITIES, counts))
-    dots = "".join(f'<circle cx="{point.split(",")[0]}" cy="{point.split(",")[1]}" r="3" fill="{colour}"/>' for point in points.split())
-    return f'<polyline points="{points}" fill="none" stroke="{colour}" stroke-width="2"{dashes}/>{dots}'
+FOOT = HEIGHT - 24
+LINES = [("#0b5cad", ""), ("#b3541e", "5 3"), ("#2c7a3f", "2 2"), ("#777777", "8 3 2 3")]
 
 
 def text(across, down, words, more=""):
-    return f'<text x="{across}" y="{down}" font-size="11"{more}>{words}</text>'
+    return f'<text x="{across}" y="{down}" font-size="11"{more}>{words.replace("<", "&lt;")}</text>'
 
 
-def panel(name, pairs):
-    """One call: the port's line, the best peer's, and the axes."""
-    most = max(map(max, pairs)) * 1.1
-    port, peer = zip(*pairs)
-    foot = HEIGHT - 24
-    ticks = "".join(text(at(it, 0, most).split(",")[0], foot + 14, it, ' text-anchor="middle"') for it in CAPACITIES)
-    top = max(map(max, pairs))
-    scale = text(LEFT - 5, foot, 0, ' text-anchor="end"') + text(LEFT - 5, at(0, top, most).split(",")[1], top, ' text-anchor="end"')
-    axes = f'<path d="M{LEFT},{TOP} V{foot} H{WIDTH - MARGIN}" fill="none" stroke="#888"/>'
-    title = text(LEFT, 18, name.replace("`", ""), ' font-weight="bold"')
-    return title + axes + ticks + scale + line(peer, most, PEER, ' stroke-dasharray="5 4"') + line(port, most, PORT, "")
+def panel(title, sides):
+    """One call: a line for each side that has it, and the axes."""
+    longest = max(max(counts) for _, counts in sides)
+    most = max(max(counts.values()) for _, counts in sides)
+
+    def across(size):
+        return LEFT + (WIDTH - LEFT - MARGIN) * size / longest
+
+    def down(count):
+        return FOOT - (FOOT - TOP) * count / most
+
+    ticks = [text(f"{across(it):.0f}", FOOT + 14, str(it), ' text-anchor="middle"') for it in [0, longest]]
+    scale = [text(LEFT - 5, f"{down(it) + 4:.0f}", str(it), ' text-anchor="end"') for it in [0, most]]
+    drawn = [
+        f'<polyline points="{" ".join(f"{across(size):.0f},{down(count):.0f}" for size, count in counts.items())}"'
+        f' fill="none" stroke="{colour}" stroke-width="1.5" stroke-dasharray="{dashes}"/>'
+        for (colour, dashes), counts in reversed(sides)
+    ]
+    axes = f'<path d="M{LEFT},{TOP} V{FOOT} H{WIDTH - MARGIN}" fill="none" stroke="#888"/>'
+    return "".join([text(LEFT, 18, title.replace("`", ""), ' font-weight="bold"'), axes, *ticks, *scale, *drawn])
 
 
-def drawing(table):
-    """The drawing, as SVG: a panel for each call."""
-    panels = "\n".join(
-        f'<g transform="translate({WIDTH * (place % 3)},{30 + HEIGHT * (place // 3)})">{panel(name, pairs)}</g>'
-        for place, (name, pairs) in enumerate(costs(table).items())
+def drawing(names, curves):
+    """The drawing, as SVG: a panel for each call, with the sides of these names."""
+    panels = []
+    for place, title in enumerate(CALLS):
+        counts = curves[title][CAPACITY]
+        sides = [(line, counts[name]) for line, name in zip(LINES, names) if name in counts]
+        where = f"translate({WIDTH * (place % 3)},{30 + HEIGHT * (place // 3)})"
+        panels.append(f'<g transform="{where}">{panel(title, sides)}</g>\n')
+    head = text(LEFT, 18, f"Instructions of a call by length, at {CAPACITY} bytes:")
+    keys = "".join(
+        text(330 + 100 * place, 18, name, f' fill="{colour}"')
+        + f'<path d="M{330 + 100 * place},24 h60" stroke="{colour}" stroke-width="2" stroke-dasharray="{dashes}"/>'
+        for place, ((colour, dashes), name) in enumerate(zip(LINES, names))
     )
-    head = text(LEFT, 18, "Instructions of a call over the capacity, three quarters full of ASCII: ")
-    keys = text(430, 18, "the port", f' fill="{PORT}"') + text(490, 18, "the best peer (dashed)", f' fill="{PEER}"')
-    size = f'width="{3 * WIDTH}" height="{30 + 2 * HEIGHT}"'
+    size = f'width="{3 * WIDTH}" height="{30 + HEIGHT * len(CALLS) // 3}"'
     return (
         f'<svg xmlns="http://www.w3.org/2000/svg" {size} font-family="sans-serif">\n'
-        f'<rect width="100%" height="100%" fill="white"/>\n{head}{keys}\n{panels}\n</svg>\n'
+        f'<rect width="100%" height="100%" fill="white"/>\n{head}{keys}\n{"".join(panels)}</svg>\n'
     )

@@ -2,15 +2,17 @@
 //! them. The port is the static library of the proved crates, with the kit's arrayvec beside it, or with the setting `erased`
 //! the Rust crate.
 //!
-//! Arguments: the capacity, `ascii` or `mixed`, `front`, `middle`, `edges`, `short`, `lookup` or a clock, and how often each
-//! call is made. All sides have to give the same answer and to leave the same text. `edges`, `short` and `lookup` print the
-//! title of each case, and the clocks, `in_turn` and `waiting`, what they timed.
+//! Arguments: the capacity, `ascii` or `mixed`, `front`, `middle`, `edges`, `short`, `curves`, `lookup` or a clock, how often each
+//! call is made, and the names of calls if not all curves are wanted. All sides have to give the same answer and to leave the same
+//! text. `edges`, `short`, `curves` and `lookup` print the title of each case, and the clocks, `in_turn` and `waiting`, what they
+//! timed.
 #![cfg_attr(erased, allow(dead_code))]
 
 #[cfg(has_arrayvec)]
 mod arrayvec;
 mod cases;
 mod clock;
+mod curves;
 mod edges;
 mod lookup;
 mod peers;
@@ -72,8 +74,8 @@ fn make_edges(capacity: usize, times: u32) {
     }
 }
 
-fn make_short(capacity: usize, times: u32) {
-    for (title, call, case) in short::cases(capacity) {
+fn make_titled(capacity: usize, cases: Vec<(String, u8, Case)>, times: u32) {
+    for (title, call, case) in cases {
         next_edge(black_box(&title));
         make(capacity, call, &black_box(case), times);
     }
@@ -121,7 +123,8 @@ fn main() {
     let times: u32 = words[3].parse().expect("a number");
     match place {
         "edges" => return make_edges(capacity, times),
-        "short" => return make_short(capacity, times),
+        "short" => return make_titled(capacity, short::cases(capacity), times),
+        "curves" => return make_titled(capacity, curves::cases(capacity, &words[4..]), times),
         "lookup" => return make_lookups(capacity),
         "in_turn" | "waiting" => return tell_clock(capacity, place, times),
         _ => {}

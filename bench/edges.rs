@@ -1,7 +1,7 @@
 //! Cases that bench/run counts in a table of their own: strings that are full or nearly so, ranges that are empty or
 //! short, texts of 1, 5 and 63 bytes. They are of ASCII where the title says nothing else.
 
-use crate::cases::Case;
+use crate::cases::{Case, filled};
 
 /// A call on a case that the capacity may be too small for.
 pub struct Edge {
@@ -90,14 +90,6 @@ impl Kind {
     fn dropping(self, pattern: &str, ch: char) -> Case {
         Case { ch, ..self.on(filled(pattern, self.usual_size())) }
     }
-}
-
-/// A pattern again and again, and `x` where a whole character has no room.
-fn filled(pattern: &str, size: usize) -> String {
-    let mut text = pattern.repeat(size / pattern.len() + 1);
-    text.truncate(text.floor_char_boundary(size));
-    text += &"x".repeat(size - text.len());
-    text
 }
 
 const fn edge(title: &'static str, call: u8, make: fn(Kind) -> Option<Case>) -> Edge {
