@@ -15,12 +15,18 @@ def lines_of(file):
             yield number, line
 
 
+def module_of(path):
+    """The name of the module in a file, by its path in the repository."""
+    return "Rattle." + ".".join(path.with_suffix("").parts[1:])
+
+
 class Item:
     """An item of a module: its lines, and the blocks `module _ .. where` that it is in."""
 
     def __init__(self, path, number, line, around, names):
         kind, public, other, self.name = re.match(rf"\s*(abbrev |unfoldable )?(pub )?(data |record )?({NAME})", line).groups()
         self.path, self.number, self.lines, self.around, self.names = path, number, [line], around, names
+        self.module = module_of(path)
         is_claim = kind and re.search("[≡≢≤<]", line.rpartition("→" if "→" in line else " : ")[2])
         self.is_public = bool(public)
         self.is_definition, self.is_data = bool(kind or other) and not is_claim, other == "data "
@@ -44,7 +50,7 @@ class Modules:
     def read_module(self, file):
         """Takes down the items of a module of specs/ or proofs/, and what the names in it stand for."""
         path = file.relative_to(self.root)
-        names = self.modules["Rattle." + ".".join(path.with_suffix("").parts[1:])] = imports(read(file))
+        names = self.modules[module_of(path)] = imports(read(file))
         item, around = None, []
         for number, line in lines_of(file):
             indent = len(line) - len(line.lstrip())

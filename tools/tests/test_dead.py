@@ -121,15 +121,47 @@ class Dead(TreeTest):
         self.assert_dead("doubling-made")
 
     def test_a_page_names_the_laws_of_each_row_by_how_they_end(self):
-        for page in ("Rows have `-made`.\n", "`halving-made n m`\n"):
+        self.write("crates/numbers/proofs/OtherLaws.antt", "pub halving-made : 1 ≤ 2\nhalving-made = omega arith\n")
+        for page in ("Rows have `-made`, as `halving-made`.\n", "`halving-made n m`\n"):
             self.laws(page)
             self.assert_passes(dead)
         self.replace("crates/numbers/specs/Edits.antt", "Edit (Unit {0})", "Test")
         self.assert_dead("doubling-made")
 
     def test_a_page_names_a_family_by_how_its_laws_begin(self):
-        self.laws("`halving-` and\n`doubling-` with `done t` and `made t i`\n")
+        self.laws("`doubling-` with\n`made t i`\n")
         self.replace("crates/numbers/specs/Edits.antt", "Edit (Unit {0})", "Test")
         self.assert_passes(dead)
         self.write("crates/numbers/LAWS.md", "`halving-` and `doubling-`, also `made t i`\n")
         self.assert_dead("doubling-made")
+
+    def passed_on(self, path, text):
+        """The crate above passes laws on by this file of its proofs/, and names one."""
+        self.laws("no law\n")
+        self.write("crates.txt", "numbers:\nupper: numbers\n")
+        self.write(f"crates/upper/proofs/{path}", text)
+        self.write("crates/upper/LAWS.md", "`doubling-made n`\n")
+
+    def test_a_page_names_the_laws_of_a_module_that_its_crate_passes_on(self):
+        self.passed_on("Lib.antt", "pub use Rattle.numbers.proofs.RowLaws\n")
+        self.assert_passes(dead)
+        self.write("crates/upper/LAWS.md", "no law\n")
+        self.assert_dead("doubling-made")
+
+    def test_a_law_that_is_passed_on_by_its_name_is_imported_or_named_by_a_page(self):
+        self.passed_on("UpperLaws.antt", "pub use Rattle.numbers.proofs.RowLaws.{doubling-made}\n")
+        self.assert_passes(dead)
+        self.laws("`doubling-made`\n")
+        self.write("crates/upper/LAWS.md", "no law\n")
+        self.assert_fails("Rattle.upper.proofs.UpperLaws passes on doubling-made, which no page names and nothing imports", dead)
+        importer = "use Rattle.upper.proofs.UpperLaws.{doubling-made}\n\npub returns : 1 ≤ 2\nreturns = doubling-made 1\n"
+        self.write("crates/upper/proofs/halve/Answers.antt", importer)
+        self.assert_passes(dead)
+
+    def test_an_index_names_no_law_that_callers_cannot_cite(self):
+        self.passed_on("Lib.antt", "pub use Rattle.numbers.proofs.RowLaws\n")
+        for page in ("`doubling-made n` and `doubling-done n`\n", "`doubling-` with `made n` and `done n`\n"):
+            self.write("crates/upper/LAWS.md", page)
+            self.assert_fails("crates/upper/LAWS.md names doubling-done, which is no law for callers", dead)
+        self.passed_on("Lib.antt", "")
+        self.assert_fails("crates/upper/LAWS.md names doubling-made, which is no law for callers", dead)

@@ -9,30 +9,20 @@ use Rattle.arraystring_base.proofs.BoundaryLaws.{boundary-within, front-start, b
 use Rattle.arraystring_base.specs.declared.error.Error.{Error}
 use Rattle.arraystring_base.specs.declared.error.Error.TheVariants.{Utf8, OutOfBounds}
 use Rattle.arraystring_core.specs.Edits.{Cause, Past, Room, Inside, Makes, FirstHolds, error_of, past, addition, addition_of_cut, insertion, insertion_of_cut}
-use Rattle.arraystring_core.proofs.EditLaws.{inside-not, inside-so}
-use Rattle.arraystring_core.proofs.EditLaws as law
+use Rattle.arraystring_core.proofs.EditLaws.{addition-no_cause, addition-room, inside-not, inside-so}
+pub use Rattle.arraystring_core.proofs.EditLaws.{addition-made, addition-refused}
 use Rattle.arraystring.proofs.TestLaws.{past-failed, past-held, inside-failed, inside-held, index-held}
 use Rattle.arraystring.proofs.EditLaws.{edit-makes, edit-refuses, edit-none_held, edit-first_held}
 
 -- `given` is added at the end
-module _ {t : List ℕ} (given : List ℕ) (n : ℕ) {new : List ℕ} where
-  -- an addition that returned `Ok`: all of it fitted, and is at the end
-  pub addition-made : Makes (addition t given n) t (Ok tt) new → (size t + size given ≤ n) × (new ≡ t ++ given)
-  addition-made m = law.addition-made given n m
-
-  -- an addition that returned `Err`: it did not fit, and the text is the old one
-  pub addition-refused : {error : Error} → Makes (addition t given n) t (Err error) new
-      → (n < size t + size given) × (error ≡ OutOfBounds) × (new ≡ t)
-  addition-refused m = law.addition-refused given n m
-
 module _ {t : List ℕ} (given : List ℕ) (n : ℕ) {new : List ℕ} {result : Result (Unit {0}) Error} where
   -- what fits is added
   pub addition-makes : size t + size given ≤ n → Makes (addition t given n) t result new → (result ≡ Ok tt) × (new ≡ t ++ given)
-  addition-makes fits m = edit-makes (law.addition-no_cause t given n fits) m
+  addition-makes fits m = edit-makes (addition-no_cause t given n fits) m
 
   -- what does not fit is refused
   pub addition-over : n < size t + size given → Makes (addition t given n) t result new → (result ≡ Err OutOfBounds) × (new ≡ t)
-  addition-over over m = edit-refuses {cause = Room} (law.addition-room t given n over) m
+  addition-over over m = edit-refuses {cause = Room} (addition-room t given n over) m
 
 -- what fits of `given` is added at the end
 module _ {t : List ℕ} (given : List ℕ) (n : ℕ) {new : List ℕ} {result : Result (Unit {0}) Error} where

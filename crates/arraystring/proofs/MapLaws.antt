@@ -15,7 +15,7 @@ use Rattle.std.proofs.lemmas.Map.Lookups.{exact_bytes}
 use Rattle.std.proofs.lemmas.Map.Views.{tells_apart}
 use Rattle.arraystring_base.specs.Text.{IsBefore}
 use Rattle.arraystring_core.specs.Stored.{Stored, string_of}
-use Rattle.arraystring.proofs.OrderLaws.{order-says}
+use Rattle.arraystring_base.proofs.OrderLaws.{order-says}
 
 -- whether a key has the text t
 abbrev pub has_text : List ℕ → Stored → Bool

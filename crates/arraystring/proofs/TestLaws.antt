@@ -5,13 +5,9 @@ use Rattle.std.specs.Prelude.{not, nat_lt}
 use Rattle.arraystring_base.specs.Text.{size, boundary}
 use Rattle.arraystring_base.specs.declared.error.Error.{Error}
 use Rattle.arraystring_base.specs.declared.error.Error.TheVariants.{Utf8, OutOfBounds}
-use Rattle.arraystring_core.specs.Edits.{Cause, Inside, Test, NoneHolds, FirstHolds, error_of, first_cause, past, inside}
+use Rattle.arraystring_core.specs.Edits.{Cause, Inside, Test, FirstHolds, error_of, first_cause, past, inside}
 use Rattle.arraystring_core.proofs.EditLaws.{inside-not, inside-so, inside-past}
-use Rattle.arraystring_core.proofs.EditLaws as law
-
--- if no cause is found, none of the tests holds
-pub none-holds : (tests : List Test) → first_cause tests ≡ None → NoneHolds tests
-none-holds = law.none-holds
+pub use Rattle.arraystring_core.proofs.EditLaws.{none-holds, inside-failed}
 
 -- if a cause is found, it is that of the first that holds
 pub first-holds : (tests : List Test) (found : Cause) → first_cause tests ≡ Some found → FirstHolds tests found
@@ -30,10 +26,6 @@ past-failed t i = ltb-false (size t) i
 -- an index that is past it
 pub past-held : (t : List ℕ) (i : ℕ) → (past t i).holds ≡ true → size t < i
 past-held t i = ltb-true (size t) i
-
--- an index in the text that is not inside a character is a boundary
-pub inside-failed : (t : List ℕ) (i : ℕ) → i ≤ size t → (inside t i).holds ≡ false → boundary t i ≡ true
-inside-failed = law.inside-failed
 
 -- an index inside a character is no boundary
 pub inside-held : (t : List ℕ) (i : ℕ) → (inside t i).holds ≡ true → (i < size t) × (boundary t i ≡ false)
