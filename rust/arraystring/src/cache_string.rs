@@ -160,7 +160,8 @@ impl CacheString {
     #[inline]
     pub unsafe fn from_str_unchecked<S: AsRef<str>>(string: S) -> Self {
         let string = string.as_ref();
-        // SAFETY: the proof of `from_str_unchecked` in crates/arraystring/src/cache_string.rt shows the precondition of `from_str_unchecked`.
+        // SAFETY: `string.len() <= Self::capacity()`: by this function's `# Safety`.
+        // Proved: crates/arraystring/src/cache_string.rt
         CacheString(unsafe { ArrayString::from_str_unchecked(string) })
     }
 
@@ -270,7 +271,9 @@ impl CacheString {
     /// </details>
     #[inline]
     pub unsafe fn from_iterator_unchecked<U: AsRef<str>, I: IntoIterator<Item = U>>(pieces: I) -> Self {
-        // SAFETY: the proof of `from_iterator_unchecked` in crates/arraystring/src/cache_string.rt shows `fits` of `from_iterator_unchecked`.
+        // SAFETY: the items of `pieces` take at most `Self::capacity()` bytes together: by this function's `# Safety`,
+        // also where the iterator does not end.
+        // Proved: crates/arraystring/src/cache_string.rt
         CacheString(unsafe { ArrayString::from_iterator_unchecked(pieces) })
     }
 
@@ -380,7 +383,9 @@ impl CacheString {
     /// </details>
     #[inline]
     pub unsafe fn from_chars_unchecked<I: IntoIterator<Item = char>>(characters: I) -> Self {
-        // SAFETY: the proof of `from_chars_unchecked` in crates/arraystring/src/cache_string.rt shows `fits` of `from_chars_unchecked`.
+        // SAFETY: the items of `characters` take at most `Self::capacity()` bytes together: by this function's
+        // `# Safety`, also where the iterator does not end.
+        // Proved: crates/arraystring/src/cache_string.rt
         CacheString(unsafe { ArrayString::from_chars_unchecked(characters) })
     }
 
@@ -492,7 +497,8 @@ impl CacheString {
     #[inline]
     pub unsafe fn from_utf8_unchecked<B: AsRef<[u8]>>(given: B) -> Self {
         let given = given.as_ref();
-        // SAFETY: the proof of `from_utf8_unchecked` in crates/arraystring/src/cache_string.rt shows `well_formed` and `fits` of `from_utf8_unchecked`.
+        // SAFETY: `given` is well-formed UTF-8; `given.len() <= Self::capacity()`: by this function's `# Safety`.
+        // Proved: crates/arraystring/src/cache_string.rt
         CacheString(unsafe { ArrayString::from_utf8_unchecked(given) })
     }
 

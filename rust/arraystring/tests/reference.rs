@@ -186,17 +186,85 @@ fn no_link_leaves_the_crate() {
     }
 }
 
+/// The comments before the `unsafe` blocks of a source, each in one line, with what they belong to.
+fn reasons(text: &str) -> Vec<(String, &str)> {
+    let lines: Vec<_> = text.lines().collect();
+    let bare = |at: usize| lines[at].trim().trim_start_matches("///").trim_start();
+    let blocks = (0..lines.len()).filter(|at| lines[*at].contains("unsafe {"));
+    let comment = |at: usize| {
+        let start = (0..at).rev().take_while(|before| bare(*before).starts_with("// ")).last().unwrap_or(at);
+        (start..at).map(|at| bare(at).trim_start_matches("// ")).collect::<Vec<_>>().join(" ")
+    };
+    blocks.map(|at| (comment(at), lines[at])).collect()
+}
+
+/// Words that a reader of the package alone can't follow.
+const OF_THE_PROOFS: &[&str] =
+    &["the proof of", "clause", "requires", "ensures", "precondition", "invariant", "boundary self", "≤", "≡", "2 ^"];
+
+/// What is wrong with the reason of a block, if anything.
+fn fault(reason: &str) -> Option<String> {
+    let Some((_, said)) = reason.split_once("SAFETY: ") else { return Some("no line `SAFETY`".to_string()) };
+    let word = OF_THE_PROOFS.iter().find(|word| said.contains(*word));
+    word.map(|word| format!("`{word}` in `{said}`"))
+}
+
 #[test]
-fn each_unsafe_block_has_its_reason() {
+fn each_unsafe_block_has_its_reason_in_words_of_rust() {
+    let mut count = 0;
     for (file, text) in files(Path::new("src")) {
-        let lines: Vec<_> = text.lines().collect();
-        for (at, line) in lines.iter().enumerate().filter(|(_, line)| line.contains("unsafe {")) {
-            let before = at.checked_sub(1).map_or("", |before| lines[before]);
-            let before = before.trim().trim_start_matches("/// ");
-            assert!(before.starts_with("// SAFETY: "), "{file}: {line}");
+        for (reason, line) in reasons(&text) {
+            assert_eq!(fault(&reason), None, "{file}: {line}");
+            count += 1;
         }
     }
-    for item in items().iter().filter(|item| item.head.contains("unsafe fn ")) {
-        assert!(item.docs.iter().any(|line| line == "# Safety"), "{}: {}", item.file, item.head);
+    assert!(count > 100, "{count} blocks");
+    let planted = |comment: &str| reasons(&format!("{comment}\n    let a = unsafe {{ f() }};\n"))[0].0.clone();
+    let wrong = [
+        "    // SAFETY: the proof of `f` shows `order` of `g`.",
+        "    // SAFETY: at most\n    // `IsTrue (boundary self.old.text at)`.",
+    ];
+    for comment in ["", "    // It is so.", "    // SAFETY: so it is.\n\n", wrong[0], wrong[1]] {
+        assert!(fault(&planted(comment)).is_some(), "{comment}");
     }
+    for comment in [
+        "    // SAFETY: so it is.",
+        "    // It.\n    // SAFETY: `a <= b`:\n    // tested above.\n    // Proved: crates/a.rt",
+    ] {
+        assert_eq!(fault(&planted(comment)), None, "{comment}");
+    }
+}
+
+/// What is wrong with the section on safety of an `unsafe fn`, if anything. A private one has a line for each fact.
+fn fault_of_section(item: &Item) -> Option<String> {
+    let section = item.docs.iter().skip_while(|line| *line != "# Safety").skip(1);
+    let lines: Vec<_> =
+        section.take_while(|line| !line.starts_with(['#', '<'])).filter(|line| !line.is_empty()).collect();
+    let is_public = item.head.trim_start().starts_with("pub ");
+    match lines.iter().find(|line| !is_public && !line.starts_with("- ")) {
+        _ if lines.is_empty() => Some("no section `Safety`".to_string()),
+        Some(line) => Some(format!("no fact: {line}")),
+        None => lines.iter().find_map(|line| fault(&format!("SAFETY: {line}"))),
+    }
+}
+
+#[test]
+fn each_unsafe_function_says_what_it_requires_in_words_of_rust() {
+    let is_made = |item: &&Item| item.head.contains("unsafe fn ") && !item.file.contains("by_hand");
+    let items = items();
+    let found: Vec<_> = items.iter().filter(is_made).collect();
+    assert!(found.len() > 50, "{} functions", found.len());
+    for item in found {
+        assert_eq!(fault_of_section(item), None, "{}: {}", item.file, item.head);
+    }
+    let planted = |head: &str, docs: &[&str]| {
+        let docs = docs.iter().map(|line| line.to_string()).collect();
+        fault_of_section(&Item { file: String::new(), head: head.to_string(), docs })
+    };
+    for docs in [&["It."][..], &["# Safety", ""], &["# Safety", "", "- `a <= b`", "it"], &["# Safety", "", "- `a ≤ b`"]]
+    {
+        assert!(planted("unsafe fn f() {", docs).is_some(), "{docs:?}");
+    }
+    assert_eq!(planted("unsafe fn f() {", &["# Safety", "", "- `a <= b`", "- it is UTF-8", "", "<details>"]), None);
+    assert_eq!(planted("pub unsafe fn f() {", &["# Safety", "", "It must fit."]), None);
 }

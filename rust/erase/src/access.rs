@@ -7,14 +7,14 @@ use crate::erase::Tally;
 use crate::rules::WRITES;
 
 /// What is counted.
-pub const ACCESSES: &str = "accesses that are proved to be within";
+const ACCESSES: &str = "accesses that are proved to be within";
 
 /// Words behind which a bracket begins an array, and no index.
 const NO_OPERANDS: &[&str] =
     &["mut", "in", "return", "as", "else", "match", "if", "while", "let", "ref", "move", "break"];
 
-/// Rewrites the access that begins at a token, if one does.
-pub fn rewrite(body: &Body, at: usize, edits: &mut Edits, tally: &mut Tally) -> Result<(), Fault> {
+/// Rewrites the access that begins at a token, if one does. Returns whether one does.
+pub fn rewrite(body: &Body, at: usize, edits: &mut Edits, tally: &mut Tally) -> Result<bool, Fault> {
     let is_access = match body.text(at) {
         "[" => index(body, at, edits)?,
         "unreachable" if body.text(at + 1) == "!" => {
@@ -31,7 +31,7 @@ pub fn rewrite(body: &Body, at: usize, edits: &mut Edits, tally: &mut Tally) -> 
     if is_access {
         tally.count(ACCESSES);
     }
-    Ok(())
+    Ok(is_access)
 }
 
 /// Rewrites the index whose bracket is at `opens`. Returns whether it is one that could be past an end.

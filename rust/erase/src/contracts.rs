@@ -26,11 +26,6 @@ impl Clause {
         }
     }
 
-    /// How a comment calls the clause.
-    pub fn told(&self) -> String {
-        if self.name.is_empty() { "the precondition".to_string() } else { format!("`{}`", self.name) }
-    }
-
     /// The clause as documentation quotes it.
     pub fn shown(&self) -> String {
         format!("`{}`", self.text.split_whitespace().collect::<Vec<_>>().join(" "))
@@ -63,11 +58,20 @@ pub enum Called<'a> {
     Free,
 }
 
+/// A function that is `unsafe` in Rust.
+pub struct Worker {
+    /// Its name, behind that of its type or file.
+    pub call: String,
+    /// From `fn` to the last sign before its clauses.
+    pub head: String,
+    /// The preconditions on which something rests in Rust.
+    pub clauses: Vec<String>,
+}
+
 /// What was read of the functions, by their name behind that of their type or file.
 #[derive(Default)]
 pub struct Contracts {
-    /// The preconditions on which something rests in Rust, as comments call them.
-    requires: BTreeMap<String, Vec<String>>,
+    workers: BTreeMap<String, Worker>,
     /// All functions.
     functions: BTreeSet<String>,
     /// The functions of which Rust gives up a clause.
@@ -82,11 +86,13 @@ pub struct Contracts {
 
 impl Contracts {
     /// Notes the clauses of a function.
-    pub fn note(&mut self, call: &str, preconditions: &[Clause]) {
+    pub fn note(&mut self, call: &str, head: &str, preconditions: &[Clause]) {
         self.functions.insert(call.to_string());
-        let clauses: Vec<_> = preconditions.iter().filter(|clause| !clause.is_given_up()).map(Clause::told).collect();
+        let kept = preconditions.iter().filter(|clause| !clause.is_given_up());
+        let clauses: Vec<_> = kept.map(|clause| clause.text.clone()).collect();
         if !clauses.is_empty() && !FATES.iter().any(|(name, fate)| *name == call && matches!(fate, Fate::Panics(..))) {
-            self.requires.insert(call.to_string(), clauses);
+            let worker = Worker { call: call.to_string(), head: head.to_string(), clauses };
+            self.workers.insert(call.to_string(), worker);
         }
     }
 
@@ -129,15 +135,13 @@ impl Contracts {
 
     /// Whether a function is `unsafe` in Rust.
     pub fn is_unsafe(&self, call: &str) -> bool {
-        self.requires.contains_key(call)
+        self.workers.contains_key(call)
     }
 
-    /// If what a call names is `unsafe` in Rust, its whole name, and what the call has to show, in words. Fails if it may name
-    /// another one that is, too.
-    pub fn shown_by(&self, name: &str, called: &Called, owner: &str) -> Result<Option<(String, String)>, String> {
-        let is_type = |owner: &str| owner.starts_with(char::is_uppercase);
-        let mut meant = self.requires.iter().filter(|(call, _)| {
-            let Some((of, its)) = call.split_once("::") else { return false };
+    /// What a call names, if that is `unsafe` in Rust. Fails if it may name another one that is, too.
+    pub fn called(&self, name: &str, called: &Called, owner: &str) -> Result<Option<&Worker>, String> {
+        let mut meant = self.workers.values().filter(|worker| {
+            let Some((of, its)) = worker.call.split_once("::") else { return false };
             let is_meant = match called {
                 Called::Method => is_type(of),
                 Called::Behind("Self") => of == owner,
@@ -146,14 +150,14 @@ impl Contracts {
             };
             its == name && is_meant
         });
-        let Some((call, clauses)) = meant.next() else { return Ok(None) };
-        if let Some((other, _)) = meant.next() {
-            return Err(format!("`{name}` may be `{call}` or `{other}`"));
+        match (meant.next(), meant.next()) {
+            (Some(worker), Some(other)) => Err(format!("`{name}` may be `{}` or `{}`", worker.call, other.call)),
+            (worker, _) => Ok(worker),
         }
-        let clauses = match clauses.split_last() {
-            Some((last, first)) if !first.is_empty() => format!("{} and {last}", first.join(", ")),
-            _ => clauses.concat(),
-        };
-        Ok(Some((call.clone(), format!("{clauses} of `{name}`"))))
     }
+}
+
+/// Whether an owner of functions is a type, and no file or module.
+pub fn is_type(owner: &str) -> bool {
+    owner.starts_with(char::is_uppercase)
 }

@@ -2,12 +2,12 @@
 
 use std::collections::{BTreeMap, BTreeSet};
 
-use crate::access::ACCESSES;
 use crate::contracts::Contracts;
 use crate::cursor::{Cursor, Fault};
 use crate::edits::tidied;
 use crate::items::File;
 use crate::pages::ordered;
+use crate::reasons::Reasons;
 use crate::rules::{BY_STD, REPLACED, TESTED};
 
 /// A source that is erased.
@@ -35,16 +35,18 @@ pub struct Tally {
     pub used: BTreeSet<String>,
     /// What was read of all functions before.
     pub contracts: Contracts,
+    /// Why what workers require is true.
+    pub reasons: &'static [Reasons],
 }
 
 impl Tally {
-    pub fn count(&mut self, what: &'static str) {
-        *self.counts.entry(what).or_default() += 1;
+    /// One of nothing, by these reasons.
+    pub fn of(reasons: &'static [Reasons]) -> Self {
+        Tally { reasons, ..Tally::default() }
     }
 
-    /// How many accesses lost their test.
-    pub fn accesses(&self) -> usize {
-        self.counts.get(ACCESSES).copied().unwrap_or_default()
+    pub fn count(&mut self, what: &'static str) {
+        *self.counts.entry(what).or_default() += 1;
     }
 }
 

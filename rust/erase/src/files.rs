@@ -8,9 +8,10 @@ use std::process::{Command, Stdio};
 
 use crate::erase::{Source, Tally, erase, line_of};
 use crate::names;
+use crate::reasons::{REASONS, Reasons};
 use crate::rules::{
     ADDED, BODIES, BY_HAND, BY_STD, CONSTANT, CRATES, FATES, GIVEN_UP, KNOWN, LEFT_OUT, MORE, NAMED, ONCE, ORDER,
-    PROVED, REPLACED, SHOWN, TESTED, TWINS, WIDER,
+    REPLACED, TESTED, TWINS, WIDER,
 };
 use crate::width;
 
@@ -20,9 +21,9 @@ pub type Made = BTreeMap<String, String>;
 /// Makes all files out of the sources in a folder of crates.
 pub fn made(crates: &Path) -> Result<(Made, Tally), String> {
     // Read twice: a call is `unsafe` by the contract of what it calls, which may come later.
-    let (_, mut read) = read_all(crates, Tally::default())?;
+    let (_, mut read) = read_all(crates, Tally::of(REASONS))?;
     read.contracts.is_whole = true;
-    let (made, tally) = read_all(crates, Tally { contracts: read.contracts, ..Tally::default() })?;
+    let (made, tally) = read_all(crates, Tally { contracts: read.contracts, ..Tally::of(REASONS) })?;
     all_used(&tally)?;
     names::laws_change_nothing(|path| self::read(&crates.join(path)))?;
     width::bounded(&made)?;
@@ -73,10 +74,7 @@ pub fn entries() -> Vec<String> {
     let names = names.chain(BY_STD.iter().map(|rule| format!("by std {}", rule.file)));
     let names = names.chain(BY_STD.iter().flat_map(|rule| rule.calls).map(|call| format!("by std {call}")));
     let names = names.chain(KNOWN.iter().map(|(call, clause)| format!("known {call} {clause}")));
-    let names = names.chain(PROVED.iter().map(|(call, _)| format!("proved {call}")));
-    let shown = SHOWN.iter().flat_map(|shown| shown.calls);
-    let shown = shown.flat_map(|(call, workers)| workers.iter().map(move |worker| format!("shown {call} {worker}")));
-    let names = names.chain(shown);
+    let names = names.chain(REASONS.iter().flat_map(Reasons::entries));
     let names = names.chain(GIVEN_UP.iter().map(|clause| format!("given up `{clause}`")));
     let names = names.chain(NAMED.iter().flat_map(|named| named.paths).map(|path| format!("named {path}")));
     let names = names.chain(BODIES.iter().map(|rule| format!("body {}", rule.call)));
@@ -94,7 +92,7 @@ pub fn entries() -> Vec<String> {
 /// Each rule has matched.
 pub fn all_used(tally: &Tally) -> Result<(), String> {
     match entries().iter().find(|name| !tally.used.contains(*name)) {
-        Some(name) => Err(format!("rust/erase/src/rules.rs: nothing in the sources matches the entry `{name}`")),
+        Some(name) => Err(format!("rust/erase/src: nothing in the sources matches the entry `{name}`")),
         None => Ok(()),
     }
 }

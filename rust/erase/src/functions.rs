@@ -3,17 +3,18 @@
 use std::ops::Range;
 
 use crate::body::{self, Body, Here};
-use crate::contracts::Clause;
+use crate::clauses::{Names, said};
+use crate::contracts::{Clause, is_type};
 use crate::cursor::{Cursor, Fault, Token};
 use crate::edits::Edits;
 use crate::erase::Source;
 use crate::items::{File, Inside, Lead};
-use crate::known::test_of;
+use crate::reasons::{ACCESSES, Reasons};
 use crate::rules::{
-    BEHIND, BODIES, BY_STD, CONSTANT, FATES, Fate, KNOWN, LEFT_OUT, ONCE, Once, PROVED, REPLACED, TESTS_RANGE, TWINS,
-    WALK, WIDER,
+    BEHIND, BODIES, BY_STD, CONSTANT, FATES, Fate, KNOWN, LEFT_OUT, ONCE, Once, REPLACED, TESTS_RANGE, TWINS, WALK,
+    WIDER,
 };
-use crate::sections::{example, section};
+use crate::sections::{example, required, section};
 
 /// A function as it was read.
 struct Function {
@@ -35,14 +36,6 @@ impl Function {
     /// The preconditions on which something rests in Rust.
     fn kept(&self) -> impl Iterator<Item = &Clause> {
         self.preconditions.iter().filter(|clause| !clause.is_given_up())
-    }
-}
-
-/// What stands under `# Safety` of a private function that keeps these clauses.
-fn safety(kept: &[String]) -> String {
-    match kept {
-        [only] => format!("The contract requires {only}."),
-        _ => format!("The contract requires each of these: {}.", kept.join(", ")),
     }
 }
 
@@ -68,7 +61,7 @@ impl<'a> File<'a, '_> {
             return Ok(());
         }
         self.define(name, inside, word.at.start)?;
-        self.tally.contracts.note(&function.call, &function.preconditions);
+        self.tally.contracts.note(&function.call, &self.text[function.head.clone()], &function.preconditions);
         if is_public {
             self.tally.contracts.note_public(&function.call);
         }
@@ -92,25 +85,36 @@ impl<'a> File<'a, '_> {
         }
         let Source { krate, path, .. } = *self.source;
         let fate = FATES.iter().find(|(call, _)| *call == function.call).map(|(_, fate)| fate);
-        let is_tested = matches!(fate, Some(Fate::Panics(_, Some(_))));
         let gives_up = matches!(fate, Some(Fate::Panics(..))) || function.preconditions.iter().any(Clause::is_given_up);
         if gives_up && !function.tokens.is_empty() {
             self.tally.contracts.note_given_up(&function.call);
         }
-        let is_listed = PROVED.iter().any(|(call, _)| *call == function.call);
-        // (what std does instead has no body of the source)
-        let is_left = !BY_STD.iter().any(|rule| rule.file == path);
-        let proves = is_left && (is_listed || !self.tally.contracts.is_given_up(&function.call));
-        let here = Here { krate, path, owner: inside.owner, call: &function.call, is_tested, gives_up, proves };
+        let reasons = self.tally.reasons.iter().find(|reasons| reasons.of == function.call);
+        let is_within =
+            |reasons: &Reasons| !reasons.anyway.is_empty() && reasons.calls.iter().any(|(of, _)| *of == ACCESSES);
+        let proves = reasons.is_some_and(is_within) || !self.tally.contracts.is_given_up(&function.call);
+        let here = Here { krate, path, owner: inside.owner, call: &function.call, gives_up, proves };
         // (behind `fn` and its name)
         self.are_meant(&self.tokens(function.head.clone())[2..])?;
         self.are_meant(&function.tokens)?;
-        let before = self.tally.accesses();
-        body::rewrite(self.text, &function.tokens, &here, &mut self.edits, self.tally)?;
-        if is_listed && self.tally.accesses() > before && self.tally.contracts.is_given_up(&function.call) {
-            self.tally.used.insert(format!("proved {}", function.call));
+        if self.is_by_std() {
+            return Ok(());
         }
-        Ok(())
+        body::rewrite(self.text, &function.tokens, &here, &mut self.edits, self.tally)
+    }
+
+    /// Whether std does what the file does, so that its bodies go.
+    fn is_by_std(&self) -> bool {
+        BY_STD.iter().any(|rule| rule.file == self.source.path)
+    }
+
+    /// The clauses of a function that are kept, as its documentation says them.
+    fn said(&self, function: &Function) -> Result<Vec<String>, Fault> {
+        let names = Names::of_parameters(&self.text[function.head.clone()], is_type(&function.call));
+        let facts = function.kept().map(|clause| said(&clause.text, &names));
+        facts
+            .collect::<Result<_, _>>()
+            .map_err(|why| Fault::new(function.head.start, format!("`{}`: {why}", function.call)))
     }
 
     fn read_function(
@@ -204,11 +208,11 @@ impl<'a> File<'a, '_> {
                 return Ok(true);
             }
             None if !has_precondition || !(function.is_public || inside.of_trait) => {
-                if rests {
+                if rests && !self.is_by_std() {
                     self.tally.count("private functions that are `unsafe` in Rust");
                     self.edits.replace(function.head.start..function.head.start + "fn".len(), "unsafe fn");
-                    let words = safety(&function.kept().map(Clause::shown).collect::<Vec<_>>());
-                    self.in_its_place(lead, section(&self.indent(lead.docs_end), "Safety", &words));
+                    let facts = self.said(function)?;
+                    self.in_its_place(lead, required(&self.indent(lead.docs_end), &facts));
                 }
                 return match lead.precondition {
                     Some(_) if !rests => Err(Fault::new(lead.start, format!("`{call}` has no precondition in Rust"))),
@@ -221,17 +225,20 @@ impl<'a> File<'a, '_> {
         Err(Fault::new(function.head.start, why))
     }
 
-    /// Puts the clauses that are known at the start of a body.
+    /// Puts the clauses that are known at the start of a body, if something in Rust may rest on them.
     fn known(&mut self, function: &Function) -> Result<(), Fault> {
-        let Function { call, body, .. } = function;
+        let Function { call, head, body, .. } = function;
         let line = self.text[*body..].split('\n').nth(1).unwrap_or_default();
         let indent = &line[..line.len() - line.trim_start().len()];
-        for (_, clause) in KNOWN.iter().filter(|(name, _)| name == call) {
-            let name = if clause.is_empty() { "precondition" } else { *clause };
-            let test = self.test(function, clause)?;
+        for (_, name) in KNOWN.iter().filter(|(of, _)| of == call) {
+            let said = function.kept().zip(self.said(function)?).find(|(clause, _)| clause.name == *name);
+            let test = said.as_ref().and_then(|(_, said)| said.strip_prefix('`')?.strip_suffix('`'));
+            let Some(test) = test.filter(|test| !test.contains('`')) else {
+                return Err(Fault::new(head.start, format!("`{call}`: it has no test `{name}` that could be known")));
+            };
             self.edits.insert(*body, format!("\n{indent}known!({name}: {test});"));
             self.tally.count("clauses that are known");
-            self.tally.used.insert(format!("known {call} {clause}"));
+            self.tally.used.insert(format!("known {call} {name}"));
         }
         Ok(())
     }
@@ -239,8 +246,9 @@ impl<'a> File<'a, '_> {
     /// Puts the twin of a function behind it, with the same body but for the tests of its accesses.
     fn twin(&mut self, function: &Function) -> Result<(), Fault> {
         let Some(rule) = TWINS.iter().find(|rule| rule.of == function.call) else { return Ok(()) };
-        if !function.preconditions.iter().any(|clause| clause.name == rule.clause && !clause.is_given_up()) {
-            let why = format!("`{}`: it has no clause `{}` that its twin could need", rule.of, rule.clause);
+        let facts = self.said(function)?;
+        if facts.is_empty() {
+            let why = format!("`{}`: it has no clause that its twin could need", rule.of);
             return Err(Fault::new(function.head.start, why));
         }
         let body = &self.text[function.body..function.end - 1];
@@ -249,34 +257,23 @@ impl<'a> File<'a, '_> {
             tokens.push(token);
         }
         let Source { krate, path, .. } = *self.source;
-        let here = Here { krate, path, owner: "", call: rule.of, is_tested: false, gives_up: false, proves: true };
-        body::rewrite(body, &tokens, &here, &mut edits, self.tally)?;
         let head = self.text[function.head.clone()].replacen(rule.call, rule.twin, 1);
-        let words = format!("The clause `{}` of `{}` must hold.", rule.clause, rule.call);
+        let call = rule.of.replace(rule.call, rule.twin);
+        self.tally.contracts.note(&call, &head, &function.preconditions);
+        let here = Here { krate, path, owner: "", call: &call, gives_up: false, proves: true };
+        body::rewrite(body, &tokens, &here, &mut edits, self.tally)?;
         self.edits.insert(
             function.end,
             format!(
                 "\n\n/// `{}` where bodies call it, without a test.\n///\n{}#[inline(always)]\npub(crate) unsafe {}{{{}}}",
                 rule.call,
-                section("", "Safety", &words),
+                required("", &facts),
                 head.trim_end().to_string() + " ",
                 edits.apply(body),
             ),
         );
         self.tally.used.insert(format!("twin {}", rule.of));
         Ok(())
-    }
-
-    /// The test of a clause that a function requires, and that something in Rust may rest on.
-    fn test(&self, function: &Function, clause: &str) -> Result<String, Fault> {
-        let Function { call, head, preconditions, .. } = function;
-        let fault = |why: String| Fault::new(head.start, format!("`{call}`: {why}"));
-        let found = preconditions.iter().find(|precondition| precondition.name == clause);
-        let found = found.ok_or_else(|| fault(format!("it has no clause `{clause}` that could be known")))?;
-        if found.is_given_up() || !self.tally.contracts.is_unsafe(call) {
-            return Err(fault(format!("`{clause}` is no fact in Rust, since safe calls do not show it")));
-        }
-        test_of(&found.text, &self.text[head.clone()]).map_err(fault)
     }
 
     /// What the body of a function does here, if another one runs than the proved.

@@ -3,7 +3,7 @@
 use std::ops::Range;
 
 use crate::body;
-use crate::contracts::shown;
+use crate::contracts::{is_type, shown};
 use crate::cursor::{Cursor, Fault, Kind, Token};
 use crate::edits::Edits;
 use crate::erase::{Source, Tally};
@@ -22,7 +22,7 @@ pub struct Inside<'a> {
 impl Inside<'_> {
     /// Whether they are those of a type.
     pub fn is_type(&self) -> bool {
-        self.owner.starts_with(char::is_uppercase)
+        is_type(self.owner)
     }
 }
 

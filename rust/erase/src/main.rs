@@ -9,6 +9,7 @@
 
 mod access;
 mod body;
+mod clauses;
 mod checksum;
 mod contracts;
 mod cursor;
@@ -17,11 +18,11 @@ mod erase;
 mod files;
 mod functions;
 mod items;
-mod known;
 mod listed;
 mod names;
 mod pages;
 mod proved;
+mod reasons;
 mod rules;
 mod sections;
 mod width;
@@ -89,14 +90,6 @@ fn run(root: &std::path::Path, is_check: bool, is_unproved_allowed: bool) -> Res
     }
     for rule in width::BOUNDED {
         println!("products and shifts: {}: {} in `{}`: {}", rule.file, rule.count, rule.function, rule.why);
-    }
-    for (call, why) in rules::PROVED {
-        println!("proved where a clause is given up: `{call}`: {why}");
-    }
-    for shown in rules::SHOWN {
-        let calls: Vec<_> =
-            shown.calls.iter().map(|(call, workers)| format!("{call} of {}", workers.join(", "))).collect();
-        println!("shown where a clause is given up: {}: {}", calls.join("; "), shown.why);
     }
     for rule in rules::TESTED {
         println!("tests by hand: {} has {}: {}", rule.file, rule.path, rule.why);

@@ -449,84 +449,6 @@ pub const GIVEN_UP: &[&str] = &[
     "F.IsAlwaysCallable drops.now",
 ];
 
-/// The functions that give up a clause, or call one that does, and whose accesses are within all the same, with the reason. Any
-/// other such function keeps the tests of its accesses.
-pub const PROVED: &[(&str, &str)] = &[
-    ("utf8::truncate_str_counted", "`last_boundary` returns a boundary, whatever was counted"),
-    ("remove::retain_at", "where it reads follows from `held` and `text`, and not from what the closure may be asked"),
-    ("ArrayString::drop_leading_ascii", "its loop tests the index, whatever the closure answers"),
-    ("Drain::next_back", "where it reads follows from the invariant, before anything is counted"),
-];
-
-/// Calls of `unsafe` workers by functions that give up a clause. The precondition of the worker is proved there from all clauses,
-/// so each is listed with the reason that it needs none of those that are given up.
-pub struct Shown {
-    pub why: &'static str,
-    /// The function, and the workers that it calls.
-    pub calls: &'static [(&'static str, &'static [&'static str])],
-}
-
-pub const SHOWN: &[Shown] = &[
-    Shown {
-        why: "places and sizes follow from the text and its array; a counter is only added to",
-        calls: &[
-            ("moves::shift", &["moves::move_run"]),
-            ("gap::open_gap", &["moves::shift"]),
-            ("gap::compact_and_open_gap", &["moves::shift"]),
-            ("utf8::truncate_str_counted", &["utf8::last_boundary"]),
-            ("utf8::last_boundary", &["steps::look"]),
-            ("utf8::last_char", &["utf8::char_before_end"]),
-            ("utf8::char_before_end", &["steps::look"]),
-            ("ArrayString::splice", &["ArrayString::compact_and_splice", "gap::open_gap", "moves::write_over"]),
-            ("ArrayString::compact_and_splice", &["gap::compact_and_open_gap", "moves::write_over"]),
-            ("ArrayString::take_out", &["ArrayString::drop_front", "moves::shift"]),
-            ("ArrayString::try_insert_str_counted", &["ArrayString::splice"]),
-            ("ArrayString::replace_between", &["ArrayString::splice"]),
-            ("ArrayString::pop_counted", &["ArrayString::keep"]),
-            ("ArrayString::remove_counted", &["ArrayString::char_at", "ArrayString::take_out"]),
-            ("ArrayString::drain_counted", &["ArrayString::take_out", "Drain::new"]),
-        ],
-    },
-    Shown {
-        why: "what is written was tested to fit, item by item, and each item leaves a text, whether or not the iterator ends",
-        calls: &[
-            ("ArrayString::append_chars", &["ArrayString::append_char"]),
-            ("ArrayString::append_strs", &["ArrayString::append_past_end", "moves::write_over"]),
-            ("ArrayString::add_chars", &["ArrayString::append_chars"]),
-            ("ArrayString::add_strs", &["ArrayString::append_strs"]),
-            ("ArrayString::try_from_chars", &["ArrayString::append_chars"]),
-            ("ArrayString::from_chars", &["ArrayString::append_chars"]),
-            ("ArrayString::try_from_iterator", &["ArrayString::append_strs"]),
-            ("ArrayString::from_iterator", &["ArrayString::append_strs"]),
-        ],
-    },
-    Shown {
-        why: "the caller promises that all items fit, so an iterator that does not end is promised away",
-        calls: &[
-            ("ArrayString::from_iterator_unchecked", &["moves::write_over"]),
-            ("CacheString::from_iterator_unchecked", &["ArrayString::from_iterator_unchecked"]),
-            ("CacheString::from_chars_unchecked", &["ArrayString::from_chars_unchecked"]),
-        ],
-    },
-    Shown {
-        why: "where characters begin and end follows from the text, whatever a closure answers; behind one that panics nothing is done",
-        calls: &[
-            ("ArrayString::drop_trailing", &["ArrayString::keep"]),
-            ("ArrayString::drop_leading_ascii", &["ArrayString::drop_run"]),
-            ("ArrayString::drop_leading_decoded", &["ArrayString::drop_front"]),
-            ("ArrayString::retain", &["remove::retain_at"]),
-            ("remove::retain_at", &["moves::shift", "remove::first_char"]),
-        ],
-    },
-    Shown {
-        why: "the index that Rust puts before it tests the range, as the precondition does",
-        calls: &[
-            ("ArrayString::make_ascii_uppercase_in", &["ArrayString::uppercase_between"]),
-            ("ArrayString::make_ascii_lowercase_in", &["ArrayString::lowercase_between"]),
-        ],
-    },
-];
-
 /// The calls on a part that write into it, beside `copy_from_slice`.
 pub const WRITES: &[&str] = &["make_ascii_uppercase", "make_ascii_lowercase"];
 
@@ -570,8 +492,9 @@ pub const BODIES: &[Body] = &[
         call: "ArrayString::as_str",
         lines: &[
             "let (size, start) = (self.size as usize, self.start as usize);",
+            "// SAFETY: this is within: `start + size` is at most `N`, as the fields of the type say.",
             "let (_, text) = split_at_unchecked!(split_at_unchecked!(self.array, start + size).0, start);",
-            "// SAFETY: the type's `invariant`: the `size` bytes from `start` on are UTF-8.",
+            "// SAFETY: the `size` bytes from `start` on are UTF-8, as the fields of the type say.",
             "unsafe { str::from_utf8_unchecked(text) }",
         ],
         here: SPLITS,
@@ -581,6 +504,7 @@ pub const BODIES: &[Body] = &[
         call: "ArrayString::as_bytes",
         lines: &[
             "let (size, start) = (self.size as usize, self.start as usize);",
+            "// SAFETY: this is within: `start + size` is at most `N`, as the fields of the type say.",
             "split_at_unchecked!(split_at_unchecked!(self.array, start + size).0, start).1",
         ],
         here: SPLITS,
@@ -618,10 +542,9 @@ pub struct Twin {
     pub of: &'static str,
     pub call: &'static str,
     pub twin: &'static str,
-    pub clause: &'static str,
 }
 
-pub const TWINS: &[Twin] = &[Twin { of: "steps::look", call: "look", twin: "look_unchecked", clause: "in_bounds" }];
+pub const TWINS: &[Twin] = &[Twin { of: "steps::look", call: "look", twin: "look_unchecked" }];
 
 /// A file in which std does what a function of the source does.
 pub struct ByStd {
@@ -679,7 +602,7 @@ pub const BY_STD: &[ByStd] = &[
         imports: "use crate::arraystring_base::error::Utf8;\nuse crate::by_hand::str;",
         function: "read_utf8",
         docs: "Returns the text whose UTF-8 is `given`, or `Err(Utf8)` if `given` is not well-formed.",
-        body: "let (blocks, last) = (given.len() / 32 * 32, given.len().saturating_sub(32));\n    if get_unchecked!(given, ..blocks).is_ascii() && get_unchecked!(given, last..).is_ascii() {\n        // SAFETY: the blocks of 32 bytes in front and the last 32 bytes are all of them, and ASCII is UTF-8.\n        return Ok(unsafe { str::from_utf8_unchecked(given) });\n    }\n    str::from_utf8(given).map_err(Utf8::from)",
+        body: "let (blocks, last) = (given.len() / 32 * 32, given.len().saturating_sub(32));\n    // SAFETY: this is within: neither is above `given.len()`.\n    if get_unchecked!(given, ..blocks).is_ascii() && get_unchecked!(given, last..).is_ascii() {\n        // SAFETY: the blocks of 32 bytes in front and the last 32 bytes are all of them, and ASCII is UTF-8.\n        return Ok(unsafe { str::from_utf8_unchecked(given) });\n    }\n    str::from_utf8(given).map_err(Utf8::from)",
         calls: &[
             "ArrayString::try_from_utf8",
             "ArrayString::from_utf8",

@@ -41,14 +41,22 @@ pub fn documented(indent: &str, lines: &str) -> String {
     lines.lines().map(|line| format!("{}\n", format!("{indent}/// {line}").trim_end())).collect()
 }
 
-/// Words as the lines of a paragraph.
-fn paragraph(indent: &str, words: &str) -> String {
-    let mut put = String::new();
-    let mut line = format!("{indent}///");
+/// Words as the lines of a comment, each of which begins with `sign`.
+pub fn lines(indent: &str, sign: &str, words: &str) -> String {
+    let mut pieces = Vec::<String>::new();
     for word in words.split_whitespace() {
+        match pieces.last_mut() {
+            // What stands between backticks stays on one line.
+            Some(open) if open.matches('`').count() % 2 == 1 => *open += &format!(" {word}"),
+            _ => pieces.push(word.to_string()),
+        }
+    }
+    let mut put = String::new();
+    let mut line = format!("{indent}{sign}");
+    for word in pieces {
         if line.chars().count() + word.chars().count() >= 120 {
             put += &format!("{line}\n");
-            line = format!("{indent}///");
+            line = format!("{indent}{sign}");
         }
         line += &format!(" {word}");
     }
@@ -57,7 +65,13 @@ fn paragraph(indent: &str, words: &str) -> String {
 
 /// A section of words.
 pub fn section(indent: &str, title: &str, words: &str) -> String {
-    format!("{indent}/// # {title}\n{indent}///\n{}", paragraph(indent, words))
+    format!("{indent}/// # {title}\n{indent}///\n{}", lines(indent, "///", words))
+}
+
+/// What stands under `# Safety` of a private function that requires these.
+pub fn required(indent: &str, facts: &[String]) -> String {
+    let items: String = facts.iter().map(|fact| format!("{indent}/// - {fact}\n")).collect();
+    format!("{indent}/// # Safety\n{indent}///\n{items}")
 }
 
 /// A section of an example.

@@ -1,5 +1,7 @@
 //! Samples of sources, and what comes of them.
 
+use crate::reasons::{ACCESSES, of};
+
 use super::*;
 
 #[path = "tests/accesses.rs"]
@@ -15,10 +17,35 @@ mod refused;
 #[path = "tests/ruled.rs"]
 mod ruled;
 
+/// Why what is called in samples may be called there.
+const WHY: &str = "by the test above";
+const REASONS: &[Reasons] = &[
+    of("sample::f", &[(ACCESSES, WHY), ("sample::put", WHY), ("a::put", WHY), ("steps::look_unchecked", WHY)]),
+    of("sample::first", &[(ACCESSES, WHY), ("steps::look_unchecked", WHY)]),
+    of("sample::second", &[(ACCESSES, WHY), ("sample::third", WHY)]),
+    of("sample::third", &[(ACCESSES, WHY)]),
+    of("sample::twice", &[("sample::put", "it is the first"), ("sample::put", "it is the last")]),
+    of("sample::counted", &[("sample::put", WHY), ("steps::look_unchecked", WHY)]).anyway("whatever was counted"),
+    of("remove::retain_at", &[(ACCESSES, WHY)]).anyway("whatever the closure answers"),
+    of("Text::put", &[("sample::shift", WHY), ("Text::push", "it is short"), ("Text::spelled", "it is a text")]),
+    of("Number::fmt", &[("steps::look_unchecked", WHY)]),
+    of("ArrayString::push_str", &[("ArrayString::put", WHY)]),
+    of("ArrayString::make_ascii_uppercase_in", &[("ArrayString::uppercase_between", "the index above panics else")])
+        .anyway("so no caller shows it"),
+];
+
+/// What is known of functions that samples call.
+fn tally() -> Tally {
+    let mut tally = Tally::of(REASONS);
+    let text = ruled::STEPS;
+    erase(&Source { krate: "arraystring_base", path: "arraystring_base/src/steps.rt", text }, &mut tally).unwrap();
+    tally
+}
+
 /// What comes of a file of the lowest crate.
 fn made(text: &str) -> Result<String, String> {
     let source = Source { krate: "arraystring_base", path: "arraystring_base/src/sample.rt", text };
-    let mut tally = Tally::default();
+    let mut tally = tally();
     // As `files` does: once for the contracts, and once by them.
     let _ = erase(&source, &mut tally);
     let erased = erase(&source, &mut tally);
@@ -60,7 +87,7 @@ use core::fmt;
 ///
 /// # Safety
 ///
-/// The contract requires `n < 255`.
+/// - `n < 255`
 ///
 /// <details><summary>Contract</summary>
 ///
@@ -148,13 +175,12 @@ impl Text {
     }
 
     fn push(&mut self, text: Self)
-        requires { size text < 3 }
+        requires { length text.now < 3 }
         requires countable { steps.old.moved ≤ 2 ^ 63 }
     {}
 
     fn spelled(text: &str)
-        requires well_formed { IsUtf8 text }
-        requires first { 0 < 1 }
+        requires well_formed { IsWellFormed text.now }
         requires fits { 0 < 2 }
     {}
 }
@@ -171,12 +197,15 @@ fn count(steps: &mut Steps)
 }
 ";
     let text = made(source).unwrap();
-    let plain = "        // SAFETY: the proof of `put` in crates/arraystring_base/src/sample.rt shows `source` and `target` of `shift`.
+    let plain = "        // SAFETY: `1 < 2`; `2 < 3`: by the test above.
+        // Proved: crates/arraystring_base/src/sample.rt
         if unsafe { shift::<4>(&mut self.array, (1, 2), 3) } {\n";
     assert!(text.contains(plain), "{text}");
     let nested = "            // SAFETY: it is UTF-8.
-            // SAFETY: the proof of `put` in crates/arraystring_base/src/sample.rt shows the precondition of `push`.
-            // SAFETY: the proof of `put` in crates/arraystring_base/src/sample.rt shows `well_formed`, `first` and `fits` of `spelled`.
+            // SAFETY: `Self::spelled(unsafe { str::from_utf8_unchecked(s) }).len() < 3`: it is short.
+            // Proved: crates/arraystring_base/src/sample.rt
+            // SAFETY: `str::from_utf8_unchecked(s)` is well-formed UTF-8; `0 < 2`: it is a text.
+            // Proved: crates/arraystring_base/src/sample.rt
             unsafe { self.push(Self::spelled(str::from_utf8_unchecked(s))) };\n";
     assert!(text.contains(nested), "{text}");
     for line in [
@@ -219,7 +248,7 @@ fn f(text: &Text) {
 /// What comes of a file of the lowest crate that has a name of its own.
 fn made_as(path: &str, text: &str) -> Result<String, String> {
     let source = Source { krate: "arraystring_base", path, text };
-    let mut tally = Tally::default();
+    let mut tally = tally();
     let _ = erase(&source, &mut tally);
     erase(&source, &mut tally).map(|erased| erased.text).map_err(|fault| fault.why)
 }
@@ -234,19 +263,19 @@ fn move_pairs(requires: &str) -> Result<String, String> {
 
 #[test]
 fn a_clause_of_the_list_is_known_at_the_start_of_its_body() {
-    let known = "len: usize) {\n    known!(source: to + len <= N && to <= to + len);\n    write(array";
+    let known = "len: usize) {\n    known!(source: to + len <= N);\n    write(array";
     let text = move_pairs("source { to + len ≤ N }").unwrap();
     assert!(text.contains(known), "{text}");
-    let name = "`moves::move_pairs`: it has no clause `source` that could be known";
-    assert_eq!(move_pairs("room { to + len ≤ N }").unwrap_err(), name);
-    let unread = "`moves::move_pairs`: `≢` in a clause that is to be known";
-    assert_eq!(move_pairs("source { to ≢ N }").unwrap_err(), unread);
+    for no_test in ["room { to + len ≤ N }", "source { IsUtf8 (take len (drop to array.old)) }"] {
+        assert_eq!(move_pairs(no_test).unwrap_err(), NOT_KNOWN);
+    }
 }
+
+const NOT_KNOWN: &str = "`moves::move_pairs`: it has no test `source` that could be known";
 
 #[test]
 fn a_clause_that_is_given_up_is_never_known() {
-    let why = "`moves::move_pairs`: `source` is no fact in Rust, since safe calls do not show it";
-    assert_eq!(move_pairs("source { steps.old.moved ≤ 2 ^ 63 }").unwrap_err(), why);
+    assert_eq!(move_pairs("source { steps.old.moved ≤ 2 ^ 63 }").unwrap_err(), NOT_KNOWN);
 }
 
 #[test]

@@ -307,7 +307,7 @@ impl<const N: usize> ArrayString<N> {
         ensures bytes { bytes result.text ≡ given.now }
         ensures text { IsText result.text }
     {
-        // SAFETY: the caller gives well-formed UTF-8, as the precondition says.
+        // SAFETY: the caller has to give well-formed UTF-8.
         Self::from_str_unchecked(unsafe { str::from_utf8_unchecked(given) })
     }
 }

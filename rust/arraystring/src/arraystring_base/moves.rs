@@ -44,7 +44,8 @@ use crate::by_hand::simd::Simd;
 #[inline(always)]
 pub unsafe fn shift<const N: usize>(array: &mut [u8; N], from: usize, to: usize, len: usize, steps: &mut Steps) {
     if from != to {
-        // SAFETY: the proof of `shift` in crates/arraystring_base/src/moves.rt shows `source` and `target` of `move_run`.
+        // SAFETY: `from + len <= N`; `to + len <= N`: by this function's `# Safety`, whatever was counted.
+        // Proved: crates/arraystring_base/src/moves.rt
         unsafe { move_run(array, from, to, len) };
         steps.count_moves(len);
     }
@@ -70,13 +71,17 @@ pub unsafe fn shift<const N: usize>(array: &mut [u8; N], from: usize, to: usize,
 /// </details>
 pub unsafe fn move_run<const N: usize>(array: &mut [u8; N], from: usize, to: usize, len: usize) {
     if N > 64 && len > 64 {
-        // SAFETY: the proof of `move_run` in crates/arraystring_base/src/moves.rt shows `source`, `target` and `long` of `move_much`.
+        // SAFETY: `from + len <= N`; `to + len <= N`; `64 < len`: by this function's `# Safety` and the tests above.
+        // Proved: crates/arraystring_base/src/moves.rt
         unsafe { move_much(array, from, to, len) };
     } else if len >= 16 {
-        // SAFETY: the proof of `move_run` in crates/arraystring_base/src/moves.rt shows `source`, `target`, `least` and `most` of `move_long_run`.
+        // SAFETY: `from + len <= N`; `to + len <= N`; `16 <= len`; `len <= 64`: by this function's `# Safety` and the
+        // tests above, since `len` is at most `N`.
+        // Proved: crates/arraystring_base/src/moves.rt
         unsafe { move_long_run(array, from, to, len) };
     } else {
-        // SAFETY: the proof of `move_run` in crates/arraystring_base/src/moves.rt shows `source`, `target` and `short` of `move_short_run`.
+        // SAFETY: `from + len <= N`; `to + len <= N`; `len < 16`: by this function's `# Safety` and the tests above.
+        // Proved: crates/arraystring_base/src/moves.rt
         unsafe { move_short_run(array, from, to, len) };
     }
 }
@@ -85,7 +90,9 @@ pub unsafe fn move_run<const N: usize>(array: &mut [u8; N], from: usize, to: usi
 ///
 /// # Safety
 ///
-/// The contract requires each of these: `from + len ≤ N`, `to + len ≤ N`, `len < 16`.
+/// - `from + len <= N`
+/// - `to + len <= N`
+/// - `len < 16`
 ///
 /// <details><summary>Contract</summary>
 ///
@@ -102,17 +109,25 @@ pub unsafe fn move_run<const N: usize>(array: &mut [u8; N], from: usize, to: usi
 unsafe fn move_short_run<const N: usize>(array: &mut [u8; N], from: usize, to: usize, len: usize) {
     if len >= 4 {
         if len >= 8 {
-            // SAFETY: the proof of `move_short_run` in crates/arraystring_base/src/moves.rt shows `source`, `target`, `least` and `most` of `move_ends`.
+            // SAFETY: `from + len <= N`; `to + len <= N`; `8 <= len`; `len - 8 <= 8`: by this function's `# Safety` and
+            // the tests above.
+            // Proved: crates/arraystring_base/src/moves.rt
             unsafe { move_ends::<N, 8>(array, from, to, len) };
         } else {
-            // SAFETY: the proof of `move_short_run` in crates/arraystring_base/src/moves.rt shows `source`, `target`, `least` and `most` of `move_ends`.
+            // SAFETY: `from + len <= N`; `to + len <= N`; `4 <= len`; `len - 4 <= 4`: by this function's `# Safety` and
+            // the tests above.
+            // Proved: crates/arraystring_base/src/moves.rt
             unsafe { move_ends::<N, 4>(array, from, to, len) };
         }
     } else if len >= 2 {
-        // SAFETY: the proof of `move_short_run` in crates/arraystring_base/src/moves.rt shows `source`, `target`, `least` and `most` of `move_ends`.
+        // SAFETY: `from + len <= N`; `to + len <= N`; `2 <= len`; `len - 2 <= 2`: by this function's `# Safety` and the
+        // tests above.
+        // Proved: crates/arraystring_base/src/moves.rt
         unsafe { move_ends::<N, 2>(array, from, to, len) };
     } else if len == 1 {
-        // SAFETY: the proof of `move_short_run` in crates/arraystring_base/src/moves.rt shows `source`, `target`, `least` and `most` of `move_ends`.
+        // SAFETY: `from + len <= N`; `to + len <= N`; `1 <= len`; `len - 1 <= 1`: by this function's `# Safety` and the
+        // tests above.
+        // Proved: crates/arraystring_base/src/moves.rt
         unsafe { move_ends::<N, 1>(array, from, to, len) };
     }
 }
@@ -121,7 +136,10 @@ unsafe fn move_short_run<const N: usize>(array: &mut [u8; N], from: usize, to: u
 ///
 /// # Safety
 ///
-/// The contract requires each of these: `from + len ≤ N`, `to + len ≤ N`, `16 ≤ len`, `len ≤ 64`.
+/// - `from + len <= N`
+/// - `to + len <= N`
+/// - `16 <= len`
+/// - `len <= 64`
 ///
 /// <details><summary>Contract</summary>
 ///
@@ -138,10 +156,14 @@ unsafe fn move_short_run<const N: usize>(array: &mut [u8; N], from: usize, to: u
 /// </details>
 unsafe fn move_long_run<const N: usize>(array: &mut [u8; N], from: usize, to: usize, len: usize) {
     if N > 32 && len > 32 {
-        // SAFETY: the proof of `move_long_run` in crates/arraystring_base/src/moves.rt shows `source`, `target`, `least` and `most` of `move_ends`.
+        // SAFETY: `from + len <= N`; `to + len <= N`; `32 <= len`; `len - 32 <= 32`: by this function's `# Safety` and
+        // the tests above, since `len` is at most `N`.
+        // Proved: crates/arraystring_base/src/moves.rt
         unsafe { move_ends::<N, 32>(array, from, to, len) };
     } else {
-        // SAFETY: the proof of `move_long_run` in crates/arraystring_base/src/moves.rt shows `source`, `target`, `least` and `most` of `move_ends`.
+        // SAFETY: `from + len <= N`; `to + len <= N`; `16 <= len`; `len - 16 <= 16`: by this function's `# Safety` and
+        // the tests above, since `len` is at most `N`.
+        // Proved: crates/arraystring_base/src/moves.rt
         unsafe { move_ends::<N, 16>(array, from, to, len) };
     }
 }
@@ -150,7 +172,9 @@ unsafe fn move_long_run<const N: usize>(array: &mut [u8; N], from: usize, to: us
 ///
 /// # Safety
 ///
-/// The contract requires each of these: `from + len ≤ N`, `to + len ≤ N`, `64 < len`.
+/// - `from + len <= N`
+/// - `to + len <= N`
+/// - `64 < len`
 ///
 /// <details><summary>Contract</summary>
 ///
@@ -166,13 +190,18 @@ unsafe fn move_long_run<const N: usize>(array: &mut [u8; N], from: usize, to: us
 /// </details>
 unsafe fn move_much<const N: usize>(array: &mut [u8; N], from: usize, to: usize, len: usize) {
     if len <= 128 {
-        // SAFETY: the proof of `move_much` in crates/arraystring_base/src/moves.rt shows `source`, `target`, `least` and `most` of `move_ends`.
+        // SAFETY: `from + len <= N`; `to + len <= N`; `64 <= len`; `len - 64 <= 64`: by this function's `# Safety` and
+        // the tests above.
+        // Proved: crates/arraystring_base/src/moves.rt
         unsafe { move_ends::<N, 64>(array, from, to, len) };
     } else if N <= 256 {
-        // SAFETY: the proof of `move_much` in crates/arraystring_base/src/moves.rt shows `source`, `target`, `least` and `most` of `move_pairs`.
+        // SAFETY: `from + len <= N`; `to + len <= N`; `64 + 64 <= len`; `len - (64 + 64) <= 64 + 64`: by this
+        // function's `# Safety` and the tests above, since `len` is at most `N`.
+        // Proved: crates/arraystring_base/src/moves.rt
         unsafe { move_pairs::<N, 64>(array, from, to, len) };
     } else {
-        // SAFETY: the proof of `move_much` in crates/arraystring_base/src/moves.rt shows `source` and `target` of `move_any_run`.
+        // SAFETY: `from + len <= N`; `to + len <= N`: by this function's `# Safety`.
+        // Proved: crates/arraystring_base/src/moves.rt
         unsafe { move_any_run(array, from, to, len) };
     }
 }
@@ -181,7 +210,8 @@ unsafe fn move_much<const N: usize>(array: &mut [u8; N], from: usize, to: usize,
 ///
 /// # Safety
 ///
-/// The contract requires each of these: `from + len ≤ N`, `to + len ≤ N`.
+/// - `from + len <= N`
+/// - `to + len <= N`
 ///
 /// <details><summary>Contract</summary>
 ///
@@ -205,7 +235,10 @@ unsafe fn move_any_run<const N: usize>(array: &mut [u8; N], from: usize, to: usi
 ///
 /// # Safety
 ///
-/// The contract requires each of these: `from + len ≤ N`, `to + len ≤ N`, `K ≤ len`, `len - K ≤ K`.
+/// - `from + len <= N`
+/// - `to + len <= N`
+/// - `K <= len`
+/// - `len - K <= K`
 ///
 /// <details><summary>Contract</summary>
 ///
@@ -223,13 +256,19 @@ unsafe fn move_any_run<const N: usize>(array: &mut [u8; N], from: usize, to: usi
 unsafe fn move_ends<const N: usize, const K: usize>(array: &mut [u8; N], from: usize, to: usize, len: usize) {
     let rest = len - K;
     let all = &array[..];
-    // SAFETY: the proof of `move_ends` in crates/arraystring_base/src/moves.rt shows the precondition of `bytes_of`.
+    // SAFETY: `from + K <= all.len()`: `all` is the array, which has the `len` bytes from `from` on, and `rest + K` is
+    // `len`.
+    // Proved: crates/arraystring_base/src/moves.rt
     let first = unsafe { bytes_of::<K>(all, from) };
-    // SAFETY: the proof of `move_ends` in crates/arraystring_base/src/moves.rt shows the precondition of `bytes_of`.
+    // SAFETY: `from + rest + K <= all.len()`: `all` is the array, which has the `len` bytes from `from` on, and
+    // `rest + K` is `len`.
+    // Proved: crates/arraystring_base/src/moves.rt
     let last = unsafe { bytes_of::<K>(all, from + rest) };
-    // SAFETY: the proof of `move_ends` in crates/arraystring_base/src/moves.rt shows the precondition of `put_bytes`.
+    // SAFETY: `to + K <= N`: the array has the `len` bytes from `to` on, and `rest + K` is `len`.
+    // Proved: crates/arraystring_base/src/moves.rt
     unsafe { put_bytes(array, to, first) };
-    // SAFETY: the proof of `move_ends` in crates/arraystring_base/src/moves.rt shows the precondition of `put_bytes`.
+    // SAFETY: `to + rest + K <= N`: the array has the `len` bytes from `to` on, and `rest + K` is `len`.
+    // Proved: crates/arraystring_base/src/moves.rt
     unsafe { put_bytes(array, to + rest, last) };
 }
 
@@ -237,7 +276,10 @@ unsafe fn move_ends<const N: usize, const K: usize>(array: &mut [u8; N], from: u
 ///
 /// # Safety
 ///
-/// The contract requires each of these: `from + len ≤ N`, `to + len ≤ N`, `K + K ≤ len`, `len - (K + K) ≤ K + K`.
+/// - `from + len <= N`
+/// - `to + len <= N`
+/// - `K + K <= len`
+/// - `len - (K + K) <= K + K`
 ///
 /// <details><summary>Contract</summary>
 ///
@@ -253,20 +295,30 @@ unsafe fn move_ends<const N: usize, const K: usize>(array: &mut [u8; N], from: u
 ///
 /// </details>
 unsafe fn move_pairs<const N: usize, const K: usize>(array: &mut [u8; N], from: usize, to: usize, len: usize) {
-    known!(source: from + len <= N && from <= from + len);
+    known!(source: from + len <= N);
     let rest = len - (K + K);
     let all = &array[..];
-    // SAFETY: the proof of `move_pairs` in crates/arraystring_base/src/moves.rt shows the precondition of `bytes_of`.
+    // SAFETY: `from + K <= all.len()`: `all` is the array, `K + K` is at most `len`, and `rest + K + K` is `len`, which
+    // ends in it.
+    // Proved: crates/arraystring_base/src/moves.rt
     let front = unsafe { bytes_of::<K>(all, from) };
-    // SAFETY: the proof of `move_pairs` in crates/arraystring_base/src/moves.rt shows the precondition of `bytes_of`.
+    // SAFETY: `from + K + K <= all.len()`: `all` is the array, `K + K` is at most `len`, and `rest + K + K` is `len`,
+    // which ends in it.
+    // Proved: crates/arraystring_base/src/moves.rt
     let after_front = unsafe { bytes_of::<K>(all, from + K) };
-    // SAFETY: the proof of `move_pairs` in crates/arraystring_base/src/moves.rt shows the precondition of `bytes_of`.
+    // SAFETY: `from + rest + K <= all.len()`: `all` is the array, `K + K` is at most `len`, and `rest + K + K` is
+    // `len`, which ends in it.
+    // Proved: crates/arraystring_base/src/moves.rt
     let before_end = unsafe { bytes_of::<K>(all, from + rest) };
-    // SAFETY: the proof of `move_pairs` in crates/arraystring_base/src/moves.rt shows the precondition of `bytes_of`.
+    // SAFETY: `from + rest + K + K <= all.len()`: `all` is the array, `K + K` is at most `len`, and `rest + K + K` is
+    // `len`, which ends in it.
+    // Proved: crates/arraystring_base/src/moves.rt
     let end = unsafe { bytes_of::<K>(all, from + rest + K) };
-    // SAFETY: the proof of `move_pairs` in crates/arraystring_base/src/moves.rt shows the precondition of `put_pair`.
+    // SAFETY: `to + (K + K) <= N`: the array has the `len` bytes from `to` on, and `rest + (K + K)` is `len`.
+    // Proved: crates/arraystring_base/src/moves.rt
     unsafe { put_pair(array, to, front, after_front) };
-    // SAFETY: the proof of `move_pairs` in crates/arraystring_base/src/moves.rt shows the precondition of `put_pair`.
+    // SAFETY: `to + rest + (K + K) <= N`: the array has the `len` bytes from `to` on, and `rest + (K + K)` is `len`.
+    // Proved: crates/arraystring_base/src/moves.rt
     unsafe { put_pair(array, to + rest, before_end, end) };
 }
 
@@ -289,10 +341,12 @@ unsafe fn move_pairs<const N: usize, const K: usize>(array: &mut [u8; N], from: 
 /// </details>
 pub unsafe fn write_over<const N: usize>(array: &mut [u8; N], at: usize, given: &[u8]) {
     if given.len() >= 16 {
-        // SAFETY: the proof of `write_over` in crates/arraystring_base/src/moves.rt shows `room` and `least` of `write_long_run`.
+        // SAFETY: `at + given.len() <= N`; `16 <= given.len()`: by this function's `# Safety` and the tests above.
+        // Proved: crates/arraystring_base/src/moves.rt
         unsafe { write_long_run(array, at, given) };
     } else {
-        // SAFETY: the proof of `write_over` in crates/arraystring_base/src/moves.rt shows `room` and `short` of `write_short_run`.
+        // SAFETY: `at + given.len() <= N`; `given.len() < 16`: by this function's `# Safety` and the tests above.
+        // Proved: crates/arraystring_base/src/moves.rt
         unsafe { write_short_run(array, at, given) };
     }
 }
@@ -301,7 +355,8 @@ pub unsafe fn write_over<const N: usize>(array: &mut [u8; N], at: usize, given: 
 ///
 /// # Safety
 ///
-/// The contract requires each of these: `at + length given.now ≤ N`, `length given.now < 16`.
+/// - `at + given.len() <= N`
+/// - `given.len() < 16`
 ///
 /// <details><summary>Contract</summary>
 ///
@@ -318,17 +373,25 @@ unsafe fn write_short_run<const N: usize>(array: &mut [u8; N], at: usize, given:
     let len = given.len();
     if len >= 4 {
         if len >= 8 {
-            // SAFETY: the proof of `write_short_run` in crates/arraystring_base/src/moves.rt shows `room`, `least` and `most` of `copy_ends`.
+            // SAFETY: `at + given.len() <= N`; `8 <= given.len()`; `given.len() - 8 <= 8`: by this function's
+            // `# Safety` and the tests above.
+            // Proved: crates/arraystring_base/src/moves.rt
             unsafe { copy_ends::<N, 8>(array, at, given) };
         } else {
-            // SAFETY: the proof of `write_short_run` in crates/arraystring_base/src/moves.rt shows `room`, `least` and `most` of `copy_ends`.
+            // SAFETY: `at + given.len() <= N`; `4 <= given.len()`; `given.len() - 4 <= 4`: by this function's
+            // `# Safety` and the tests above.
+            // Proved: crates/arraystring_base/src/moves.rt
             unsafe { copy_ends::<N, 4>(array, at, given) };
         }
     } else if len >= 2 {
-        // SAFETY: the proof of `write_short_run` in crates/arraystring_base/src/moves.rt shows `room`, `least` and `most` of `copy_ends`.
+        // SAFETY: `at + given.len() <= N`; `2 <= given.len()`; `given.len() - 2 <= 2`: by this function's `# Safety`
+        // and the tests above.
+        // Proved: crates/arraystring_base/src/moves.rt
         unsafe { copy_ends::<N, 2>(array, at, given) };
     } else if len == 1 {
-        // SAFETY: the proof of `write_short_run` in crates/arraystring_base/src/moves.rt shows `room`, `least` and `most` of `copy_ends`.
+        // SAFETY: `at + given.len() <= N`; `1 <= given.len()`; `given.len() - 1 <= 1`: by this function's `# Safety`
+        // and the tests above.
+        // Proved: crates/arraystring_base/src/moves.rt
         unsafe { copy_ends::<N, 1>(array, at, given) };
     }
 }
@@ -337,7 +400,8 @@ unsafe fn write_short_run<const N: usize>(array: &mut [u8; N], at: usize, given:
 ///
 /// # Safety
 ///
-/// The contract requires each of these: `at + length given.now ≤ N`, `16 ≤ length given.now`.
+/// - `at + given.len() <= N`
+/// - `16 <= given.len()`
 ///
 /// <details><summary>Contract</summary>
 ///
@@ -353,13 +417,18 @@ unsafe fn write_short_run<const N: usize>(array: &mut [u8; N], at: usize, given:
 unsafe fn write_long_run<const N: usize>(array: &mut [u8; N], at: usize, given: &[u8]) {
     let len = given.len();
     if N > 64 && len > 64 {
-        // SAFETY: the proof of `write_long_run` in crates/arraystring_base/src/moves.rt shows the precondition of `write_any_run`.
+        // SAFETY: `at + given.len() <= N`: by this function's `# Safety`.
+        // Proved: crates/arraystring_base/src/moves.rt
         unsafe { write_any_run(array, at, given) };
     } else if N > 32 && len > 32 {
-        // SAFETY: the proof of `write_long_run` in crates/arraystring_base/src/moves.rt shows `room`, `least` and `most` of `copy_ends`.
+        // SAFETY: `at + given.len() <= N`; `32 <= given.len()`; `given.len() - 32 <= 32`: by this function's `# Safety`
+        // and the tests above, since `len` is at most `N`.
+        // Proved: crates/arraystring_base/src/moves.rt
         unsafe { copy_ends::<N, 32>(array, at, given) };
     } else {
-        // SAFETY: the proof of `write_long_run` in crates/arraystring_base/src/moves.rt shows `room`, `least` and `most` of `copy_ends`.
+        // SAFETY: `at + given.len() <= N`; `16 <= given.len()`; `given.len() - 16 <= 16`: by this function's `# Safety`
+        // and the tests above, since `len` is at most `N`.
+        // Proved: crates/arraystring_base/src/moves.rt
         unsafe { copy_ends::<N, 16>(array, at, given) };
     }
 }
@@ -368,7 +437,7 @@ unsafe fn write_long_run<const N: usize>(array: &mut [u8; N], at: usize, given: 
 ///
 /// # Safety
 ///
-/// The contract requires `at + length given.now ≤ N`.
+/// - `at + given.len() <= N`
 ///
 /// <details><summary>Contract</summary>
 ///
@@ -390,8 +459,9 @@ unsafe fn write_any_run<const N: usize>(array: &mut [u8; N], at: usize, given: &
 ///
 /// # Safety
 ///
-/// The contract requires each of these: `at + length given.now ≤ N`, `K ≤ length given.now`, `length given.now - K ≤
-/// K`.
+/// - `at + given.len() <= N`
+/// - `K <= given.len()`
+/// - `given.len() - K <= K`
 ///
 /// <details><summary>Contract</summary>
 ///
@@ -407,13 +477,18 @@ unsafe fn write_any_run<const N: usize>(array: &mut [u8; N], at: usize, given: &
 /// </details>
 unsafe fn copy_ends<const N: usize, const K: usize>(array: &mut [u8; N], at: usize, given: &[u8]) {
     let rest = given.len() - K;
-    // SAFETY: the proof of `copy_ends` in crates/arraystring_base/src/moves.rt shows the precondition of `bytes_of`.
+    // SAFETY: `K <= given.len()`: by this function's `# Safety`, and since `rest + K` is `given.len()`.
+    // Proved: crates/arraystring_base/src/moves.rt
     let first = unsafe { bytes_of::<K>(given, 0) };
-    // SAFETY: the proof of `copy_ends` in crates/arraystring_base/src/moves.rt shows the precondition of `bytes_of`.
+    // SAFETY: `rest + K <= given.len()`: by this function's `# Safety`, and since `rest + K` is `given.len()`.
+    // Proved: crates/arraystring_base/src/moves.rt
     let last = unsafe { bytes_of::<K>(given, rest) };
-    // SAFETY: the proof of `copy_ends` in crates/arraystring_base/src/moves.rt shows the precondition of `put_bytes`.
+    // SAFETY: `at + K <= N`: the array has the `given.len()` bytes from `at` on, and `rest + K` is `given.len()`.
+    // Proved: crates/arraystring_base/src/moves.rt
     unsafe { put_bytes(array, at, first) };
-    // SAFETY: the proof of `copy_ends` in crates/arraystring_base/src/moves.rt shows the precondition of `put_bytes`.
+    // SAFETY: `at + rest + K <= N`: the array has the `given.len()` bytes from `at` on, and `rest + K` is
+    // `given.len()`.
+    // Proved: crates/arraystring_base/src/moves.rt
     unsafe { put_bytes(array, at + rest, last) };
 }
 
@@ -421,7 +496,7 @@ unsafe fn copy_ends<const N: usize, const K: usize>(array: &mut [u8; N], at: usi
 ///
 /// # Safety
 ///
-/// The contract requires `at + K ≤ length given.now`.
+/// - `at + K <= given.len()`
 ///
 /// <details><summary>Contract</summary>
 ///
@@ -441,7 +516,7 @@ unsafe fn bytes_of<const K: usize>(given: &[u8], at: usize) -> Simd<u8, K> {
 ///
 /// # Safety
 ///
-/// The contract requires `at + K ≤ N`.
+/// - `at + K <= N`
 ///
 /// <details><summary>Contract</summary>
 ///
@@ -462,7 +537,7 @@ unsafe fn put_bytes<const N: usize, const K: usize>(array: &mut [u8; N], at: usi
 ///
 /// # Safety
 ///
-/// The contract requires `at + (K + K) ≤ N`.
+/// - `at + (K + K) <= N`
 ///
 /// <details><summary>Contract</summary>
 ///
@@ -480,8 +555,10 @@ unsafe fn put_pair<const N: usize, const K: usize>(
     first: Simd<u8, K>,
     second: Simd<u8, K>,
 ) {
-    // SAFETY: the proof of `put_pair` in crates/arraystring_base/src/moves.rt shows the precondition of `put_bytes`.
+    // SAFETY: `at + K <= N`: by this function's `# Safety`.
+    // Proved: crates/arraystring_base/src/moves.rt
     unsafe { put_bytes(array, at, first) };
-    // SAFETY: the proof of `put_pair` in crates/arraystring_base/src/moves.rt shows the precondition of `put_bytes`.
+    // SAFETY: `at + K + K <= N`: by this function's `# Safety`.
+    // Proved: crates/arraystring_base/src/moves.rt
     unsafe { put_bytes(array, at + K, second) };
 }

@@ -166,7 +166,7 @@ pub fn look(bytes: &[u8], at: usize, steps: &mut Steps) -> u8 {
 ///
 /// # Safety
 ///
-/// The clause `in_bounds` of `look` must hold.
+/// - `at < bytes.len()`
 #[inline(always)]
 pub(crate) unsafe fn look_unchecked(bytes: &[u8], at: usize, steps: &mut Steps) -> u8 {
     steps.looked = steps.looked.saturating_add(1);

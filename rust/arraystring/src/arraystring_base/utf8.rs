@@ -96,8 +96,11 @@ pub fn truncate_str_counted<'a>(text: &'a str, size: u8, steps: &mut Steps) -> &
     if text.len() <= limit {
         return text;
     }
-    // SAFETY: the proof of `truncate_str_counted` in crates/arraystring_base/src/utf8.rt shows `within` of `last_boundary`.
+    // SAFETY: `limit < text.len()`: by the tests above, whatever was counted.
+    // Proved: crates/arraystring_base/src/utf8.rt
     let end = unsafe { last_boundary(text, limit, steps) };
+    // SAFETY: this is within: `last_boundary` returns a boundary of `text`, whatever was counted.
+    // Proved: crates/arraystring_base/src/utf8.rt
     get_unchecked!(text, ..end)
 }
 
@@ -106,7 +109,7 @@ pub fn truncate_str_counted<'a>(text: &'a str, size: u8, steps: &mut Steps) -> &
 ///
 /// # Safety
 ///
-/// The contract requires `limit < length text.now`.
+/// - `limit < text.len()`
 ///
 /// <details><summary>Contract</summary>
 ///
@@ -131,7 +134,9 @@ unsafe fn last_boundary(text: &str, limit: usize, steps: &mut Steps) -> usize {
     let all = text.as_bytes();
     let mut end = limit;
     // At most three bytes continue a character. The bound is for the compiler, which unrolls the loop.
-    // SAFETY: the proof of `last_boundary` in crates/arraystring_base/src/utf8.rt shows `in_bounds` of `look`.
+    // SAFETY: `end < all.len()`: `end` is at most `limit`, which is below `text.len()` by this function's `# Safety`,
+    // whatever was counted.
+    // Proved: crates/arraystring_base/src/utf8.rt
     while end > 0 && continues(unsafe { look_unchecked(all, end, steps) }) && limit - end < 3 {
         end -= 1;
     }
@@ -182,7 +187,8 @@ pub fn last_char(text: &str, steps: &mut Steps) -> Option<(usize, char)> {
     if text.is_empty() {
         return None;
     }
-    // SAFETY: the proof of `last_char` in crates/arraystring_base/src/utf8.rt shows `some` of `char_before_end`.
+    // SAFETY: `0 < text.len()`: the test above returned for an empty text, whatever was counted.
+    // Proved: crates/arraystring_base/src/utf8.rt
     let (start, ch) = unsafe { char_before_end(text, steps) };
     Some((start, ch))
 }
@@ -192,7 +198,7 @@ pub fn last_char(text: &str, steps: &mut Steps) -> Option<(usize, char)> {
 ///
 /// # Safety
 ///
-/// The contract requires `0 < length text.now`.
+/// - `0 < text.len()`
 ///
 /// <details><summary>Contract</summary>
 ///
@@ -213,31 +219,39 @@ pub fn last_char(text: &str, steps: &mut Steps) -> Option<(usize, char)> {
 unsafe fn char_before_end(text: &str, steps: &mut Steps) -> (usize, char) {
     let all = text.as_bytes();
     let end = all.len();
-    // SAFETY: the proof of `char_before_end` in crates/arraystring_base/src/utf8.rt shows `in_bounds` of `look`.
+    // SAFETY: `end - 1 < all.len()`: `end` is `all.len()`, which is above 0 by this function's `# Safety`, whatever was
+    // counted.
+    // Proved: crates/arraystring_base/src/utf8.rt
     let last = unsafe { look_unchecked(all, end - 1, steps) } as u32;
     if last < 0x80 {
-        // SAFETY: a number below 0x80 is a scalar value, as `from_u32_unchecked` requires.
+        // SAFETY: a number below 0x80 is a scalar value.
         return (end - 1, unsafe { crate::by_hand::char::from_u32_unchecked(last) });
     }
-    // SAFETY: the proof of `char_before_end` in crates/arraystring_base/src/utf8.rt shows `in_bounds` of `look`.
+    // SAFETY: `end - 2 < all.len()`: the last byte is not ASCII, so its character has one more before it, whatever was
+    // counted.
+    // Proved: crates/arraystring_base/src/utf8.rt
     let second = unsafe { look_unchecked(all, end - 2, steps) } as u32;
     if second >= 0xC0 {
         let code = (second - 0xC0) * 64 + (last - 0x80);
-        // SAFETY: the bytes of a `&str` are UTF-8 (the clause of `as_bytes`), so these two spell a scalar value.
+        // SAFETY: the bytes of a `&str` are UTF-8, and the first of these two begins a character, so they spell it.
         return (end - 2, unsafe { crate::by_hand::char::from_u32_unchecked(code) });
     }
-    // SAFETY: the proof of `char_before_end` in crates/arraystring_base/src/utf8.rt shows `in_bounds` of `look`.
+    // SAFETY: `end - 3 < all.len()`: the last two bytes only continue a character, so it has one more before them,
+    // whatever was counted.
+    // Proved: crates/arraystring_base/src/utf8.rt
     let third = unsafe { look_unchecked(all, end - 3, steps) } as u32;
     if third >= 0xC0 {
         let code = (third - 0xE0) * 4096 + (second - 0x80) * 64 + (last - 0x80);
-        // SAFETY: the bytes of a `&str` are UTF-8 (the clause of `as_bytes`), so these three spell a scalar value.
+        // SAFETY: the bytes of a `&str` are UTF-8, and the first of these three begins a character, so they spell it.
         return (end - 3, unsafe { crate::by_hand::char::from_u32_unchecked(code) });
     }
-    // SAFETY: the proof of `char_before_end` in crates/arraystring_base/src/utf8.rt shows `in_bounds` of `look`.
+    // SAFETY: `end - 4 < all.len()`: the last three bytes only continue a character, so it has one more before them,
+    // whatever was counted.
+    // Proved: crates/arraystring_base/src/utf8.rt
     let fourth = unsafe { look_unchecked(all, end - 4, steps) } as u32;
     let front = (fourth - 0xF0) * 262_144 + (third - 0x80) * 4096;
     let code = front + (second - 0x80) * 64 + (last - 0x80);
-    // SAFETY: the bytes of a `&str` are UTF-8 (the clause of `as_bytes`), so these four spell a scalar value.
+    // SAFETY: the bytes of a `&str` are UTF-8, and the last three of these continue a character, so all four spell it.
     (end - 4, unsafe { crate::by_hand::char::from_u32_unchecked(code) })
 }
 

@@ -147,8 +147,9 @@ mod views {
         #[inline]
         pub const fn as_str(&self) -> &str {
             let (size, start) = (self.size as usize, self.start as usize);
+            // SAFETY: this is within: `start + size` is at most `N`, as the fields of the type say.
             let (_, text) = split_at_unchecked!(split_at_unchecked!(self.array, start + size).0, start);
-            // SAFETY: the type's `invariant`: the `size` bytes from `start` on are UTF-8.
+            // SAFETY: the `size` bytes from `start` on are UTF-8, as the fields of the type say.
             unsafe { str::from_utf8_unchecked(text) }
         }
 
@@ -181,6 +182,7 @@ mod views {
         #[inline]
         pub const fn as_bytes(&self) -> &[u8] {
             let (size, start) = (self.size as usize, self.start as usize);
+            // SAFETY: this is within: `start + size` is at most `N`, as the fields of the type say.
             split_at_unchecked!(split_at_unchecked!(self.array, start + size).0, start).1
         }
 
@@ -285,9 +287,9 @@ mod gap;
 /// ```
 #[derive(Clone, Copy)]
 pub struct ArrayString<const N: usize> {
-    /// The bytes of the text from its offset on. The others have no meaning.
+    /// The `size` bytes from `start` on are the text. They are UTF-8, and the others have no meaning.
     array: [u8; N],
-    /// The offset at which the text begins.
+    /// The offset at which the text begins. `start + size` is at most the lesser of `N` and 255.
     start: u8,
     /// The size of the text.
     size: u8,

@@ -24,13 +24,15 @@ mod traits;
 #[derive(Clone, Copy)]
 pub struct Drain<const N: usize> {
     // The numbers lie before the array: so the compiler knows that no read of a byte of it reads them.
-    /// The index in the removed text at which what is left begins.
+    /// The index in the removed text at which what is left begins. A character begins there, or the
+    /// text ends, so it is at most `size`.
     front: u8,
-    /// The offset of the removed text.
+    /// The offset of the removed text. `start + size` is at most the lesser of `N` and 255.
     start: u8,
     /// The size of the removed text, without what was given from the back.
     size: u8,
-    /// The array of the string, as it was before the removal.
+    /// The array of the string, as it was before the removal. The `size` bytes from `start` on are
+    /// UTF-8.
     array: [u8; N],
 }
 
@@ -39,7 +41,7 @@ impl<const N: usize> Drain<N> {
     ///
     /// # Safety
     ///
-    /// The contract requires `IsStored N array start size`.
+    /// - the `size` bytes of `array` from `start` on are UTF-8 and end within the capacity
     ///
     /// <details><summary>Contract</summary>
     ///
@@ -84,7 +86,9 @@ impl<const N: usize> Drain<N> {
         let all = &self.array[..];
         let start = self.start as usize;
         let (front, end) = (start + self.front as usize, start + self.size as usize);
-        // SAFETY: the type's `invariant`: the removed text is UTF-8, with a boundary at `self.front`.
+        // SAFETY: the removed text is UTF-8, and `front` is a boundary of it, as the fields of the type say.
+        // SAFETY: this is within: `front <= size` and `start + size <= N`, as the fields of `Drain` say.
+        // Proved: crates/arraystring_core/src/drain.rt
         unsafe { str::from_utf8_unchecked(get_unchecked!(all, front..end)) }
     }
 }

@@ -2,7 +2,9 @@
 //!
 //! A function of the sources is accepted only if it is proved never to panic. So each index and each part in it is within, each
 //! copy is between parts of one length, and no `unreachable!()` is reached. rustc can't see that proof, and would test all
-//! this again. So the eraser writes each by a macro of this file, which has the name of what it stands for in std.
+//! this again. So the eraser writes each by a macro of this file, which has the name of what it stands for in std. What bounds it
+//! is in the `# Safety` of its function, or in a line before it: a test above, what the fields of `ArrayString` and `Drain` say, or
+//! what another function returned.
 //!
 //! (An `unsafe` block of a body may lie around an access, whose own one is not needed then.)
 
@@ -16,7 +18,7 @@ macro_rules! get_unchecked {
             &$of[$at]
         } else {
             #[allow(unused_unsafe)]
-            // SAFETY: this stands for an index of a proved body, which is within.
+            // SAFETY: this stands for an index of a proved body, which says why it is within.
             let it = unsafe { $of.get_unchecked($at) };
             it
         }
@@ -30,7 +32,7 @@ macro_rules! get_unchecked_mut {
             &mut $of[$at]
         } else {
             #[allow(unused_unsafe)]
-            // SAFETY: this stands for an index of a proved body, which is within.
+            // SAFETY: this stands for an index of a proved body, which says why it is within.
             let it = unsafe { $of.get_unchecked_mut($at) };
             it
         }
@@ -44,7 +46,7 @@ macro_rules! split_at_unchecked {
             $of.split_at($at)
         } else {
             #[allow(unused_unsafe)]
-            // SAFETY: this stands for a part of a proved body, which is within.
+            // SAFETY: this stands for a part of a proved body, which says why it is within.
             let it = unsafe { $of.split_at_unchecked($at) };
             it
         }
@@ -59,7 +61,7 @@ macro_rules! copy_from_slice_unchecked {
         if crate::access::IS_TESTED {
             $of[at].copy_from_slice(given)
         } else {
-            // SAFETY: this stands for a copy of a proved body: the part is within, as long as what is given, and lent apart.
+            // SAFETY: this stands for a copy of a proved body, which says why the part is within. What is given is as long, and lent apart.
             unsafe { core::ptr::copy_nonoverlapping(given.as_ptr(), $of.as_mut_ptr().add(at.start), given.len()) }
         }
     }};
@@ -73,7 +75,7 @@ macro_rules! copy_within_unchecked {
             $of.copy_within(at, to)
         } else {
             let bytes: *mut u8 = $of.as_mut_ptr();
-            // SAFETY: this stands for a move of a proved body: both parts are within.
+            // SAFETY: this stands for a move of a proved body, which says why both parts are within.
             unsafe { core::ptr::copy(bytes.add(at.start), bytes.add(to), at.end - at.start) }
         }
     }};
@@ -85,7 +87,7 @@ macro_rules! unreachable_unchecked {
         if crate::access::IS_TESTED {
             unreachable!()
         } else {
-            // SAFETY: this stands for what a proved body does not reach.
+            // SAFETY: this stands for what a proved body does not reach, as the body says or its `# Safety`.
             unsafe { core::hint::unreachable_unchecked() }
         }
     };

@@ -7,7 +7,7 @@ macro_rules! known {
         if cfg!(any(debug_assertions, feature = "checked")) {
             assert!($fact, concat!("the clause `", stringify!($clause), "` does not hold"));
         } else {
-            // SAFETY: the clause is proved: an `unsafe fn` is called where it holds, and an invariant holds of each value.
+            // SAFETY: the fact is one of the `# Safety` of the function in which this stands.
             unsafe { core::hint::assert_unchecked($fact) };
         }
     };

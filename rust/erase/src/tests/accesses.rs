@@ -5,7 +5,7 @@ use super::*;
 /// What comes of a line of a body.
 fn line(given: &str) -> Result<String, String> {
     let made = made(&format!("fn f(all: &mut [u8]) {{\n    {given}\n}}\n"))?;
-    Ok(made.lines().nth(2).unwrap().trim().to_string())
+    Ok(made.lines().find(|line| line.starts_with("    ") && !line.contains("//")).unwrap().trim().to_string())
 }
 
 #[test]
@@ -136,11 +136,52 @@ fn {worker}(all: &mut [u8], at: usize)
 "
         )
     };
-    let why = "`sample::f`, of which Rust gives up a clause, calls `sample::put`, and SHOWN does not say why it may";
-    assert_eq!(made(&source("f", "put", "steps.old.moved ≤ 2 ^ 63")).unwrap_err(), format!("4: {why}"));
+    let given_up = "steps.old.moved ≤ 2 ^ 63";
+    let why = "`sample::f`: Rust gives up a clause of it, and src/reasons.rs does not say why `sample::put` needs none";
+    assert_eq!(made(&source("f", "put", given_up)).unwrap_err(), format!("4: {why}"));
     assert!(made(&source("f", "put", "0 < 3")).unwrap().contains("unsafe { put(all, 0) };"));
-    let listed =
-        source("last_char", "char_before_end", "steps.old.looked ≤ 2 ^ 63").replacen("fn", "/// It.\npub fn", 1);
-    let listed = made_as("arraystring_base/src/sample/utf8.rt", &listed).unwrap();
-    assert!(listed.contains("unsafe { char_before_end(all, 0) };"), "{listed}");
+    let listed = made(&source("counted", "put", given_up)).unwrap();
+    let line = "    // SAFETY: `0 < all.len()`: by the test above, whatever was counted.\n";
+    assert!(listed.contains(line) && listed.contains("unsafe { put(all, 0) };"), "{listed}");
+}
+
+/// A function that calls a worker so often.
+fn calling(name: &str, count: usize) -> String {
+    format!(
+        "fn {name}(all: &mut [u8]) {{\n{}}}\n\nfn put(all: &mut [u8], at: usize)\n    requires {{ at < length all.old }}\n{{}}\n",
+        (0..count).map(|at| format!("    put(all, {at});\n")).collect::<String>()
+    )
+}
+
+#[test]
+fn a_call_of_a_worker_has_a_reason_or_stops_the_eraser() {
+    let made_of = |name: &str, count: usize| made(&calling(name, count));
+    let missing = |name: &str| {
+        format!("`sample::{name}`: src/reasons.rs does not say why what `sample::put` requires is true there")
+    };
+    assert_eq!(made_of("without", 1).unwrap_err(), format!("2: {}", missing("without")));
+    let one = made_of("f", 3).unwrap();
+    assert_eq!(one.matches("`: by the test above.\n").count(), 3, "{one}");
+    // Those with a reason each stand in order, and there are no more of them.
+    let two = made_of("twice", 2).unwrap();
+    let lines: Vec<_> = two.lines().filter(|line| line.contains("SAFETY")).collect();
+    let wanted =
+        ["    // SAFETY: `0 < all.len()`: it is the first.", "    // SAFETY: `1 < all.len()`: it is the last."];
+    assert_eq!(lines, wanted);
+    assert_eq!(made_of("twice", 3).unwrap_err(), format!("4: {}", missing("twice")));
+}
+
+#[test]
+fn an_access_of_a_function_without_safety_has_a_reason_or_stops_the_eraser() {
+    let source = |name: &str, clauses: &str| {
+        format!("fn {name}(all: &mut [u8], at: usize)\n{clauses}{{\n    all[at] = 1;\n    all[0] = 2;\n}}\n")
+    };
+    let line = "    // SAFETY: this is within: by the test above.\n    // Proved: crates/arraystring_base/src/sample.rt\n    \
+                *get_unchecked_mut!(all, at) = 1;\n    *get_unchecked_mut!(all, 0) = 2;\n";
+    let listed = made(&source("f", "")).unwrap();
+    assert!(listed.contains(line), "{listed}");
+    let why = "`sample::without`: src/reasons.rs does not say why what `[]` requires is true there";
+    assert_eq!(made(&source("without", "")).unwrap_err(), format!("3: {why}"));
+    let bounded = made(&source("without", "    requires { at < length all.old }\n")).unwrap();
+    assert!(bounded.contains("/// - `at < all.len()`\n") && !bounded.contains("SAFETY"), "{bounded}");
 }

@@ -30,7 +30,7 @@ fn a_clause_is_given_up_as_a_whole_alone() {
         assert_eq!(made(&requiring(clause)).unwrap_err(), why, "{clause}");
     };
     for given_up in GIVEN_UP {
-        let listed = "`sample::first`, of which Rust gives up a clause, calls";
+        let listed = "`sample::first`: Rust gives up a clause of it, and src/reasons.rs does not say why";
         let private = requiring(given_up).replace("pub fn", "fn");
         let broken = private.replace(given_up, &given_up.replace(' ', "\n        "));
         for source in [private, broken] {
@@ -59,18 +59,16 @@ fn a_clause_is_given_up_as_a_whole_alone() {
 #[test]
 fn a_look_is_without_a_test_where_a_clause_is_given_up_only_by_its_rule() {
     let source = requiring("steps.old.looked ≤ 2 ^ 63").replace("pub fn", "fn");
-    let why =
-        "`sample::first`, of which Rust gives up a clause, calls `steps::look`, and SHOWN does not say why it may";
-    assert_eq!(made(&source).unwrap_err(), format!("7: {why}"));
-    let listed = source.replace("fn first", "fn last_boundary");
-    let made = made_as("arraystring_base/src/utf8.rt", &listed).unwrap();
+    let why = "src/reasons.rs does not say why `steps::look_unchecked` needs none";
+    assert_eq!(made(&source).unwrap_err(), format!("7: `sample::first`: Rust gives up a clause of it, and {why}"));
+    let made = made(&source.replace("fn first", "fn counted")).unwrap();
     assert!(made.contains("unsafe { look_unchecked(all, at, steps) }"), "{made}");
 }
 
 /// A file of the second crate, in which both laws and `look` may be called.
 fn core(text: &str) -> Result<String, String> {
     let source = Source { krate: "arraystring_core", path: "arraystring_core/src/sample.rt", text };
-    let erased = erase(&source, &mut Tally::default());
+    let erased = erase(&source, &mut tally());
     erased.map(|erased| erased.text).map_err(|fault| format!("{}: {}", line_of(text, fault.at), fault.why))
 }
 
@@ -83,11 +81,11 @@ fn import(path: &str) -> String {
 fn a_name_that_a_rule_knows_means_one_function() {
     for named in NAMED {
         let (name, whole) = (named.name, named.paths[0]);
-        let call = format!("\nfn f(a: &A) {{\n    {name}(a);\n}}\n");
-        let (line, kept) = (format!("    {name}(a);\n"), !PROOFS_ALONE.contains(&name));
+        let call = format!("\nfn f(a: &A) {{\n    {name}(a, b, c);\n}}\n");
+        let (line, kept) = (format!("    {name}(a, b, c);\n"), !PROOFS_ALONE.contains(&name));
         for path in named.paths {
             let made = core(&(import(path) + &call)).unwrap();
-            assert!(!made.contains(&line) && made.contains(&format!("{name}_unchecked(a)")) == kept, "{made}");
+            assert!(!made.contains(&line) && made.contains(&format!("{name}_unchecked(a, b, c)")) == kept, "{made}");
         }
         for (line, import, path) in [
             (1, format!("use crate::other::{name};\n"), format!("arraystring_core::other::{name}")),

@@ -42,9 +42,10 @@ fn what_is_not_read_is_refused_by_its_name() {
         ("fn f() {\n    #[cfg(unix)]\n    g();\n}\n", "2: the attribute `#[cfg(unix)]`"),
         ("fn f() {\n    str::from_utf8_unchecked(s)\n}\n", "2: a call of std that is in no `unsafe` block"),
         ("use arraystring_core::laws::text_fits;\nfn f() {\n    text_fits(s\n}\n", "3: a bracket that is not closed"),
-        ("fn g()\n    requires { a }\n{}\n\nfn f() {\n    g(\n}\n", "6: a bracket that is not closed"),
+        ("fn g()\n    requires { 0 < 1 }\n{}\n\nfn f() {\n    g(\n}\n", "6: a bracket that is not closed"),
+        ("fn g()\n    requires { a }\n{}\n", "1: `sample::g`: `a`: no form of src/clauses.rs has `a` there"),
         (
-            "impl S {\n    fn g(self)\n        requires { a }\n    {}\n\n    fn f() {\n        (a).g();\n    }\n}\n",
+            "impl S {\n    fn g(self)\n        requires { 0 < 1 }\n    {}\n\n    fn f() {\n        (a).g();\n    }\n}\n",
             "7: a call on what is no name",
         ),
     ];
@@ -89,10 +90,7 @@ fn a_call_that_says_less_than_its_clauses_is_refused() {
 fn a_private_function_says_each_clause_that_is_kept() {
     let source = "fn f(at: u8)\n    requires one { at < 3 }\n    requires { steps.old.moved ≤ 2 ^ 63 }\n    requires two { at\n      < 4 }\n{\n    g();\n}\n";
     let made = made(source).unwrap();
-    assert!(
-        made.contains("/// # Safety\n///\n/// The contract requires each of these: `at < 3`, `at < 4`.\n"),
-        "{made}"
-    );
+    assert!(made.contains("/// # Safety\n///\n/// - `at < 3`\n/// - `at < 4`\n"), "{made}");
 }
 
 #[test]
@@ -101,17 +99,17 @@ fn a_rule_that_matches_nothing_is_told() {
     use crate::rules::*;
     let crates = concat!(env!("CARGO_MANIFEST_DIR"), "/../../crates");
     let (_, mut tally) = crate::files::made(std::path::Path::new(crates)).unwrap();
-    let workers = SHOWN.iter().flat_map(|shown| shown.calls).map(|(_, workers)| workers.len()).sum::<usize>();
+    let reasons = crate::reasons::REASONS.iter().map(|reasons| reasons.entries().len()).sum::<usize>();
     let named = NAMED.iter().map(|named| named.paths.len()).sum::<usize>();
     let of_std = BY_STD.iter().map(|rule| rule.calls.len()).sum::<usize>();
-    let lists = [FATES.len(), WIDER.len(), REPLACED.len(), BY_STD.len(), KNOWN.len(), PROVED.len(), BODIES.len()];
+    let lists = [FATES.len(), WIDER.len(), REPLACED.len(), BY_STD.len(), KNOWN.len(), BODIES.len()];
     let more = [CONSTANT.len(), ADDED.len(), ONCE.len(), ORDER.len(), MORE.len(), TESTED.len(), LEFT_OUT.len()];
-    let all = lists.iter().chain(&more).sum::<usize>() + workers + 2 * TWINS.len() + GIVEN_UP.len() + named + of_std;
+    let all = lists.iter().chain(&more).sum::<usize>() + reasons + 2 * TWINS.len() + GIVEN_UP.len() + named + of_std;
     let names = entries();
     assert_eq!(names.len(), all);
     for name in names {
         assert!(tally.used.remove(&name), "{name}");
-        let why = format!("rust/erase/src/rules.rs: nothing in the sources matches the entry `{name}`");
+        let why = format!("rust/erase/src: nothing in the sources matches the entry `{name}`");
         assert_eq!(all_used(&tally), Err(why));
         tally.used.insert(name);
     }

@@ -10,7 +10,7 @@ fn has(path: &str, source: &str, parts: &[&str]) {
     }
 }
 
-const STEPS: &str = "\
+pub const STEPS: &str = "\
 impl Steps {
     fn count_moves(&mut self, len: usize) {
         self.moved += len as u64;
@@ -31,7 +31,7 @@ fn a_line_is_another_one_and_tests_by_hand_lie_in_a_module() {
     let parts = [
         "        self.moved = self.moved.saturating_add(len as u64);\n",
         "    steps.looked = steps.looked.saturating_add(1);\n    bytes[at]\n}\n\n/// `look` where bodies call it, without a test.\n///\n\
-         /// # Safety\n///\n/// The clause `in_bounds` of `look` must hold.\n#[inline(always)]\npub(crate) unsafe fn look_unchecked(\
+         /// # Safety\n///\n/// - `at < bytes.len()`\n#[inline(always)]\npub(crate) unsafe fn look_unchecked(\
          bytes: &[u8], at: usize, steps: &mut Steps) -> u8 {\n    steps.looked = steps.looked.saturating_add(1);\n    \
          *get_unchecked!(bytes, at)\n}\n",
         "/// # Panics\n///\n/// Where the index is not below the length.\n///\n/// <details>",
@@ -90,7 +90,7 @@ impl<const N: usize> ArrayString<N> {
 fn a_body_is_another_one_and_a_call_is_constant() {
     let parts = [
         "    pub const fn as_str(&self) -> &str {\n        let (size, start) =",
-        "        // SAFETY: the type's `invariant`: the `size` bytes from `start` on are UTF-8.\n        unsafe { str",
+        "        // SAFETY: the `size` bytes from `start` on are UTF-8, as the fields of the type say.\n        unsafe { str",
         "    pub fn get(&self, range: R) -> Option<&str> {\n        let (start, end) = plain_ends(range, self.len());\n        \
          self.as_str().get(start..end)\n    }\n",
     ];
@@ -126,12 +126,12 @@ impl<const N: usize> FusedIterator for Drain<N> {}
 fn a_body_calls_the_twin_of_what_panics() {
     let source =
         "use crate::steps::look;\n\nfn first(bytes: &[u8], steps: &mut Steps) -> u8 {\n    look(bytes, 0, steps)\n}\n";
-    let made = "    // SAFETY: the proof of `first` in crates/arraystring_base/src/sample.rt shows `in_bounds` of `look`.\n    \
+    let made = "    // SAFETY: `0 < bytes.len()`: by the test above.\n    // Proved: crates/arraystring_base/src/sample.rt\n    \
                 unsafe { look_unchecked(bytes, 0, steps) }\n";
     has("arraystring_base/src/sample.rt", source, &[made]);
-    let without = STEPS.replace("requires in_bounds", "requires within");
+    let without = STEPS.replace("at < length bytes.now", "steps.old.looked ≤ 2 ^ 63");
     let why = made_as("arraystring_base/src/steps.rt", &without).unwrap_err();
-    assert_eq!(why, "`steps::look`: it has no clause `in_bounds` that its twin could need");
+    assert_eq!(why, "`steps::look`: it has no clause that its twin could need");
 }
 
 #[test]
@@ -210,9 +210,8 @@ impl<const N: usize> ArrayString<N> {{
     let found = source("let (start, end) = plain_ends(range, self.len());");
     let parts = [
         "        let (start, end) = plain_ends(range, self.len());\n        let _ = &self.as_str()[start..end];\n",
-        "        // SAFETY: by what the index above tests, the proof of `make_ascii_uppercase_in` in \
-         crates/arraystring_core/src/ascii.rt shows `room` of `uppercase_between`.\n        \
-         unsafe { self.uppercase_between(start, end) };\n",
+        "        // SAFETY: `start < 3`: the index above panics else, so no caller shows it.\n        \
+         // Proved: crates/arraystring_core/src/ascii.rt\n        unsafe { self.uppercase_between(start, end) };\n",
         "    /// # Panics\n",
     ];
     has("arraystring_core/src/ascii.rt", &found, &parts);

@@ -27,7 +27,9 @@ impl<const N: usize> ArrayString<N> {
     /// </details>
     #[inline]
     pub fn make_ascii_uppercase(&mut self) {
-        // SAFETY: the proof of `make_ascii_uppercase` in crates/arraystring_core/src/array_string/ascii.rt shows `order`, `start` and `end` of `uppercase_between`.
+        // SAFETY: `0 <= self.len()`; `0` is a boundary of `self`; `self.len()` is a boundary of `self`: they are the
+        // ends of the text.
+        // Proved: crates/arraystring_core/src/array_string/ascii.rt
         unsafe { self.uppercase_between(0, self.len() as usize) };
     }
 
@@ -54,7 +56,9 @@ impl<const N: usize> ArrayString<N> {
     /// </details>
     #[inline]
     pub fn make_ascii_lowercase(&mut self) {
-        // SAFETY: the proof of `make_ascii_lowercase` in crates/arraystring_core/src/array_string/ascii.rt shows `order`, `start` and `end` of `lowercase_between`.
+        // SAFETY: `0 <= self.len()`; `0` is a boundary of `self`; `self.len()` is a boundary of `self`: they are the
+        // ends of the text.
+        // Proved: crates/arraystring_core/src/array_string/ascii.rt
         unsafe { self.lowercase_between(0, self.len() as usize) };
     }
 
@@ -62,8 +66,9 @@ impl<const N: usize> ArrayString<N> {
     ///
     /// # Safety
     ///
-    /// The contract requires each of these: `start ≤ end`, `IsTrue (boundary self.old.text start)`, `IsTrue (boundary
-    /// self.old.text end)`.
+    /// - `start <= end`
+    /// - `start` is a boundary of `self`
+    /// - `end` is a boundary of `self`
     ///
     /// <details><summary>Contract</summary>
     ///
@@ -80,7 +85,9 @@ impl<const N: usize> ArrayString<N> {
     #[inline]
     pub(super) unsafe fn uppercase_between(&mut self, start: usize, end: usize) {
         let offset = self.start as usize;
-        // SAFETY: the proof of `uppercase_between` in crates/arraystring_core/src/array_string/ascii.rt shows `order` and `within` of `uppercase_bytes`.
+        // SAFETY: `offset + start <= offset + end`; `offset + end <= N`: by this function's `# Safety` and what the
+        // fields of `ArrayString` say.
+        // Proved: crates/arraystring_core/src/array_string/ascii.rt
         unsafe { uppercase_bytes(&mut self.array, offset + start, offset + end) };
     }
 
@@ -88,8 +95,9 @@ impl<const N: usize> ArrayString<N> {
     ///
     /// # Safety
     ///
-    /// The contract requires each of these: `start ≤ end`, `IsTrue (boundary self.old.text start)`, `IsTrue (boundary
-    /// self.old.text end)`.
+    /// - `start <= end`
+    /// - `start` is a boundary of `self`
+    /// - `end` is a boundary of `self`
     ///
     /// <details><summary>Contract</summary>
     ///
@@ -106,7 +114,9 @@ impl<const N: usize> ArrayString<N> {
     #[inline]
     pub(super) unsafe fn lowercase_between(&mut self, start: usize, end: usize) {
         let offset = self.start as usize;
-        // SAFETY: the proof of `lowercase_between` in crates/arraystring_core/src/array_string/ascii.rt shows `order` and `within` of `lowercase_bytes`.
+        // SAFETY: `offset + start <= offset + end`; `offset + end <= N`: by this function's `# Safety` and what the
+        // fields of `ArrayString` say.
+        // Proved: crates/arraystring_core/src/array_string/ascii.rt
         unsafe { lowercase_bytes(&mut self.array, offset + start, offset + end) };
     }
 }
@@ -115,7 +125,8 @@ impl<const N: usize> ArrayString<N> {
 ///
 /// # Safety
 ///
-/// The contract requires each of these: `start ≤ end`, `end ≤ N`.
+/// - `start <= end`
+/// - `end <= N`
 ///
 /// <details><summary>Contract</summary>
 ///
@@ -138,7 +149,8 @@ unsafe fn uppercase_bytes<const N: usize>(array: &mut [u8; N], start: usize, end
 ///
 /// # Safety
 ///
-/// The contract requires each of these: `start ≤ end`, `end ≤ N`.
+/// - `start <= end`
+/// - `end <= N`
 ///
 /// <details><summary>Contract</summary>
 ///

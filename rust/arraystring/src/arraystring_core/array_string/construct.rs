@@ -71,7 +71,9 @@ impl<const N: usize> ArrayString<N> {
     #[inline]
     pub fn from_str_truncate<S: AsRef<str>>(string: S) -> Self {
         let string = string.as_ref();
-        // SAFETY: the proof of `from_str_truncate` in crates/arraystring_core/src/array_string/construct.rt shows the precondition of `from_str_unchecked`.
+        // SAFETY: `truncate_str(string, Self::capacity()).len() <= Self::capacity()`: `truncate_str` returns no more
+        // bytes than it is told, which is the room.
+        // Proved: crates/arraystring_core/src/array_string/construct.rt
         unsafe { Self::from_str_unchecked(truncate_str(string, Self::capacity())) }
     }
 
@@ -105,7 +107,8 @@ impl<const N: usize> ArrayString<N> {
     pub unsafe fn from_str_unchecked<S: AsRef<str>>(string: S) -> Self {
         let string = string.as_ref();
         let mut array = [0; N];
-        // SAFETY: the proof of `from_str_unchecked` in crates/arraystring_core/src/array_string/construct.rt shows the precondition of `fill`.
+        // SAFETY: `string.as_bytes().len() <= N`: by this function's `# Safety`, since the capacity is at most `N`.
+        // Proved: crates/arraystring_core/src/array_string/construct.rt
         unsafe { fill(&mut array, string.as_bytes()) };
         ArrayString { array, start: 0, size: string.len() as u8 }
     }
@@ -149,7 +152,9 @@ impl<const N: usize> ArrayString<N> {
     pub fn try_from_iterator<U: AsRef<str>, I: IntoIterator<Item = U>>(pieces: I) -> Result<Self, OutOfBounds> {
         let mut array = [0; N];
         let (mut start, mut size) = (0, 0);
-        // SAFETY: the proof of `try_from_iterator` in crates/arraystring_core/src/array_string/construct.rt shows `held` of `append_strs`.
+        // SAFETY: the `size` bytes of `array` from `start` on are UTF-8 and end within the capacity: `start` and `size`
+        // are 0, whether or not the iterator ends.
+        // Proved: crates/arraystring_core/src/array_string/construct.rt
         unsafe { Self::append_strs(&mut array, &mut start, &mut size, pieces) }?;
         Ok(ArrayString { array, start, size })
     }
@@ -188,7 +193,9 @@ impl<const N: usize> ArrayString<N> {
     pub fn from_iterator<U: AsRef<str>, I: IntoIterator<Item = U>>(pieces: I) -> Self {
         let mut array = [0; N];
         let (mut start, mut size) = (0, 0);
-        // SAFETY: the proof of `from_iterator` in crates/arraystring_core/src/array_string/construct.rt shows `held` of `append_strs`.
+        // SAFETY: the `size` bytes of `array` from `start` on are UTF-8 and end within the capacity: `start` and `size`
+        // are 0, whether or not the iterator ends.
+        // Proved: crates/arraystring_core/src/array_string/construct.rt
         let _ = unsafe { Self::append_strs(&mut array, &mut start, &mut size, pieces) };
         ArrayString { array, start, size }
     }
@@ -229,7 +236,9 @@ impl<const N: usize> ArrayString<N> {
         let mut end = 0;
         for piece in pieces {
             let piece = piece.as_ref();
-            // SAFETY: the proof of `from_iterator_unchecked` in crates/arraystring_core/src/array_string/construct.rt shows the precondition of `write_over`.
+            // SAFETY: `end + piece.as_bytes().len() <= N`: by this function's `# Safety` all pieces fit together, and
+            // `end` is the size of those before this one, also where the iterator does not end.
+            // Proved: crates/arraystring_core/src/array_string/construct.rt
             unsafe { write_over(&mut array, end, piece.as_bytes()) };
             end += piece.len();
         }
@@ -274,7 +283,9 @@ impl<const N: usize> ArrayString<N> {
     pub fn try_from_chars<I: IntoIterator<Item = char>>(characters: I) -> Result<Self, OutOfBounds> {
         let mut array = [0; N];
         let (mut start, mut size) = (0, 0);
-        // SAFETY: the proof of `try_from_chars` in crates/arraystring_core/src/array_string/construct.rt shows `held` of `append_chars`.
+        // SAFETY: the `size` bytes of `array` from `start` on are UTF-8 and end within the capacity: `start` and `size`
+        // are 0, whether or not the iterator ends.
+        // Proved: crates/arraystring_core/src/array_string/construct.rt
         unsafe { Self::append_chars(&mut array, &mut start, &mut size, characters) }?;
         Ok(ArrayString { array, start, size })
     }
@@ -313,7 +324,9 @@ impl<const N: usize> ArrayString<N> {
     pub fn from_chars<I: IntoIterator<Item = char>>(characters: I) -> Self {
         let mut array = [0; N];
         let (mut start, mut size) = (0, 0);
-        // SAFETY: the proof of `from_chars` in crates/arraystring_core/src/array_string/construct.rt shows `held` of `append_chars`.
+        // SAFETY: the `size` bytes of `array` from `start` on are UTF-8 and end within the capacity: `start` and `size`
+        // are 0, whether or not the iterator ends.
+        // Proved: crates/arraystring_core/src/array_string/construct.rt
         let _ = unsafe { Self::append_chars(&mut array, &mut start, &mut size, characters) };
         ArrayString { array, start, size }
     }
@@ -396,7 +409,8 @@ impl<const N: usize> ArrayString<N> {
         if text.len() > Self::capacity() as usize {
             return Err(Error::OutOfBounds);
         }
-        // SAFETY: the proof of `try_from_utf8` in crates/arraystring_core/src/array_string/construct.rt shows the precondition of `from_str_unchecked`.
+        // SAFETY: `text.len() <= Self::capacity()`: by the tests above.
+        // Proved: crates/arraystring_core/src/array_string/construct.rt
         Ok(unsafe { Self::from_str_unchecked(text) })
     }
 
@@ -472,8 +486,9 @@ impl<const N: usize> ArrayString<N> {
     #[inline]
     pub unsafe fn from_utf8_unchecked<B: AsRef<[u8]>>(given: B) -> Self {
         let given = given.as_ref();
-        // SAFETY: the precondition `well_formed`.
-        // SAFETY: the proof of `from_utf8_unchecked` in crates/arraystring_core/src/array_string/construct.rt shows the precondition of `from_str_unchecked`.
+        // SAFETY: the caller has to give well-formed UTF-8.
+        // SAFETY: `str::from_utf8_unchecked(given).len() <= Self::capacity()`: by this function's `# Safety`.
+        // Proved: crates/arraystring_core/src/array_string/construct.rt
         unsafe { Self::from_str_unchecked(str::from_utf8_unchecked(given)) }
     }
 }

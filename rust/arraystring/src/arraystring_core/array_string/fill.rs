@@ -9,7 +9,7 @@ use crate::arraystring_core::ArrayString;
 ///
 /// # Safety
 ///
-/// The contract requires `length given.now ≤ N`.
+/// - `given.len() <= N`
 ///
 /// <details><summary>Contract</summary>
 ///
@@ -24,10 +24,12 @@ use crate::arraystring_core::ArrayString;
 #[inline(always)]
 pub(super) unsafe fn fill<const N: usize>(array: &mut [u8; N], given: &[u8]) {
     if N > 64 {
-        // SAFETY: the proof of `fill` in crates/arraystring_core/src/array_string/fill.rt shows the precondition of `write_by_call`.
+        // SAFETY: `given.len() <= N`: by this function's `# Safety`.
+        // Proved: crates/arraystring_core/src/array_string/fill.rt
         unsafe { write_by_call(array, 0, given) };
     } else {
-        // SAFETY: the proof of `fill` in crates/arraystring_core/src/array_string/fill.rt shows the precondition of `write_over`.
+        // SAFETY: `given.len() <= N`: by this function's `# Safety`.
+        // Proved: crates/arraystring_core/src/array_string/fill.rt
         unsafe { write_over(array, 0, given) };
     }
 }
@@ -51,12 +53,16 @@ pub(super) unsafe fn fill<const N: usize>(array: &mut [u8; N], given: &[u8]) {
 #[inline(always)]
 pub(super) fn try_fill<const N: usize>(array: &mut [u8; N], given: &[u8]) -> (bool, u8) {
     if N <= 64 {
-        // SAFETY: the proof of `try_fill` in crates/arraystring_core/src/array_string/fill.rt shows the precondition of `try_fill_small`.
+        // SAFETY: `N <= 64`: by the tests above.
+        // Proved: crates/arraystring_core/src/array_string/fill.rt
         return unsafe { try_fill_small(array, given) };
     }
     let refused = given.len() > ArrayString::<N>::capacity() as usize;
     let size = if refused { 0 } else { given.len() };
-    // SAFETY: the proof of `try_fill` in crates/arraystring_core/src/array_string/fill.rt shows the precondition of `write_by_call`.
+    // SAFETY: `given[..size].len() <= N`: `size` is at most the capacity, and that at most `N`.
+    // Proved: crates/arraystring_core/src/array_string/fill.rt
+    // SAFETY: this is within: `size` is 0 or `given.len()`.
+    // Proved: crates/arraystring_core/src/array_string/fill.rt
     unsafe { write_by_call(array, 0, get_unchecked!(given, ..size)) };
     (refused, size as u8)
 }
@@ -65,7 +71,7 @@ pub(super) fn try_fill<const N: usize>(array: &mut [u8; N], given: &[u8]) -> (bo
 ///
 /// # Safety
 ///
-/// The contract requires `N ≤ 64`.
+/// - `N <= 64`
 ///
 /// <details><summary>Contract</summary>
 ///
@@ -85,7 +91,8 @@ unsafe fn try_fill_small<const N: usize>(array: &mut [u8; N], given: &[u8]) -> (
     if given.len() > N {
         return (true, 0);
     }
-    // SAFETY: the proof of `try_fill_small` in crates/arraystring_core/src/array_string/fill.rt shows the precondition of `write_over`.
+    // SAFETY: `given.len() <= N`: by the tests above.
+    // Proved: crates/arraystring_core/src/array_string/fill.rt
     unsafe { write_over(array, 0, given) };
     (false, given.len() as u8)
 }
@@ -94,7 +101,7 @@ unsafe fn try_fill_small<const N: usize>(array: &mut [u8; N], given: &[u8]) -> (
 ///
 /// # Safety
 ///
-/// The contract requires `at + length given.now ≤ N`.
+/// - `at + given.len() <= N`
 ///
 /// <details><summary>Contract</summary>
 ///

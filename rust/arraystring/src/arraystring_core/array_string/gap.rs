@@ -34,8 +34,10 @@ impl Span {
 ///
 /// # Safety
 ///
-/// The contract requires each of these: `start ≤ end`, `end ≤ text.size`, `text.offset + text.size ≤ cap N`,
-/// `text.offset + (start + (len + (text.size - end))) ≤ cap N`.
+/// - `start <= end`
+/// - `end <= text.size`
+/// - `text.offset + text.size <= ArrayString::<N>::capacity()`
+/// - `text.offset + (start + (len + (text.size - end))) <= ArrayString::<N>::capacity()`
 ///
 /// <details><summary>Contract</summary>
 ///
@@ -67,7 +69,9 @@ pub(super) unsafe fn open_gap<const N: usize>(
     steps: &mut Steps,
 ) {
     let tail = text.size - end;
-    // SAFETY: the proof of `open_gap` in crates/arraystring_core/src/array_string/gap.rt shows `source` and `target` of `shift`.
+    // SAFETY: `text.offset + end + tail <= N`; `text.offset + (start + len) + tail <= N`: by this function's
+    // `# Safety`, whatever was counted.
+    // Proved: crates/arraystring_core/src/array_string/gap.rt
     unsafe { shift(array, text.offset + end, text.offset + (start + len), tail, steps) };
 }
 
@@ -75,8 +79,10 @@ pub(super) unsafe fn open_gap<const N: usize>(
 ///
 /// # Safety
 ///
-/// The contract requires each of these: `start ≤ end`, `end ≤ text.size`, `text.offset + text.size ≤ cap N`, `start +
-/// (len + (text.size - end)) ≤ cap N`.
+/// - `start <= end`
+/// - `end <= text.size`
+/// - `text.offset + text.size <= ArrayString::<N>::capacity()`
+/// - `start + (len + (text.size - end)) <= ArrayString::<N>::capacity()`
 ///
 /// <details><summary>Contract</summary>
 ///
@@ -108,8 +114,11 @@ pub(super) unsafe fn compact_and_open_gap<const N: usize>(
     steps: &mut Steps,
 ) {
     let tail = text.size - end;
-    // SAFETY: the proof of `compact_and_open_gap` in crates/arraystring_core/src/array_string/gap.rt shows `source` and `target` of `shift`.
+    // SAFETY: `text.offset + start <= N`; `start <= N`: by this function's `# Safety`, whatever was counted.
+    // Proved: crates/arraystring_core/src/array_string/gap.rt
     unsafe { shift(array, text.offset, 0, start, steps) };
-    // SAFETY: the proof of `compact_and_open_gap` in crates/arraystring_core/src/array_string/gap.rt shows `source` and `target` of `shift`.
+    // SAFETY: `text.offset + end + tail <= N`; `start + len + tail <= N`: by this function's `# Safety`, whatever was
+    // counted.
+    // Proved: crates/arraystring_core/src/array_string/gap.rt
     unsafe { shift(array, text.offset + end, start + len, tail, steps) };
 }

@@ -11,8 +11,10 @@ impl<const N: usize> ArrayString<N> {
     ///
     /// # Safety
     ///
-    /// The contract requires each of these: `start ≤ end`, `IsTrue (boundary self.old.text start)`, `IsTrue (boundary
-    /// self.old.text end)`, `size self.old.text - (end - start) + size (chars given.now) ≤ cap N`.
+    /// - `start <= end`
+    /// - `start` is a boundary of `self`
+    /// - `end` is a boundary of `self`
+    /// - `self.len() - (end - start) + given.len() <= Self::capacity()`
     ///
     /// <details><summary>Contract</summary>
     ///
@@ -39,13 +41,21 @@ impl<const N: usize> ArrayString<N> {
         let len = given.len();
         let tail = text.size - end;
         if text.offset + (start + (len + tail)) > Self::capacity() as usize {
-            // SAFETY: the proof of `splice` in crates/arraystring_core/src/array_string/in_place.rt shows `order`, `start`, `end` and `room` of `compact_and_splice`.
+            // SAFETY: `start <= end`; `start` is a boundary of `self`; `end` is a boundary of `self`;
+            // `self.len() - (end - start) + given.len() <= Self::capacity()`: by this function's `# Safety`, whatever
+            // was counted.
+            // Proved: crates/arraystring_core/src/array_string/in_place.rt
             return unsafe { self.compact_and_splice(start, end, given, steps) };
         }
         self.size = (start + (len + tail)) as u8;
-        // SAFETY: the proof of `splice` in crates/arraystring_core/src/array_string/in_place.rt shows `order`, `within`, `held` and `room` of `open_gap`.
+        // SAFETY: `start <= end`; `end <= text.size`; `text.offset + text.size <= Self::capacity()`;
+        // `text.offset + (start + (len + (text.size - end))) <= Self::capacity()`: by this function's `# Safety`, what
+        // the fields of `ArrayString` say, and the test above, whatever was counted.
+        // Proved: crates/arraystring_core/src/array_string/in_place.rt
         unsafe { open_gap(&mut self.array, text, start, end, len, steps) };
-        // SAFETY: the proof of `splice` in crates/arraystring_core/src/array_string/in_place.rt shows the precondition of `write_over`.
+        // SAFETY: `text.offset + start + given.as_bytes().len() <= N`: the test above has that the new text ends within
+        // the capacity, and what is written ends in it, whatever was counted.
+        // Proved: crates/arraystring_core/src/array_string/in_place.rt
         unsafe { write_over(&mut self.array, text.offset + start, given.as_bytes()) };
     }
 
@@ -53,8 +63,10 @@ impl<const N: usize> ArrayString<N> {
     ///
     /// # Safety
     ///
-    /// The contract requires each of these: `start ≤ end`, `IsTrue (boundary self.old.text start)`, `IsTrue (boundary
-    /// self.old.text end)`, `size self.old.text - (end - start) + size (chars given.now) ≤ cap N`.
+    /// - `start <= end`
+    /// - `start` is a boundary of `self`
+    /// - `end` is a boundary of `self`
+    /// - `self.len() - (end - start) + given.len() <= Self::capacity()`
     ///
     /// <details><summary>Contract</summary>
     ///
@@ -81,9 +93,14 @@ impl<const N: usize> ArrayString<N> {
         let len = given.len();
         self.start = 0;
         self.size = (start + (len + (text.size - end))) as u8;
-        // SAFETY: the proof of `compact_and_splice` in crates/arraystring_core/src/array_string/in_place.rt shows `order`, `within`, `held` and `room` of `compact_and_open_gap`.
+        // SAFETY: `start <= end`; `end <= text.size`; `text.offset + text.size <= Self::capacity()`;
+        // `start + (len + (text.size - end)) <= Self::capacity()`: by this function's `# Safety` and what the fields of
+        // `ArrayString` say, whatever was counted.
+        // Proved: crates/arraystring_core/src/array_string/in_place.rt
         unsafe { compact_and_open_gap(&mut self.array, text, start, end, len, steps) };
-        // SAFETY: the proof of `compact_and_splice` in crates/arraystring_core/src/array_string/in_place.rt shows the precondition of `write_over`.
+        // SAFETY: `start + given.as_bytes().len() <= N`: by this function's `# Safety` the new text fits, and `given`
+        // ends in it, whatever was counted.
+        // Proved: crates/arraystring_core/src/array_string/in_place.rt
         unsafe { write_over(&mut self.array, start, given.as_bytes()) };
     }
 
@@ -91,8 +108,8 @@ impl<const N: usize> ArrayString<N> {
     ///
     /// # Safety
     ///
-    /// The contract requires each of these: `IsTrue (boundary self.old.text at)`, `size self.old.text + width ch ≤ cap
-    /// N`.
+    /// - `at` is a boundary of `self`
+    /// - `self.len() + ch.len_utf8() <= Self::capacity()`
     ///
     /// <details><summary>Contract</summary>
     ///
@@ -110,13 +127,20 @@ impl<const N: usize> ArrayString<N> {
         let text = Span::new(self.start, self.size);
         let len = ch.len_utf8();
         if text.offset + text.size + len > Self::capacity() as usize {
-            // SAFETY: the proof of `put_char` in crates/arraystring_core/src/array_string/in_place.rt shows `boundary` and `room` of `compact_and_insert`.
+            // SAFETY: `at` is a boundary of `self`; `self.len() + ch.len_utf8() <= Self::capacity()`: by this
+            // function's `# Safety`.
+            // Proved: crates/arraystring_core/src/array_string/in_place.rt
             return unsafe { self.compact_and_insert(at, ch) };
         }
         self.size = (at + (len + (text.size - at))) as u8;
-        // SAFETY: the proof of `put_char` in crates/arraystring_core/src/array_string/in_place.rt shows `order`, `within`, `held` and `room` of `open_gap`.
+        // SAFETY: `at <= text.size`; `text.offset + text.size <= Self::capacity()`;
+        // `text.offset + (at + (len + (text.size - at))) <= Self::capacity()`: by this function's `# Safety`, what the
+        // fields of `ArrayString` say, and the test above.
+        // Proved: crates/arraystring_core/src/array_string/in_place.rt
         unsafe { open_gap(&mut self.array, text, at, at, len, &mut Steps::new()) };
-        // SAFETY: the proof of `put_char` in crates/arraystring_core/src/array_string/in_place.rt shows the precondition of `encode`.
+        // SAFETY: `text.offset + at + ch.len_utf8() <= N`: the test above has that the new text ends within the
+        // capacity, and what is written ends in it.
+        // Proved: crates/arraystring_core/src/array_string/in_place.rt
         unsafe { encode(ch, &mut self.array, text.offset + at) };
     }
 
@@ -124,8 +148,8 @@ impl<const N: usize> ArrayString<N> {
     ///
     /// # Safety
     ///
-    /// The contract requires each of these: `IsTrue (boundary self.old.text at)`, `size self.old.text + width ch ≤ cap
-    /// N`.
+    /// - `at` is a boundary of `self`
+    /// - `self.len() + ch.len_utf8() <= Self::capacity()`
     ///
     /// <details><summary>Contract</summary>
     ///
@@ -145,9 +169,13 @@ impl<const N: usize> ArrayString<N> {
         let len = ch.len_utf8();
         self.start = 0;
         self.size = (at + (len + (text.size - at))) as u8;
-        // SAFETY: the proof of `compact_and_insert` in crates/arraystring_core/src/array_string/in_place.rt shows `order`, `within`, `held` and `room` of `compact_and_open_gap`.
+        // SAFETY: `at <= text.size`; `text.offset + text.size <= Self::capacity()`;
+        // `at + (len + (text.size - at)) <= Self::capacity()`: by this function's `# Safety` and what the fields of
+        // `ArrayString` say.
+        // Proved: crates/arraystring_core/src/array_string/in_place.rt
         unsafe { compact_and_open_gap(&mut self.array, text, at, at, len, &mut Steps::new()) };
-        // SAFETY: the proof of `compact_and_insert` in crates/arraystring_core/src/array_string/in_place.rt shows the precondition of `encode`.
+        // SAFETY: `at + ch.len_utf8() <= N`: by this function's `# Safety` the new text fits, and `ch` ends in it.
+        // Proved: crates/arraystring_core/src/array_string/in_place.rt
         unsafe { encode(ch, &mut self.array, at) };
     }
 
@@ -155,8 +183,9 @@ impl<const N: usize> ArrayString<N> {
     ///
     /// # Safety
     ///
-    /// The contract requires each of these: `start ≤ end`, `IsTrue (boundary self.old.text start)`, `IsTrue (boundary
-    /// self.old.text end)`.
+    /// - `start <= end`
+    /// - `start` is a boundary of `self`
+    /// - `end` is a boundary of `self`
     ///
     /// <details><summary>Contract</summary>
     ///
@@ -179,13 +208,16 @@ impl<const N: usize> ArrayString<N> {
     #[inline]
     pub(super) unsafe fn take_out(&mut self, start: usize, end: usize, steps: &mut Steps) {
         if start == 0 {
-            // SAFETY: the proof of `take_out` in crates/arraystring_core/src/array_string/in_place.rt shows the precondition of `drop_front`.
+            // SAFETY: `end` is a boundary of `self`: by this function's `# Safety`, whatever was counted.
+            // Proved: crates/arraystring_core/src/array_string/in_place.rt
             return unsafe { self.drop_front(end) };
         }
         let (offset, size) = (self.start as usize, self.size as usize);
         let tail = size - end;
         self.size = (start + tail) as u8;
-        // SAFETY: the proof of `take_out` in crates/arraystring_core/src/array_string/in_place.rt shows `source` and `target` of `shift`.
+        // SAFETY: `offset + end + tail <= N`; `offset + start + tail <= N`: `end + tail` is the size of the text, which
+        // ends in the array, and `start` is at most `end`, whatever was counted.
+        // Proved: crates/arraystring_core/src/array_string/in_place.rt
         unsafe { shift(&mut self.array, offset + end, offset + start, tail, steps) };
     }
 
@@ -193,7 +225,7 @@ impl<const N: usize> ArrayString<N> {
     ///
     /// # Safety
     ///
-    /// The contract requires `IsTrue (boundary self.old.text end)`.
+    /// - `end` is a boundary of `self`
     ///
     /// <details><summary>Contract</summary>
     ///
@@ -215,7 +247,7 @@ impl<const N: usize> ArrayString<N> {
     ///
     /// # Safety
     ///
-    /// The contract requires `IsTrue (boundary self.old.text size)`.
+    /// - `size` is a boundary of `self`
     ///
     /// <details><summary>Contract</summary>
     ///

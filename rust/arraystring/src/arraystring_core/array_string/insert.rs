@@ -49,7 +49,9 @@ impl<const N: usize> ArrayString<N> {
         if !self.is_boundary(index as usize) {
             return Err(Error::Utf8);
         }
-        // SAFETY: the proof of `try_insert` in crates/arraystring_core/src/array_string/insert.rt shows `boundary` and `room` of `insert_unchecked`.
+        // SAFETY: `index` is a boundary of `self`; `self.len() + ch.len_utf8() <= Self::capacity()`: by the tests
+        // above.
+        // Proved: crates/arraystring_core/src/array_string/insert.rt
         unsafe { self.insert_unchecked(index, ch) };
         Ok(())
     }
@@ -84,7 +86,9 @@ impl<const N: usize> ArrayString<N> {
     /// </details>
     #[inline]
     pub unsafe fn insert_unchecked(&mut self, index: u8, ch: char) {
-        // SAFETY: the proof of `insert_unchecked` in crates/arraystring_core/src/array_string/insert.rt shows `boundary` and `room` of `put_char`.
+        // SAFETY: `index` is a boundary of `self`; `self.len() + ch.len_utf8() <= Self::capacity()`: by this function's
+        // `# Safety`.
+        // Proved: crates/arraystring_core/src/array_string/insert.rt
         unsafe { self.put_char(index as usize, ch) };
     }
 
@@ -179,7 +183,9 @@ impl<const N: usize> ArrayString<N> {
         if !self.is_boundary(start) {
             return Err(Error::Utf8);
         }
-        // SAFETY: the proof of `try_insert_str_counted` in crates/arraystring_core/src/array_string/insert.rt shows `order`, `start`, `end` and `room` of `splice`.
+        // SAFETY: `start` is a boundary of `self`; `self.len() - (start - start) + string.len() <= Self::capacity()`:
+        // by the tests above, whatever was counted.
+        // Proved: crates/arraystring_core/src/array_string/insert.rt
         unsafe { self.splice(start, start, string, steps) };
         Ok(())
     }
@@ -225,7 +231,9 @@ impl<const N: usize> ArrayString<N> {
             return Err(Error::Utf8);
         }
         let room = Self::capacity() - self.len();
-        // SAFETY: the proof of `insert_str` in crates/arraystring_core/src/array_string/insert.rt shows `boundary` and `room` of `insert_str_unchecked`.
+        // SAFETY: `index` is a boundary of `self`; `self.len() + truncate_str(string, room).len() <= Self::capacity()`:
+        // by the test above, and since `truncate_str` returns at most `room` bytes.
+        // Proved: crates/arraystring_core/src/array_string/insert.rt
         unsafe { self.insert_str_unchecked(index, truncate_str(string, room)) };
         Ok(())
     }
@@ -262,7 +270,9 @@ impl<const N: usize> ArrayString<N> {
     pub unsafe fn insert_str_unchecked<S: AsRef<str>>(&mut self, index: u8, string: S) {
         let string = string.as_ref();
         let start = index as usize;
-        // SAFETY: the proof of `insert_str_unchecked` in crates/arraystring_core/src/array_string/insert.rt shows `order`, `start`, `end` and `room` of `splice`.
+        // SAFETY: `start` is a boundary of `self`; `self.len() - (start - start) + string.len() <= Self::capacity()`:
+        // by this function's `# Safety`.
+        // Proved: crates/arraystring_core/src/array_string/insert.rt
         unsafe { self.splice(start, start, string, &mut Steps::new()) };
     }
 }

@@ -36,9 +36,12 @@ impl<const N: usize> ArrayString<N> {
     #[inline(always)]
     pub fn try_push(&mut self, ch: char) -> Result<(), OutOfBounds> {
         let end = self.end();
-        // SAFETY: the proof of `try_push` in crates/arraystring_core/src/array_string/push.rt shows the precondition of `has_room`.
+        // SAFETY: `end <= 255`: the text ends within the capacity, as the fields of `ArrayString` say.
+        // Proved: crates/arraystring_core/src/array_string/push.rt
         if unsafe { Self::has_room(end, ch) } {
-            // SAFETY: the proof of `try_push` in crates/arraystring_core/src/array_string/push.rt shows the precondition of `push_unchecked`.
+            // SAFETY: `self.len() + ch.len_utf8() <= Self::capacity()`: `has_room` returned true for `end`, which is at
+            // least `self.len()`.
+            // Proved: crates/arraystring_core/src/array_string/push.rt
             unsafe { self.push_unchecked(ch) };
             return Ok(());
         }
@@ -75,12 +78,15 @@ impl<const N: usize> ArrayString<N> {
     #[inline(always)]
     pub unsafe fn push_unchecked(&mut self, ch: char) {
         let end = self.end();
-        // SAFETY: the proof of `push_unchecked` in crates/arraystring_core/src/array_string/push.rt shows the precondition of `has_room`.
+        // SAFETY: `end <= 255`: the text ends within the capacity, as the fields of `ArrayString` say.
+        // Proved: crates/arraystring_core/src/array_string/push.rt
         if !unsafe { Self::has_room(end, ch) } {
-            // SAFETY: the proof of `push_unchecked` in crates/arraystring_core/src/array_string/push.rt shows the precondition of `compact_and_push`.
+            // SAFETY: `self.len() + ch.len_utf8() <= Self::capacity()`: by this function's `# Safety`.
+            // Proved: crates/arraystring_core/src/array_string/push.rt
             return unsafe { self.compact_and_push(ch) };
         }
-        // SAFETY: the proof of `push_unchecked` in crates/arraystring_core/src/array_string/push.rt shows the precondition of `encode`.
+        // SAFETY: `end + ch.len_utf8() <= N`: `has_room` returned true.
+        // Proved: crates/arraystring_core/src/array_string/push.rt
         let len = unsafe { encode(ch, &mut self.array, end) };
         self.size = (self.size as usize + len) as u8;
     }
@@ -122,10 +128,12 @@ impl<const N: usize> ArrayString<N> {
             if size + string.len() > capacity {
                 return Err(OutOfBounds);
             }
-            // SAFETY: the proof of `try_push_str` in crates/arraystring_core/src/array_string/push.rt shows the precondition of `compact_and_push_str`.
+            // SAFETY: `self.len() + string.len() <= Self::capacity()`: by the tests above.
+            // Proved: crates/arraystring_core/src/array_string/push.rt
             unsafe { self.compact_and_push_str(string) };
         } else {
-            // SAFETY: the proof of `try_push_str` in crates/arraystring_core/src/array_string/push.rt shows the precondition of `push_str_unchecked`.
+            // SAFETY: `self.len() + string.len() <= Self::capacity()`: by the tests above.
+            // Proved: crates/arraystring_core/src/array_string/push.rt
             unsafe { self.push_str_unchecked(string) };
         }
         Ok(())
@@ -156,7 +164,9 @@ impl<const N: usize> ArrayString<N> {
     pub fn push_str<S: AsRef<str>>(&mut self, string: S) {
         let string = string.as_ref();
         let room = Self::capacity() - self.len();
-        // SAFETY: the proof of `push_str` in crates/arraystring_core/src/array_string/push.rt shows the precondition of `push_str_unchecked`.
+        // SAFETY: `self.len() + truncate_str(string, room).len() <= Self::capacity()`: `truncate_str` returns no more
+        // bytes than it is told, which is the room.
+        // Proved: crates/arraystring_core/src/array_string/push.rt
         unsafe { self.push_str_unchecked(truncate_str(string, room)) };
     }
 
@@ -192,11 +202,13 @@ impl<const N: usize> ArrayString<N> {
         let string = string.as_ref();
         let end = self.end();
         if end + string.len() > Self::capacity() as usize {
-            // SAFETY: the proof of `push_str_unchecked` in crates/arraystring_core/src/array_string/push.rt shows the precondition of `compact_and_push_str`.
+            // SAFETY: `self.len() + string.len() <= Self::capacity()`: by this function's `# Safety`.
+            // Proved: crates/arraystring_core/src/array_string/push.rt
             return unsafe { self.compact_and_push_str(string) };
         }
         self.size = (self.size as usize + string.len()) as u8;
-        // SAFETY: the proof of `push_str_unchecked` in crates/arraystring_core/src/array_string/push.rt shows the precondition of `write_over`.
+        // SAFETY: `end + string.as_bytes().len() <= N`: by the tests above.
+        // Proved: crates/arraystring_core/src/array_string/push.rt
         unsafe { write_over(&mut self.array, end, string.as_bytes()) };
     }
 
@@ -286,7 +298,9 @@ impl<const N: usize> ArrayString<N> {
     /// </details>
     #[inline]
     pub(super) fn add_chars<I: IntoIterator<Item = char>>(&mut self, characters: I) -> Result<(), OutOfBounds> {
-        // SAFETY: the proof of `add_chars` in crates/arraystring_core/src/array_string/push.rt shows `held` of `append_chars`.
+        // SAFETY: the `self.size` bytes of `self.array` from `self.start` on are UTF-8 and end within the capacity: as
+        // the fields of `ArrayString` say, whether or not the iterator ends.
+        // Proved: crates/arraystring_core/src/array_string/push.rt
         unsafe { Self::append_chars(&mut self.array, &mut self.start, &mut self.size, characters) }
     }
 
@@ -307,7 +321,9 @@ impl<const N: usize> ArrayString<N> {
     /// </details>
     #[inline]
     pub(super) fn add_strs<U: AsRef<str>, I: IntoIterator<Item = U>>(&mut self, pieces: I) -> Result<(), OutOfBounds> {
-        // SAFETY: the proof of `add_strs` in crates/arraystring_core/src/array_string/push.rt shows `held` of `append_strs`.
+        // SAFETY: the `self.size` bytes of `self.array` from `self.start` on are UTF-8 and end within the capacity: as
+        // the fields of `ArrayString` say, whether or not the iterator ends.
+        // Proved: crates/arraystring_core/src/array_string/push.rt
         unsafe { Self::append_strs(&mut self.array, &mut self.start, &mut self.size, pieces) }
     }
 
@@ -317,7 +333,7 @@ impl<const N: usize> ArrayString<N> {
     ///
     /// # Safety
     ///
-    /// The contract requires `IsStored N array.old start.old len.old`.
+    /// - the `*len` bytes of `array` from `*start` on are UTF-8 and end within the capacity
     ///
     /// <details><summary>Contract</summary>
     ///
@@ -346,7 +362,10 @@ impl<const N: usize> ArrayString<N> {
             let piece = piece.as_ref();
             let next = end + piece.len();
             if next > Self::capacity() as usize {
-                // SAFETY: the proof of `append_strs` in crates/arraystring_core/src/array_string/push.rt shows the precondition of `append_past_end`.
+                // SAFETY: the `*len` bytes of `array` from `*start` on are UTF-8 and end within the capacity: so it is
+                // by this function's `# Safety` before the loop, and each turn keeps it, whether or not the iterator
+                // ends.
+                // Proved: crates/arraystring_core/src/array_string/push.rt
                 let appended = unsafe { Self::append_past_end(array, start, len, piece) };
                 let Some(next) = appended else {
                     return Err(OutOfBounds);
@@ -355,7 +374,8 @@ impl<const N: usize> ArrayString<N> {
                 continue;
             }
             *len += piece.len() as u8;
-            // SAFETY: the proof of `append_strs` in crates/arraystring_core/src/array_string/push.rt shows the precondition of `write_over`.
+            // SAFETY: `end + piece.as_bytes().len() <= N`: by the tests above, whether or not the iterator ends.
+            // Proved: crates/arraystring_core/src/array_string/push.rt
             unsafe { write_over(array, end, piece.as_bytes()) };
             end = next;
         }
@@ -367,7 +387,7 @@ impl<const N: usize> ArrayString<N> {
     ///
     /// # Safety
     ///
-    /// The contract requires `IsStored N array.old start.old len.old`.
+    /// - the `*len` bytes of `array` from `*start` on are UTF-8 and end within the capacity
     ///
     /// <details><summary>Contract</summary>
     ///
@@ -387,11 +407,16 @@ impl<const N: usize> ArrayString<N> {
     #[inline(never)]
     unsafe fn append_past_end(array: &mut [u8; N], start: &mut u8, len: &mut u8, string: &str) -> Option<usize> {
         let part = truncate_str(string, Self::capacity() - *len);
-        // SAFETY: the proof of `append_past_end` in crates/arraystring_core/src/array_string/push.rt shows `held` and `fits` of `make_room`.
+        // SAFETY: the `*len` bytes of `array` from `*start` on are UTF-8 and end within the capacity;
+        // `*len + part.len() <= Self::capacity()`: by this function's `# Safety`, and `part` has no more bytes than
+        // `truncate_str` was told.
+        // Proved: crates/arraystring_core/src/array_string/push.rt
         unsafe { make_room(array, start, *len as usize, part.len()) };
         let end = *start as usize + *len as usize;
         *len += part.len() as u8;
-        // SAFETY: the proof of `append_past_end` in crates/arraystring_core/src/array_string/push.rt shows the precondition of `write_over`.
+        // SAFETY: `end + part.as_bytes().len() <= N`: `make_room` left room for `part` behind the text, which ends at
+        // `end`.
+        // Proved: crates/arraystring_core/src/array_string/push.rt
         unsafe { write_over(array, end, part.as_bytes()) };
         if part.len() < string.len() {
             return None;
@@ -405,7 +430,7 @@ impl<const N: usize> ArrayString<N> {
     ///
     /// # Safety
     ///
-    /// The contract requires `IsStored N array.old start.old len.old`.
+    /// - the `*len` bytes of `array` from `*start` on are UTF-8 and end within the capacity
     ///
     /// <details><summary>Contract</summary>
     ///
@@ -431,7 +456,10 @@ impl<const N: usize> ArrayString<N> {
     ) -> Result<(), OutOfBounds> {
         let mut end = *start as usize + *len as usize;
         for ch in characters {
-            // SAFETY: the proof of `append_chars` in crates/arraystring_core/src/array_string/push.rt shows `held` and `end` of `append_char`.
+            // SAFETY: the `*len` bytes of `array` from `*start` on are UTF-8 and end within the capacity;
+            // `end == *start + *len`: so it is by this function's `# Safety` before the loop, and `append_char` returns
+            // the new end, whether or not the iterator ends.
+            // Proved: crates/arraystring_core/src/array_string/push.rt
             match unsafe { Self::append_char(array, start, len, end, ch) } {
                 Some(next) => {
                     end = next;
@@ -447,7 +475,8 @@ impl<const N: usize> ArrayString<N> {
     ///
     /// # Safety
     ///
-    /// The contract requires each of these: `IsStored N array.old start.old len.old`, `end ≡ start.old + len.old`.
+    /// - the `*len` bytes of `array` from `*start` on are UTF-8 and end within the capacity
+    /// - `end == *start + *len`
     ///
     /// <details><summary>Contract</summary>
     ///
@@ -465,20 +494,26 @@ impl<const N: usize> ArrayString<N> {
     /// </details>
     #[inline(always)]
     unsafe fn append_char(array: &mut [u8; N], start: &mut u8, len: &mut u8, end: usize, ch: char) -> Option<usize> {
-        // SAFETY: the proof of `append_char` in crates/arraystring_core/src/array_string/push.rt shows the precondition of `has_room`.
+        // SAFETY: `end <= 255`: by this function's `# Safety` the text ends at `end`, and within the capacity.
+        // Proved: crates/arraystring_core/src/array_string/push.rt
         if !unsafe { Self::has_room(end, ch) } {
             let held = end - *start as usize;
-            // SAFETY: the proof of `append_char` in crates/arraystring_core/src/array_string/push.rt shows the precondition of `has_room`.
+            // SAFETY: `held <= 255`: `held` is at most `end`.
+            // Proved: crates/arraystring_core/src/array_string/push.rt
             if !unsafe { Self::has_room(held, ch) } {
                 return None;
             }
-            // SAFETY: the proof of `append_char` in crates/arraystring_core/src/array_string/push.rt shows `held` and `room` of `compact_and_append`.
+            // SAFETY: the `held` bytes of `array` from `*start` on are UTF-8 and end within the capacity;
+            // `held + ch.len_utf8() <= Self::capacity()`: `held` is `*len` by this function's `# Safety`, and
+            // `has_room` returned true for it.
+            // Proved: crates/arraystring_core/src/array_string/push.rt
             let held = unsafe { compact_and_append(array, *start as usize, held, ch) };
             *start = 0;
             *len = held as u8;
             return Some(held);
         }
-        // SAFETY: the proof of `append_char` in crates/arraystring_core/src/array_string/push.rt shows the precondition of `encode`.
+        // SAFETY: `end + ch.len_utf8() <= N`: `has_room` returned true.
+        // Proved: crates/arraystring_core/src/array_string/push.rt
         let next = end + unsafe { encode(ch, array, end) };
         *len = (next - *start as usize) as u8;
         Some(next)
@@ -489,7 +524,8 @@ impl<const N: usize> ArrayString<N> {
 ///
 /// # Safety
 ///
-/// The contract requires each of these: `IsStored N array.old start.old size`, `size + more ≤ cap N`.
+/// - the `size` bytes of `array` from `*start` on are UTF-8 and end within the capacity
+/// - `size + more <= ArrayString::<N>::capacity()`
 ///
 /// <details><summary>Contract</summary>
 ///
@@ -509,7 +545,8 @@ unsafe fn make_room<const N: usize>(array: &mut [u8; N], start: &mut u8, size: u
     let from = *start as usize;
     if from + size + more > ArrayString::<N>::capacity() as usize {
         *start = 0;
-        // SAFETY: the proof of `make_room` in crates/arraystring_core/src/array_string/push.rt shows `source` and `target` of `shift`.
+        // SAFETY: `from + size <= N`; `size <= N`: by this function's `# Safety` the text lies in the array.
+        // Proved: crates/arraystring_core/src/array_string/push.rt
         unsafe { shift(array, from, 0, size, &mut Steps::new()) };
     }
 }
@@ -518,7 +555,8 @@ unsafe fn make_room<const N: usize>(array: &mut [u8; N], start: &mut u8, size: u
 ///
 /// # Safety
 ///
-/// The contract requires each of these: `IsStored N array.old start size`, `size + width ch ≤ cap N`.
+/// - the `size` bytes of `array` from `start` on are UTF-8 and end within the capacity
+/// - `size + ch.len_utf8() <= ArrayString::<N>::capacity()`
 ///
 /// <details><summary>Contract</summary>
 ///
@@ -536,9 +574,11 @@ unsafe fn make_room<const N: usize>(array: &mut [u8; N], start: &mut u8, size: u
 #[cold]
 #[inline(never)]
 unsafe fn compact_and_append<const N: usize>(array: &mut [u8; N], start: usize, size: usize, ch: char) -> usize {
-    // SAFETY: the proof of `compact_and_append` in crates/arraystring_core/src/array_string/push.rt shows `source` and `target` of `shift`.
+    // SAFETY: `start + size <= N`; `size <= N`: by this function's `# Safety` the text lies in the array.
+    // Proved: crates/arraystring_core/src/array_string/push.rt
     unsafe { shift(array, start, 0, size, &mut Steps::new()) };
-    // SAFETY: the proof of `compact_and_append` in crates/arraystring_core/src/array_string/push.rt shows the precondition of `encode`.
+    // SAFETY: `size + ch.len_utf8() <= N`: by this function's `# Safety`, since the capacity is at most `N`.
+    // Proved: crates/arraystring_core/src/array_string/push.rt
     size + unsafe { encode(ch, array, size) }
 }
 
@@ -548,7 +588,7 @@ impl<const N: usize> ArrayString<N> {
     ///
     /// # Safety
     ///
-    /// The contract requires `len ≤ 255`.
+    /// - `len <= 255`
     ///
     /// <details><summary>Contract</summary>
     ///
@@ -582,11 +622,13 @@ impl<const N: usize> ArrayString<N> {
     /// </details>
     #[inline(always)]
     fn try_push_near_end(&mut self, ch: char) -> Result<(), OutOfBounds> {
-        // SAFETY: the proof of `try_push_near_end` in crates/arraystring_core/src/array_string/push.rt shows the precondition of `has_room`.
+        // SAFETY: `self.size <= 255`: it is a `u8`.
+        // Proved: crates/arraystring_core/src/array_string/push.rt
         if !unsafe { Self::has_room(self.size as usize, ch) } {
             return Err(OutOfBounds);
         }
-        // SAFETY: the proof of `try_push_near_end` in crates/arraystring_core/src/array_string/push.rt shows the precondition of `compact_and_push`.
+        // SAFETY: `self.len() + ch.len_utf8() <= Self::capacity()`: `has_room` returned true.
+        // Proved: crates/arraystring_core/src/array_string/push.rt
         unsafe { self.compact_and_push(ch) };
         Ok(())
     }
@@ -595,7 +637,7 @@ impl<const N: usize> ArrayString<N> {
     ///
     /// # Safety
     ///
-    /// The contract requires `size self.old.text + width ch ≤ cap N`.
+    /// - `self.len() + ch.len_utf8() <= Self::capacity()`
     ///
     /// <details><summary>Contract</summary>
     ///
@@ -612,9 +654,11 @@ impl<const N: usize> ArrayString<N> {
     unsafe fn compact_and_push(&mut self, ch: char) {
         let (start, size) = (self.start as usize, self.size as usize);
         self.start = 0;
-        // SAFETY: the proof of `compact_and_push` in crates/arraystring_core/src/array_string/push.rt shows `source` and `target` of `shift`.
+        // SAFETY: `start + size <= N`; `size <= N`: as the fields of `ArrayString` say.
+        // Proved: crates/arraystring_core/src/array_string/push.rt
         unsafe { shift(&mut self.array, start, 0, size, &mut Steps::new()) };
-        // SAFETY: the proof of `compact_and_push` in crates/arraystring_core/src/array_string/push.rt shows the precondition of `encode`.
+        // SAFETY: `size + ch.len_utf8() <= N`: by this function's `# Safety`, since `size` is the length of the text.
+        // Proved: crates/arraystring_core/src/array_string/push.rt
         let len = unsafe { encode(ch, &mut self.array, size) };
         self.size = (size + len) as u8;
     }
@@ -623,7 +667,7 @@ impl<const N: usize> ArrayString<N> {
     ///
     /// # Safety
     ///
-    /// The contract requires `size self.old.text + size (chars string.now) ≤ cap N`.
+    /// - `self.len() + string.len() <= Self::capacity()`
     ///
     /// <details><summary>Contract</summary>
     ///
@@ -639,7 +683,9 @@ impl<const N: usize> ArrayString<N> {
     #[inline(never)]
     unsafe fn compact_and_push_str(&mut self, string: &str) {
         let len = self.len() as usize;
-        // SAFETY: the proof of `compact_and_push_str` in crates/arraystring_core/src/array_string/push.rt shows `order`, `start`, `end` and `room` of `compact_and_splice`.
+        // SAFETY: `len` is a boundary of `self`; `self.len() - (len - len) + string.len() <= Self::capacity()`: `len`
+        // is the length of the text, and this function's `# Safety` has the last.
+        // Proved: crates/arraystring_core/src/array_string/push.rt
         unsafe { self.compact_and_splice(len, len, string, &mut Steps::new()) };
     }
 }

@@ -125,9 +125,13 @@ impl<const N: usize> ArrayString<N> {
         let (start, end) = saturating_ends(range, self.len());
         self.check_part(start, end)?;
         // Made here, and not in a function that both calls share: each one would copy the array once more.
-        // SAFETY: the proof of `drain` in crates/arraystring_core/src/array_string/range.rt shows the precondition of `new`.
+        // SAFETY: the `end - start` bytes of `self.array` from `self.start + start` on are UTF-8 and end within the
+        // capacity: `check_part` returned `Ok`, so this is a part of the text.
+        // Proved: crates/arraystring_core/src/array_string/range.rt
         let removed = unsafe { Drain::new(self.array, self.start + start, end - start) };
-        // SAFETY: the proof of `drain` in crates/arraystring_core/src/array_string/range.rt shows `order`, `start` and `end` of `take_out`.
+        // SAFETY: `start <= end`; `start` is a boundary of `self`; `end` is a boundary of `self`: `check_part` returned
+        // `Ok`, so this is a part of the text.
+        // Proved: crates/arraystring_core/src/array_string/range.rt
         unsafe { self.take_out(start as usize, end as usize, &mut Steps::new()) };
         Ok(removed)
     }
@@ -183,9 +187,13 @@ impl<const N: usize> ArrayString<N> {
     pub fn drain_counted<R: RangeBounds<u8>>(&mut self, range: R, steps: &mut Steps) -> Result<Drain<N>, Error> {
         let (from, to) = saturating_ends(range, self.len());
         self.check_part(from, to)?;
-        // SAFETY: the proof of `drain_counted` in crates/arraystring_core/src/array_string/range.rt shows the precondition of `new`.
+        // SAFETY: the `to - from` bytes of `self.array` from `self.start + from` on are UTF-8 and end within the
+        // capacity: `check_part` returned `Ok`, so this is a part of the text, whatever was counted.
+        // Proved: crates/arraystring_core/src/array_string/range.rt
         let removed = unsafe { Drain::new(self.array, self.start + from, to - from) };
-        // SAFETY: the proof of `drain_counted` in crates/arraystring_core/src/array_string/range.rt shows `order`, `start` and `end` of `take_out`.
+        // SAFETY: `from <= to`; `from` is a boundary of `self`; `to` is a boundary of `self`: `check_part` returned
+        // `Ok`, so this is a part of the text, whatever was counted.
+        // Proved: crates/arraystring_core/src/array_string/range.rt
         unsafe { self.take_out(from as usize, to as usize, steps) };
         Ok(removed)
     }
@@ -324,7 +332,9 @@ impl<const N: usize> ArrayString<N> {
     pub fn make_ascii_uppercase_in<R: RangeBounds<u8>>(&mut self, range: R) {
         let (start, end) = plain_ends(range, self.len());
         let _ = &self.as_str()[start..end];
-        // SAFETY: by what the index above tests, the proof of `make_ascii_uppercase_in` in crates/arraystring_core/src/array_string/range.rt shows `order`, `start` and `end` of `uppercase_between`.
+        // SAFETY: `start <= end`; `start` is a boundary of `self`; `end` is a boundary of `self`: the index above
+        // panics where one of these does not hold, so that its caller need not show them.
+        // Proved: crates/arraystring_core/src/array_string/range.rt
         unsafe { self.uppercase_between(start, end) };
     }
 
@@ -365,7 +375,9 @@ impl<const N: usize> ArrayString<N> {
     pub fn make_ascii_lowercase_in<R: RangeBounds<u8>>(&mut self, range: R) {
         let (start, end) = plain_ends(range, self.len());
         let _ = &self.as_str()[start..end];
-        // SAFETY: by what the index above tests, the proof of `make_ascii_lowercase_in` in crates/arraystring_core/src/array_string/range.rt shows `order`, `start` and `end` of `lowercase_between`.
+        // SAFETY: `start <= end`; `start` is a boundary of `self`; `end` is a boundary of `self`: the index above
+        // panics where one of these does not hold, so that its caller need not show them.
+        // Proved: crates/arraystring_core/src/array_string/range.rt
         unsafe { self.lowercase_between(start, end) };
     }
 
@@ -413,7 +425,10 @@ impl<const N: usize> ArrayString<N> {
     fn replace_between(&mut self, start: u8, end: u8, with: &str, steps: &mut Steps) -> Result<(), Error> {
         self.check_replacement(start, end, with)?;
         let (from, to) = (start as usize, end as usize);
-        // SAFETY: the proof of `replace_between` in crates/arraystring_core/src/array_string/range.rt shows `order`, `start`, `end` and `room` of `splice`.
+        // SAFETY: `from <= to`; `from` is a boundary of `self`; `to` is a boundary of `self`;
+        // `self.len() - (to - from) + with.len() <= Self::capacity()`: `check_replacement` returned `Ok`, whatever was
+        // counted.
+        // Proved: crates/arraystring_core/src/array_string/range.rt
         unsafe { self.splice(from, to, with, steps) };
         Ok(())
     }

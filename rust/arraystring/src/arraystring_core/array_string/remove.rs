@@ -45,7 +45,8 @@ impl<const N: usize> ArrayString<N> {
         if !self.is_boundary(size as usize) {
             return Err(Utf8);
         }
-        // SAFETY: the proof of `truncate` in crates/arraystring_core/src/array_string/remove.rt shows the precondition of `keep`.
+        // SAFETY: `size` is a boundary of `self`: by the tests above.
+        // Proved: crates/arraystring_core/src/array_string/remove.rt
         unsafe { self.keep(size) };
         Ok(())
     }
@@ -114,7 +115,9 @@ impl<const N: usize> ArrayString<N> {
     #[inline]
     pub fn pop_counted(&mut self, steps: &mut Steps) -> Option<char> {
         let (start, ch) = last_char(self.as_str(), steps)?;
-        // SAFETY: the proof of `pop_counted` in crates/arraystring_core/src/array_string/remove.rt shows the precondition of `keep`.
+        // SAFETY: `start as u8` is a boundary of `self`: `last_char` returns where the last character begins, which is
+        // below 255, whatever was counted.
+        // Proved: crates/arraystring_core/src/array_string/remove.rt
         unsafe { self.keep(start as u8) };
         Some(ch)
     }
@@ -205,9 +208,13 @@ impl<const N: usize> ArrayString<N> {
         if !self.is_boundary(start) {
             return Err(Error::Utf8);
         }
-        // SAFETY: the proof of `remove_counted` in crates/arraystring_core/src/array_string/remove.rt shows `boundary` and `before_end` of `char_at`.
+        // SAFETY: `start` is a boundary of `self`; `start < self.len()`: by the tests above, whatever was counted.
+        // Proved: crates/arraystring_core/src/array_string/remove.rt
         let (ch, width) = unsafe { self.char_at(start) };
-        // SAFETY: the proof of `remove_counted` in crates/arraystring_core/src/array_string/remove.rt shows `order`, `start` and `end` of `take_out`.
+        // SAFETY: `start <= start + width`; `start` is a boundary of `self`; `start + width` is a boundary of `self`: a
+        // character begins at `start` by the tests above, and `char_at` returned that it takes `width` bytes, whatever
+        // was counted.
+        // Proved: crates/arraystring_core/src/array_string/remove.rt
         unsafe { self.take_out(start, start + width, steps) };
         Ok(ch)
     }
@@ -242,7 +249,9 @@ impl<const N: usize> ArrayString<N> {
     #[inline]
     pub fn retain<F: FnMut(char) -> bool>(&mut self, f: F) {
         let (offset, size) = (self.start as usize, self.size as usize);
-        // SAFETY: the proof of `retain` in crates/arraystring_core/src/array_string/remove.rt shows `held`, `small` and `text` of `retain_at`.
+        // SAFETY: `offset + size <= N`; `size <= 255`; the `size` bytes of `self.array` from `offset` on are UTF-8: as
+        // the fields of `ArrayString` say, whatever the closure answers.
+        // Proved: crates/arraystring_core/src/array_string/remove.rt
         unsafe { retain_at(&mut self.array, &mut self.size, offset, size, f) };
     }
 
@@ -285,9 +294,13 @@ impl<const N: usize> ArrayString<N> {
         if !self.is_boundary(at as usize) {
             return Err(Error::Utf8);
         }
-        // SAFETY: the proof of `split_off` in crates/arraystring_core/src/array_string/remove.rt shows the precondition of `from_str_unchecked`.
+        // SAFETY: `self.as_str()[at as usize..].len() <= Self::capacity()`: a part of a text of this capacity fits.
+        // Proved: crates/arraystring_core/src/array_string/remove.rt
+        // SAFETY: this is within: `at` is a boundary, by the test above.
+        // Proved: crates/arraystring_core/src/array_string/remove.rt
         let rest = unsafe { Self::from_str_unchecked(get_unchecked!(self.as_str(), at as usize..)) };
-        // SAFETY: the proof of `split_off` in crates/arraystring_core/src/array_string/remove.rt shows the precondition of `keep`.
+        // SAFETY: `at` is a boundary of `self`: by the tests above.
+        // Proved: crates/arraystring_core/src/array_string/remove.rt
         unsafe { self.keep(at) };
         Ok(rest)
     }
@@ -315,7 +328,8 @@ impl<const N: usize> ArrayString<N> {
     /// </details>
     #[inline]
     pub fn clear(&mut self) {
-        // SAFETY: the proof of `clear` in crates/arraystring_core/src/array_string/remove.rt shows the precondition of `keep`.
+        // SAFETY: `0` is a boundary of `self`: each text begins there.
+        // Proved: crates/arraystring_core/src/array_string/remove.rt
         unsafe { self.keep(0) };
     }
 
@@ -323,7 +337,8 @@ impl<const N: usize> ArrayString<N> {
     ///
     /// # Safety
     ///
-    /// The contract requires each of these: `IsTrue (boundary self.now.text at)`, `at < size self.now.text`.
+    /// - `at` is a boundary of `self`
+    /// - `at < self.len()`
     ///
     /// <details><summary>Contract</summary>
     ///
@@ -341,7 +356,8 @@ impl<const N: usize> ArrayString<N> {
     /// </details>
     #[inline]
     unsafe fn char_at(&self, at: usize) -> (char, usize) {
-        // SAFETY: the proof of `char_at` in crates/arraystring_core/src/array_string/remove.rt shows the precondition of `first_char`.
+        // SAFETY: `0 < self.as_str()[at..].len()`: by this function's `# Safety`.
+        // Proved: crates/arraystring_core/src/array_string/remove.rt
         unsafe { first_char(get_unchecked!(self.as_str(), at..)) }
     }
 }
@@ -350,7 +366,7 @@ impl<const N: usize> ArrayString<N> {
 ///
 /// # Safety
 ///
-/// The contract requires `0 < length text.now`.
+/// - `0 < text.len()`
 ///
 /// <details><summary>Contract</summary>
 ///
@@ -382,8 +398,9 @@ unsafe fn first_char(text: &str) -> (char, usize) {
 ///
 /// # Safety
 ///
-/// The contract requires each of these: `offset + size ≤ N`, `size ≤ 255`, `IsUtf8 (take size (drop offset
-/// array.old))`.
+/// - `offset + size <= N`
+/// - `size <= 255`
+/// - the `size` bytes of `array` from `offset` on are UTF-8
 ///
 /// <details><summary>Contract</summary>
 ///
@@ -414,24 +431,33 @@ unsafe fn retain_at<const N: usize, F: FnMut(char) -> bool>(
     let mut read = 0;
     while read < size {
         // A byte of ASCII is its character; others take the decoder.
+        // SAFETY: this is within: `read` is below `size`, and the array has the `size` bytes from `offset` on, whatever
+        // the closure answers.
+        // Proved: crates/arraystring_core/src/array_string/remove.rt
         let first = *get_unchecked!(array, offset + read);
         if first < 0x80 {
             if f(first as char) {
                 let to = offset + *kept as usize;
-                // SAFETY: the proof of `retain_at` in crates/arraystring_core/src/array_string/remove.rt shows `source` and `target` of `shift`.
+                // SAFETY: `offset + read + 1 <= N`; `to + 1 <= N`: `read` is below `size`, and `*kept` at most `read`,
+                // and the array has the `size` bytes from `offset` on, whatever the closure answers.
+                // Proved: crates/arraystring_core/src/array_string/remove.rt
                 unsafe { shift(array, offset + read, to, 1, &mut Steps::new()) };
                 *kept += 1;
             }
             read += 1;
         } else {
             let all = &array[..];
-            // SAFETY: the clause `text`: what was not read yet is UTF-8, since a character begins at `read`.
+            // SAFETY: the `size` bytes from `offset` on were UTF-8. No byte from `read` on was moved, and a
+            // character begins there.
             let text = unsafe { str::from_utf8_unchecked(get_unchecked!(all, offset + read..offset + size)) };
-            // SAFETY: the proof of `retain_at` in crates/arraystring_core/src/array_string/remove.rt shows the precondition of `first_char`.
+            // SAFETY: `0 < text.len()`: `read` is below `size`, whatever the closure answers.
+            // Proved: crates/arraystring_core/src/array_string/remove.rt
             let (ch, width) = unsafe { first_char(text) };
             if f(ch) {
                 let to = offset + *kept as usize;
-                // SAFETY: the proof of `retain_at` in crates/arraystring_core/src/array_string/remove.rt shows `source` and `target` of `shift`.
+                // SAFETY: `offset + read + width <= N`; `to + width <= N`: the character ends in the text, the text in
+                // the array, and `*kept` is at most `read`, whatever the closure answers.
+                // Proved: crates/arraystring_core/src/array_string/remove.rt
                 unsafe { shift(array, offset + read, to, width, &mut Steps::new()) };
                 *kept += width as u8;
             }

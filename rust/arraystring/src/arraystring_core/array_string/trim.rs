@@ -127,7 +127,9 @@ impl<const N: usize> ArrayString<N> {
             if !drops(ch) {
                 break;
             }
-            // SAFETY: the proof of `drop_trailing` in crates/arraystring_core/src/array_string/trim.rt shows the precondition of `keep`.
+            // SAFETY: `start as u8` is a boundary of `self`: `last_char` returns where the last character begins, which
+            // is below 255, whatever the closure answers and whatever was counted.
+            // Proved: crates/arraystring_core/src/array_string/trim.rt
             unsafe { self.keep(start as u8) };
         }
     }
@@ -170,15 +172,21 @@ impl<const N: usize> ArrayString<N> {
     fn drop_leading_ascii<F: Fn(char) -> bool>(&mut self, drops: &F) -> bool {
         let bytes = self.as_bytes();
         let mut run = 0;
+        // SAFETY: this is within: the loop tests that `run` is below `bytes.len()`, whatever the closure answers.
+        // Proved: crates/arraystring_core/src/array_string/trim.rt
         while run < bytes.len() && *get_unchecked!(bytes, run) < 0x80 {
             if !drops(*get_unchecked!(bytes, run) as char) {
-                // SAFETY: the proof of `drop_leading_ascii` in crates/arraystring_core/src/array_string/trim.rt shows the precondition of `drop_run`.
+                // SAFETY: `run` is a boundary of `self`: the `run` bytes before it are ASCII, so each is a character,
+                // whatever the closure answers.
+                // Proved: crates/arraystring_core/src/array_string/trim.rt
                 unsafe { self.drop_run(run) };
                 return true;
             }
             run += 1;
         }
-        // SAFETY: the proof of `drop_leading_ascii` in crates/arraystring_core/src/array_string/trim.rt shows the precondition of `drop_run`.
+        // SAFETY: `run` is a boundary of `self`: the `run` bytes before it are ASCII, so each is a character, whatever
+        // the closure answers.
+        // Proved: crates/arraystring_core/src/array_string/trim.rt
         unsafe { self.drop_run(run) };
         false
     }
@@ -187,7 +195,7 @@ impl<const N: usize> ArrayString<N> {
     ///
     /// # Safety
     ///
-    /// The contract requires `IsTrue (boundary self.old.text end)`.
+    /// - `end` is a boundary of `self`
     ///
     /// <details><summary>Contract</summary>
     ///
@@ -202,7 +210,8 @@ impl<const N: usize> ArrayString<N> {
     #[inline(always)]
     unsafe fn drop_run(&mut self, end: usize) {
         if end > 0 {
-            // SAFETY: the proof of `drop_run` in crates/arraystring_core/src/array_string/trim.rt shows the precondition of `drop_front`.
+            // SAFETY: `end` is a boundary of `self`: by this function's `# Safety`.
+            // Proved: crates/arraystring_core/src/array_string/trim.rt
             unsafe { self.drop_front(end) };
         }
     }
@@ -225,7 +234,9 @@ impl<const N: usize> ArrayString<N> {
             if !drops(ch) {
                 break;
             }
-            // SAFETY: the proof of `drop_leading_decoded` in crates/arraystring_core/src/array_string/trim.rt shows the precondition of `drop_front`.
+            // SAFETY: `ch.len_utf8()` is a boundary of `self`: `ch` is the first character of the text, whatever the
+            // closure answers.
+            // Proved: crates/arraystring_core/src/array_string/trim.rt
             unsafe { self.drop_front(ch.len_utf8()) };
         }
     }

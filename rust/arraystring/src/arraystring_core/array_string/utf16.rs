@@ -119,8 +119,12 @@ impl<const N: usize> ArrayString<N> {
         let mut array = [0; N];
         let run = write_ascii(&mut array, units);
         let mut end = run;
+        // SAFETY: this is within: `write_ascii` returns at most `units.len()`.
+        // Proved: crates/arraystring_core/src/array_string/utf16.rt
         for item in Units::new(get_unchecked!(units, run..)) {
-            // SAFETY: the proof of `from_utf16_lossy` in crates/arraystring_core/src/array_string/utf16.rt shows the precondition of `write_char`.
+            // SAFETY: the `end` bytes of `array` from `0` on are UTF-8 and end within the capacity: `write_ascii` and
+            // `write_char` return where the text that they wrote ends.
+            // Proved: crates/arraystring_core/src/array_string/utf16.rt
             match unsafe { Self::write_char(&mut array, end, shown(item)) } {
                 Some(next) => {
                     end = next;
@@ -149,9 +153,13 @@ impl<const N: usize> ArrayString<N> {
         // A run of ASCII first, at once: its units are its bytes.
         let run = write_ascii(array, units);
         let mut end = run;
+        // SAFETY: this is within: `write_ascii` returns at most `units.len()`.
+        // Proved: crates/arraystring_core/src/array_string/utf16.rt
         for item in Units::new(get_unchecked!(units, run..)) {
             match item {
-                // SAFETY: the proof of `write_prefix` in crates/arraystring_core/src/array_string/utf16.rt shows the precondition of `write_char`.
+                // SAFETY: the `end` bytes of `array` from `0` on are UTF-8 and end within the capacity: `write_ascii`
+                // and `write_char` return where the text that they wrote ends.
+                // Proved: crates/arraystring_core/src/array_string/utf16.rt
                 Unit16::Char(ch) => match unsafe { Self::write_char(array, end, ch) } {
                     Some(next) => {
                         end = next;
@@ -169,7 +177,7 @@ impl<const N: usize> ArrayString<N> {
     ///
     /// # Safety
     ///
-    /// The contract requires `IsStored N array.old 0 end`.
+    /// - the `end` bytes of `array` from `0` on are UTF-8 and end within the capacity
     ///
     /// <details><summary>Contract</summary>
     ///
@@ -185,11 +193,13 @@ impl<const N: usize> ArrayString<N> {
     /// </details>
     #[inline(always)]
     unsafe fn write_char(array: &mut [u8; N], end: usize, ch: char) -> Option<usize> {
-        // SAFETY: the proof of `write_char` in crates/arraystring_core/src/array_string/utf16.rt shows the precondition of `has_room`.
+        // SAFETY: `end <= 255`: by this function's `# Safety`, since the capacity is at most 255.
+        // Proved: crates/arraystring_core/src/array_string/utf16.rt
         if !unsafe { Self::has_room(end, ch) } {
             return None;
         }
-        // SAFETY: the proof of `write_char` in crates/arraystring_core/src/array_string/utf16.rt shows the precondition of `encode`.
+        // SAFETY: `end + ch.len_utf8() <= N`: `has_room` returned true.
+        // Proved: crates/arraystring_core/src/array_string/utf16.rt
         Some(end + unsafe { encode(ch, array, end) })
     }
 }
@@ -213,6 +223,8 @@ impl<const N: usize> ArrayString<N> {
 fn write_ascii<const N: usize>(array: &mut [u8; N], units: &[u16]) -> usize {
     let most = units.len().min(ArrayString::<N>::capacity() as usize);
     let mut run = 0;
+    // SAFETY: this is within: `run` is below `most`, which is at most `units.len()` and at most `N`.
+    // Proved: crates/arraystring_core/src/array_string/utf16.rt
     while run < most && *get_unchecked!(units, run) < 0x80 {
         *get_unchecked_mut!(array, run) = *get_unchecked!(units, run) as u8;
         run += 1;

@@ -49,7 +49,8 @@ impl<const N: usize> fmt::Debug for Drain<N> {
 impl<const N: usize> Default for Drain<N> {
     #[inline]
     fn default() -> Self {
-        // SAFETY: the proof of `default` in crates/arraystring_core/src/drain/traits.rt shows the precondition of `new`.
+        // SAFETY: the `0` bytes of `[0; N]` from `0` on are UTF-8 and end within the capacity: there are none.
+        // Proved: crates/arraystring_core/src/drain/traits.rt
         unsafe { Drain::new([0; N], 0, 0) }
     }
 }
@@ -82,6 +83,9 @@ impl<const N: usize> DoubleEndedIterator for Drain<N> {
         if self.size == self.front {
             return None;
         }
+        // SAFETY: this is within: the fields of `Drain` say that `front <= size` and `start + size <= N`, and the test
+        // above that `front != size`, whatever was counted.
+        // Proved: crates/arraystring_core/src/drain/traits.rt
         let last = *get_unchecked!(self.array, self.start as usize + self.size as usize - 1);
         if last < 0x80 {
             self.size -= 1;
@@ -191,6 +195,9 @@ impl<const N: usize> Iterator for Drain<N> {
             return None;
         }
         // A byte of ASCII is its character; others take the decoder.
+        // SAFETY: this is within: the fields of `Drain` say that `front <= size` and `start + size <= N`, and the test
+        // above that `front != size`.
+        // Proved: crates/arraystring_core/src/drain/traits.rt
         let first = *get_unchecked!(self.array, self.start as usize + self.front as usize);
         if first < 0x80 {
             self.front += 1;

@@ -20,6 +20,7 @@ use crate::by_hand::str;
 #[inline]
 pub(crate) fn read_utf8(given: &[u8]) -> Result<&str, Utf8> {
     let (blocks, last) = (given.len() / 32 * 32, given.len().saturating_sub(32));
+    // SAFETY: this is within: neither is above `given.len()`.
     if get_unchecked!(given, ..blocks).is_ascii() && get_unchecked!(given, last..).is_ascii() {
         // SAFETY: the blocks of 32 bytes in front and the last 32 bytes are all of them, and ASCII is UTF-8.
         return Ok(unsafe { str::from_utf8_unchecked(given) });
