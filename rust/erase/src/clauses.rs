@@ -222,7 +222,7 @@ impl<'a> Reader<'a> {
             "cap" if self.next() == "N" => self.names.capacity.to_string(),
             "size" if [next, after] == ["(", "chars"] => self.size_of_characters()?,
             "size" if next.starts_with("self.") => format!("{}.len()", self.name()?),
-            word if word.chars().all(|ch| ch.is_ascii_digit()) => word.to_string(),
+            word if word.parse::<usize>().is_ok() => word.to_string(),
             _ => {
                 self.at -= 1;
                 self.name()?

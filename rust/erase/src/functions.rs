@@ -2,7 +2,8 @@
 
 use std::ops::Range;
 
-use crate::body::{self, Body, Here};
+use crate::body::Body;
+use crate::calls::{self, Here};
 use crate::clauses::{Names, said};
 use crate::contracts::{Clause, is_type};
 use crate::cursor::{Cursor, Fault, Token};
@@ -100,7 +101,7 @@ impl<'a> File<'a, '_> {
         if self.is_by_std() {
             return Ok(());
         }
-        body::rewrite(self.text, &function.tokens, &here, &mut self.edits, self.tally)
+        calls::rewrite(self.text, &function.tokens, &here, &mut self.edits, self.tally)
     }
 
     /// Whether std does what the file does, so that its bodies go.
@@ -261,7 +262,7 @@ impl<'a> File<'a, '_> {
         let call = rule.of.replace(rule.call, rule.twin);
         self.tally.contracts.note(&call, &head, &function.preconditions);
         let here = Here { krate, path, owner: "", call: &call, gives_up: false, proves: true };
-        body::rewrite(body, &tokens, &here, &mut edits, self.tally)?;
+        calls::rewrite(body, &tokens, &here, &mut edits, self.tally)?;
         self.edits.insert(
             function.end,
             format!(

@@ -9,6 +9,7 @@
 
 mod access;
 mod body;
+mod calls;
 mod clauses;
 mod checksum;
 mod contracts;
