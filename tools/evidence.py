@@ -35,8 +35,8 @@ LAWS_THAT_BORROW = {"text_fits", "text_spelled", "left_fits"}
 # What the prover says before the values at which a goal is false; the log cuts it off somewhere behind.
 VALUES = "the goal does not follow from what it read. All of"
 
-# Of these `rt` tells a stored proof first, and leaves a goal of src/ open as well. A control would show more.
-STORED_FIRST = {"from_utf16_lossy.reads_a_pair_as_two", "replace_range_counted.moves_where_it_is_refused", "try_from_str.refuses_always"}
+# Of this one `rt` tells a stored proof first, and leaves a goal of src/ open as well. A control would show more.
+STORED_FIRST = {"from_utf16_lossy.reads_a_pair_as_two"}
 
 VERDICT = re.compile(r"must-fail (\w+)/(\S+)\.edit: refused, as it must be: (.*)")
 

@@ -3,13 +3,8 @@
 tools/run quotes [PAGE..]           the pages, or PAGES if none is given
 tools/run quotes --write [PAGE..]   writes anew what can be: what a command prints, and the lines of definitions
 
-Two kinds of block are compared with files:
+Three things are compared:
 - a block after a line that ends in "From `PATH`:". Its lines stand in the file one after the other;
-- a block of contracts, which begins with a line that is the path of a `.rt` file. Each signature is in the last file that
-  was named, and each clause below it belongs to that function, in this order. There `S` is the text at the call
-  (`self.old.text`, `self.now.text`), `S'` the text at the return, and clauses may be left out.
-
-Two more things are compared:
 - a block after a line that ends in "Printed by `tools/run COMMAND`:" is what that prints;
 - a table below a heading with the path of a file of specs/ has as its second column the lines of the definitions that the
   first one names.
@@ -24,35 +19,9 @@ PAGES = ["README.md", "docs/definitions.md", "crates/arraystring/CALLING.md", "c
 DEFINITION = r"\s*(?:(?:abbrev|unfoldable)(?: pub)?|(?:pub )?(?:data|record)) {}\s"
 
 
-def squeezed(source):
-    """The file on one line, with the words of the page."""
-    line = re.sub(r"\s+", " ", re.sub(r"(?m)^\s*//.*$", "", source))
-    line = line.replace("( ", "(").replace(", )", ")")
-    line = re.sub(r"self\.(old|now)\.text", "S", line)
-    return line.replace("self.new.text", "S'")
-
-
 def is_quoted(lines, text):
     """Whether the text has these lines one after the other."""
     return "\n" + "\n".join(lines) + "\n" in "\n" + text
-
-
-def wrong_contracts(root, lines):
-    """The lines that are not in the files named above them."""
-    file, contract, wrong = "", "", []
-    for line in filter(str.strip, lines):
-        if line.endswith(".rt"):
-            file = squeezed(read(root / line))
-        elif line.startswith("fn "):
-            _, found, rest = file.partition(f" {line} ")
-            contract = rest.split(" fn ")[0].split(" impl")[0] if found else ""
-            wrong += [] if found else [line]
-        else:
-            kind, _, claim = line.strip().partition(": ")
-            _, found, rest = contract.partition(f"{kind} {{ {claim} }}")
-            contract = rest if found else contract
-            wrong += [] if found else [line]
-    return wrong
 
 
 def with_printed(root, text):
@@ -99,11 +68,9 @@ def faults_of_blocks(root, page, text):
     faults, compared = [], 0
     for before, block in pages.fenced_blocks(text):
         source, lines = re.search(r"From `(\S+)`:$", before), block.split("\n")
-        compared += bool(source or lines[0].endswith(".rt") or re.search(r"Printed by `[^`]+`:$", before))
+        compared += bool(source or re.search(r"Printed by `[^`]+`:$", before))
         if source and not is_quoted(lines, read(root / source[1])):
             faults.append(f"{page}: {source[1]} does not have these lines: {lines[0]} ..")
-        if lines[0].endswith(".rt"):
-            faults += [f"{page}: not in the source: {line}" for line in wrong_contracts(root, lines)]
     return faults, compared
 
 

@@ -1,7 +1,6 @@
-"""The repository: its crates, their sources, its pages, and copies of it."""
+"""The repository: its crates, their sources, and copies of it."""
 import re
 import shutil
-import subprocess
 import tempfile
 from contextlib import contextmanager
 from pathlib import Path
@@ -24,17 +23,11 @@ def sources(folder):
     return [it for it in files if "tests" not in it.relative_to(folder).with_suffix("").parts]
 
 
-def pages(root):
-    """The Markdown files that git knows, in order."""
-    listed = subprocess.run(["git", "ls-files", "*.md"], cwd=root, check=True, stdout=subprocess.PIPE, encoding="utf-8").stdout
-    return [root / name for name in listed.splitlines()]
-
-
 @contextmanager
-def copied(root, *left_out):
-    """A copy of the repository among the temporary files, without what is left out, for as long as it is needed."""
+def copied(root):
+    """A copy of the repository among the temporary files, for as long as it is needed."""
     with tempfile.TemporaryDirectory(prefix="arraystring-") as room:
-        ignored = shutil.ignore_patterns(".git", *left_out)
+        ignored = shutil.ignore_patterns(".git")
         yield Path(shutil.copytree(root, Path(room, "copy"), ignore=ignored, symlinks=True))
 
 

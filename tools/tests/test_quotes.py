@@ -10,13 +10,6 @@ fn greet() {
 }
 ```
 
-```text
-src/greet.rt
-fn add(&mut self) -> u8
-    requires: S ≡ []
-    ensures: S' ≡ S
-```
-
 ## `crates/base/specs/Words.antt`
 
 |Definition|Line|What|
@@ -26,13 +19,6 @@ fn add(&mut self) -> u8
 SOURCE = """\
 fn greet() {
     hello()
-}
-
-fn add(&mut self) -> u8
-    requires { self.old.text ≡ [] }
-    ensures { self.new.text ≡ self.old.text }
-{
-    0
 }
 """
 WORDS = "-- words\n\n-- a text is short\nabbrev pub IsShort : Text → Type 0\nIsShort t = length t < 3\n"
@@ -49,22 +35,11 @@ class Quotes(TreeTest):
         self.assert_fails(wanted, quotes, "page.md")
 
     def test_what_is_as_in_the_files_passes(self):
-        self.assertIn("2 blocks are as in the files", self.assert_passes(quotes, "page.md"))
+        self.assertIn("1 blocks are as in the files", self.assert_passes(quotes, "page.md"))
 
     def test_a_line_that_the_file_lacks_is_told(self):
         self.replace("src/greet.rt", "    hello()", "    good_day()")
         self.assert_told("page.md: src/greet.rt does not have these lines: fn greet() {")
-
-    def test_a_clause_belongs_to_its_function(self):
-        self.replace("page.md", "    ensures: S' ≡ S", "    ensures: S' ≡ []")
-        self.assert_told("not in the source:     ensures: S' ≡ []")
-        self.write("page.md", PAGE.replace("fn add(&mut self) -> u8", "fn sub(&mut self) -> u8"))
-        self.assert_told("not in the source: fn sub(&mut self) -> u8")
-
-    def test_clauses_stand_in_the_order_of_the_source(self):
-        clauses = ["    requires: S ≡ []", "    ensures: S' ≡ S"]
-        self.replace("page.md", "\n".join(clauses), "\n".join(reversed(clauses)))
-        self.assert_told("not in the source:     requires: S ≡ []")
 
     def test_a_definition_stands_at_its_line(self):
         self.replace("page.md", "|4|", "|5|")

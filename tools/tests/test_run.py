@@ -17,12 +17,12 @@ class Door(unittest.TestCase):
             self.assertIn("The commands are check, trusted,", printed)
 
     def test_a_command_says_what_it_does(self):
-        for command in ("check", "trusted", "dead", "quotes", "calls", "sentences", "evidence", "controls", "proved", "costs", "profile", "grinds"):
+        for command in ("check", "trusted", "dead", "quotes", "calls", "moves", "evidence", "controls", "proved", "cost"):
             status, printed = self.called(command, "--help")
             self.assertEqual(status, 0)
             self.assertTrue(printed.strip())
 
     def test_a_crate_that_is_not_there_is_refused(self):
-        for command in ("profile", "grinds", "controls", "costs"):
+        for command in ("controls", "cost"):
             status, printed = self.called(command, "no_such_crate")
             self.assertEqual((status, printed), (1, f"tools/run {command}: no crate is named no_such_crate\n"))

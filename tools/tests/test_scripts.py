@@ -130,13 +130,11 @@ rust: cargo fmt --version
 rust: cargo fmt --check --manifest-path arraystring/Cargo.toml
 rust: cargo fmt --check --manifest-path arraystring_serde/Cargo.toml
 rust: cargo fmt --check --manifest-path erase/Cargo.toml
-rust: cargo fmt --check --manifest-path example/Cargo.toml
 rust: cargo fmt --check --manifest-path example_names/Cargo.toml
 rust: cargo fmt --check --manifest-path no_panic/Cargo.toml
 rust: cargo fmt --check --manifest-path static_library/Cargo.toml
 rust: cargo clippy --version
 rust: cargo clippy --quiet --offline --release --manifest-path arraystring/Cargo.toml -- -D warnings
-rust: cargo clippy --quiet --offline --release --manifest-path example/Cargo.toml -- -D warnings
 rust: cargo clippy --quiet --offline --release --manifest-path example_names/Cargo.toml -- -D warnings
 rust: cargo clippy --quiet --offline --release --manifest-path no_panic/Cargo.toml -- -D warnings
 rust: cargo clippy --quiet --offline --release --manifest-path static_library/Cargo.toml -- -D warnings
@@ -153,7 +151,6 @@ rust: cargo test --quiet --offline --manifest-path arraystring/Cargo.toml --rele
 rust: cargo test --quiet --offline --manifest-path arraystring/Cargo.toml --release --features checked,alloc
 rust: cargo test --quiet --offline --manifest-path arraystring/Cargo.toml --features alloc --test owned
 rust: cargo doc --quiet --offline --no-deps --all-features --manifest-path arraystring/Cargo.toml
-rust: cargo run --quiet --offline --manifest-path example/Cargo.toml
 rust: cargo run --quiet --offline --manifest-path example_names/Cargo.toml
 rust: links
 rust: cargo build --quiet --offline --manifest-path static_library/Cargo.toml
@@ -175,7 +172,7 @@ class RustCheck(ScriptTest):
     PASSED = "rust/check: 11 passed, 0 skipped\n"
     FOLDER = "${PWD##*/}: "
     FLAGS = "${RUSTFLAGS:+ with$RUSTFLAGS}${RUSTDOCFLAGS:+ and$RUSTDOCFLAGS}"
-    CRATES = ["arraystring", "arraystring_serde", "erase", "example", "example_names", "no_panic", "static_library"]
+    CRATES = ["arraystring", "arraystring_serde", "erase", "example_names", "no_panic", "static_library"]
     REFERENCE = "$CARGO_TARGET_DIR/doc/arraystring"
     # (what `cargo doc` makes, and the number that `cargo pkgid` tells)
     CARGO = """\

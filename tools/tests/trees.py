@@ -1,6 +1,5 @@
 """Small repositories for tests: files in a temporary folder."""
 import io
-import subprocess
 import tempfile
 import unittest
 from contextlib import redirect_stderr, redirect_stdout
@@ -46,7 +45,3 @@ class TreeTest(unittest.TestCase):
         failed, printed = self.told(command, *words, **options)
         self.assertTrue(failed, printed)
         self.assertIn(wanted, printed)
-
-    def known_to_git(self):
-        for words in (["init", "-q"], ["add", "-A"]):
-            subprocess.run(["git", *words], cwd=self.root, check=True)

@@ -1,7 +1,8 @@
 //! A guest list: bookings that are read, tables by name, a line that is edited, and rows that are written. All texts lie
-//! in the values themselves. Each result was worked out by hand.
+//! in the values themselves. Each result was worked out by hand. The other calls are in `calls`.
 
 mod booking;
+mod calls;
 mod line;
 
 use std::collections::{BTreeMap, HashMap};
@@ -78,6 +79,7 @@ fn main() -> Result<(), Box<dyn StdError>> {
     assert_eq!(row(&Name::from("ann"), 12_345), Err(fmt::Error));
 
     assert_eq!(sorted.get(&type_a_name()?), Some(&2));
+    calls::make_each()?;
     println!("all as it was worked out");
     Ok(())
 }

@@ -1,7 +1,7 @@
 """What is said of the wrong bodies of a crate, and that each is tried over the same."""
 from unittest import mock
 
-import costs
+import cost
 import rt
 from tests.trees import TreeTest
 
@@ -10,7 +10,7 @@ ADVICE = "./proofs/other/Answers.antt:2:1: note: large solution\n"
 BEGINNING = {"numbers.oantt": "a module", "last-used": "a day"}
 
 
-class Costs(TreeTest):
+class WrongBodies(TreeTest):
     FILES = {
         "crates.txt": "numbers:\n",
         "crates/numbers/src/lib.rt": "fn twice(value: u8) -> u8 {\n    value + value\n}\n",
@@ -28,7 +28,7 @@ class Costs(TreeTest):
             "value + 0\n": (5.5, False, "note: ./proofs/twice/Answers.antt:3:1: no\nsrc/lib.rt:1:1: error: open\n"),
             "value + value + value\n": (31.25, False, f"read\n{ADVICE}note: ./proofs/twice/Answers.antt:3:1: no\nlogic=not-proved\n"),
         }
-        for where, name, stand_in in ((rt, "check", self.check), (costs, "seconds_spent", lambda: self.spent)):
+        for where, name, stand_in in ((rt, "check", self.check), (cost, "seconds_spent", lambda: self.spent)):
             patch = mock.patch.object(where, name, stand_in)
             patch.start()
             self.addCleanup(patch.stop)
@@ -47,33 +47,33 @@ class Costs(TreeTest):
             (folder / "out/last-used").write_text("today", encoding="utf-8")
         return is_proved, said
 
-    def test_each_is_told_and_the_dearest_come_first(self):
-        printed = self.assert_passes(costs, "numbers")
+    def test_each_is_told_with_what_refuses_it(self):
+        printed = self.assert_passes(cost, "numbers", "--edits")
         once = "  5.5 s  twice_is_once: src/lib.rt:1:1: error: open\n"
         thrice = " 31.2 s  twice_is_thrice: note: ./proofs/twice/Answers.antt:3:1: no\n"
         head = "numbers: 2.0 s for a check that has nothing to prove\n"
-        self.assertEqual(printed, head + once + thrice + "37 s together, of 2; the dearest:\n" + thrice + once)
-        self.assertTrue(self.assert_passes(costs, "numbers", "--top", "1").endswith("the dearest:\n" + thrice))
+        self.assertEqual(printed, head + once + thrice + "37 s together, of 2\n")
 
     def test_those_of_one_function_are_told_alone(self):
         self.write("crates/numbers/must-fail/twice_more.is_once.edit", EDIT.format("value + 0"))
-        printed = self.assert_passes(costs, "numbers", "--only", "twice_more", "--top", "2")
-        self.assertIn("  5.5 s  twice_more.is_once: src/lib.rt:1:1: error: open\n6 s together, of 1;", printed)
-        self.assert_fails("0 s together, of 0;", costs, "numbers", "--only", "twice")
+        printed = self.assert_passes(cost, "numbers", "--edits", "twice_more")
+        self.assertIn("  5.5 s  twice_more.is_once: src/lib.rt:1:1: error: open\n6 s together, of 1\n", printed)
+        self.assert_fails("0 s together, of 0\n", cost, "numbers", "--edits", "twice")
 
     def test_one_that_proves_fails(self):
         self.checks["value + 0\n"] = 3.0, True, "logic=proved\n"
-        self.assert_fails("  3.0 s  twice_is_once: NOT REFUSED\n", costs, "numbers")
+        self.assert_fails("  3.0 s  twice_is_once: NOT REFUSED\n", cost, "numbers", "--edits")
 
     def test_one_that_cannot_be_applied_fails(self):
         self.write("crates/numbers/must-fail/twice_is_once.edit", EDIT.replace("value + value", "three").format("3"))
-        self.assert_fails("  0.0 s  twice_is_once: BAD EDIT: src/lib.rt does not have this once", costs, "numbers")
+        self.assert_fails("  0.0 s  twice_is_once: BAD EDIT: src/lib.rt does not have this once", cost, "numbers", "--edits")
 
     def test_nothing_is_tried_of_a_crate_that_is_not_proved(self):
         self.checks["value + value\n"] = 2.0, False, "src/lib.rt:1:1: error: open\n"
-        printed = self.told(costs, "numbers")
+        printed = self.told(cost, "numbers", "--edits")
         self.assertEqual(printed, (True, "numbers is not proved: src/lib.rt:1:1: error: open\n"))
 
-    def test_a_crate_is_named(self):
-        self.assertEqual(costs.main([], self.root), "name a crate")
-        self.assertEqual(costs.main(["letters"], self.root), "no crate is named letters")
+    def test_a_crate_and_an_option_are_named(self):
+        self.assertEqual(cost.main([], self.root), "name a crate")
+        self.assertEqual(cost.main(["letters"], self.root), "no crate is named letters")
+        self.assertEqual(cost.main(["numbers", "--only"], self.root), "--only is none of --grinds, --edits")
