@@ -22,16 +22,21 @@ pub apart_self : (xs : List ℕ) → mask_l (zip2 apart xs xs) ≡ 0
 apart_self [] = refl
 apart_self (x ∷ xs) = rw (eq-eqb x x refl, apart_self xs) refl
 
--- two blocks of K bytes, as their vectors are compared
-pub same_block : (K : ℕ) (a b : List ℕ) → K ≤ 64 → length a ≡ K → length b ≡ K
-    → (eqb (mask_l (map (top 7) (zip2 (λ x y. cond (apart x y) 255 0) (take K a) (take K b))) % 2 ^ 64) 0 ≡ true) ↔ (a ≡ b)
-same_block K a b few one other =
-    let long : length a ≡ length b = one ∙ sym other in
+-- the mask of two blocks of K bytes, as their vectors are compared
+abbrev pub mask : ℕ → List ℕ → List ℕ → ℕ
+mask K a b = mask_l (map (top 7) (zip2 (λ x y. cond (apart x y) 255 0) (take K a) (take K b))) % 2 ^ 64
+
+pub mask-is : (K : ℕ) (a b : List ℕ) → K ≤ 64 → length a ≡ K → length b ≡ K → mask K a b ≡ mask_l (zip2 apart a b)
+mask-is K a b few one other =
     let tops = tops_compared w8 apart a b in
-    let mask = mask_l-mod _ 64 (omega (arith, ap length tops, length-zip2 apart a b long)) ∙ ap mask_l tops in
-    rw (take_all K a (omega arith), take_all K b (omega arith)) (
-      λ e. none_apart a b long (sym mask ∙ eqb-true _ _ e),
-      λ e. eq-eqb _ _ (mask ∙ ap (λ l. mask_l (zip2 apart a l)) (sym e) ∙ apart_self a),
+    rw (take_all K a (omega arith), take_all K b (omega arith))
+    (mask_l-mod _ 64 (omega (arith, ap length tops, length-zip2 apart a b (one ∙ sym other))) ∙ ap mask_l tops)
+
+pub same_block : (K : ℕ) (a b : List ℕ) → K ≤ 64 → length a ≡ K → length b ≡ K → (eqb (mask K a b) 0 ≡ true) ↔ (a ≡ b)
+same_block K a b few one other =
+    let is = mask-is K a b few one other in (
+      λ e. none_apart a b (one ∙ sym other) (sym is ∙ eqb-true _ _ e),
+      λ e. eq-eqb _ _ (is ∙ ap (λ l. mask_l (zip2 apart a l)) (sym e) ∙ apart_self a),
     )
 
 drop_past : (m p : ℕ) (l : List ℕ) → p ≤ m → drop (m - p) (drop p l) ≡ drop m l

@@ -2,7 +2,6 @@
 //! before it. No byte is read outside of the texts.
 ghost use Rattle.std.specs.Prelude.{◌≡◌, ◌≢◌, ◌+◌, ◌-◌, ◌<◌, ◌≤◌, min, length, take, drop, IfSome, IfNone, slice_index_or};
 ghost use Rattle.std.specs.Cmp.Lexicographic.{slice_cmp};
-ghost use Rattle.std.specs.Int.{w32, w64, from_be_bytes};
 ghost use Rattle.std.specs.Ordering.{nat_cmp};
 
 use crate::fast::equal::equal_block;
@@ -17,69 +16,21 @@ pub(crate) fn order(text: &str, other: &str) -> Ordering
     let (a, b) = (text.as_bytes(), other.as_bytes());
     let common = a.len().min(b.len());
     if common < 16 {
-        return order_of_few(a, b, common);
+        if common < 4 {
+            return order_by_bytes(a, b, common);
+        }
+        if common < 8 {
+            return order_by_ends::<4>(a, b, common, halves(a, b, 0), halves(a, b, common - 4));
+        }
+        return order_by_ends::<8>(a, b, common, words(a, b, 0), words(a, b, common - 8));
     }
     if let Some(order) = block_order::<16>(a, b, 0) {
         return order;
     }
-    if common <= 48 {
-        return order_by::<16>(a, b, common, 16);
+    if common <= 64 {
+        return order_by_blocks(a, b, common);
     }
-    order_by::<32>(a, b, common, equal_groups(a, b, common))
-}
-
-/// The same for texts of which one has fewer than 16 bytes.
-#[inline(always)]
-fn order_of_few(a: &[u8], b: &[u8], common: usize) -> Ordering
-    requires few { common < 16 }
-    requires lesser { common ≡ min (length a.now) (length b.now) }
-    ensures { result ≡ slice_cmp nat_cmp a.now b.now }
-{
-    if common < 4 {
-        return order_by_bytes(a, b, common);
-    }
-    if common < 8 {
-        return order_by_halves(a, b, common);
-    }
-    order_by_words(a, b, common)
-}
-
-/// The same of 8 to 16 bytes: the first eight decide, or else the last eight.
-#[inline(always)]
-fn order_by_words(a: &[u8], b: &[u8], common: usize) -> Ordering
-    requires least { 8 ≤ common }
-    requires most { common ≤ 16 }
-    requires lesser { common ≡ min (length a.now) (length b.now) }
-    ensures { result ≡ slice_cmp nat_cmp a.now b.now }
-{
-    let (one, other) = (word(a, 0), word(b, 0));
-    if one != other {
-        return order_of_different(one, other);
-    }
-    let (one_last, other_last) = (word(a, common - 8), word(b, common - 8));
-    if one_last != other_last {
-        return order_of_different(one_last, other_last);
-    }
-    order_of_lengths(a, b)
-}
-
-/// The same of 4 to 8 bytes: the first four decide, or else the last four.
-#[inline(always)]
-fn order_by_halves(a: &[u8], b: &[u8], common: usize) -> Ordering
-    requires least { 4 ≤ common }
-    requires most { common ≤ 8 }
-    requires lesser { common ≡ min (length a.now) (length b.now) }
-    ensures { result ≡ slice_cmp nat_cmp a.now b.now }
-{
-    let (one, other) = (half_word(a, 0), half_word(b, 0));
-    if one != other {
-        return order_of_different(one, other);
-    }
-    let (one_last, other_last) = (half_word(a, common - 4), half_word(b, common - 4));
-    if one_last != other_last {
-        return order_of_different(one_last, other_last);
-    }
-    order_of_lengths(a, b)
+    order_by_groups(a, b, common)
 }
 
 /// The same of few bytes, one after the other.
@@ -98,28 +49,58 @@ fn order_by_bytes(a: &[u8], b: &[u8], common: usize) -> Ordering
     order_of_lengths(a, b)
 }
 
-/// The number of which the 8 bytes from `at` on are the digits.
+/// The same of `K` to `2 * K` bytes: the first `K` decide, or else the last `K`. For these bytes stand numbers.
 #[inline(always)]
-fn word(bytes: &[u8], at: usize) -> u64
-    requires { at + 8 ≤ length bytes.now }
-    ensures { result ≡ from_be_bytes w64 (take 8 (drop at bytes.now)) }
+fn order_by_ends<const K: usize>(
+    a: &[u8],
+    b: &[u8],
+    common: usize,
+    first: (u64, u64),
+    last: (u64, u64),
+) -> Ordering
+    requires least { K ≤ common }
+    requires most { common ≤ K + K }
+    requires lesser { common ≡ min (length a.now) (length b.now) }
+    requires in_first { nat_cmp first.0 first.1 ≡ slice_cmp nat_cmp (take K a.now) (take K b.now) }
+    requires in_last { nat_cmp last.0 last.1 ≡ slice_cmp nat_cmp (take K (drop (common - K) a.now)) (take K (drop (common - K) b.now)) }
+    ensures { result ≡ slice_cmp nat_cmp a.now b.now }
 {
-    let Some(digits) = bytes[at..].first_chunk::<8>() else {
-        unreachable!();
-    };
-    u64::from_be_bytes(*digits)
+    if first.0 != first.1 {
+        return order_of_different(first.0, first.1);
+    }
+    if last.0 != last.1 {
+        return order_of_different(last.0, last.1);
+    }
+    order_of_lengths(a, b)
 }
 
-/// The number of which the 4 bytes from `at` on are the digits.
+/// Two numbers that are ordered as the 8 bytes of each text from `at` on.
 #[inline(always)]
-fn half_word(bytes: &[u8], at: usize) -> u64
-    requires { at + 4 ≤ length bytes.now }
-    ensures { result ≡ from_be_bytes w32 (take 4 (drop at bytes.now)) }
+fn words(a: &[u8], b: &[u8], at: usize) -> (u64, u64)
+    requires one { at + 8 ≤ length a.now }
+    requires other { at + 8 ≤ length b.now }
+    ensures { nat_cmp result.0 result.1 ≡ slice_cmp nat_cmp (take 8 (drop at a.now)) (take 8 (drop at b.now)) }
 {
-    let Some(digits) = bytes[at..].first_chunk::<4>() else {
+    let (Some(one), Some(other)) = (a[at..].first_chunk::<8>(), b[at..].first_chunk::<8>()) else {
         unreachable!();
     };
-    u32::from_be_bytes(*digits) as u64
+    (u64::from_be_bytes(*one), u64::from_be_bytes(*other))
+}
+
+/// Two numbers that are ordered as the 4 bytes of each text from `at` on.
+#[inline(always)]
+fn halves(a: &[u8], b: &[u8], at: usize) -> (u64, u64)
+    requires one { at + 4 ≤ length a.now }
+    requires other { at + 4 ≤ length b.now }
+    ensures { nat_cmp result.0 result.1 ≡ slice_cmp nat_cmp (take 4 (drop at a.now)) (take 4 (drop at b.now)) }
+{
+    let (Some(one), Some(other)) = (a[at..].first_chunk::<4>(), b[at..].first_chunk::<4>()) else {
+        unreachable!();
+    };
+    (
+        u32::from_be_bytes(*one) as u64,
+        u32::from_be_bytes(*other) as u64,
+    )
 }
 
 /// The order of two texts of which one begins the other.
@@ -145,42 +126,43 @@ fn order_of_different(one: u64, other: u64) -> Ordering
     Ordering::Greater
 }
 
-/// How two texts are ordered of which the first `at` bytes are equal. Of the `2 * K` behind them some differ,
-/// or the first `common` bytes end there.
+/// The same of up to 64 bytes, of which the first 16 are equal: by the blocks of 16 behind them.
 #[inline(always)]
-fn order_by<const K: usize>(a: &[u8], b: &[u8], common: usize, at: usize) -> Ordering
-    requires lanes { K ≤ 64 }
-    requires least { K ≤ common }
-    requires within { at ≤ common }
+fn order_by_blocks(a: &[u8], b: &[u8], common: usize) -> Ordering
+    requires least { 16 ≤ common }
+    requires most { common ≤ 64 }
     requires lesser { common ≡ min (length a.now) (length b.now) }
-    requires before { take at a.now ≡ take at b.now }
-    requires rest { take (at + K + K) a.now ≡ take (at + K + K) b.now → common ≤ at + K + K }
+    requires front { take 16 a.now ≡ take 16 b.now }
     ensures { result ≡ slice_cmp nat_cmp a.now b.now }
 {
-    match block_order::<K>(a, b, past_block::<K>(a, b, common, at)) {
-        Some(order) => order,
-        None => order_of_lengths(a, b),
+    if common <= 32 {
+        return order_by_block::<16>(a, b, common, 16);
     }
+    if let Some(order) = block_order::<16>(a, b, 16) {
+        return order;
+    }
+    if common <= 48 {
+        return order_by_block::<16>(a, b, common, 32);
+    }
+    if let Some(order) = block_order::<16>(a, b, 32) {
+        return order;
+    }
+    order_by_block::<16>(a, b, common, 48)
 }
 
-/// Where the `K` bytes begin that differ, or the last `K`: at `at`, or behind the block there if that is equal.
+/// The same of more: past groups of 64 bytes that are equal, and past one block of 32.
 #[inline(always)]
-fn past_block<const K: usize>(a: &[u8], b: &[u8], common: usize, at: usize) -> usize
-    requires lanes { K ≤ 64 }
-    requires least { K ≤ common }
-    requires within { at ≤ common }
+fn order_by_groups(a: &[u8], b: &[u8], common: usize) -> Ordering
+    requires least { 32 ≤ common }
     requires lesser { common ≡ min (length a.now) (length b.now) }
-    requires before { take at a.now ≡ take at b.now }
-    requires rest { take (at + K + K) a.now ≡ take (at + K + K) b.now → common ≤ at + K + K }
-    ensures within { result + K ≤ common }
-    ensures before { take result a.now ≡ take result b.now }
-    ensures rest { take (result + K) a.now ≡ take (result + K) b.now → common ≤ result + K }
+    requires front { take 16 a.now ≡ take 16 b.now }
+    ensures { result ≡ slice_cmp nat_cmp a.now b.now }
 {
-    let last = common - K;
-    if at < last && equal_block::<K>(&a[at..at + K], &b[at..at + K]) {
-        return last.min(at + K);
+    let at = equal_groups(a, b, common);
+    if at + 32 < common && equal_block::<32>(&a[at..at + 32], &b[at..at + 32]) {
+        return order_by_block::<32>(a, b, common, at + 32);
     }
-    last.min(at)
+    order_by_block::<32>(a, b, common, at)
 }
 
 /// How many bytes at the front are equal: 16, and behind them groups of 64. The group behind all differs,
@@ -199,6 +181,24 @@ fn equal_groups(a: &[u8], b: &[u8], common: usize) -> usize
         end += 64;
     }
     end
+}
+
+/// How two texts are ordered of which the first `at` bytes are equal. Of the `K` behind them some differ, or the first
+/// `common` bytes end there: then the last `K` are looked at.
+#[inline(always)]
+fn order_by_block<const K: usize>(a: &[u8], b: &[u8], common: usize, at: usize) -> Ordering
+    requires lanes { K ≤ 64 }
+    requires least { K ≤ common }
+    requires within { at ≤ common }
+    requires lesser { common ≡ min (length a.now) (length b.now) }
+    requires before { take at a.now ≡ take at b.now }
+    requires rest { take (at + K) a.now ≡ take (at + K) b.now → common ≤ at + K }
+    ensures { result ≡ slice_cmp nat_cmp a.now b.now }
+{
+    match block_order::<K>(a, b, at.min(common - K)) {
+        Some(order) => order,
+        None => order_of_lengths(a, b),
+    }
 }
 
 /// The order, if the `K` bytes from `at` on settle it. Those before `at` are equal.
