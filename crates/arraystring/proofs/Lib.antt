@@ -11,3 +11,4 @@ pub mod RangeEditLaws
 pub mod RangeEndLaws
 pub mod TakenLaws
 pub mod MapLaws
+pub mod LoopLaws
