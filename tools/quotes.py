@@ -3,11 +3,13 @@
 tools/run quotes [PAGE..]           the pages, or PAGES if none is given
 tools/run quotes --write [PAGE..]   writes anew what can be: what a command prints, and the lines of definitions
 
-Three things are compared:
+Four things are compared:
 - a block after a line that ends in "From `PATH`:". Its lines stand in the file one after the other;
 - a block after a line that ends in "Printed by `tools/run COMMAND`:" is what that prints;
 - a table below a heading with the path of a file of specs/ has as its second column the lines of the definitions that the
-  first one names.
+  first one names;
+- an item of a list that begins with the name of a module of specs/ and ends in "which are all that it has" names what is `pub`
+  there, and nothing else.
 """
 import re
 import subprocess
@@ -17,6 +19,8 @@ from repository import read
 
 PAGES = ["README.md", "docs/definitions.md", "crates/arraystring/CALLING.md", "crates/bounded_records/CALLING.md"]
 DEFINITION = r"\s*(?:(?:abbrev|unfoldable)(?: pub)?|(?:pub )?(?:data|record)) {}\s"
+WHOLE = re.compile(r"(?m)^- `(\w+)`:((?:(?!^- )[\s\S])*?),? which are all that it has\.")
+PUBLIC = re.compile(r"(?m)^(?:(?:abbrev|unfoldable) )?pub (?:data |record )?(\S+)")
 
 
 def is_quoted(lines, text):
@@ -63,6 +67,14 @@ def not_defined(root, path, name):
     return f"{path} does not define {name}; these do: {', '.join(others) or 'none'}"
 
 
+def faults_of_lists(root, page, text):
+    """What the lists that are to be whole leave out of their module, or name besides."""
+    for module, listed in WHOLE.findall(text):
+        there = {name for it in root.glob(f"crates/*/specs/{module}.antt") for name in PUBLIC.findall(read(it))}
+        for name in sorted(there ^ set(re.findall(r"`(\w+)`", listed))):
+            yield f"{page}: the list of {module} and the module differ in {name}"
+
+
 def faults_of_blocks(root, page, text):
     """The blocks of a page that are not in the files that they quote, and how many quote one."""
     faults, compared = [], 0
@@ -86,6 +98,6 @@ def main(arguments, root):
             changed = (row for old, row in zip(text.split("\n"), now.split("\n")) if old != row)
             faults += [f"{page}: tools/run quotes --write would write: {row}" for row in changed]
         others, blocks = faults_of_blocks(root, page, now if is_writing else text)
-        faults, compared = faults + others, compared + blocks
+        faults, compared = faults + others + [*faults_of_lists(root, page, text)], compared + blocks
     print("\n".join(faults) or f"{compared} blocks are as in the files")
     return bool(faults) or not compared

@@ -15,6 +15,8 @@ fn greet() {
 |Definition|Line|What|
 |---|---|---|
 |`IsShort t`|4|short|
+
+- `Words`: `IsShort`, which are all that it has.
 """
 SOURCE = """\
 fn greet() {
@@ -36,6 +38,12 @@ class Quotes(TreeTest):
 
     def test_what_is_as_in_the_files_passes(self):
         self.assertIn("1 blocks are as in the files", self.assert_passes(quotes, "page.md"))
+
+    def test_a_list_that_is_to_be_whole_has_all_names_and_no_other(self):
+        self.replace("crates/base/specs/Words.antt", "-- a text", "pub record Word : Type 0 where\n  pub text : Text\n-- a text")
+        self.assert_told("page.md: the list of Words and the module differ in Word")
+        self.replace("page.md", ": `IsShort`, which", ": `IsShort`,\n  `Word` and `text`, which")
+        self.assert_told("page.md: the list of Words and the module differ in text")
 
     def test_a_line_that_the_file_lacks_is_told(self):
         self.replace("src/greet.rt", "    hello()", "    good_day()")

@@ -11,3 +11,4 @@ pub mod AdditionLaws
 pub mod RemovalLaws
 pub mod RangeEditLaws
 pub mod MapLaws
+pub mod LoopLaws

@@ -1,11 +1,13 @@
 //! Uses of `arraystring`, as a caller writes them. Its tests are in `tests.rt`.
 #![tactic(auto)]
 
+pub mod commas;
 pub mod greeting;
 pub mod json;
 pub mod log_line;
 pub mod pair;
 pub mod parts;
+pub mod row;
 pub mod scores;
 #[cfg(test)]
 mod tests;

@@ -1,9 +1,11 @@
 //! Each use, on values worked out by hand.
+use crate::commas::with_commas;
 use crate::greeting::greet;
 use crate::json::sent_and_read;
 use crate::log_line::{Level, log_line};
 use crate::pair::{pair, pair_of, split_value};
 use crate::parts::{drop_part, first_left, part};
+use crate::row::add_row;
 use crate::scores::{look_up, record};
 use arraystring::{ArrayString, Error};
 use std::collections::BTreeMap;
@@ -48,6 +50,58 @@ fn a_long_line_is_marked(rt: HostRuntime) {
         log_line(Level::Warning, over).as_str(),
         "warning: 012345678901234567890123456789012345678901234567890…",
     );
+}
+
+/// Asserts that `text` with its commas is `wanted`, or does not fit into 10 bytes.
+fn check_commas(rt: &impl Abort, text: &str, wanted: Option<&str>) {
+    let made: Result<ArrayString<10>, Error> = with_commas(text);
+    match made {
+        Ok(line) => agree(rt, Some(line.as_str()), wanted),
+        Err(error) => agree(rt, (error, None), (Error::OutOfBounds, wanted)),
+    }
+}
+
+#[test]
+fn commas_stand_before_each_fourth(rt: HostRuntime) {
+    for (text, wanted) in [
+        ("", Some("")),
+        ("abc", Some("abc")),
+        ("abcd", Some("abc,d")),
+        ("abcdefg", Some("abc,defg")),
+        ("abcdefgh", Some("abc,defg,h")),
+        ("abcdefghi", None),
+        ("é€,🤔", None),
+        ("é€,é", Some("é€,,é")),
+        ("é€,€", Some("é€,,€")),
+        // The comma takes the last byte, or finds none.
+        ("€€€", Some("€€€")),
+        ("€€€d", None),
+        ("€€éd", Some("€€é,d")),
+        ("€€éé", None),
+        ("éébcdef", Some("ééb,cdef")),
+        ("éébcdefg", None),
+    ] {
+        check_commas(&rt, text, wanted);
+    }
+}
+
+#[test]
+fn a_row_is_added_whole_or_not_at_all(rt: HostRuntime) {
+    let mut line = ArrayString::<24>::new();
+    agree(&rt, add_row(&mut line, "anne", "josé").is_ok(), true);
+    agree(&rt, line.as_str(), "anne-josé");
+    // 10 bytes are taken, and 14 are left.
+    agree(&rt, add_row(&mut line, "abcdef", "ghijklmn").is_ok(), false);
+    agree(
+        &rt,
+        add_row(&mut line, "abcdefghijklmno", "").is_ok(),
+        false,
+    );
+    agree(&rt, line.as_str(), "anne-josé");
+    agree(&rt, add_row(&mut line, "abcdef", "ghijklm").is_ok(), true);
+    agree(&rt, line.as_str(), "anne-joséabcdef-ghijklm");
+    agree(&rt, add_row(&mut line, "", "").is_ok(), false);
+    agree(&rt, line.as_str(), "anne-joséabcdef-ghijklm");
 }
 
 /// A text without `=`, of characters of one to four bytes. Its 22 bytes are two more than fit in a key.
