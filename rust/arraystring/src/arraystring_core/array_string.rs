@@ -29,6 +29,7 @@ mod empty {
         /// [How to read a contract](crate::contracts)
         ///
         /// </details>
+        #[must_use]
         #[inline(always)]
         pub const fn new() -> Self {
             ArrayString { array: [0; N], start: 0, size: 0 }
@@ -63,6 +64,7 @@ mod views {
         /// </details>
         #[inline]
         pub const fn capacity() -> u8 {
+        #[must_use]
             if N < 255 { N as u8 } else { 255 }
         }
 
@@ -91,6 +93,7 @@ mod views {
         /// </details>
         #[inline]
         pub const fn len(&self) -> u8 {
+        #[must_use]
             self.size
         }
 
@@ -116,6 +119,7 @@ mod views {
         /// </details>
         #[inline]
         pub const fn is_empty(&self) -> bool {
+        #[must_use]
             self.size == 0
         }
 
@@ -146,6 +150,7 @@ mod views {
         /// Another body runs here than the one that was proved: the array is split twice, since that is `const`.
         #[inline]
         pub const fn as_str(&self) -> &str {
+        #[must_use]
             let (size, start) = (self.size as usize, self.start as usize);
             let (_, text) = split_at_unchecked!(split_at_unchecked!(self.array, start + size).0, start);
             // SAFETY: the type's `invariant`: the `size` bytes from `start` on are UTF-8.
@@ -180,6 +185,7 @@ mod views {
         /// Another body runs here than the one that was proved: the array is split twice, since that is `const`.
         #[inline]
         pub const fn as_bytes(&self) -> &[u8] {
+        #[must_use]
             let (size, start) = (self.size as usize, self.start as usize);
             split_at_unchecked!(split_at_unchecked!(self.array, start + size).0, start).1
         }
