@@ -67,8 +67,6 @@ BY_TRAITS = {
     "PartialEq<str> for S": "v.s == *v.text",
     "PartialEq for S": "v.s == v.t",
     "PartialOrd<&str> for S": "v.s < v.text",
-    "PartialOrd<S> for &str": "v.text < v.s",
-    "PartialOrd<S> for str": "*v.text < v.s",
     "PartialOrd<str> for S": "v.s < *v.text",
     "PartialOrd for S": "(v.s < v.t, v.s.partial_cmp(&v.t))",
     "Write for S": '(v.s.write_str(v.text), v.s.write_char(v.ch), write!(v.s, "{}-", v.text))',

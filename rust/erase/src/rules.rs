@@ -16,7 +16,10 @@ pub const BY_HAND: &[(&str, &str)] = &[
          the text to be written (`DerefMut` to `str`, `AsMut`, `BorrowMut`, `IndexMut`): a write through it could break UTF-8. \
          `DerefMut` of `CacheString` lends the string inside",
     ),
-    ("by_hand/compare.rs", "`PartialEq` and `PartialOrd` with `str`, and `AddAssign`, each one call of the texts"),
+    (
+        "by_hand/compare.rs",
+        "`==` with a `str` on the left, `PartialOrd` with one on the right, and `AddAssign`, each one call of the texts",
+    ),
     ("by_hand/owned.rs", "the traits that name `String`, each one call of the string"),
     ("by_hand/room.rs", "`is_full` and `remaining_capacity`"),
     ("by_hand/read.rs", "`Debug` and `Default` of `Steps`, and `Hash` of the errors of one case"),

@@ -60,7 +60,7 @@ fn shown<const N: usize>(string: &Text<N>, other: &Text<N>, at: u8, end: u8) -> 
     let order = string.cmp(other) == Ordering::Less || string < other || string.partial_cmp(other).is_none();
     let is_part = string.get(at..end).is_some() || string.get(at..=end).is_some() || string.get(..).is_none();
     let is_text = *string == *other.as_str() || **string == **other || AsRef::<[u8]>::as_ref(string).is_empty();
-    let beside = *string < *other.as_str() || other.as_str() < string || other.as_str() == *string || string.is_full();
+    let beside = *string < *other.as_str() || *string < other.as_str() || other.as_str() == *string || string.is_full();
     is_text
         || beside
         || string.remaining_capacity() == Text::<N>::capacity()
@@ -221,7 +221,7 @@ fn cached(text: &str, bytes: &[u8], units: &[u16], at: u8) -> usize {
     rest + strings
         .iter()
         .flatten()
-        .filter(|made| **black_box(made) < string || **made == string || text < **made)
+        .filter(|made| **black_box(made) < string || **made == string || **made > text)
         .count()
 }
 
