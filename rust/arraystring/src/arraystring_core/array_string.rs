@@ -37,6 +37,8 @@ mod empty {
     }
 }
 mod construct;
+#[path = "../by_hand/constant.rs"]
+mod constant;
 mod utf16;
 mod views {
     use super::*;
@@ -62,9 +64,9 @@ mod views {
         /// [How to read a contract](crate::contracts)
         ///
         /// </details>
+        #[must_use]
         #[inline]
         pub const fn capacity() -> u8 {
-        #[must_use]
             if N < 255 { N as u8 } else { 255 }
         }
 
@@ -91,9 +93,9 @@ mod views {
         /// [How to read a contract](crate::contracts)
         ///
         /// </details>
+        #[must_use]
         #[inline]
         pub const fn len(&self) -> u8 {
-        #[must_use]
             self.size
         }
 
@@ -117,9 +119,9 @@ mod views {
         /// [How to read a contract](crate::contracts)
         ///
         /// </details>
+        #[must_use]
         #[inline]
         pub const fn is_empty(&self) -> bool {
-        #[must_use]
             self.size == 0
         }
 
@@ -148,9 +150,9 @@ mod views {
         /// </details>
         ///
         /// Another body runs here than the one that was proved: the array is split twice, since that is `const`.
+        #[must_use]
         #[inline]
         pub const fn as_str(&self) -> &str {
-        #[must_use]
             let (size, start) = (self.size as usize, self.start as usize);
             let (_, text) = split_at_unchecked!(split_at_unchecked!(self.array, start + size).0, start);
             // SAFETY: the type's `invariant`: the `size` bytes from `start` on are UTF-8.
@@ -183,9 +185,9 @@ mod views {
         /// </details>
         ///
         /// Another body runs here than the one that was proved: the array is split twice, since that is `const`.
+        #[must_use]
         #[inline]
         pub const fn as_bytes(&self) -> &[u8] {
-        #[must_use]
             let (size, start) = (self.size as usize, self.start as usize);
             split_at_unchecked!(split_at_unchecked!(self.array, start + size).0, start).1
         }
@@ -227,6 +229,8 @@ mod views {
 #[path = "../by_hand/room.rs"]
 mod room;
 mod push;
+#[path = "../by_hand/write.rs"]
+mod write;
 mod insert;
 mod range;
 mod remove;
