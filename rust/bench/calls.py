@@ -1,7 +1,7 @@
 """Programs without std of one call each, which link only where the call has no panic in its machine code.
 
-The calls are those that the reference shows: each safe function, each safe call of a type, and each impl of a trait. A call with no
-entry in EXPRESSIONS or PANICS stops the bench, and so does an entry of what is not shown.
+The calls are those that the reference shows: each safe function, each macro, each safe call of a type, and each impl of a trait. A
+call with no entry in EXPRESSIONS or PANICS stops the bench, and so does an entry of what is not shown.
 """
 import re
 import subprocess
@@ -67,8 +67,6 @@ BY_TRAITS = {
     "PartialEq<str> for S": "v.s == *v.text",
     "PartialEq for S": "v.s == v.t",
     "PartialOrd<&str> for S": "v.s < v.text",
-    "PartialOrd<S> for &str": "v.text < v.s",
-    "PartialOrd<S> for str": "*v.text < v.s",
     "PartialOrd<str> for S": "v.s < *v.text",
     "PartialOrd for S": "(v.s < v.t, v.s.partial_cmp(&v.t))",
     "Write for S": '(v.s.write_str(v.text), v.s.write_char(v.ch), write!(v.s, "{}-", v.text))',
@@ -99,6 +97,7 @@ EDITED = {
     "try_push": "v.s.try_push(v.ch)",
     "try_push_str": "v.s.try_push_str(v.text)",
     "push_str": "v.s.push_str(v.text)",
+    "try_write": 'v.s.try_write(format_args!("{}-{}", v.text, v.ch))',
     "extend_chars": "v.s.extend_chars(v.text.chars())",
     "extend_strs": "v.s.extend_strs([v.text, v.text])",
     "try_insert": "v.s.try_insert(v.at, v.ch)",
@@ -137,6 +136,7 @@ BY_ERROR = {
     "Default for E": "E::default()",
 }
 OTHERS = {
+    "arraystring!": 'S::clone(&arraystring::arraystring!("a"))',
     "Index<RangeFull> for ArrayString<N>": "v.s[..].len()",
     "From<ArrayString<N>> for String": "String::from(v.s)",
     "From<CacheString> for String": "String::from(v.c)",
@@ -223,6 +223,9 @@ def shown(reference):
         # (the modules that a crate hides have pages that only lead to others)
         text = re.sub(r'(?s)id="deref-methods.*?id="trait-implementations"', "", page.read_text())
         item = rest.removesuffix(".html")
+        if kind == "macro":
+            # (a second page, of the name with its sign, only leads to the first)
+            names.add(f"{item.removesuffix('!')}!")
         if kind == "fn" and re.search(r'item-decl">(?:<code>)?pub (?:const )?fn', text):
             names.add(f"utils::{item}")
         for name, what, inside in re.findall(r'<section id="([^"]+)" class="(method|impl)">(.*?)</section>', text, re.S):

@@ -1,7 +1,9 @@
 //! What Rust asks beyond erasure: nothing here is proved. `access` and `known!` have `unsafe` blocks, which rest on the proofs, and
-//! the calls of `char` and `str` are `unsafe`, as those of std are. The rest has none; but `simd` could break UTF-8 all the same.
+//! the calls of `char` and `str` are `unsafe`, as those of std are. The rest has none; but `simd` and `constant` could break UTF-8
+//! all the same.
 //!
 //! - `char` and `str`: what is made there without a test, which the feature `checked` makes.
+//! - `constant`, a module of the string: `arraystring!`, and what it is made of.
 //! - `compare`: `==`, `<` and `+=` with a `str`, and `owned`, behind the feature `alloc`, the traits that name `String`.
 //! - `convert`: the traits of the Rust crate that the language of the sources can't have.
 //! - `contracts`: a page on how to read one.
@@ -11,6 +13,7 @@
 //! - `room`, a module of the string: the room that is left.
 //! - `simd`: the vectors of the sources, as arrays or words.
 //! - `trust`: a page on what is proved and what is trusted.
+//! - `write`, a module of the string: what a format prints, whole or not at all.
 //!
 //! `count_tests` are the tests of `steps` that set its counts.
 #![deny(unsafe_code)]

@@ -44,6 +44,7 @@ impl CacheString {
     /// [How to read a contract](crate::contracts)
     ///
     /// </details>
+    #[must_use]
     #[inline]
     pub const fn new() -> Self {
         CacheString(ArrayString::new())
@@ -68,6 +69,7 @@ impl CacheString {
     /// [How to read a contract](crate::contracts)
     ///
     /// </details>
+    #[must_use]
     #[inline]
     pub const fn capacity() -> u8 {
         ArrayString::<63>::capacity()
@@ -125,6 +127,7 @@ impl CacheString {
     /// [How to read a contract](crate::contracts)
     ///
     /// </details>
+    #[must_use]
     #[inline]
     pub fn from_str_truncate<S: AsRef<str>>(string: S) -> Self {
         let string = string.as_ref();
@@ -157,6 +160,7 @@ impl CacheString {
     /// [How to read a contract](crate::contracts)
     ///
     /// </details>
+    #[must_use]
     #[inline]
     pub unsafe fn from_str_unchecked<S: AsRef<str>>(string: S) -> Self {
         let string = string.as_ref();
@@ -494,6 +498,7 @@ impl CacheString {
     /// [How to read a contract](crate::contracts)
     ///
     /// </details>
+    #[must_use]
     #[inline]
     pub unsafe fn from_utf8_unchecked<B: AsRef<[u8]>>(given: B) -> Self {
         let given = given.as_ref();
@@ -592,6 +597,7 @@ impl CacheString {
     /// [How to read a contract](crate::contracts)
     ///
     /// </details>
+    #[must_use]
     #[inline]
     pub fn from_utf16_lossy<B: AsRef<[u16]>>(units: B) -> Self {
         let units = units.as_ref();

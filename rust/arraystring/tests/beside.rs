@@ -1,4 +1,4 @@
-//! The calls by hand that stand beside those of the sources: strings beside texts on either side of a sign, the room that is left,
+//! The calls by hand that stand beside those of the sources: strings beside texts, the room that is left,
 //! what is collected, and what small values print, hash and bound. The expected values are those of `String` and `str`.
 
 use std::collections::hash_map::DefaultHasher;
@@ -62,7 +62,8 @@ fn behind<const N: usize>(offset: usize, text: &str) -> ArrayString<N> {
     string
 }
 
-/// Asserts each sign between a string and a text, on either side, to be as between their texts.
+/// Asserts each sign between a string and a text to be as between their texts: `==` on either side, and `<` with the string on the
+/// left.
 macro_rules! is_beside {
     ($string:expr, $text:expr, $other:expr) => {{
         let (string, text, other): (_, &str, &str) = ($string, $text, $other);
@@ -74,15 +75,11 @@ macro_rules! is_beside {
             (string != *other, *other != string, other != string),
             (text != other, text != other, text != other)
         );
-        assert_eq!((string < *other, string < other, *other < string), (text < other, text < other, other < text));
-        assert_eq!((other < string, string <= other, other <= string), (other < text, text <= other, other <= text));
-        assert_eq!((string > other, other > string, *other >= string), (text > other, other > text, other >= text));
-        assert_eq!((string >= *other, string > *other, *other > string), (text >= other, text > other, other > text));
-        assert_eq!(
-            [string.partial_cmp(other), string.partial_cmp(&other)].map(|order| order.map(|order| order.reverse())),
-            [str::partial_cmp(other, string.as_str()), other.partial_cmp(&string)],
-        );
-        assert_eq!(other.partial_cmp(&string), Some(other.cmp(text)));
+        assert_eq!((string < *other, string < other), (text < other, text < other));
+        assert_eq!((string <= *other, string <= other), (text <= other, text <= other));
+        assert_eq!((string > *other, string > other), (text > other, text > other));
+        assert_eq!((string >= *other, string >= other), (text >= other, text >= other));
+        assert_eq!([string.partial_cmp(other), string.partial_cmp(&other)], [Some(text.cmp(other)); 2]);
     }};
 }
 
@@ -107,7 +104,7 @@ fn others(text: &str) -> Vec<String> {
 }
 
 #[test]
-fn strings_and_texts_are_compared_on_either_side() {
+fn strings_and_texts_are_compared() {
     fn at<const N: usize>() {
         let texts = texts(N.min(17));
         for text in &texts {
@@ -155,7 +152,7 @@ fn long_texts_differ_at_each_place() {
 }
 
 #[test]
-fn cache_strings_are_compared_on_either_side() {
+fn cache_strings_and_texts_are_compared() {
     let texts = texts(12);
     for text in &texts {
         let string = CacheString::from(text.as_str());

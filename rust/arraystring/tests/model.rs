@@ -298,7 +298,7 @@ impl<const N: usize> Pair<N> {
 
     fn added(&mut self, random: &mut Random) {
         let (text, ch) = (random.text(6), random.character());
-        match random.below(7) {
+        match random.below(8) {
             0 => {
                 let fits = self.room() >= ch.len_utf8();
                 assert_eq!(self.string.try_push(ch), if fits { Ok(()) } else { Err(OutOfBounds) });
@@ -325,6 +325,12 @@ impl<const N: usize> Pair<N> {
             5 => {
                 self.string = self.string + &text;
                 self.model += cut(&text, self.room());
+            }
+            6 => {
+                let row = format!("{text}{ch}{text}");
+                let fits = self.room() >= row.len();
+                assert_eq!(self.string.try_write(format_args!("{text}{ch}{text}")).is_ok(), fits);
+                self.model.extend(fits.then_some(row));
             }
             _ => {
                 let fits = self.room() >= text.len();

@@ -1,5 +1,6 @@
 //! The examples of the table of moves in README.md, and those of the faults in docs/differences.md.
 
+use std::fmt::Write;
 use std::panic::{AssertUnwindSafe, catch_unwind};
 
 use arraystring::error::OutOfBounds;
@@ -68,6 +69,13 @@ fn what_is_easily_missed() {
     assert_eq!((Two::from_utf8("abc"), Two::try_from_utf8("abc")), (Ok(Two::from("ab")), Err(Error::OutOfBounds)));
     let units = [0x61, 0x62, 0x63];
     assert_eq!((Two::from_utf16(units), Two::try_from_utf16(units)), (Ok(Two::from("ab")), Err(Error::OutOfBounds)));
+    let (mut written, mut tried) = (ArrayString::<4>::from("x"), ArrayString::<4>::from("x"));
+    let (a, b) = (1, 23);
+    assert!(write!(written, "{a}-{b}").is_err() && tried.try_write(format_args!("{a}-{b}")).is_err());
+    assert_eq!((written.as_str(), tried.as_str()), ("x1-", "x"));
+    let name = ArrayString::<4>::from("ann");
+    let printed = (format!("{name:?}"), format!("{:?}", name.as_str()));
+    assert_eq!(printed, ("ArrayString { array: \"ann\", size: 3 }".to_string(), "\"ann\"".to_string()));
     let name = Two::from("ab");
     assert_eq!((name.len(), name.find('b')), (2u8, Some(1usize)));
     assert_eq!((format!("{name:8.1}"), format!("{:8.1}", name.as_str())), ("ab".to_string(), "a       ".to_string()));

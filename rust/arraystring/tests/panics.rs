@@ -1,17 +1,45 @@
-//! Every call that panics, by the words of its panic: as the index of `str` does, and no other call.
+//! Every call that panics, by the words of its panic and by the line that it names: as the index of `str` does, and no other call.
 
-use std::panic::{AssertUnwindSafe, catch_unwind};
+use std::cell::RefCell;
+use std::panic::{AssertUnwindSafe, catch_unwind, set_hook};
+use std::sync::Once;
 
-use arraystring::ArrayString;
 use arraystring::utils::{Steps, look};
+use arraystring::{ArrayString, CacheString};
 
-/// The words of the panic of a call.
-fn words(call: impl FnOnce()) -> String {
+/// The file and the line that a panic names.
+type Place = (String, u32);
+
+thread_local! {
+    /// The place of the last panic of a thread.
+    static PLACE: RefCell<Option<Place>> = const { RefCell::new(None) };
+}
+
+/// The words and the place of the panic of a call.
+fn panic_of(call: impl FnOnce()) -> (String, Place) {
+    static HOOK: Once = Once::new();
+    HOOK.call_once(|| {
+        set_hook(Box::new(|panic| {
+            let place = panic.location().map(|place| (place.file().to_string(), place.line()));
+            PLACE.with(|last| *last.borrow_mut() = place);
+            eprintln!("{panic}");
+        }));
+    });
     let panicked = catch_unwind(AssertUnwindSafe(call)).expect_err("a panic");
+    let place = PLACE.with(RefCell::take).expect("a place");
     match panicked.downcast_ref::<String>() {
-        Some(words) => words.clone(),
-        None => panicked.downcast_ref::<&str>().expect("words").to_string(),
+        Some(words) => (words.clone(), place),
+        None => (panicked.downcast_ref::<&str>().expect("words").to_string(), place),
     }
+}
+
+/// The words of the panic of a call, which has to name the line of the call.
+macro_rules! words {
+    ($call:expr) => {{
+        let (words, place) = panic_of(|| _ = $call);
+        assert_eq!(place, (file!().to_string(), line!()), "{words}");
+        words
+    }};
 }
 
 #[test]
@@ -27,12 +55,12 @@ fn parts_panic_as_those_of_str() {
                 parts += 1;
                 continue;
             }
-            let wanted = words(|| drop(text[from..to].to_string()));
+            let wanted = words!(&text[from..to]);
             let mut other = string;
-            assert_eq!(words(|| drop(string.slice(start..end).to_string())), wanted);
-            assert_eq!(words(|| drop(string[start..end].to_string())), wanted);
-            assert_eq!(words(|| other.make_ascii_uppercase_in(start..end)), wanted);
-            assert_eq!(words(|| other.make_ascii_lowercase_in(start..end)), wanted);
+            assert_eq!(words!(string.slice(start..end)), wanted);
+            assert_eq!(words!(&string[start..end]), wanted);
+            assert_eq!(words!(other.make_ascii_uppercase_in(start..end)), wanted);
+            assert_eq!(words!(other.make_ascii_lowercase_in(start..end)), wanted);
             assert_eq!(other, string);
         }
     }
@@ -49,9 +77,9 @@ macro_rules! as_str_does {
                 assert_eq!((string.slice($range), &string[$range], string.get($range)), (part, part, Some(part)))
             }
             None => {
-                let wanted = words(|| drop(text[$wide].to_string()));
-                assert_eq!(words(|| drop(string[$range].to_string())), wanted);
-                assert_eq!(words(|| drop(string.slice($range).to_string())), wanted);
+                let wanted = words!(&text[$wide]);
+                assert_eq!(words!(&string[$range]), wanted);
+                assert_eq!(words!(string.slice($range)), wanted);
                 assert_eq!(string.get($range), None);
             }
         }
@@ -88,7 +116,7 @@ fn a_full_text_has_no_end_past_it() {
         assert_eq!((full[..=end].len(), full[end..].len()), (end as usize + 1, 255 - end as usize));
     }
     assert_eq!((full[..].len(), full[255..].len()), (255, 0));
-    words(|| drop(full[..=255].to_string()));
+    words!(&full[..=255]);
 }
 
 #[test]
@@ -99,8 +127,8 @@ fn a_part_of_the_array_that_is_no_text_is_not_changed() {
         assert!(string.truncate(len).is_ok());
         for start in 0..=9 {
             for end in (0..=9).filter(|end| start > *end || *end > len) {
-                words(|| string.make_ascii_uppercase_in(start..end));
-                words(|| string.make_ascii_lowercase_in(start..end));
+                words!(string.make_ascii_uppercase_in(start..end));
+                words!(string.make_ascii_lowercase_in(start..end));
                 assert_eq!(string, &"abcdefgh"[..len as usize]);
                 parts += 1;
             }
@@ -122,7 +150,16 @@ fn a_look_past_the_bytes_panics() {
         }
         for at in [len, len + 1, 255, 256, usize::MAX] {
             let wanted = format!("index out of bounds: the len is {len} but the index is {at}");
-            assert_eq!(words(|| _ = look(bytes, at, &mut steps)), wanted);
+            assert_eq!(words!(look(bytes, at, &mut steps)), wanted);
         }
     }
+}
+
+#[test]
+fn calls_of_the_string_inside_name_their_caller_too() {
+    let mut cached = CacheString::from("abc");
+    let wanted = words!(&"abc"[2..9]);
+    assert_eq!([words!(&cached[2..9]), words!(cached.slice(2..9))], [wanted.clone(), wanted.clone()]);
+    assert_eq!(words!(cached.make_ascii_uppercase_in(2..9)), wanted);
+    assert_eq!((words!(cached.make_ascii_lowercase_in(2..9)), cached.as_str()), (wanted, "abc"));
 }

@@ -2,6 +2,7 @@
 //! that an item has none.
 
 use std::fs;
+use std::mem::take;
 use std::path::Path;
 
 /// The files below a folder.
@@ -25,6 +26,8 @@ struct Item {
     file: String,
     head: String,
     docs: Vec<String>,
+    /// Whether it is a macro for other crates.
+    is_exported: bool,
 }
 
 impl Item {
@@ -39,15 +42,28 @@ impl Item {
         })
     }
 
-    /// Whether the reference shows it: a type, a call of a type, an impl of a trait, or a function that the root names.
-    fn is_shown(&self, root: &[&str]) -> bool {
+    /// The name of a type, if it is one that is private.
+    fn private_type(&self) -> Option<&str> {
+        let name = self.head.trim_start().strip_prefix("struct ")?;
+        name.split(|ch: char| !ch.is_alphanumeric()).next()
+    }
+
+    /// Whether the reference shows it: a type, a call of a type, an impl of a trait for a type that is not private, a macro that is
+    /// exported, or a function that the root names.
+    fn is_shown(&self, root: &[&str], private: &[&str]) -> bool {
         let words: Vec<_> = self.head.split_whitespace().filter(|word| !["const", "unsafe"].contains(word)).collect();
         let is_method = self.head.starts_with(' ');
         match words[..] {
             ["pub", "fn", name, ..] => is_method || root.contains(&name.split(['(', '<']).next().unwrap_or(name)),
             ["pub", "struct" | "enum" | "type", ..] => true,
-            [first, ..] => first.starts_with("impl") && self.head.contains(" for "),
-            [] => false,
+            ["macro_rules!", ..] => self.is_exported,
+            [first, ..] if first.starts_with("impl") => match self.head.split_once(" for ") {
+                Some((_, of)) => {
+                    !private.contains(&of.split(|ch: char| !ch.is_alphanumeric()).next().unwrap_or_default())
+                }
+                None => false,
+            },
+            _ => false,
         }
     }
 }
@@ -56,14 +72,14 @@ impl Item {
 fn items() -> Vec<Item> {
     let mut items = Vec::new();
     for (file, text) in files(Path::new("src")) {
-        let mut docs = Vec::new();
+        let (mut docs, mut is_exported) = (Vec::new(), false);
         for line in text.lines() {
             match line.trim_start().strip_prefix("///") {
                 Some(words) => docs.push(words.strip_prefix(' ').unwrap_or(words).to_string()),
-                None if line.trim_start().starts_with("#[") => {}
+                None if line.trim_start().starts_with("#[") => is_exported |= line == "#[macro_export]",
                 None => {
                     let (file, head) = (file.clone(), line.to_string());
-                    items.push(Item { file, head, docs: std::mem::take(&mut docs) });
+                    items.push(Item { file, head, docs: take(&mut docs), is_exported: take(&mut is_exported) });
                 }
             }
         }
@@ -75,11 +91,19 @@ fn items() -> Vec<Item> {
 fn each_item_has_an_example_that_asserts() {
     let root = fs::read_to_string("src/lib.rs").expect("the root");
     let root: Vec<_> = root.split(|ch: char| !ch.is_alphanumeric() && ch != '_').collect();
-    let shown: Vec<_> = items().into_iter().filter(|item| item.is_shown(&root)).collect();
+    let items = items();
+    let private: Vec<_> = items.iter().filter_map(Item::private_type).collect();
+    let shown: Vec<_> = items.iter().filter(|item| item.is_shown(&root, &private)).collect();
     let without: Vec<_> = shown.iter().filter(|item| !item.asserts()).collect();
     let told: Vec<_> = without.iter().map(|item| format!("{}: {}", item.file, item.head.trim())).collect();
     assert!(told.is_empty(), "without an example that asserts:\n{}", told.join("\n"));
-    for head in ["pub const fn new() -> Self {", "impl fmt::Debug for Steps {", "pub fn look(bytes: &[u8]"] {
+    for head in [
+        "pub const fn new() -> Self {",
+        "impl fmt::Debug for Steps {",
+        "pub fn look(bytes: &[u8]",
+        "macro_rules! arraystring {",
+        "impl<const N: usize> Index<$range> for ArrayString<N> {",
+    ] {
         assert!(shown.iter().any(|item| item.head.contains(head)), "`{head}` was not read");
     }
 }

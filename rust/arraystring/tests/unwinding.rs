@@ -438,11 +438,14 @@ fn an_iterator_panics_at_each_call_on_every_string() {
                     made += case.each(name("write!"), &left, |string| {
                         panics(|| write!(string, "{}", Written(&items[..stops])))
                     });
+                    made += case.each(name("try_write"), &(left.0, case.text.clone()), |string| {
+                        panics(|| string.try_write(format_args!("{}", Written(&items[..stops]))))
+                    });
                 }
             }
         }
         let panics: usize = texts.iter().map(|given| length(given) + 1).sum();
-        (made, 4 * total::<N>() * panics)
+        (made, 5 * total::<N>() * panics)
     }
     at_each_capacity!(added);
 }

@@ -80,6 +80,9 @@ impl<'a> File<'a, '_> {
         if function.clauses.is_none() && inside.of_trait {
             self.others.extend(others);
         }
+        if is_public && !inside.of_trait {
+            self.attributes(&function.call, function.head.clone(), lead);
+        }
         self.hint(&function, lead);
         if self.other_body(&function) {
             return Ok(());

@@ -8,6 +8,7 @@
 //! not as it was when it was proved. With `--unproved` each file that is made says so instead.
 
 mod access;
+mod attributes;
 mod body;
 mod calls;
 mod clauses;

@@ -16,9 +16,14 @@ pub const BY_HAND: &[(&str, &str)] = &[
          the text to be written (`DerefMut` to `str`, `AsMut`, `BorrowMut`, `IndexMut`): a write through it could break UTF-8. \
          `DerefMut` of `CacheString` lends the string inside",
     ),
-    ("by_hand/compare.rs", "`PartialEq` and `PartialOrd` with `str`, and `AddAssign`, each one call of the texts"),
+    (
+        "by_hand/compare.rs",
+        "`==` with a `str` on the left, `PartialOrd` with one on the right, and `AddAssign`, each one call of the texts",
+    ),
     ("by_hand/owned.rs", "the traits that name `String`, each one call of the string"),
     ("by_hand/room.rs", "`is_full` and `remaining_capacity`"),
+    ("by_hand/write.rs", "`try_write`, over `write_str` and `truncate`"),
+    ("by_hand/constant.rs", "`arraystring!`, and what it is made of. A fault in it could break UTF-8"),
     ("by_hand/read.rs", "`Debug` and `Default` of `Steps`, and `Hash` of the errors of one case"),
     ("by_hand/simd.rs", "the vectors of the sources, as arrays or words. A fault in it could break UTF-8"),
     ("by_hand/access.rs", "what is read and written without a test. A fault in it could break UTF-8"),
@@ -365,10 +370,12 @@ pub const ORDER: &[Order] = &[Order {
     parts: &[
         Calls("empty", "new"),
         Module("construct"),
+        ByHand("constant", "../by_hand/constant.rs"),
         Module("utf16"),
         Calls("views", "end"),
         ByHand("room", "../by_hand/room.rs"),
         Module("push"),
+        ByHand("write", "../by_hand/write.rs"),
         Module("insert"),
         Module("range"),
         Module("remove"),

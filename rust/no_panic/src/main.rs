@@ -19,7 +19,7 @@ use arraystring::utf16::Units;
 use arraystring::utils::{
     Steps, is_boundary, is_char_boundary, is_inside_boundary, truncate_str, truncate_str_counted,
 };
-use arraystring::{ArrayString, CacheString, Error};
+use arraystring::{ArrayString, CacheString, Error, arraystring};
 
 #[link(name = "c")]
 unsafe extern "C" {}
@@ -60,7 +60,7 @@ fn shown<const N: usize>(string: &Text<N>, other: &Text<N>, at: u8, end: u8) -> 
     let order = string.cmp(other) == Ordering::Less || string < other || string.partial_cmp(other).is_none();
     let is_part = string.get(at..end).is_some() || string.get(at..=end).is_some() || string.get(..).is_none();
     let is_text = *string == *other.as_str() || **string == **other || AsRef::<[u8]>::as_ref(string).is_empty();
-    let beside = *string < *other.as_str() || other.as_str() < string || other.as_str() == *string || string.is_full();
+    let beside = *string < *other.as_str() || *string < other.as_str() || other.as_str() == *string || string.is_full();
     is_text
         || beside
         || string.remaining_capacity() == Text::<N>::capacity()
@@ -92,6 +92,7 @@ fn made<const N: usize>(text: &str, bytes: &[u8], units: &[u16]) -> usize {
         Some(Text::from_utf16_lossy(units)),
         Some(Text::new()),
         Some(Text::default()),
+        Some(arraystring!("")),
     ];
     strings.iter().flatten().map(|string| black_box(string).as_str().len()).sum()
 }
@@ -106,7 +107,10 @@ fn added<const N: usize>(string: &mut Text<N>, text: &str, ch: char) -> bool {
     string.extend(&[ch, ch]);
     *string = core::ops::Add::add(*string, text);
     *string += text;
-    string.try_push(ch).is_ok() || string.try_push_str(text).is_ok() || string.write_str(text).is_ok()
+    string.try_push(ch).is_ok()
+        || string.try_push_str(text).is_ok()
+        || string.write_str(text).is_ok()
+        || string.try_write(format_args!("{text}-{ch}")).is_ok()
 }
 
 #[inline(never)]
@@ -213,15 +217,17 @@ fn cached(text: &str, bytes: &[u8], units: &[u16], at: u8) -> usize {
         Some(CacheString::from_utf16_lossy(units)),
         Some(CacheString::from_chars(text.chars())),
         Some(string + text),
+        Some(CacheString(arraystring!("user:42"))),
         Some(text.into()),
         Some(text.chars().collect()),
         Some([text, text].into_iter().collect()),
     ];
     string += text;
+    let rest = rest + usize::from(string.try_write(format_args!("{text}{at}")).is_ok());
     rest + strings
         .iter()
         .flatten()
-        .filter(|made| **black_box(made) < string || **made == string || text < **made)
+        .filter(|made| **black_box(made) < string || **made == string || **made > text)
         .count()
 }
 

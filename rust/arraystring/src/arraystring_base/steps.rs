@@ -43,6 +43,7 @@ impl Steps {
     /// [How to read a contract](crate::contracts)
     ///
     /// </details>
+    #[must_use]
     #[inline]
     pub const fn new() -> Self {
         Steps { looked: 0, moved: 0 }
@@ -71,6 +72,7 @@ impl Steps {
     /// [How to read a contract](crate::contracts)
     ///
     /// </details>
+    #[must_use]
     #[inline]
     pub const fn looked(&self) -> u64 {
         self.looked
@@ -98,6 +100,7 @@ impl Steps {
     /// [How to read a contract](crate::contracts)
     ///
     /// </details>
+    #[must_use]
     #[inline]
     pub const fn moved(&self) -> u64 {
         self.moved
@@ -156,6 +159,7 @@ impl Steps {
 /// </details>
 ///
 /// Another body runs here than the one that was proved: a count stops at 2^64 - 1.
+#[track_caller]
 #[inline]
 pub fn look(bytes: &[u8], at: usize, steps: &mut Steps) -> u8 {
     steps.looked = steps.looked.saturating_add(1);

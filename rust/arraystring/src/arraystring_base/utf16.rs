@@ -62,6 +62,7 @@ impl<'a> Units<'a> {
     /// [How to read a contract](crate::contracts)
     ///
     /// </details>
+    #[must_use]
     #[inline]
     pub fn new(units: &'a [u16]) -> Self {
         Units { rest: units }

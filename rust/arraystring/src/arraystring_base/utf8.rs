@@ -26,6 +26,7 @@ use core::char;
 /// [How to read a contract](crate::contracts)
 ///
 /// </details>
+#[must_use]
 #[inline]
 pub fn is_boundary(text: &str, at: usize) -> bool {
     text.is_char_boundary(at)
@@ -53,6 +54,7 @@ pub fn is_boundary(text: &str, at: usize) -> bool {
 /// [How to read a contract](crate::contracts)
 ///
 /// </details>
+#[must_use]
 #[inline]
 pub fn truncate_str(text: &str, size: u8) -> &str {
     truncate_str_counted(text, size, &mut Steps::new())

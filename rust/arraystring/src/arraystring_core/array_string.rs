@@ -29,6 +29,7 @@ mod empty {
         /// [How to read a contract](crate::contracts)
         ///
         /// </details>
+        #[must_use]
         #[inline(always)]
         pub const fn new() -> Self {
             ArrayString { array: [0; N], start: 0, size: 0 }
@@ -36,6 +37,8 @@ mod empty {
     }
 }
 mod construct;
+#[path = "../by_hand/constant.rs"]
+mod constant;
 mod utf16;
 mod views {
     use super::*;
@@ -61,6 +64,7 @@ mod views {
         /// [How to read a contract](crate::contracts)
         ///
         /// </details>
+        #[must_use]
         #[inline]
         pub const fn capacity() -> u8 {
             if N < 255 { N as u8 } else { 255 }
@@ -89,6 +93,7 @@ mod views {
         /// [How to read a contract](crate::contracts)
         ///
         /// </details>
+        #[must_use]
         #[inline]
         pub const fn len(&self) -> u8 {
             self.size
@@ -114,6 +119,7 @@ mod views {
         /// [How to read a contract](crate::contracts)
         ///
         /// </details>
+        #[must_use]
         #[inline]
         pub const fn is_empty(&self) -> bool {
             self.size == 0
@@ -144,6 +150,7 @@ mod views {
         /// </details>
         ///
         /// Another body runs here than the one that was proved: the array is split twice, since that is `const`.
+        #[must_use]
         #[inline]
         pub const fn as_str(&self) -> &str {
             let (size, start) = (self.size as usize, self.start as usize);
@@ -179,6 +186,7 @@ mod views {
         /// </details>
         ///
         /// Another body runs here than the one that was proved: the array is split twice, since that is `const`.
+        #[must_use]
         #[inline]
         pub const fn as_bytes(&self) -> &[u8] {
             let (size, start) = (self.size as usize, self.start as usize);
@@ -223,6 +231,8 @@ mod views {
 #[path = "../by_hand/room.rs"]
 mod room;
 mod push;
+#[path = "../by_hand/write.rs"]
+mod write;
 mod insert;
 mod range;
 mod remove;

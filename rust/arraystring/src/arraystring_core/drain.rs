@@ -81,6 +81,7 @@ impl<const N: usize> Drain<N> {
     /// [How to read a contract](crate::contracts)
     ///
     /// </details>
+    #[must_use]
     #[inline]
     pub fn as_str(&self) -> &str {
         let all = &self.array[..];

@@ -1,4 +1,7 @@
-//! A string beside a `str`, on either side of `==`, `<` and `+=`. Each is one call of the texts.
+//! A string beside a `str`: on the right of `==`, on the left of `<` and of `+=`. Each is one call of the texts.
+//!
+//! A `str` has no order with a string on its right. With one, `"a" < &t` of a `String` and `s < t.as_ref()` would no longer be
+//! compiled in a program that has this crate, since std's own order of `str` is then not the only one.
 
 use core::cmp::Ordering;
 use core::ops::AddAssign;
@@ -35,21 +38,6 @@ macro_rules! beside {
             #[inline]
             fn partial_cmp(&self, other: &$text) -> Option<Ordering> {
                 Some(str::cmp(self.as_str(), other))
-            }
-        }
-
-        /// The order of the texts, which is that of their characters.
-        ///
-        /// ```
-        /// use arraystring::{ArrayString, CacheString};
-        ///
-        /// assert!("ab" < ArrayString::<4>::from("b") && *"ab" < ArrayString::<4>::from("b"));
-        /// assert!("é" > CacheString::from("z") && *"é" > CacheString::from("z"));
-        /// ```
-        impl<$($generics)*> PartialOrd<$string> for $text {
-            #[inline]
-            fn partial_cmp(&self, other: &$string) -> Option<Ordering> {
-                Some(str::cmp(self, other.as_str()))
             }
         }
     )*};

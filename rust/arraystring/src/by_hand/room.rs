@@ -10,6 +10,7 @@ impl<const N: usize> ArrayString<N> {
     /// let string = arraystring::ArrayString::<4>::from("aé");
     /// assert_eq!((string.len(), string.remaining_capacity()), (3, 1));
     /// ```
+    #[must_use]
     #[inline]
     pub const fn remaining_capacity(&self) -> u8 {
         Self::capacity() - self.len()
@@ -23,6 +24,7 @@ impl<const N: usize> ArrayString<N> {
     /// string.push_str("b");
     /// assert!(string.is_full());
     /// ```
+    #[must_use]
     #[inline]
     pub const fn is_full(&self) -> bool {
         self.remaining_capacity() == 0

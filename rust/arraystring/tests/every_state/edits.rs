@@ -108,6 +108,11 @@ fn fitting<const N: usize>() -> usize {
     (0..=N).map(|size| strings[size] * counts[..=N - size].iter().sum::<usize>()).sum()
 }
 
+/// Each way to split a text into two.
+fn halves(text: &str) -> impl Iterator<Item = (&str, &str)> {
+    (0..=text.len()).filter_map(|at| text.split_at_checked(at))
+}
+
 #[test]
 fn additions_of_a_text() {
     fn added<const N: usize>() -> (usize, usize) {
@@ -121,6 +126,11 @@ fn additions_of_a_text() {
                 made += case.each(name("write!"), &(whole.0.is_ok(), whole.1.clone()), |string| {
                     write!(string, "{given}").is_ok()
                 });
+                for (front, back) in halves(given) {
+                    made += case.each(("try_write", front, back), &(whole.0.is_ok(), whole.1.clone()), |string| {
+                        string.try_write(format_args!("{front}{back}")).is_ok()
+                    });
+                }
                 if whole.0.is_ok() {
                     // SAFETY: the text fits.
                     made += case.each(name("push_str_unchecked"), &((), whole.1), |string| unsafe {
@@ -136,7 +146,8 @@ fn additions_of_a_text() {
                 made += case.each(name("extend of references"), &cut, |string| string.extend(&characters));
             }
         }
-        (made, 7 * total::<N>(&WIDTHS) * texts.len() + fitting::<N>())
+        let halves: usize = texts.iter().map(|given| length(given) + 1).sum();
+        (made, total::<N>(&WIDTHS) * (7 * texts.len() + halves) + fitting::<N>())
     }
     at_each_capacity!(added);
 }

@@ -82,7 +82,7 @@ fn strings_beside_each_other() {
     at_each_capacity!(strings);
 }
 
-/// Asserts each sign between a string and a text, on either side.
+/// Asserts each sign between a string and a text.
 fn is_beside<const N: usize>(string: &ArrayString<N>, text: &str, other: &str) {
     let is_equal = text == other;
     assert_eq!(
@@ -94,12 +94,6 @@ fn is_beside<const N: usize>(string: &ArrayString<N>, text: &str, other: &str) {
         (string.partial_cmp(other), string.partial_cmp(&other)),
         (Some(order), Some(order)),
         "{text} and {other}"
-    );
-    let order = order.reverse();
-    assert_eq!(
-        (other.partial_cmp(string), (&other).partial_cmp(&string)),
-        (Some(order), Some(order)),
-        "{other} and {text}"
     );
     #[cfg(feature = "alloc")]
     {

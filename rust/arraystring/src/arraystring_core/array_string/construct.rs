@@ -68,6 +68,7 @@ impl<const N: usize> ArrayString<N> {
     /// [How to read a contract](crate::contracts)
     ///
     /// </details>
+    #[must_use]
     #[inline]
     pub fn from_str_truncate<S: AsRef<str>>(string: S) -> Self {
         let string = string.as_ref();
@@ -103,6 +104,7 @@ impl<const N: usize> ArrayString<N> {
     /// [How to read a contract](crate::contracts)
     ///
     /// </details>
+    #[must_use]
     #[inline]
     pub unsafe fn from_str_unchecked<S: AsRef<str>>(string: S) -> Self {
         let string = string.as_ref();
@@ -483,6 +485,7 @@ impl<const N: usize> ArrayString<N> {
     /// [How to read a contract](crate::contracts)
     ///
     /// </details>
+    #[must_use]
     #[inline]
     pub unsafe fn from_utf8_unchecked<B: AsRef<[u8]>>(given: B) -> Self {
         let given = given.as_ref();

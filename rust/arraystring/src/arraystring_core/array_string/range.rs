@@ -45,6 +45,7 @@ impl<const N: usize> ArrayString<N> {
     /// </details>
     ///
     /// Another body runs here than the one that was proved: it is the index of `str`, which panics.
+    #[track_caller]
     #[inline]
     pub fn slice<R: RangeBounds<u8>>(&self, range: R) -> &str {
         let (start, end) = plain_ends(range, self.len());
@@ -328,6 +329,7 @@ impl<const N: usize> ArrayString<N> {
     /// </details>
     ///
     /// Another body runs here than the one that was proved: the range is tested first, by the index of `str`.
+    #[track_caller]
     #[inline]
     pub fn make_ascii_uppercase_in<R: RangeBounds<u8>>(&mut self, range: R) {
         let (start, end) = plain_ends(range, self.len());
@@ -371,6 +373,7 @@ impl<const N: usize> ArrayString<N> {
     /// </details>
     ///
     /// Another body runs here than the one that was proved: the range is tested first, by the index of `str`.
+    #[track_caller]
     #[inline]
     pub fn make_ascii_lowercase_in<R: RangeBounds<u8>>(&mut self, range: R) {
         let (start, end) = plain_ends(range, self.len());

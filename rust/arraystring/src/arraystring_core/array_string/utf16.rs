@@ -113,6 +113,7 @@ impl<const N: usize> ArrayString<N> {
     /// [How to read a contract](crate::contracts)
     ///
     /// </details>
+    #[must_use]
     #[inline]
     pub fn from_utf16_lossy<B: AsRef<[u16]>>(units: B) -> Self {
         let units = units.as_ref();

@@ -1,0 +1,67 @@
+//! Constants: a string of a text that is known when the program is compiled.
+#![deny(unsafe_code, clippy::cast_possible_truncation)]
+
+use crate::ArrayString;
+
+/// A string of a text that is known when the program is compiled. One that does not fit never compiles. The capacity is that of
+/// the type that is asked for.
+///
+/// ```
+/// use arraystring::{ArrayString, CacheString, arraystring};
+///
+/// const GREETING: ArrayString<8> = arraystring!("hello");
+/// static KEY: CacheString = CacheString(arraystring!(concat!("user:", "42")));
+/// assert_eq!((GREETING.as_str(), KEY.as_str()), ("hello", "user:42"));
+///
+/// let mut line: ArrayString<16> = arraystring!("hello");
+/// line.push_str(", ann");
+/// assert_eq!(line, "hello, ann");
+/// ```
+///
+/// `hello` takes five bytes:
+///
+/// ```compile_fail,E0080
+/// use arraystring::{ArrayString, arraystring};
+///
+/// const GREETING: ArrayString<4> = arraystring!("hello");
+/// ```
+///
+/// So it is behind a `let`, where [`try_from_str`](crate::ArrayString::try_from_str) is refused when the program runs:
+///
+/// ```compile_fail,E0080
+/// use arraystring::{ArrayString, arraystring};
+///
+/// let greeting: ArrayString<4> = arraystring!("hello");
+/// ```
+#[macro_export]
+macro_rules! arraystring {
+    ($text:expr) => {
+        const { $crate::ArrayString::of_constant($text) }
+    };
+}
+
+impl<const N: usize> ArrayString<N> {
+    /// What `arraystring!` is made of. Beyond a constant it would panic when the program runs.
+    ///
+    /// ```
+    /// const GREETING: arraystring::ArrayString<8> = arraystring::ArrayString::of_constant("hello");
+    /// assert_eq!(GREETING, "hello");
+    /// ```
+    ///
+    /// # Panics
+    ///
+    /// Where the text does not fit.
+    #[doc(hidden)]
+    #[must_use]
+    #[track_caller]
+    pub const fn of_constant(text: &str) -> Self {
+        assert!(text.len() <= Self::capacity() as usize, "the text does not fit into the capacity");
+        let (mut string, mut rest) = (Self::new(), text.as_bytes());
+        while let [byte, others @ ..] = rest {
+            string.array[string.size as usize] = *byte;
+            string.size += 1;
+            rest = others;
+        }
+        string
+    }
+}

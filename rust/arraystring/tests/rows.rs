@@ -1,0 +1,262 @@
+//! Rows of several pieces: `try_write` takes one whole or leaves the text as it was, also where a `Display` in it fails or panics,
+//! and `write!` keeps what came before the piece that is refused.
+
+use std::fmt::{self, Display, Write};
+use std::panic::{AssertUnwindSafe, catch_unwind, resume_unwind};
+
+use arraystring::{ArrayString, CacheString};
+
+/// Calls a generic test at each of these capacities.
+macro_rules! at_each {
+    ($test:ident: $($capacity:literal)*) => {
+        $($test::<$capacity>();)*
+    };
+}
+
+/// How a row ends.
+#[derive(Clone, Copy, Debug, PartialEq)]
+enum End {
+    Whole,
+    /// A piece is refused.
+    Refused,
+    /// A `Display` returns an error of its own.
+    Failed,
+    Panicked,
+}
+
+/// A row that prints its pieces one by one.
+#[derive(Clone, Copy, Debug)]
+struct Row<'a> {
+    pieces: &'a [&'a str],
+    /// How it ends before it prints the piece at a place, or behind the last.
+    stop: Option<(usize, End)>,
+    /// Whether it goes on behind a piece that is refused, as if nothing had been.
+    goes_on: bool,
+}
+
+impl Row<'_> {
+    /// A row that prints all of these.
+    fn of<'a>(pieces: &'a [&'a str]) -> Row<'a> {
+        Row { pieces, stop: None, goes_on: false }
+    }
+
+    /// How it ends before it prints the piece at a place, if it does.
+    fn stopped(&self, at: usize) -> Option<End> {
+        self.stop.filter(|(before, _)| *before == at).map(|(_, end)| end)
+    }
+
+    fn stops(&self, at: usize) -> fmt::Result {
+        match self.stopped(at) {
+            None => Ok(()),
+            // (no hook is called, so nothing is printed)
+            Some(End::Panicked) => resume_unwind(Box::new("a row")),
+            Some(_) => Err(fmt::Error),
+        }
+    }
+
+    /// What is taken of it where there is room for so many bytes, and how it ends.
+    fn taken(&self, room: usize) -> (String, End) {
+        let (mut text, mut end) = (String::new(), End::Whole);
+        for (at, piece) in self.pieces.iter().enumerate() {
+            if let Some(stopped) = self.stopped(at) {
+                return (text, stopped);
+            }
+            if text.len() + piece.len() <= room {
+                text += piece;
+                continue;
+            }
+            end = End::Refused;
+            if !self.goes_on {
+                return (text, end);
+            }
+        }
+        (text, self.stopped(self.pieces.len()).unwrap_or(end))
+    }
+}
+
+impl Display for Row<'_> {
+    fn fmt(&self, f: &mut fmt::Formatter<'_>) -> fmt::Result {
+        for (at, piece) in self.pieces.iter().enumerate() {
+            self.stops(at)?;
+            let written = f.write_str(piece);
+            if !self.goes_on {
+                written?;
+            }
+        }
+        self.stops(self.pieces.len())
+    }
+}
+
+/// A string whose text begins behind so many bytes of its array.
+fn behind<const N: usize>(offset: usize, text: &str) -> ArrayString<N> {
+    let mut string = ArrayString::<N>::from("~".repeat(offset).as_str());
+    string.try_push_str(text).expect("room");
+    string.drain(..offset as u8).expect("a part");
+    string
+}
+
+/// Makes a call, and returns `None` where it panics.
+fn unless_it_panics(call: impl FnOnce() -> fmt::Result) -> Option<fmt::Result> {
+    catch_unwind(AssertUnwindSafe(call)).ok()
+}
+
+/// Writes a row to a string, and asserts what comes of it.
+fn is_whole_or_not_at_all<const N: usize>(string: &ArrayString<N>, row: Row) {
+    let (before, capacity) = (string.as_str(), N.min(255));
+    let (taken, end) = row.taken(capacity - before.len());
+    let told = || format!("{N}: {before:?} and {row:?}");
+    let (result, after) = match end {
+        End::Whole => (Some(Ok(())), format!("{before}{taken}")),
+        End::Refused | End::Failed => (Some(Err(fmt::Error)), before.to_string()),
+        End::Panicked => (None, before.to_string()),
+    };
+    let mut tried = *string;
+    assert_eq!(unless_it_panics(|| tried.try_write(format_args!("{row}"))), result, "{}", told());
+    assert_eq!((tried.as_str(), tried.len() as usize), (&*after, after.len()), "{}", told());
+    // The room is what it was, too.
+    assert!(tried.try_push_str("m".repeat(capacity - after.len())).is_ok() && tried.is_full(), "{}", told());
+    assert!(tried.starts_with(&after), "{}", told());
+
+    let result = if end == End::Refused && row.goes_on { Some(Ok(())) } else { result };
+    let mut written = *string;
+    assert_eq!(unless_it_panics(|| write!(written, "{row}")), result, "{}", told());
+    assert_eq!(written, *format!("{before}{taken}"), "{}", told());
+}
+
+/// Each way of two pieces to stop, and none.
+const STOPS: [Option<(usize, End)>; 7] = [
+    None,
+    Some((0, End::Failed)),
+    Some((1, End::Failed)),
+    Some((2, End::Failed)),
+    Some((0, End::Panicked)),
+    Some((1, End::Panicked)),
+    Some((2, End::Panicked)),
+];
+
+/// Texts of each length to a size, of letters, and of wider characters where they fill it.
+fn texts(size: usize) -> Vec<String> {
+    let mut texts: Vec<_> = (0..=size).map(|len| "m".repeat(len)).collect();
+    for ch in ["é", "€", "🤔"] {
+        texts.extend((1..=size / ch.len()).map(|count| ch.repeat(count)));
+    }
+    texts
+}
+
+#[test]
+fn two_pieces_of_each_length_at_each_length() {
+    fn at<const N: usize>() {
+        for before in texts(N) {
+            let rests = [0, 1, N - before.len()];
+            for string in rests.map(|offset| behind::<N>(offset.min(N - before.len()), &before)) {
+                for first in 0..=N + 1 {
+                    for second in 0..=N + 1 {
+                        let (first, second) = ("a".repeat(first), "b".repeat(second));
+                        is_whole_or_not_at_all(&string, Row::of(&[&first, &second]));
+                    }
+                }
+            }
+        }
+    }
+    at_each!(at: 0 1 2 3 4 5 6 7 8 9 10 11 12 13 14 15 16 17 18 19 20);
+}
+
+#[test]
+fn each_display_stops_at_each_place() {
+    fn at<const N: usize>() {
+        for before in 0..=N.min(255) {
+            let room = N.min(255) - before;
+            let string = behind::<N>(room.min(2), &"m".repeat(before));
+            for first in [0, 1, room / 2, room, room + 1] {
+                for second in [0, 1, room.saturating_sub(first), room + 1 - first.min(room)] {
+                    let (first, second) = ("a".repeat(first), "b".repeat(second));
+                    for stop in STOPS {
+                        for goes_on in [false, true] {
+                            is_whole_or_not_at_all(&string, Row { pieces: &[&first, &second], stop, goes_on });
+                        }
+                    }
+                }
+            }
+        }
+    }
+    at_each!(at: 0 1 2 3 4 5 6 7 8 9 10 11 12 13 14 15 16 17 18 19 20 63 255 256 300);
+}
+
+#[test]
+fn wide_pieces_are_cut_at_no_place() {
+    fn at<const N: usize>() {
+        for before in texts(N.min(20)) {
+            let string = behind::<N>((N - before.len()).min(1), &before);
+            for first in ["", "a", "é", "€", "🤔", "aé", "é€🤔"] {
+                for second in ["é", "€", "🤔", "🤔é"] {
+                    for stop in STOPS {
+                        is_whole_or_not_at_all(&string, Row { pieces: &[first, second], stop, goes_on: false });
+                    }
+                }
+            }
+        }
+    }
+    at_each!(at: 0 1 2 3 4 5 6 7 8 9 10 11 12 13 14 15 16 17 18 19 20);
+}
+
+#[test]
+fn long_pieces_fill_long_strings() {
+    fn at<const N: usize>(lengths: &[usize]) {
+        for before in lengths {
+            let room = N.min(255) - before;
+            let string = behind::<N>(room / 2, &"m".repeat(*before));
+            for first in 0..=room + 1 {
+                for second in [0, 1, room.saturating_sub(first), room + 1 - first.min(room), 255, 256, 511] {
+                    let (first, second) = ("a".repeat(first), "b".repeat(second));
+                    is_whole_or_not_at_all(&string, Row::of(&[&first, "", &second]));
+                }
+            }
+        }
+    }
+    at::<63>(&(0..=63).collect::<Vec<_>>());
+    at::<255>(&[0, 1, 2, 126, 127, 128, 253, 254, 255]);
+    at::<300>(&[0, 1, 254, 255]);
+}
+
+/// Asserts that a string takes the arguments as a `String` does if there is room, and else stays.
+fn is_formatted<const N: usize>(arguments: fmt::Arguments) {
+    let printed = arguments.to_string();
+    for before in 0..=N {
+        let text = "m".repeat(before);
+        let mut string = behind::<N>((N - before).min(1), &text);
+        let fits = before + printed.len() <= N;
+        assert_eq!(string.try_write(arguments).is_ok(), fits, "{N} {before} {printed}");
+        assert_eq!(string.as_str(), if fits { text + &printed } else { text }, "{N} {before} {printed}");
+    }
+}
+
+#[test]
+fn each_format_is_whole_or_not_there() {
+    fn at<const N: usize>() {
+        is_formatted::<N>(format_args!(""));
+        is_formatted::<N>(format_args!("no argument"));
+        is_formatted::<N>(format_args!("{}-{}", "abcd", "efghi"));
+        is_formatted::<N>(format_args!("{:>6}|{:<4}|{:^5}", 7, "é", '€'));
+        is_formatted::<N>(format_args!("{:?} {:#x} {:08.3}", Some("a\n"), 255, 1.5));
+        is_formatted::<N>(format_args!("{}{}", ArrayString::<8>::from("aé€"), CacheString::from("🤔")));
+        is_formatted::<N>(format_args!("{:?}", [1, 23, 456]));
+    }
+    at_each!(at: 0 1 2 3 4 5 6 7 8 9 10 11 12 13 14 15 16 17 18 19 20 63 255);
+}
+
+#[test]
+fn a_cache_string_takes_a_row_too() {
+    for (before, fits) in [(55, true), (56, false)] {
+        let mut key = CacheString::from("m".repeat(before).as_str());
+        assert_eq!(key.try_write(format_args!("{}:{}", "user", 427)).is_ok(), fits);
+        assert_eq!(key.as_str(), "m".repeat(before) + if fits { "user:427" } else { "" });
+    }
+}
+
+#[test]
+fn a_row_is_written_after_one_that_panicked() {
+    let mut line = ArrayString::<8>::from("x");
+    let row = Row { pieces: &["abc", "def"], stop: Some((2, End::Panicked)), goes_on: false };
+    assert_eq!(unless_it_panics(|| line.try_write(format_args!("{row}{row}"))), None);
+    assert_eq!((line.try_write(format_args!("{}-{}", 1, 2)), line.as_str()), (Ok(()), "x1-2"));
+}
