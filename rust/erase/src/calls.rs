@@ -106,8 +106,11 @@ impl Calls<'_, '_> {
         Ok(())
     }
 
-    /// Says why the accesses are within, before the first of them.
+    /// Says why the accesses are within, before the first of them. What is given up is known once all functions were read.
     fn access(&mut self, at: usize) -> Result<(), Fault> {
+        if !self.tally.contracts.is_whole {
+            return Ok(());
+        }
         let why = self.here.reason(ACCESSES, 0, self.body.at(at).start, self.tally)?;
         if self.numbers.insert(ACCESSES.to_string(), 1).is_none() {
             self.say(at, &format!("this is within: {why}"));

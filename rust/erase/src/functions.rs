@@ -10,7 +10,7 @@ use crate::cursor::{Cursor, Fault, Token};
 use crate::edits::Edits;
 use crate::erase::Source;
 use crate::items::{File, Inside, Lead};
-use crate::reasons::{ACCESSES, Reasons};
+use crate::reasons::Reasons;
 use crate::rules::{
     BEHIND, BODIES, BY_STD, CONSTANT, FATES, Fate, KNOWN, LEFT_OUT, ONCE, Once, REPLACED, TESTS_RANGE, TWINS, WALK,
     WIDER,
@@ -84,9 +84,11 @@ impl<'a> File<'a, '_> {
             self.attributes(&function.call, function.head.clone(), lead);
         }
         self.hint(&function, lead);
-        if self.other_body(&function) {
-            return Ok(());
-        }
+        if self.other_body(&function) { Ok(()) } else { self.body(&function, inside) }
+    }
+
+    /// Rewrites the body of a function.
+    fn body(&mut self, function: &Function, inside: &Inside) -> Result<(), Fault> {
         let Source { krate, path, .. } = *self.source;
         let fate = FATES.iter().find(|(call, _)| *call == function.call).map(|(_, fate)| fate);
         let gives_up = matches!(fate, Some(Fate::Panics(..))) || function.preconditions.iter().any(Clause::is_given_up);
@@ -94,9 +96,7 @@ impl<'a> File<'a, '_> {
             self.tally.contracts.note_given_up(&function.call);
         }
         let reasons = self.tally.reasons.iter().find(|reasons| reasons.of == function.call);
-        let is_within =
-            |reasons: &Reasons| !reasons.anyway.is_empty() && reasons.calls.iter().any(|(of, _)| *of == ACCESSES);
-        let proves = reasons.is_some_and(is_within) || !self.tally.contracts.is_given_up(&function.call);
+        let proves = reasons.is_some_and(Reasons::are_of_accesses) || !self.tally.contracts.is_given_up(&function.call);
         let here = Here { krate, path, owner: inside.owner, call: &function.call, gives_up, proves };
         // (behind `fn` and its name)
         self.are_meant(&self.tokens(function.head.clone())[2..])?;

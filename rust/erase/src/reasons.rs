@@ -26,6 +26,11 @@ impl Reasons {
         Reasons { anyway, ..self }
     }
 
+    /// Whether the accesses lose their tests although a clause is given up.
+    pub fn are_of_accesses(&self) -> bool {
+        !self.anyway.is_empty() && self.calls.iter().any(|(of, _)| *of == ACCESSES)
+    }
+
     /// What has to be needed of them.
     pub fn entries(&self) -> Vec<String> {
         let number = |at: usize| self.calls[..at].iter().filter(|(of, _)| *of == self.calls[at].0).count();
@@ -90,7 +95,7 @@ pub const REASONS: &[Reasons] = &[
     of(
         "moves::move_pairs",
         &[
-            ("moves::bytes_of", "`all` is the array, `K + K` is at most `len`, and `rest + K + K` is `len`, which ends in it"),
+            ("moves::bytes_of", "`all` is the array, which has the `len` bytes from `from` on, and `rest + K + K` is `len`"),
             ("moves::put_pair", "the array has the `len` bytes from `to` on, and `rest + (K + K)` is `len`"),
         ],
     ),

@@ -48,6 +48,7 @@ fn made(text: &str) -> Result<String, String> {
     let mut tally = tally();
     // As `files` does: once for the contracts, and once by them.
     let _ = erase(&source, &mut tally);
+    tally.contracts.is_whole = true;
     let erased = erase(&source, &mut tally);
     erased
         .map(|erased| erased.text.split_once('\n').unwrap().1.to_string())
@@ -250,6 +251,7 @@ fn made_as(path: &str, text: &str) -> Result<String, String> {
     let source = Source { krate: "arraystring_base", path, text };
     let mut tally = tally();
     let _ = erase(&source, &mut tally);
+    tally.contracts.is_whole = true;
     erase(&source, &mut tally).map(|erased| erased.text).map_err(|fault| fault.why)
 }
 

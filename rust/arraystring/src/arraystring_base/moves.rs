@@ -298,20 +298,20 @@ unsafe fn move_pairs<const N: usize, const K: usize>(array: &mut [u8; N], from: 
     known!(source: from + len <= N);
     let rest = len - (K + K);
     let all = &array[..];
-    // SAFETY: `from + K <= all.len()`: `all` is the array, `K + K` is at most `len`, and `rest + K + K` is `len`, which
-    // ends in it.
+    // SAFETY: `from + K <= all.len()`: `all` is the array, which has the `len` bytes from `from` on, and `rest + K + K`
+    // is `len`.
     // Proved: crates/arraystring_base/src/moves.rt
     let front = unsafe { bytes_of::<K>(all, from) };
-    // SAFETY: `from + K + K <= all.len()`: `all` is the array, `K + K` is at most `len`, and `rest + K + K` is `len`,
-    // which ends in it.
+    // SAFETY: `from + K + K <= all.len()`: `all` is the array, which has the `len` bytes from `from` on, and
+    // `rest + K + K` is `len`.
     // Proved: crates/arraystring_base/src/moves.rt
     let after_front = unsafe { bytes_of::<K>(all, from + K) };
-    // SAFETY: `from + rest + K <= all.len()`: `all` is the array, `K + K` is at most `len`, and `rest + K + K` is
-    // `len`, which ends in it.
+    // SAFETY: `from + rest + K <= all.len()`: `all` is the array, which has the `len` bytes from `from` on, and
+    // `rest + K + K` is `len`.
     // Proved: crates/arraystring_base/src/moves.rt
     let before_end = unsafe { bytes_of::<K>(all, from + rest) };
-    // SAFETY: `from + rest + K + K <= all.len()`: `all` is the array, `K + K` is at most `len`, and `rest + K + K` is
-    // `len`, which ends in it.
+    // SAFETY: `from + rest + K + K <= all.len()`: `all` is the array, which has the `len` bytes from `from` on, and
+    // `rest + K + K` is `len`.
     // Proved: crates/arraystring_base/src/moves.rt
     let end = unsafe { bytes_of::<K>(all, from + rest + K) };
     // SAFETY: `to + (K + K) <= N`: the array has the `len` bytes from `to` on, and `rest + (K + K)` is `len`.
