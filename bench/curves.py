@@ -42,12 +42,11 @@ def cell(sides, curve):
     means = {(side, "mean"): round(statistics.mean(counts.values())) for side, counts in curve.items()}
     both, late = pairs(sides, curve), behind(sides, curve)
     size, (count, best) = max(both.items(), key=lambda it: it[1][0] / it[1][1])
-    more = f", behind at {late} of {len(both)}" if late else ""
-    return f"{sides.cell(means, 'mean')}; {count / best:.2f} at {size}{more}"
+    return f"{sides.cell(means, 'mean')} {count / best:.2f}@{size}{f' ({late})' if late else ''}"
 
 
 def tell_curves(sides, found):
-    table("Mean: " + "/".join(sides.names) + "; worst", list(map(str, CAPACITIES)), [
+    table("Mean: " + "/".join(sides.names) + " worst@length (behind)", list(map(str, CAPACITIES)), [
         (call, [cell(sides, by_capacity[capacity]) for capacity in CAPACITIES]) for call, by_capacity in found.items()
     ])
     late = sum(behind(sides, curve) for *_, curve in each(found))

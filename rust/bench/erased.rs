@@ -1,5 +1,5 @@
 //! The Rust crate as the port that the driver makes calls of: called as any Rust program calls it. What is always inlined of
-//! `String` is so of the crate. With the setting `walked_by_std` a drain is walked as the `chars` of its text.
+//! `String` is so of the crate.
 
 use arraystring::ArrayString;
 
@@ -132,8 +132,6 @@ impl<const N: usize> Peer for ArrayString<N> {
         let Ok(drained) = Self::drain(self, start as u8..end as u8) else {
             return 0;
         };
-        #[cfg(walked_by_std)]
-        let drained = drained.as_str().chars();
         let mut sum = 0u32;
         if from_back {
             for ch in drained.rev() {
