@@ -454,7 +454,6 @@ pub const PROVED: &[(&str, &str)] = &[
     ("utf8::truncate_str_counted", "`last_boundary` returns a boundary, whatever was counted"),
     ("remove::retain_at", "where it reads follows from `held` and `text`, and not from what the closure may be asked"),
     ("ArrayString::drop_leading_ascii", "its loop tests the index, whatever the closure answers"),
-    ("Drain::next_back", "where it reads follows from the invariant, before anything is counted"),
 ];
 
 /// Calls of `unsafe` workers by functions that give up a clause. The precondition of the worker is proved there from all clauses,
