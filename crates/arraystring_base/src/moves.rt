@@ -169,7 +169,7 @@ fn move_pairs<const N: usize, const K: usize>(
 }
 
 /// Writes `given` over the bytes of the array from the offset `at` on. No other byte changes. Up to
-/// 64 bytes cost no call.
+/// 64 bytes cost no call, and more bytes one of `memcpy`.
 ///
 /// # Precondition
 ///
@@ -224,8 +224,8 @@ fn write_long_run<const N: usize>(array: &mut [u8; N], at: usize, given: &[u8])
     }
 }
 
-/// The same for any number of bytes, as a call: a copy takes much code where it is inlined.
-#[inline(never)]
+/// The same for any number of bytes.
+#[inline(always)]
 fn write_any_run<const N: usize>(array: &mut [u8; N], at: usize, given: &[u8])
     requires { at + length given.now ≤ N }
     ensures { array.new ≡ take at array.old ++ (given.now ++ drop (at + length given.now) array.old) }

@@ -4,14 +4,14 @@ use Rattle.std.proofs.lemmas.Str.{chars_past_char}
 use Rattle.std.specs.Char.{encode_utf8}
 use Rattle.std.proofs.lemmas.List.{get_or-take, get_or-drop}
 use Rattle.arraystring_base.specs.Text.{width, size, cap, bytes, front, back, boundary}
-use Rattle.arraystring_base.proofs.TextLaws.{size-is, size-append, size-borrowed, chars-bytes, empty-size}
+use Rattle.arraystring_base.proofs.TextLaws.{size-append, size-borrowed, chars-bytes, empty-size}
 use Rattle.arraystring_base.proofs.BoundaryLaws.{front-back, front-is, back-is, front-size, back-size, boundary-is, bytes-back, next-char}
 use Rattle.arraystring_core.specs.Layout.{stored, IsStored, IsDrained}
 use Rattle.arraystring_core.specs.GhostProofs.{stored-utf8, stored-size, stored-bytes}
 use Rattle.arraystring_core.specs.Drained.{Drained, drained}
 use Rattle.arraystring_core.proofs.StoredLaws.{opened-within}
 use Rattle.arraystring_core.proofs.SpanLemmas.{dropped as dropped_part, kept as kept_part}
-use Rattle.arraystring_core.proofs.EndLemmas.{first-low, last-low}
+use Rattle.arraystring_core.proofs.EndLemmas.{first-low}
 
 -- c came off the front, or off the back, of the text t, and the part from i on of the n bytes from the offset p on is left
 pub record GivesFirst (array_size : ℕ) (array : List ℕ) (p n i : ℕ) (t : List ℕ) (c : ℕ) : Type 0 where
@@ -134,24 +134,3 @@ module _ {array_size : ℕ} {array : List ℕ} {p n i : ℕ} (is : IsDrained arr
         };
         rest = ends ∙ ap (λ l. l ++ c ∷ []) (sym (ap (λ t. back t i) kept-text ∙ back-is before rest i (front-size removed i is.at)));
       }
-
-    -- if it is ASCII
-    module _ (some : i < n) (low : get_or array (p + n - 1) 0 < 128) where
-      last-stored : get_or (bytes v.left) (length (bytes v.left) - 1) 0 ≡ get_or array (p + n - 1) 0
-      last-stored =
-          let within : n - 1 < n = omega arith in
-          let long : length (bytes v.left) - 1 ≡ n - i - 1 = omega (arith, size-is v.left, left-size) in
-          let whole : i + (n - i - 1) ≡ n - 1 = omega arith in
-          let offset : p + (n - 1) ≡ p + n - 1 = omega arith in
-          ap (λ k. get_or (bytes v.left) k 0) long ∙ ap (λ l. get_or l (n - i - 1) 0) left-bytes
-          ∙ get_or-drop i (take n (drop p array)) (n - i - 1) 0 ∙ ap (λ k. get_or (take n (drop p array)) k 0) whole
-          ∙ get_or-take n (drop p array) (n - 1) 0 within ∙ get_or-drop p array (n - 1) 0 ∙ ap (λ k. get_or array k 0) offset
-
-      abbrev last-is : (rest : List ℕ) × (v.left ≡ rest ++ get_or array (p + n - 1) 0 ∷ []) × (width (get_or array (p + n - 1) 0) ≡ 1)
-      last-is = last-low v.left (get_or array (p + n - 1) 0) (some-left some) last-stored low
-
-      ended : i + size last-is.0 ≡ n - 1
-      ended = omega (arith, given-within, left-size, ap size last-is.1, size-append last-is.0 (get_or array (p + n - 1) 0 ∷ []), last-is.2)
-
-      pub last-given : GivesLast array_size array p (n - 1) i v.left (get_or array (p + n - 1) 0)
-      last-given = rw (← ended) (back-given _ _ last-is.1)

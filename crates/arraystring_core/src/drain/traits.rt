@@ -60,15 +60,6 @@ impl<const N: usize> DoubleEndedIterator for Drain<N> {
     /// after that.
     #[inline(always)]
     fn next_back(&mut self) -> Option<char> {
-        if self.size == self.front {
-            return None;
-        }
-        prove!(self.front < self.size);
-        let last = self.array[self.start as usize + self.size as usize - 1];
-        if last < 0x80 {
-            self.size -= 1;
-            return Some(last as char);
-        }
         let (kept, ch) = last_char(self.as_str(), &mut Steps::new())?;
         self.size = self.front + kept as u8;
         Some(ch)

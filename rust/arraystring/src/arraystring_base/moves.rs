@@ -323,7 +323,7 @@ unsafe fn move_pairs<const N: usize, const K: usize>(array: &mut [u8; N], from: 
 }
 
 /// Writes `given` over the bytes of the array from the offset `at` on. No other byte changes. Up to
-/// 64 bytes cost no call.
+/// 64 bytes cost no call, and more bytes one of `memcpy`.
 ///
 /// # Safety
 ///
@@ -433,7 +433,7 @@ unsafe fn write_long_run<const N: usize>(array: &mut [u8; N], at: usize, given: 
     }
 }
 
-/// The same for any number of bytes, as a call: a copy takes much code where it is inlined.
+/// The same for any number of bytes.
 ///
 /// # Safety
 ///
@@ -449,7 +449,6 @@ unsafe fn write_long_run<const N: usize>(array: &mut [u8; N], at: usize, given: 
 /// [How to read a contract](crate::contracts)
 ///
 /// </details>
-#[inline(never)]
 unsafe fn write_any_run<const N: usize>(array: &mut [u8; N], at: usize, given: &[u8]) {
     let all = &mut array[..];
     copy_from_slice_unchecked!(all, at..at + given.len(), given);
