@@ -1,5 +1,5 @@
 -- Runs of the same commands at two capacities.
-use Rattle.std.proofs.Common.{◌≡◌, ℕ, suc, ◌+◌, ◌-◌, ◌≤◌, List, [], ◌∷◌, take, refl, sym, ap, subst, ◌∙◌, arith, Option, Some, None, Bool, true, false, if◌then◌else◌}
+use Rattle.std.proofs.Common.{◌≡◌, ℕ, suc, ◌+◌, ◌-◌, ◌≤◌, List, [], ◌∷◌, take, refl, sym, ap, ◌∙◌, arith, Option, Some, None, Bool, true, false, if◌then◌else◌}
 use Rattle.std.proofs.lemmas.Bool.Decides.{nat_tests}
 use Rattle.std.proofs.lemmas.Bool.{le-ltb, ltb-false}
 use Rattle.arraystring.specs.Text.{size, cut}
@@ -53,8 +53,7 @@ next-if false k o = refl
 pub tight-from_next : (k : ℕ) (cs : List Command) (t : List ℕ) (n : ℕ) → first_tight_from (k + 1) cs t n ≡ next (first_tight_from k cs t n)
 tight-from_next k [] t n = refl
 tight-from_next k (c ∷ cs) t n =
-    ap (λ o. if tight c t n then Some (k + 1) else o) (tight-from_next (k + 1) cs (edit c t n).text n)
-    ∙ next-if (tight c t n) k (first_tight_from (k + 1) cs (edit c t n).text n)
+    rw (tight-from_next (k + 1) cs (edit c t n).text n) (next-if (tight c t n) k (first_tight_from (k + 1) cs (edit c t n).text n))
 
 untight-next : (c : Command) (cs : List Command) (o : Option ℕ) → untight (c ∷ cs) (next o) ≡ c ∷ untight cs o
 untight-next c cs None = refl
@@ -66,12 +65,9 @@ no_sooner-next (Some k) None is = tt
 no_sooner-next None (Some j) is = is
 no_sooner-next (Some k) (Some j) is = let le : k ≤ j = is in omega arith
 
-some-none : (k : ℕ) → Some k ≡ None → ⊥
-some-none k e = cc
-
 none-next : (o : Option ℕ) → next o ≡ None → o ≡ None
 none-next None e = refl
-none-next (Some k) e = absurd (some-none (k + 1) e)
+none-next (Some k) e = absurd (cc)
 
 -- the commands before the first tight one get replies that agree
 pub alike : (cs : List Command) (t : List ℕ) (n m : ℕ) → n ≤ m
@@ -85,9 +81,8 @@ alike (c ∷ cs) t n m le = go (tight c t n) refl (alike cs (edit c t n).text n 
     go true e rest = tt
     go false e rest =
         let same = same-step c t n m le e in
-        subst (λ l. AllAgree l (after (c ∷ cs) t n).replies (after (c ∷ cs) t m).replies)
-        (sym (ap (untight (c ∷ cs)) (tight-from_next 0 cs (edit c t n).text n) ∙ untight-next c cs (first_tight_from 0 cs (edit c t n).text n)))
-        (same.agrees, subst (λ u. AllAgree (untight cs (first_tight_from 0 cs (edit c t n).text n)) (after cs (edit c t n).text n).replies (after cs u m).replies) same.text rest)
+        rw (tight-from_next 0 cs (edit c t n).text n, untight-next c cs (first_tight_from 0 cs (edit c t n).text n))
+        (same.agrees, rw (← same.text) rest)
 
 -- no command before that one is tight at the greater capacity
 pub no-sooner : (cs : List Command) (t : List ℕ) (n m : ℕ) → n ≤ m → IsNoSooner (first_tight_from 0 cs t n) (first_tight_from 0 cs t m)
@@ -104,11 +99,8 @@ no-sooner (c ∷ cs) t n m le = go (tight c t n) refl (no-sooner cs (edit c t n)
     go true e rest = zero-first (first_tight_from 0 (c ∷ cs) t m)
     go false e rest =
         let same = same-step c t n m le e in
-        let moved = subst (λ u. IsNoSooner (first_tight_from 0 cs (edit c t n).text n) (first_tight_from 0 cs u m)) same.text rest in
-        let later = no_sooner-next (first_tight_from 0 cs (edit c t n).text n) (first_tight_from 0 cs (edit c t m).text m) moved in
-        subst (λ o. IsNoSooner o (first_tight_from 0 (c ∷ cs) t m)) (sym (tight-from_next 0 cs (edit c t n).text n))
-        (subst (IsNoSooner (next (first_tight_from 0 cs (edit c t n).text n)))
-        (sym (ap (λ b. if b then Some 0 else first_tight_from 1 cs (edit c t m).text m) same.untight ∙ tight-from_next 0 cs (edit c t m).text m)) later)
+        let later = no_sooner-next (first_tight_from 0 cs (edit c t n).text n) (first_tight_from 0 cs (edit c t n).text m) rest in
+        rw (same.untight, ← same.text, tight-from_next 0 cs (edit c t n).text n, tight-from_next 0 cs (edit c t n).text m) later
 
 -- if no command is tight, the last texts are the same
 pub same-text : (cs : List Command) (t : List ℕ) (n m : ℕ) → n ≤ m → first_tight_from 0 cs t n ≡ None → (after cs t n).text ≡ (after cs t m).text
@@ -118,8 +110,7 @@ same-text (c ∷ cs) t n m le none = go (tight c t n) refl none (same-text cs (e
     go : (b : Bool) → tight c t n ≡ b → (if b then Some 0 else first_tight_from 1 cs (edit c t n).text n) ≡ None
         → (first_tight_from 0 cs (edit c t n).text n ≡ None → (after cs (edit c t n).text n).text ≡ (after cs (edit c t n).text m).text)
         → (after (c ∷ cs) t n).text ≡ (after (c ∷ cs) t m).text
-    go true e is rest = absurd (some-none 0 is)
+    go true e is rest = absurd (cc)
     go false e is rest =
         let same = same-step c t n m le e in
-        rest (none-next (first_tight_from 0 cs (edit c t n).text n) (sym (tight-from_next 0 cs (edit c t n).text n) ∙ is))
-        ∙ ap (λ u. (after cs u m).text) same.text
+        cc (rest (none-next _ (sym (tight-from_next 0 cs (edit c t n).text n) ∙ is)), same.text)

@@ -1,5 +1,5 @@
 -- Lines as words and arguments: what a line is the line of.
-use Rattle.std.proofs.Common.{◌≡◌, ◌≢◌, ℕ, ◌<◌, ◌≤◌, List, [], ◌∷◌, ◌++◌, codes, length, map, drop, get_or, ◌^◌, refl, sym, ap, subst, ◌∙◌, arith, nat_le, IsUtf8, true, ◌&&◌, ◌+◌, length-append, rules, true≢false, Option, Some, None, Result, Ok, Err, IfSome, IfNone}
+use Rattle.std.proofs.Common.{◌≡◌, ◌≢◌, ℕ, ◌<◌, ◌≤◌, List, [], ◌∷◌, ◌++◌, codes, length, map, drop, get_or, ◌^◌, refl, sym, subst, ◌∙◌, arith, nat_le, IsUtf8, true, ◌&&◌, ◌+◌, length-append, rules, Option, Some, None, Result, Ok, Err, IfSome, IfNone}
 use Rattle.std.specs.Bool.{⊤}
 use Rattle.std.proofs.lemmas.List.{append-nil}
 use Rattle.std.proofs.lemmas.Bool.{and_parts, leb-true}
@@ -18,27 +18,18 @@ use Rattle.arraystring_run.specs.declared.commands.Command.TheVariants as comman
 use Rattle.arraystring_run.proofs.CommandLemmas.{are_letters, word-letters, kind, kinds, numbers_first, kinds-numbers_first, namesakes}
 use Rattle.arraystring_run.specs.Grammar.{Argument, Number, Character, Text, word, arguments, AreDigits, value_after, IsNumber, IsNumberBefore, IsSpelled, AreSpelled, IsLineOf, IsOneWord, space, spellings, line_of, AreArguments}
 
-head-of : (x y : ℕ) (xs ys : List ℕ) → x ∷ xs ≡ y ∷ ys → x ≡ y
-head-of x y xs ys e = ap (λ l. get_or l 0 0) e
-
-tail-of : (x y : ℕ) (xs ys : List ℕ) → x ∷ xs ≡ y ∷ ys → xs ≡ ys
-tail-of x y xs ys e = ap (drop 1) e
-
 -- the first space ends a word
 pub first-space : (v w x y : List ℕ) → IsOneWord v → IsOneWord w → v ++ space ∷ x ≡ w ++ space ∷ y → (v ≡ w) × (x ≡ y)
-first-space [] [] x y one also e = (refl, tail-of space space x y e)
-first-space [] (b ∷ w) x y one also e = absurd (also.0 (sym (head-of space b x (w ++ space ∷ y) e)))
-first-space (a ∷ v) [] x y one also e = absurd (one.0 (head-of a space (v ++ space ∷ x) y e))
-first-space (a ∷ v) (b ∷ w) x y one also e =
-    let rest = first-space v w x y one.1 also.1 (tail-of a b (v ++ space ∷ x) (w ++ space ∷ y) e) in
-    let first : a ≡ b = head-of a b (v ++ space ∷ x) (w ++ space ∷ y) e in
-    (ap (λ l. a ∷ l) rest.0 ∙ ap (λ k. k ∷ w) first, rest.1)
+first-space [] [] x y one also e = (refl, cc)
+first-space [] (b ∷ w) x y one also e = absurd (also.0 (cc))
+first-space (a ∷ v) [] x y one also e = absurd (one.0 (cc))
+first-space (a ∷ v) (b ∷ w) x y one also e = let rest = first-space v w x y one.1 also.1 (cc) in (cc, rest.1)
 
 pub no-space : (v w y : List ℕ) → IsOneWord v → v ≡ w ++ space ∷ y → ⊥
-no-space [] [] y one e = omega (arith, ap length e)
-no-space [] (b ∷ w) y one e = omega (arith, ap length e)
-no-space (a ∷ v) [] y one e = one.0 (head-of a space v y e)
-no-space (a ∷ v) (b ∷ w) y one e = no-space v w y one.1 (tail-of a b v (w ++ space ∷ y) e)
+no-space [] [] y one e = absurd (cc)
+no-space [] (b ∷ w) y one e = absurd (cc)
+no-space (a ∷ v) [] y one e = one.0 (cc)
+no-space (a ∷ v) (b ∷ w) y one e = no-space v w y one.1 (cc)
 
 -- the words of commands are made of small letters and underscores
 abbrev AreLetters : List ℕ → Type 0
@@ -62,8 +53,8 @@ one-word c = one-from_letters (word c) (letters-from_test (word c) (word-letters
 
 -- a space is followed by an argument
 pub has-argument : (rest : List ℕ) (given : List Argument) → AreSpelled (space ∷ rest) given → given ≢ []
-has-argument rest [] none e = omega (arith, ap length none)
-has-argument rest (a ∷ given) spelled e = omega (arith, ap length e)
+has-argument rest [] none e = absurd (cc)
+has-argument rest (a ∷ given) spelled e = absurd (cc)
 
 -- what is after a word and a space, read as arguments of these kinds
 abbrev pub Reads : List ℕ → List ℕ → Type 0
@@ -72,10 +63,9 @@ Reads rest kinds = (given : List Argument) × (map kind given ≡ kinds) × AreS
 split-line : (v w rest more : List ℕ) (given : List Argument) → IsOneWord v → IsOneWord w → v ++ space ∷ rest ≡ w ++ more
     → AreSpelled more given → (v ≡ w) × AreSpelled (space ∷ rest) given
 split-line v w rest more [] one also e none =
-    absurd (no-space w v rest also (sym (e ∙ ap (λ l. w ++ l) none ∙ append-nil w)))
+    absurd (no-space w v rest also (cc (append-nil w)))
 split-line v w rest more (a ∷ given) one also e (first, others, whole, spelled, next) =
-    let parts = first-space v w rest (first ++ others) one also (e ∙ ap (λ l. w ++ l) whole) in
-    (parts.0, (first, others, ap (λ l. space ∷ l) parts.1, spelled, next))
+    let parts = first-space v w rest (first ++ others) one also (cc) in (parts.0, (first, others, cc, spelled, next))
 
 -- the word and the arguments of a line that has a space
 pub line-parts : (w rest : List ℕ) (c : Command) → IsOneWord w → IsLineOf (w ++ space ∷ rest) c
@@ -91,37 +81,27 @@ unread d w rest one known bad c line =
 
 -- the arguments of each list of kinds
 last-of : (rest first others : List ℕ) → space ∷ rest ≡ space ∷ (first ++ others) → others ≡ [] → rest ≡ first
-last-of rest first others whole none =
-    tail-of space space rest (first ++ others) whole ∙ ap (λ l. first ++ l) none ∙ append-nil first
+last-of rest first others whole none = cc (append-nil first)
 
 pub reads-number : (rest : List ℕ) → Reads rest (0 ∷ []) → (n : ℕ) × IsNumber rest n
-reads-number rest ([], e, spelled) = absurd (omega (arith, ap length e))
 reads-number rest (Number n ∷ [], e, (first, others, whole, number, none)) =
     (n, subst (λ l. IsNumber l n) (sym (last-of rest first others whole none)) number)
-reads-number rest (Character c ∷ given, e, spelled) = absurd (omega (arith, head-of 1 0 (map kind given) [] e))
-reads-number rest (Text t ∷ given, e, spelled) = absurd (omega (arith, head-of 2 0 (map kind given) [] e))
-reads-number rest (Number n ∷ a ∷ given, e, spelled) = absurd (omega (arith, ap length e))
+reads-number rest (other, e, spelled) = absurd (cc)
 
 pub reads-character : (rest : List ℕ) → Reads rest (1 ∷ []) → (c : ℕ) × IsScalarValue c × (rest ≡ utf8 c)
-reads-character rest ([], e, spelled) = absurd (omega (arith, ap length e))
 reads-character rest (Character c ∷ [], e, (first, others, whole, character, none)) =
     (c, character.0, last-of rest first others whole none ∙ character.1)
-reads-character rest (Number n ∷ given, e, spelled) = absurd (omega (arith, head-of 0 1 (map kind given) [] e))
-reads-character rest (Text t ∷ given, e, spelled) = absurd (omega (arith, head-of 2 1 (map kind given) [] e))
-reads-character rest (Character c ∷ a ∷ given, e, spelled) = absurd (omega (arith, ap length e))
+reads-character rest (other, e, spelled) = absurd (cc)
 
 pub reads-before : (rest : List ℕ) (k : ℕ) (kinds : List ℕ) → Reads rest (0 ∷ k ∷ kinds)
     → (n : ℕ) × (behind : List ℕ) × IsNumberBefore rest n behind × Reads behind (k ∷ kinds)
-reads-before rest k kinds ([], e, spelled) = absurd (omega (arith, ap length e))
-reads-before rest k kinds (Number n ∷ [], e, spelled) = absurd (omega (arith, ap length e))
 reads-before rest k kinds (Number n ∷ a ∷ given, e, (first, others, whole, number, (second, more, others_whole, spelled, next))) = (
   n,
   second ++ more,
-  (first, number, tail-of space space rest (first ++ others) whole ∙ ap (λ l. first ++ l) others_whole),
-  (a ∷ given, tail-of 0 0 (kind a ∷ map kind given) (k ∷ kinds) e, (second, more, refl, spelled, next)),
+  (first, number, cc),
+  (a ∷ given, cc, (second, more, refl, spelled, next)),
 )
-reads-before rest k kinds (Character c ∷ given, e, spelled) = absurd (omega (arith, head-of 1 0 (map kind given) (k ∷ kinds) e))
-reads-before rest k kinds (Text t ∷ given, e, spelled) = absurd (omega (arith, head-of 2 0 (map kind given) (k ∷ kinds) e))
+reads-before rest k kinds (other, e, spelled) = absurd (cc)
 
 pub no-character : (rest : List ℕ) → ((c : ℕ) → IsScalarValue c → rest ≡ utf8 c → ⊥) → Reads rest (1 ∷ []) → ⊥
 no-character rest bad read = let found = reads-character rest read in bad found.0 found.1 found.2
@@ -149,35 +129,21 @@ no-start rest bad c more spelled = start (arguments c) (kinds-numbers_first c) m
   start [] first more spelled = absurd (omega arith)
   start (a ∷ []) first more spelled = absurd (omega arith)
   start (Number n ∷ b ∷ given) first more spelled = no-before rest bad (Number n ∷ b ∷ given, refl, spelled)
-  start (Character c ∷ b ∷ given) first more spelled = absurd (true≢false (sym first))
-  start (Text t ∷ b ∷ given) first more spelled = absurd (true≢false (sym first))
+  start (Character c ∷ b ∷ given) first more spelled = absurd (cc)
+  start (Text t ∷ b ∷ given) first more spelled = absurd (cc)
 
 -- the other words of two arguments or more take the ends of a range, and no more
 pub ranges : (c : Command) → 2 ≤ length (arguments c) → (word c ≡ codes "try_insert" → ⊥) → (word c ≡ codes "try_insert_str" → ⊥)
     → (word c ≡ codes "insert_str" → ⊥) → (word c ≡ codes "replace_range" → ⊥) → (m : ℕ) × (n : ℕ) × (arguments c ≡ Number m ∷ Number n ∷ [])
-ranges (command.TryPush c) more a b d e = absurd (omega arith)
-ranges (command.TryPushStr given) more a b d e = absurd (omega arith)
-ranges (command.PushStr given) more a b d e = absurd (omega arith)
-ranges command.Pop more a b d e = absurd (omega arith)
-ranges (command.Truncate i) more a b d e = absurd (omega arith)
-ranges command.Trim more a b d e = absurd (omega arith)
-ranges (command.Remove i) more a b d e = absurd (omega arith)
-ranges (command.RetainNot c) more a b d e = absurd (omega arith)
 ranges (command.TryInsert i c) more a b d e = absurd (a refl)
 ranges (command.TryInsertStr i given) more a b d e = absurd (b refl)
 ranges (command.InsertStr i given) more a b d e = absurd (d refl)
-ranges (command.SplitOff i) more a b d e = absurd (omega arith)
-ranges command.Clear more a b d e = absurd (omega arith)
 ranges (command.Drain m n) more a b d e = (m, n, refl)
 ranges (command.DrainThrough m n) more a b d e = (m, n, refl)
 ranges (command.DrainBack m n) more a b d e = (m, n, refl)
 ranges (command.ReplaceRange m n given) more a b d e = absurd (e refl)
-ranges command.Upper more a b d e = absurd (omega arith)
-ranges command.Lower more a b d e = absurd (omega arith)
 ranges (command.Get m n) more a b d e = (m, n, refl)
-ranges command.Len more a b d e = absurd (omega arith)
-ranges command.Capacity more a b d e = absurd (omega arith)
-ranges command.AsStr more a b d e = absurd (omega arith)
+ranges other more a b d e = absurd (omega arith)
 
 -- digits have no space, so the number before the first space is one alone
 digits-one : (bs : List ℕ) → AreDigits bs → IsOneWord bs
@@ -200,15 +166,15 @@ reads-behind rest n behind k kinds before read =
 
 -- a line of a word and arguments
 pub line-given : (c : Command) (w rest : List ℕ) → w ≡ word c → AreSpelled (space ∷ rest) (arguments c) → IsLineOf (w ++ space ∷ rest) c
-line-given c w rest e spelled = (space ∷ rest, ap (λ l. l ++ space ∷ rest) e, spelled)
+line-given c w rest e spelled = (space ∷ rest, cc, spelled)
 
 pub spelled-one : (a : Argument) (rest : List ℕ) → IsSpelled rest a → AreSpelled (space ∷ rest) (a ∷ [])
-spelled-one a rest spelled = (rest, [], ap (λ l. space ∷ l) (sym (append-nil rest)), spelled, refl)
+spelled-one a rest spelled = (rest, [], cc (append-nil rest), spelled, refl)
 
 pub spelled-before : (rest : List ℕ) (n : ℕ) (behind : List ℕ) (given : List Argument) → IsNumberBefore rest n behind
     → AreSpelled (space ∷ behind) given → AreSpelled (space ∷ rest) (Number n ∷ given)
 spelled-before rest n behind given (digits, number, e) spelled =
-    (digits, space ∷ behind, ap (λ l. space ∷ l) e, number, spelled)
+    (digits, space ∷ behind, cc, number, spelled)
 
 -- the line of a command is UTF-8
 low-utf8 : (b : ℕ) (bs : List ℕ) → b < 128 → IsUtf8 bs → IsUtf8 (b ∷ bs)

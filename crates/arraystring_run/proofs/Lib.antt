@@ -5,9 +5,7 @@ mod ScriptLemmas
 mod SpaceLemmas
 mod PrintLemmas
 mod OneReadingLemmas
-mod LineLemmas
 mod AgreementLemmas
-mod FirstTightLemmas
 mod PlayLemmas
 mod BufferLemmas
 mod ServedLemmas

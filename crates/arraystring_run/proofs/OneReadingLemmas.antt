@@ -1,12 +1,11 @@
 -- A script has one reading, and one first bad line.
-use Rattle.std.proofs.Common.{◌≡◌, ℕ, suc, List, [], ◌∷◌, ◌++◌, length, map, drop, get_or, refl, sym, ap, subst, ◌∙◌, arith, true, ◌==◌}
+use Rattle.std.proofs.Common.{◌≡◌, ℕ, suc, List, [], ◌∷◌, ◌++◌, length, map, refl, sym, ap, subst, ◌∙◌, arith, true, ◌==◌}
 use Rattle.std.proofs.lemmas.List.{append-nil}
 use Rattle.std.proofs.lemmas.Bool.{and_parts, eqb-true}
-use Rattle.arraystring.specs.Text.{utf8}
 use Rattle.arraystring.proofs.TextLaws.{bytes_same}
 use Rattle.arraystring_run.specs.declared.commands.Command.{Command}
-use Rattle.arraystring_run.specs.Runs.{Edited, edit, Ran, after}
-use Rattle.arraystring_run.specs.Grammar.{Argument, Number, Character, Text, word, arguments, IsSpelled, AreSpelled, IsLineOf, IsOneWord, space}
+use Rattle.arraystring_run.specs.Runs.{edit, after}
+use Rattle.arraystring_run.specs.Grammar.{Argument, Number, Character, Text, word, arguments, IsSpelled, AreSpelled, IsLineOf, IsOneWord}
 use Rattle.arraystring_run.specs.Script.{AreLinesOf, IsBadAt}
 use Rattle.arraystring_run.proofs.CommandLemmas.{kind, numbers_first, kinds-numbers_first, namesakes}
 use Rattle.arraystring_run.proofs.GrammarLemmas.{first-space, no-space, one-word, number-one}
@@ -15,55 +14,46 @@ use Rattle.arraystring_run.proofs.GrammarLemmas.{first-space, no-space, one-word
 rest-same : (v w x y : List ℕ) (given also : List Argument) → IsOneWord v → IsOneWord w → v ++ x ≡ w ++ y
     → AreSpelled x given → AreSpelled y also → (v ≡ w) × (x ≡ y)
 rest-same v w x y [] [] one two e none also_none =
-    (sym (append-nil v) ∙ ap (λ l. v ++ l) (sym none) ∙ e ∙ ap (λ l. w ++ l) also_none ∙ append-nil w, none ∙ sym also_none)
+    (cc (append-nil v, append-nil w), cc)
 rest-same v w x y [] (b ∷ also) one two e none (first, others, whole, spelled, next) =
-    absurd (no-space v w (first ++ others) one (sym (append-nil v) ∙ ap (λ l. v ++ l) (sym none) ∙ e ∙ ap (λ l. w ++ l) whole))
+    absurd (no-space v w (first ++ others) one (cc (append-nil v)))
 rest-same v w x y (a ∷ given) [] one two e (first, others, whole, spelled, next) none =
-    absurd (no-space w v (first ++ others) two (sym (append-nil w) ∙ ap (λ l. w ++ l) (sym none) ∙ sym e ∙ ap (λ l. v ++ l) whole))
+    absurd (no-space w v (first ++ others) two (cc (append-nil w)))
 rest-same v w x y (a ∷ given) (b ∷ also) one two e (f, o, whole, spelled, next) (g, p, also_whole, also_spelled, also_next) =
-    let parts = first-space v w (f ++ o) (g ++ p) one two (ap (λ l. v ++ l) (sym whole) ∙ e ∙ ap (λ l. w ++ l) also_whole) in
-    (parts.0, whole ∙ ap (λ l. space ∷ l) parts.1 ∙ sym also_whole)
+    let parts = first-space v w (f ++ o) (g ++ p) one two (cc) in (parts.0, cc)
 
 -- bytes spell one argument of a kind
 argument-same : (a b : Argument) (bs : List ℕ) → kind a ≡ kind b → IsSpelled bs a → IsSpelled bs b → a ≡ b
 argument-same (Number m) (Number n) bs e is also = ap Number (is.value ∙ sym also.value)
 argument-same (Character c) (Character d) bs e is also =
-    let same = bytes_same {a = c ∷ []} {b = d ∷ []} (append-nil (utf8 c) ∙ sym is.1 ∙ also.1 ∙ sym (append-nil (utf8 d))) in
-    ap Character (ap (λ l. get_or l 0 0) same)
+    let same = bytes_same {a = c ∷ []} {b = d ∷ []} (cc (is.1, also.1)) in cc
 argument-same (Text s) (Text t) bs e is also = ap Text (sym is.1 ∙ also.1)
-argument-same (Number m) (Character d) bs e is also = absurd (omega arith)
-argument-same (Number m) (Text t) bs e is also = absurd (omega arith)
-argument-same (Character c) (Number n) bs e is also = absurd (omega arith)
-argument-same (Character c) (Text t) bs e is also = absurd (omega arith)
-argument-same (Text s) (Number n) bs e is also = absurd (omega arith)
-argument-same (Text s) (Character d) bs e is also = absurd (omega arith)
+argument-same a b bs e is also = absurd (omega arith)
 
 spelled-one_word : (a : Argument) (bs : List ℕ) → kind a ≡ 0 → IsSpelled bs a → IsOneWord bs
 spelled-one_word (Number n) bs e is = number-one bs n is
-spelled-one_word (Character c) bs e is = absurd (omega arith)
-spelled-one_word (Text t) bs e is = absurd (omega arith)
+spelled-one_word other bs e is = absurd (omega arith)
 
 arguments-same : (given also : List Argument) (bs : List ℕ) → map kind given ≡ map kind also → numbers_first (map kind given) ≡ true
     → AreSpelled bs given → AreSpelled bs also → given ≡ also
 arguments-same [] [] bs e first is too = refl
-arguments-same [] (b ∷ also) bs e first is too = absurd (omega (arith, ap length e))
-arguments-same (a ∷ given) [] bs e first is too = absurd (omega (arith, ap length e))
-arguments-same (a ∷ x ∷ given) (b ∷ []) bs e first is too = absurd (omega (arith, ap length e))
-arguments-same (a ∷ []) (b ∷ y ∷ also) bs e first is too = absurd (omega (arith, ap length e))
+arguments-same [] (b ∷ also) bs e first is too = absurd (cc)
+arguments-same (a ∷ given) [] bs e first is too = absurd (cc)
+arguments-same (a ∷ x ∷ given) (b ∷ []) bs e first is too = absurd (cc)
+arguments-same (a ∷ []) (b ∷ y ∷ also) bs e first is too = absurd (cc)
 arguments-same (a ∷ []) (b ∷ []) bs e first (f, o, whole, spelled, none) (g, p, also_whole, also_spelled, also_none) =
-    let same : f ≡ g =
-    sym (append-nil f) ∙ ap (λ l. f ++ l) (sym none) ∙ ap (drop 1) (sym whole ∙ also_whole) ∙ ap (λ l. g ++ l) also_none ∙ append-nil g in
-    ap (λ c. c ∷ []) (argument-same a b g (ap (λ l. get_or l 0 0) e) (subst (λ l. IsSpelled l a) same spelled) also_spelled)
+    let same : f ≡ g = cc (append-nil f, append-nil g) in
+    ap (λ c. c ∷ []) (argument-same a b g (cc) (subst (λ l. IsSpelled l a) same spelled) also_spelled)
 arguments-same (a ∷ x ∷ given) (b ∷ y ∷ also) bs e first (f, o, whole, spelled, more) (g, p, also_whole, also_spelled, also_more) =
     let parts = and_parts (kind a == 0) (numbers_first (map kind (x ∷ given))) first in
     let number : kind a ≡ 0 = eqb-true (kind a) 0 parts.0 in
-    let kinds : kind a ≡ kind b = ap (λ l. get_or l 0 0) e in
+    let kinds : kind a ≡ kind b = cc in
     let same = rest-same f g o p (x ∷ given) (y ∷ also) (spelled-one_word a f number spelled) (spelled-one_word b g (sym kinds ∙ number) also_spelled)
-    (ap (drop 1) (sym whole ∙ also_whole)) more also_more in
+    (cc) more also_more in
     let head : a ≡ b = argument-same a b g kinds (subst (λ l. IsSpelled l a) same.0 spelled) also_spelled in
     let tail : x ∷ given ≡ y ∷ also =
-    arguments-same (x ∷ given) (y ∷ also) p (ap (drop 1) e) parts.1 (subst (λ l. AreSpelled l (x ∷ given)) same.1 more) also_more in
-    ap (λ c. c ∷ x ∷ given) head ∙ ap (λ l. b ∷ l) tail
+    arguments-same (x ∷ given) (y ∷ also) p (cc) parts.1 (subst (λ l. AreSpelled l (x ∷ given)) same.1 more) also_more in
+    cc
 
 edit-same : (line : List ℕ) (c d : Command) (t : List ℕ) (n : ℕ) → IsLineOf line c → IsLineOf line d → edit c t n ≡ edit d t n
 edit-same line c d t n (x, line_is, spelled) (y, also, too) =
@@ -83,8 +73,7 @@ one-reading (line ∷ rest) (c ∷ cs) [] t n are also = absurd also
 one-reading (line ∷ rest) (c ∷ cs) (d ∷ ds) t n are also =
     let same : edit c t n ≡ edit d t n = edit-same line c d t n are.0 also.0 in
     let others = one-reading rest cs ds (edit d t n).text n are.1 also.1 in
-    ap (λ (e : Edited). record { replies = e.reply ∷ (after cs e.text n).replies; text = (after cs e.text n).text }) same
-    ∙ ap (λ (r : Ran). record { replies = (edit d t n).reply ∷ r.replies; text = r.text }) others
+    cc
 
 -- what is among the lines of commands is the line of one
 among : (front : List (List ℕ)) (line : List ℕ) (rest : List (List ℕ)) (cs : List Command) → AreLinesOf (front ++ line ∷ rest) cs
@@ -97,26 +86,20 @@ among (l ∷ front) line rest (c ∷ cs) are bad = among front line rest cs are.
 pub bad-refused : (all : List (List ℕ)) (cs : List Command) (k : ℕ) → IsBadAt all k → AreLinesOf all cs → ⊥
 bad-refused all cs k at are = among at.front at.line at.rest cs (subst (λ l. AreLinesOf l cs) at.whole are) at.bad
 
-head-same : (x y : List ℕ) (xs ys : List (List ℕ)) → x ∷ xs ≡ y ∷ ys → x ≡ y
-head-same x y xs ys e = ap (λ l. get_or l 0 []) e
-
-tail-same : (x y : List ℕ) (xs ys : List (List ℕ)) → x ∷ xs ≡ y ∷ ys → xs ≡ ys
-tail-same x y xs ys e = ap (drop 1) e
-
 same-position : (f g : List (List ℕ)) (l m : List ℕ) (r s : List (List ℕ)) (cs ds : List Command) → f ++ l ∷ r ≡ g ++ m ∷ s
     → AreLinesOf f cs → AreLinesOf g ds → ((c : Command) → IsLineOf l c → ⊥) → ((c : Command) → IsLineOf m c → ⊥)
     → length f ≡ length g
 same-position [] [] l m r s cs ds e are also bad worse = refl
 same-position [] (x ∷ g) l m r s cs [] e are also bad worse = absurd also
 same-position [] (x ∷ g) l m r s cs (d ∷ ds) e are also bad worse =
-    absurd (bad d (subst (λ k. IsLineOf k d) (sym (head-same l x r (g ++ m ∷ s) e)) also.0))
+    let same : x ≡ l = cc in absurd (bad d (subst (λ k. IsLineOf k d) same also.0))
 same-position (x ∷ f) [] l m r s [] ds e are also bad worse = absurd are
 same-position (x ∷ f) [] l m r s (c ∷ cs) ds e are also bad worse =
-    absurd (worse c (subst (λ k. IsLineOf k c) (head-same x m (f ++ l ∷ r) s e) are.0))
+    let same : x ≡ m = cc in absurd (worse c (subst (λ k. IsLineOf k c) same are.0))
 same-position (x ∷ f) (y ∷ g) l m r s [] ds e are also bad worse = absurd are
 same-position (x ∷ f) (y ∷ g) l m r s (c ∷ cs) [] e are also bad worse = absurd also
 same-position (x ∷ f) (y ∷ g) l m r s (c ∷ cs) (d ∷ ds) e are also bad worse =
-    ap suc (same-position f g l m r s cs ds (tail-same x y (f ++ l ∷ r) (g ++ m ∷ s) e) are.1 also.1 bad worse)
+    ap suc (same-position f g l m r s cs ds (cc) are.1 also.1 bad worse)
 
 pub one-bad : (all : List (List ℕ)) (j k : ℕ) → IsBadAt all j → IsBadAt all k → j ≡ k
 one-bad all j k at also =

@@ -1,5 +1,5 @@
 -- What a program did, by what came of its script.
-use Rattle.std.proofs.Common.{◌≡◌, ◌≢◌, ℕ, ◌≤◌, ◌⊎◌, List, ◌++◌, refl, sym, ◌∙◌, arith, true, false, if◌then◌else◌, is_ok, is_err, Option, Some, None, IfSome, Result, Ok, Err, IfErr, OnOk, inl, inr}
+use Rattle.std.proofs.Common.{◌≡◌, ◌≢◌, ℕ, ◌≤◌, ◌⊎◌, List, ◌++◌, refl, sym, ◌∙◌, arith, false, if◌then◌else◌, is_ok, is_err, Option, Some, None, IfSome, Result, Ok, Err, IfErr, OnOk, inl, inr}
 use Rattle.std.specs.Borrow.{Bor}
 use Rattle.arraystring_run.specs.Script.{lines, IsBadAt, IfBadLine, IsPlayed, IsPartPlayed, IsServed, AppendsPrefix, capacity_named, status_of, report_of, fault_line, usage_line}
 use Rattle.arraystring_run.specs.declared.player.PlayFault.{PlayFault}
@@ -8,10 +8,7 @@ use Rattle.arraystring_run.specs.declared.player.PlayFault.TheVariants.{BadLine,
 -- a list that was extended, and not refused
 pub extended : {A E : Type 0} (r : Result A E) (new old more : List ℕ) → new ≡ (if is_ok r then old ++ more else old) → false ≡ is_err r → new ≡ old ++ more
 extended (Ok x) new old more is taken = is
-extended (Err e) new old more is taken = absurd (false-true taken)
-  where
-    false-true : false ≡ true → ⊥
-    false-true e = cc
+extended (Err e) new old more is taken = absurd (cc)
 
 known : (played : Result (Unit {0}) PlayFault) → (status_of played ≤ 4) × (status_of played ≢ 1)
 known (Err Write) = omega arith

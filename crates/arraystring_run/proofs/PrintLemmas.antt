@@ -13,18 +13,17 @@ use Rattle.arraystring_run.specs.Script.{line_feed, ended, printed, replies_prin
 pub printed-more : (rs : List Said) (r : Said) → replies_printed (rs ++ r ∷ []) ≡ replies_printed rs ++ ended (printed r)
 printed-more [] r = append-nil (ended (printed r))
 printed-more (q ∷ rs) r =
-    ap (λ l. ended (printed q) ++ l) (printed-more rs r) ∙ sym (append_assoc (ended (printed q)) (replies_printed rs) (ended (printed r)))
+    cc (printed-more rs r, append_assoc (ended (printed q)) (replies_printed rs) (ended (printed r)))
 
 printed-both : (rs qs : List Said) → replies_printed (rs ++ qs) ≡ replies_printed rs ++ replies_printed qs
 printed-both [] qs = refl
 printed-both (r ∷ rs) qs =
-    ap (λ l. ended (printed r) ++ l) (printed-both rs qs) ∙ sym (append_assoc (ended (printed r)) (replies_printed rs) (replies_printed qs))
+    cc (printed-both rs qs, append_assoc (ended (printed r)) (replies_printed rs) (replies_printed qs))
 
 pub printed-parts : {N : ℕ} (rs : List (Reply N)) (i : ℕ)
     → replies_printed (map said rs) ≡ replies_printed (map said (take i rs)) ++ replies_printed (map said (drop i rs))
 printed-parts rs i =
-    ap (λ l. replies_printed (map said l)) (sym (take-append-drop i rs)) ∙ ap replies_printed (map-append said (take i rs) (drop i rs))
-    ∙ printed-both (map said (take i rs)) (map said (drop i rs))
+    cc (take-append-drop i rs, map-append said (take i rs) (drop i rs), printed-both (map said (take i rs)) (map said (drop i rs)))
 
 -- ---- a prefix of what was to be appended
 
@@ -35,7 +34,7 @@ pub front-more : (a b : Option (List ℕ)) (bs cs : List ℕ) → AppendsPrefix 
 front-more a b bs cs p = record {
   done = p.done;
   later = p.later ++ cs;
-  whole = ap (λ l. l ++ cs) p.whole ∙ append_assoc p.done p.later cs;
+  whole = cc (p.whole, append_assoc p.done p.later cs);
   appended = p.appended;
 }
 
@@ -43,22 +42,21 @@ pub front-then : (a b c : Option (List ℕ)) (bs cs : List ℕ) → Appends a b 
 front-then a b c bs cs p q = record {
   done = bs ++ q.done;
   later = q.later;
-  whole = ap (λ l. bs ++ l) q.whole ∙ sym (append_assoc bs q.done q.later);
+  whole = cc (q.whole, append_assoc bs q.done q.later);
   appended = Appends-trans a b c bs q.done p q.appended;
 }
 
 -- a first write, and what comes of the rest
 pub front-rest : (a b c : Option (List ℕ)) (all done rest : List ℕ) → all ≡ done ++ rest → Appends a b done → AppendsPrefix b c rest → AppendsPrefix a c all
-front-rest a b c all done rest parts p q = subst (AppendsPrefix a c) (sym parts) (front-then a b c done rest p q)
+front-rest a b c all done rest parts p q = rw parts (front-then a b c done rest p q)
 
 -- a first write, and all that is left of it
 pub appended-rest : (a b c : Option (List ℕ)) (all done rest : List ℕ) → all ≡ done ++ rest → Appends a b done → Appends b c rest → Appends a c all
-appended-rest a b c all done rest parts p q = subst (Appends a c) (sym parts) (Appends-trans a b c done rest p q)
+appended-rest a b c all done rest parts p q = rw parts (Appends-trans a b c done rest p q)
 
 -- a first write that left nothing
 pub appended-all : (a b : Option (List ℕ)) (all done rest : List ℕ) → all ≡ done ++ rest → true ≡ (length rest == 0) → Appends a b done → Appends a b all
-appended-all a b all done rest parts none p =
-    subst (Appends a b) (sym (parts ∙ ap (λ l. done ++ l) (is_empty-none rest none) ∙ append-nil done)) p
+appended-all a b all done rest parts none p = rw (parts, is_empty-none rest none, append-nil) p
 
 -- a first write, and nothing of the rest
 pub front-kept : (a b c : Option (List ℕ)) (all done rest : List ℕ) → all ≡ done ++ rest → Appends a b done → Keeps b c → AppendsPrefix a c all

@@ -1,12 +1,10 @@
 -- Runs of commands, part way.
-use Rattle.std.proofs.Common.{◌≡◌, ℕ, suc, ◌+◌, ◌<◌, ◌≤◌, ◌==◌, List, [], ◌∷◌, ◌++◌, length, drop, get_or, refl, sym, ap, ◌∙◌, arith, Option, Some, None, Bool, true, false, nat_lt, if◌then◌else◌, append_assoc, inl, inr, reverse}
-use Rattle.std.proofs.lemmas.List.{append-nil, drop_all, nil_from_length, reverse-append}
+use Rattle.std.proofs.Common.{◌≡◌, ℕ, suc, ◌+◌, ◌<◌, ◌≤◌, ◌==◌, List, [], ◌∷◌, ◌++◌, length, drop, get_or, refl, sym, ap, ◌∙◌, arith, Option, Some, None, Bool, true, false, nat_lt, if◌then◌else◌, append_assoc, inl, inr}
+use Rattle.std.proofs.lemmas.List.{append-nil, drop_all, nil_from_length}
 use Rattle.std.proofs.lemmas.Bool.{cases_lt, eqb-true, lt-ltb, le-ltb}
 use Rattle.std.proofs.Math.Seq.{drop-cons}
 use Rattle.arraystring.specs.Text.{size, cut}
 use Rattle.arraystring.proofs.CutLaws.{cut-fits, cut-all}
-use Rattle.arraystring.proofs.BoundaryLaws.{part-fits, part_in-found}
-use Rattle.arraystring.specs.Edits.{part_in}
 use Rattle.arraystring_run.specs.Runs.{Said, edit, tight, after, first_tight_from, earlier_of}
 use Rattle.arraystring_run.specs.declared.commands.Command.{Command}
 
@@ -19,17 +17,6 @@ is_cut-larger t n =
       | inr fits ↦ let same : size (cut t n) ≡ size t = ap size (cut-all fits) in
           le-ltb n (size t) fits ∙ sym (le-ltb (size (cut t n)) (size t) (omega arith))
     ]
-
--- a part that is found in a range is no larger than the text
-pub part_in-fits : (t : List ℕ) (start end : ℕ) (p : List ℕ) → part_in t start end ≡ Some p → size p ≤ size t
-part_in-fits t start end p e = omega (arith, ap size (part_in-found t start end e).3, part-fits t start end)
-
--- the last character is given, and the others are left
-pub one-back : (text left rest whole : List ℕ) (c : ℕ) → left ≡ rest ++ c ∷ [] → text ++ reverse left ≡ whole
-    → (text ++ c ∷ []) ++ reverse rest ≡ whole
-one-back text left rest whole c e walked =
-    append_assoc text (c ∷ []) (reverse rest) ∙ ap (λ l. text ++ l) (sym (reverse-append rest (c ∷ [])))
-    ∙ ap (λ l. text ++ reverse l) (sym e) ∙ walked
 
 earlier_of-none : (first : Option ℕ) → earlier_of first None ≡ first
 earlier_of-none None = refl
@@ -48,8 +35,7 @@ is_empty-none xs shown = nil_from_length xs (eqb-true (length xs) 0 (sym shown))
 pub of-none : (cs : List Command) (t : List ℕ) (n : ℕ) → true ≡ (length cs == 0)
     → ((after cs t n).replies ≡ []) × ((after cs t n).text ≡ t) × (first_tight_from 0 cs t n ≡ None)
 of-none cs t n shown =
-    let none = is_empty-none cs shown in
-    (ap (λ d. (after d t n).replies) none, ap (λ d. (after d t n).text) none, ap (λ d. first_tight_from 0 d t n) none)
+    let none : cs ≡ [] = is_empty-none cs shown in rw none (refl, refl, refl)
 
 -- the first i commands are done: `done` is what they replied, t what they left, and first their first tight one
 pub record IsPartWay (cs : List Command) (t₀ : List ℕ) (n i : ℕ) (done : List Said) (t : List ℕ) (first : Option ℕ) : Type 0 where
@@ -65,9 +51,9 @@ module _ (cs : List Command) (t₀ : List ℕ) (n : ℕ) where
       → ((after cs t₀ n).replies ≡ done) × ((after cs t₀ n).text ≡ t) × (first_tight_from 0 cs t₀ n ≡ first)
   at-end i done t first le way =
       let none = drop_all i cs le in (
-        way.replies ∙ ap (λ d. done ++ (after d t n).replies) none ∙ append-nil done,
-        way.text ∙ ap (λ d. (after d t n).text) none,
-        way.tight ∙ ap (λ d. earlier_of first (first_tight_from i d t n)) none ∙ earlier_of-none first,
+        way.replies ∙ rw none (append-nil done),
+        way.text ∙ rw none refl,
+        way.tight ∙ rw none (earlier_of-none first),
       )
 
   -- the next command is done
@@ -79,9 +65,8 @@ module _ (cs : List Command) (t₀ : List ℕ) (n : ℕ) where
       let up : suc i ≡ i + 1 = omega arith in
       let next : drop i cs ≡ command ∷ drop (i + 1) cs = drop-cons cs i d lt ∙ ap (λ k. command ∷ drop k cs) up in
       let rest = after (drop (i + 1) cs) (edit command t n).text n in record {
-        replies = way.replies ∙ ap (λ d. done ++ (after d t n).replies) next
-            ∙ sym (append_assoc done ((edit command t n).reply ∷ []) rest.replies);
-        text = way.text ∙ ap (λ d. (after d t n).text) next;
-        tight = way.tight ∙ ap (λ d. earlier_of first (first_tight_from i d t n)) next
-            ∙ earlier_of-step first (tight command t n) i (first_tight_from (i + 1) (drop (i + 1) cs) (edit command t n).text n);
+        replies = way.replies ∙ rw next (sym (append_assoc done ((edit command t n).reply ∷ []) rest.replies));
+        text = way.text ∙ rw next refl;
+        tight = way.tight
+            ∙ rw next (earlier_of-step first (tight command t n) i (first_tight_from (i + 1) (drop (i + 1) cs) (edit command t n).text n));
       }

@@ -1,8 +1,8 @@
 -- A script, part read.
-use Rattle.std.proofs.Common.{◌≡◌, ◌≢◌, ℕ, suc, zero, ◌+◌, ◌-◌, ◌<◌, ◌≤◌, List, [], ◌∷◌, ◌++◌, length, take, drop, slice_index, slice_range, length-drop, take_all, refl, sym, ap, subst, ◌∙◌, arith, append_assoc, length-append, IsUtf8, chars, Bool, true, false, eqb}
+use Rattle.std.proofs.Common.{◌≡◌, ◌≢◌, ℕ, suc, zero, ◌+◌, ◌-◌, ◌<◌, ◌≤◌, List, [], ◌∷◌, ◌++◌, length, take, drop, slice_index, slice_range, length-drop, take_all, refl, sym, ap, subst, ◌∙◌, arith, append_assoc, length-append, IsUtf8, chars, false, eqb}
 use Rattle.std.proofs.lemmas.List.{append-nil, nil_from_length, drop-drop, get_or-drop}
 use Rattle.std.proofs.lemmas.Str.{cons_from_encodes, encodes-chars, encode_same, lead_after_ascii}
-use Rattle.std.proofs.lemmas.Bool.{eqb-true}
+use Rattle.std.proofs.lemmas.Bool.{eqb-true, false_from_ne_true}
 use Rattle.std.specs.Char.{encode_utf8}
 use Rattle.arraystring.specs.Text.{utf8, IsScalarValue, IsText}
 use Rattle.arraystring.proofs.TextLaws.{utf8-is, text-chars, length-utf8, width-bounds}
@@ -17,23 +17,19 @@ module _ (bs rest : List ℕ) (c : ℕ) (is : bs ≡ encode_utf8 c ++ rest) wher
       let found = cons_from_encodes (chars bs) rest c (encodes-chars bs u ∙ is) in
       let all : IsText (c ∷ found.0) = subst IsText found.1 (text-chars u) in (
         all.0,
-        is ∙ ap (λ l. encode_utf8 c ++ l) (nil_from_length rest none) ∙ append-nil (encode_utf8 c) ∙ sym (utf8-is c),
+        cc (is, nil_from_length rest none, append-nil (encode_utf8 c), utf8-is c),
       )
 
   pub more-chars : 0 < length rest → (d : ℕ) → bs ≡ utf8 d → ⊥
   more-chars some d other =
-      let same = encode_same c d rest [] (sym is ∙ other ∙ utf8-is d ∙ sym (append-nil (encode_utf8 d))) in
+      let same = encode_same c d rest [] (cc (is, utf8-is d, append-nil (encode_utf8 d))) in
       omega (arith, ap length same.1)
 
 pub no-char : (bs : List ℕ) → length bs ≡ 0 → (d : ℕ) → bs ≡ utf8 d → ⊥
 no-char bs none d is = omega (arith, ap length is, length-utf8 d, width-bounds d)
 
-other-byte : (b : Bool) → (b ≡ true → ⊥) → b ≡ false
-other-byte true not = absurd (not refl)
-other-byte false not = refl
-
 pub not_line_feed : (b : ℕ) → b ≢ line_feed → eqb b line_feed ≡ false
-not_line_feed b other = other-byte (eqb b line_feed) (λ e. other (eqb-true b line_feed e))
+not_line_feed b other = false_from_ne_true (eqb b line_feed) (λ e. other (eqb-true b line_feed e))
 
 -- the first line ends at its line feed, and the others follow it
 pub first-line : (bs : List ℕ) (end : ℕ) → 0 < length bs → end ≤ length bs
@@ -66,8 +62,7 @@ module _ (bs : List ℕ) (start len : ℕ) where
       let size : start + len - start ≡ len = omega arith in
       let up : start + (len + 1) ≡ start + len + 1 = omega arith in
       let next : drop (len + 1) (drop start bs) ≡ drop (start + len + 1) bs = drop-drop (len + 1) start bs ∙ ap (λ k. drop k bs) up in
-      subst (λ l. lines l ≡ take len l ∷ lines (drop (len + 1) l)) rest-is (first-line rest len some le ended one)
-      ∙ ap (λ l. take len (drop start bs) ∷ lines l) next ∙ ap (λ k. take k (drop start bs) ∷ lines (drop (start + len + 1) bs)) (sym size)
+      cc (rest-is, first-line rest len some le ended one)
 
   -- a character begins after its end
   pub after-line_feed : (len < length rest → slice_index rest len ≡ line_feed)

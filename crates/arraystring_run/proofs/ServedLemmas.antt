@@ -1,14 +1,18 @@
 -- What was served through a buffer.
 use Rattle.std.proofs.Common.{◌≡◌, ℕ, List, [], refl, sym, subst, arith, inl, inr}
 use Rattle.std.proofs.KnownBytes.{Appends-nil}
+use Rattle.std.proofs.lemmas.List.{append-nil}
 use Rattle.std.specs.Prelude.{Option, None, Some, IfSome}
 use Rattle.std.specs.Borrow.{Bor}
 use Rattle.std.specs.Io.KnownBytes.{Appends, append_known}
 use Rattle.arraystring_run.specs.Script.{IsServed, AppendsPrefix, capacity_named, fault_line}
 use Rattle.arraystring_run.specs.declared.player.PlayFault.TheVariants.{Write}
-use Rattle.arraystring_run.proofs.BufferLemmas.{append-nothing}
 use Rattle.arraystring_run.proofs.GrammarLemmas.{if_some-map}
 use Rattle.arraystring_run.proofs.PrintLemmas.{front-all}
+
+append-nothing : (known : Option (List ℕ)) → append_known known [] ≡ known
+append-nothing None = refl
+append-nothing (Some xs) = rw append-nil refl
 
 if_some-all : {A : Type 0} {Q : A → Type 0} (o : Option A) → ((a : A) → Q a) → IfSome o Q
 if_some-all None f = tt

@@ -1,5 +1,5 @@
 -- The first space of a line, as a search finds it.
-use Rattle.std.proofs.Common.{◌≡◌, ◌≢◌, ℕ, suc, zero, ◌+◌, ◌<◌, ◌≤◌, List, [], ◌∷◌, ◌++◌, length, take, drop, slice_index, ap, arith}
+use Rattle.std.proofs.Common.{◌≡◌, ◌≢◌, ℕ, suc, zero, ◌+◌, ◌<◌, ◌≤◌, List, [], ◌∷◌, ◌++◌, length, take, drop, slice_index, arith}
 use Rattle.arraystring_run.specs.Grammar.{IsOneWord, space}
 
 -- the bytes before the first space are one word
@@ -11,7 +11,6 @@ word-before (b ∷ bs) (suc n) le other = (other 0 (omega arith), word-before bs
 
 pub around-space : (bs : List ℕ) (n : ℕ) → n < length bs → slice_index bs n ≡ space → bs ≡ take n bs ++ space ∷ drop (n + 1) bs
 around-space [] n lt is = absurd (omega arith)
-around-space (b ∷ bs) zero lt is = ap (λ c. c ∷ bs) is
+around-space (b ∷ bs) zero lt is = cc
 around-space (b ∷ bs) (suc n) lt is =
-    let up : suc n + 1 ≡ suc (n + 1) = omega arith in
-    rw up (ap (λ l. b ∷ l) (around-space bs n (omega arith) is))
+    let up : suc n + 1 ≡ suc (n + 1) = omega arith in rw up (cc (around-space bs n (omega arith) is))

@@ -49,19 +49,13 @@ module _ (bs username role : List ℕ) (is : IsRecord bs username role) where
 -- one test is the first that fails
 one_fault : (bs : List ℕ) (e f : RecordFault) → IsFirstFault bs e → IsFirstFault bs f → e ≡ f
 one_fault bs Length Length a b = refl
-one_fault bs Length Count a b = absurd (a b.0)
-one_fault bs Length Utf8 a b = absurd (a b.0)
-one_fault bs Length Padding a b = absurd (a b.0)
-one_fault bs Count Length a b = absurd (b a.0)
+one_fault bs Length other a b = absurd (a b.0)
+one_fault bs other Length a b = absurd (b a.0)
 one_fault bs Count Count a b = refl
-one_fault bs Count Utf8 a b = absurd (a.1 b.1)
-one_fault bs Count Padding a b = absurd (a.1 b.1)
-one_fault bs Utf8 Length a b = absurd (b a.0)
-one_fault bs Utf8 Count a b = absurd (b.1 a.1)
+one_fault bs Count other a b = absurd (a.1 b.1)
+one_fault bs other Count a b = absurd (b.1 a.1)
 one_fault bs Utf8 Utf8 a b = refl
 one_fault bs Utf8 Padding a b = absurd (a.2 b.2)
-one_fault bs Padding Length a b = absurd (b a.0)
-one_fault bs Padding Count a b = absurd (b.1 a.1)
 one_fault bs Padding Utf8 a b = absurd (b.2 a.2)
 one_fault bs Padding Padding a b = refl
 

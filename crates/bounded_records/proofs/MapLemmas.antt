@@ -1,5 +1,5 @@
 -- A map from strings to users, read by the texts of both.
-use Rattle.std.proofs.Common.{◌≡◌, ◌≢◌, ℕ, List, [], ◌∷◌, map, Bool, true, false, cond, Option, Some, None, length, zero, suc, ◌+◌, ◌-◌, ◌<◌, is_some, if◌then◌else◌, arith, true≢false, refl, sym, ap, ◌∙◌}
+use Rattle.std.proofs.Common.{◌≡◌, ◌≢◌, ℕ, List, [], ◌∷◌, map, Bool, true, false, cond, Option, Some, None, length, zero, suc, ◌+◌, ◌<◌, is_some, if◌then◌else◌, arith, true≢false, refl, sym, ap, ◌∙◌}
 use Rattle.std.specs.List.Sorted.{IsStrictlySortedBy}
 use Rattle.std.specs.Option.{option_map}
 use Rattle.std.specs.Ordering.{nat_cmp, eq_by_cmp}
@@ -28,8 +28,7 @@ texts-cond false x y = refl
 find-by_text : (es : List (Stored × User)) (q : List ℕ) → find (slice_cmp nat_cmp) q (by_text es) ≡ option_map texts (lookup (has_text q) es)
 find-by_text [] q = refl
 find-by_text (e ∷ es) q =
-    ap (cond (eq_by_cmp (slice_cmp nat_cmp) q e.0.text) (Some (texts e.1))) (find-by_text es q)
-    ∙ sym (texts-cond (has_text q e.0) (Some e.1) (lookup (has_text q) es))
+    cc (find-by_text es q, texts-cond (has_text q e.0) (Some e.1) (lookup (has_text q) es))
 
 pub get_users : (es : List (Stored × User)) (q : List ℕ) → finite.get (users_of es) q ≡ option_map texts (lookup (has_text q) es)
 get_users es q = finite.get-from_entries nat_list_cmp_total (by_text es) q ∙ find-by_text es q
@@ -40,17 +39,19 @@ pub insert_users : (old new : List (Stored × User)) (k : Stored) (u : User)
     → users_of new ≡ finite.insert (users_of old) k.text (texts u)
 insert_users old new k u is =
     finite.same_map nat_list_cmp_total exact_bytes (users_of new) (finite.insert (users_of old) k.text (texts u))
-    (λ q. get_users new q ∙ ap (option_map texts) (updated-text old new k.text (Some u) is q)
-    ∙ texts-cond (eq_by_cmp (slice_cmp nat_cmp) k.text q) (Some u) (lookup (has_text q) old)
-    ∙ ap (λ b. cond b (Some (texts u)) (option_map texts (lookup (has_text q) old))) ((eq_by_cmp_equiv nat_list_cmp_total).symm k.text q)
-    ∙ ap (cond (eq_by_cmp (slice_cmp nat_cmp) q k.text) (Some (texts u))) (sym (get_users old q))
-    ∙ sym (finite.get-insert nat_list_cmp_total (users_of old) k.text (texts u) q))
+    (λ q. cc (
+      get_users new q,
+      updated-text old new k.text (Some u) is q,
+      texts-cond (eq_by_cmp (slice_cmp nat_cmp) k.text q) (Some u) (lookup (has_text q) old),
+      (eq_by_cmp_equiv nat_list_cmp_total).symm k.text q,
+      get_users old q,
+      finite.get-insert nat_list_cmp_total (users_of old) k.text (texts u) q,
+    ))
 
 inserted : (m : finite.FinMap (slice_cmp nat_cmp) (List ℕ × List ℕ)) (t : List ℕ) (u : List ℕ × List ℕ)
     → finite.get (finite.insert m t u) t ≡ Some u
 inserted m t u =
-    finite.get-insert nat_list_cmp_total m t u t
-    ∙ ap (λ b. cond b (Some u) (finite.get m t)) ((eq_by_cmp_equiv nat_list_cmp_total).refl t)
+    rw (finite.get-insert nat_list_cmp_total m t u t, (eq_by_cmp_equiv nat_list_cmp_total).refl t) refl
 
 -- one user less
 pub remove_users : (old new : List (Stored × User)) (t : List ℕ)
@@ -58,11 +59,14 @@ pub remove_users : (old new : List (Stored × User)) (t : List ℕ)
     → users_of new ≡ finite.remove (users_of old) t
 remove_users old new t is =
     finite.same_map nat_list_cmp_total exact_bytes (users_of new) (finite.remove (users_of old) t)
-    (λ q. get_users new q ∙ ap (option_map texts) (updated-text old new t None is q)
-    ∙ texts-cond (eq_by_cmp (slice_cmp nat_cmp) t q) None (lookup (has_text q) old)
-    ∙ ap (λ b. cond b None (option_map texts (lookup (has_text q) old))) ((eq_by_cmp_equiv nat_list_cmp_total).symm t q)
-    ∙ ap (cond (eq_by_cmp (slice_cmp nat_cmp) q t) None) (sym (get_users old q))
-    ∙ sym (finite.get-remove nat_list_cmp_total (users_of old) t q))
+    (λ q. cc (
+      get_users new q,
+      updated-text old new t None is q,
+      texts-cond (eq_by_cmp (slice_cmp nat_cmp) t q) None (lookup (has_text q) old),
+      (eq_by_cmp_equiv nat_list_cmp_total).symm t q,
+      get_users old q,
+      finite.get-remove nat_list_cmp_total (users_of old) t q,
+    ))
 
 -- only the empty map has no user
 pub no_users : (es : List (Stored × User)) → users_of es ≡ finite.empty → es ≡ []
@@ -95,7 +99,7 @@ module _ (m : finite.FinMap (slice_cmp nat_cmp) (List ℕ × List ℕ)) (t : Lis
 module _ (m : finite.FinMap (slice_cmp nat_cmp) (List ℕ × List ℕ)) (t : List ℕ) where
   pub get_removed : finite.get (finite.remove m t) t ≡ None
   get_removed =
-      finite.get-remove nat_list_cmp_total m t t ∙ ap (λ b. cond b None (finite.get m t)) ((eq_by_cmp_equiv nat_list_cmp_total).refl t)
+      rw (finite.get-remove nat_list_cmp_total m t t, (eq_by_cmp_equiv nat_list_cmp_total).refl t) refl
 
   pub get_kept : (q : List ℕ) → q ≢ t → finite.get (finite.remove m t) q ≡ finite.get m q
   get_kept q ne =
@@ -107,15 +111,15 @@ module _ (m : finite.FinMap (slice_cmp nat_cmp) (List ℕ × List ℕ)) (t : Lis
       absurd (true≢false (sym is ∙ ap (λ d. is_some (finite.get d t)) (finite.empty_of_len m none) ∙ ap is_some (finite.get-empty _ t)))
   has_one (suc n) some is = omega arith
 
-  one_less : (b : Bool) → finite.contains_key m t ≡ b → finite.len (finite.remove m t) ≡ cond b (finite.len m - 1) (finite.len m)
-      → finite.len (finite.remove m t) + (if b then 1 else 0) ≡ finite.len m
-  one_less true is left = omega (arith, has_one (finite.len m) refl is)
-  one_less false is left = omega arith
+  one_less : (b : Bool) → finite.contains_key m t ≡ b → finite.len (finite.remove m t) + (if b then 1 else 0) ≡ finite.len m
+  one_less true is =
+      let left = rw is at (finite.len-remove nat_list_cmp_total m t) in omega (arith, has_one (finite.len m) refl is)
+  one_less false is = let left = rw is at (finite.len-remove nat_list_cmp_total m t) in omega arith
 
   -- a removal takes one if there is one
   pub len_removed : (o : Option User) → option_map texts o ≡ finite.get m t → finite.len (finite.remove m t) + (if is_some o then 1 else 0) ≡ finite.len m
-  len_removed None is = one_less false (ap is_some (sym is)) (finite.len-remove nat_list_cmp_total m t ∙ ap (λ b. cond b (finite.len m - 1) (finite.len m)) (ap is_some (sym is)))
-  len_removed (Some u) is = one_less true (ap is_some (sym is)) (finite.len-remove nat_list_cmp_total m t ∙ ap (λ b. cond b (finite.len m - 1) (finite.len m)) (ap is_some (sym is)))
+  len_removed None is = one_less false (ap is_some (sym is))
+  len_removed (Some u) is = one_less true (ap is_some (sym is))
 
 -- the texts of keys
 abbrev pub key_texts : List Stored → List (List ℕ)
@@ -137,7 +141,7 @@ entries-users (e ∷ f ∷ es) is =
 
 first-texts : (es : List (Stored × User)) → keys_of (by_text es) ≡ key_texts (keys_of es)
 first-texts [] = refl
-first-texts (e ∷ es) = ap (λ l. e.0.text ∷ l) (first-texts es)
+first-texts (e ∷ es) = cc (first-texts es)
 
 pub keys_users : (es : List (Stored × User)) → IsStrictlySortedBy (λ a b. slice_cmp nat_cmp a.text b.text) (keys_of es)
     → finite.keys (users_of es) ≡ key_texts (keys_of es)
@@ -154,7 +158,7 @@ len_keys m = length-map (finite.entries m) (λ e. e.0) ∙ sym (finite.len-entri
 -- the users, in the order of their keys
 second-texts : (es : List (Stored × User)) → map (λ e. e.1) (by_text es) ≡ map texts (values_of es)
 second-texts [] = refl
-second-texts (e ∷ es) = ap (λ l. texts e.1 ∷ l) (second-texts es)
+second-texts (e ∷ es) = cc (second-texts es)
 
 pub values_users : (es : List (Stored × User)) → IsStrictlySortedBy (λ a b. slice_cmp nat_cmp a.text b.text) (keys_of es)
     → finite.values (users_of es) ≡ map texts (values_of es)

@@ -23,11 +23,8 @@ module _ (m n : finite.FinMap (slice_cmp nat_cmp) (List ℕ × List ℕ)) where
   own-map is own q = rw is (own q)
 
 -- in a new map
-own-none : (o : Option (List ℕ × List ℕ)) (q : List ℕ) → o ≡ None → IfSome o (λ u. u.0 ≡ q)
-own-none o q is = rw is tt
-
 pub own-new : (es : List (Stored × User)) → es ≡ [] → AreUnderTheirNames (users_of es)
-own-new es is q = own-none (finite.get (users_of es) q) q (ap (λ l. finite.get (users_of l) q) is ∙ finite.get-empty _ q)
+own-new es is q = rw (is, finite.get-empty) tt
 
 -- after an insertion and a removal
 own-cond : (t r q : List ℕ) (old : Option (List ℕ × List ℕ)) (b : Bool) → (b ≡ true → q ≡ t) → IfSome old (λ u. u.0 ≡ q)

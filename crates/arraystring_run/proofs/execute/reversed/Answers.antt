@@ -1,7 +1,7 @@
-use Rattle.std.proofs.Common.{◌≡◌, ◌++◌, ◌∷◌, [], ◌∙◌, ap, arith, rules, reverse}
+use Rattle.std.proofs.Common.{◌≡◌, ◌++◌, ◌∷◌, [], ap, append_assoc, arith, rules, reverse}
+use Rattle.std.proofs.lemmas.List.{reverse-append}
 use Rattle.arraystring.specs.Text.{size}
 use Rattle.arraystring.proofs.TextLaws.{size-append}
-use Rattle.arraystring_run.proofs.RunLemmas.{one-back}
 use Rattle.arraystring_run.proofs.execute.reversed.Goals as goal
 
 pub push_unchecked-requires : goal.push_unchecked-requires
@@ -17,7 +17,11 @@ loop-ch-preserved g c =
     let left : c.loop-ch.removed.left ≡ rest ++ c.in-Some.ch ∷ [] = c.in-Some.ensures.steps in
     let pushed = c.push_unchecked.ensures in
     record {
-      reversed = ap (λ l. l ++ reverse rest) pushed
-          ∙ one-back text c.loop-ch.removed.left rest (reverse c.args.removed.left) c.in-Some.ch left c.loop-ch.invariant.reversed;
+      reversed = cc (
+        pushed,
+        append_assoc text (c.in-Some.ch ∷ []) (reverse rest),
+        reverse-append rest (c.in-Some.ch ∷ []),
+        c.loop-ch.invariant.reversed,
+      );
       fits = omega (arith, ap size left, size-append rest (c.in-Some.ch ∷ []), ap size pushed, size-append text (c.in-Some.ch ∷ []));
     }

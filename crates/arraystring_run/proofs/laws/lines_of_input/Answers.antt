@@ -1,5 +1,80 @@
-use Rattle.arraystring_run.proofs.LineLemmas.{lines-ended, lines-open, lines-one_line, lines-joined}
+use Rattle.std.proofs.Common.{◌≡◌, ◌≢◌, ◌<◌, ℕ, List, [], ◌∷◌, ◌++◌, ◌⊎◌, length, refl, sym, ap, ◌∙◌, arith, append_assoc, Bool, true, false, ◌==◌, inl, inr}
+use Rattle.std.proofs.lemmas.Bool.{eqb-true}
+use Rattle.arraystring_run.specs.Script.{lines, line_feed, first_byte, ended, all_ended, IsOneLine, AreOneLine}
+use Rattle.arraystring_run.proofs.ScriptLemmas.{not_line_feed}
 use Rattle.arraystring_run.proofs.laws.lines_of_input.Goals as goal
+
+line-before : (line rest : List ℕ) → IsOneLine line → lines (line ++ line_feed ∷ rest) ≡ line ∷ lines rest
+line-before [] rest one = refl
+line-before (b ∷ line) rest one = rw (not_line_feed b one.0) (ap (first_byte b) (line-before line rest one.1))
+
+line-alone : (b : ℕ) (line : List ℕ) → IsOneLine (b ∷ line) → lines (b ∷ line) ≡ (b ∷ line) ∷ []
+line-alone b [] one = rw (not_line_feed b one.0) refl
+line-alone b (d ∷ line) one = rw (not_line_feed b one.0) (ap (first_byte b) (line-alone d line one.1))
+
+line-ended : (line rest : List ℕ) → IsOneLine line → lines (ended line ++ rest) ≡ line ∷ lines rest
+line-ended line rest one = cc (append_assoc line (line_feed ∷ []) rest, line-before line rest one)
+
+lines-ended : (all : List (List ℕ)) → AreOneLine all → lines (all_ended all) ≡ all
+lines-ended [] are = refl
+lines-ended (line ∷ rest) are = cc (line-ended line (all_ended rest) are.0, lines-ended rest are.1)
+
+lines-open : (all : List (List ℕ)) (last : List ℕ) → AreOneLine all → IsOneLine last → 0 < length last
+    → lines (all_ended all ++ last) ≡ all ++ last ∷ []
+lines-open all [] are one some = absurd (omega arith)
+lines-open [] (b ∷ last) are one some = line-alone b last one
+lines-open (line ∷ rest) (b ∷ last) are one some =
+    cc (
+      append_assoc (ended line) (all_ended rest) (b ∷ last),
+      line-ended line (all_ended rest ++ b ∷ last) are.0,
+      lines-open rest (b ∷ last) are.1 one some,
+    )
+
+-- a byte ends a line, or it does not
+ends : (b : ℕ) → (b ≡ line_feed) ⊎ (b ≢ line_feed)
+ends b = ends-by (b == line_feed) refl where
+  ends-by : (t : Bool) → (b == line_feed) ≡ t → (b ≡ line_feed) ⊎ (b ≢ line_feed)
+  ends-by true e = inl (eqb-true b line_feed e)
+  ends-by false e = inr (λ same. let is : (line_feed == line_feed) ≡ false = ap (λ k. k == line_feed) (sym same) ∙ e in absurd (cc))
+
+first-one_line : (b : ℕ) (all : List (List ℕ)) → b ≢ line_feed → AreOneLine all → AreOneLine (first_byte b all)
+first-one_line b [] other are = ((other, tt), tt)
+first-one_line b (line ∷ rest) other are = ((other, are.0), are.1)
+
+lines-one_line : (bs : List ℕ) → AreOneLine (lines bs)
+lines-one_line [] = tt
+lines-one_line (b ∷ bs) =
+    elim (ends b) [
+      | inl is ↦ rw is (tt, lines-one_line bs)
+      | inr other ↦ rw (not_line_feed b other) (first-one_line b (lines bs) other (lines-one_line bs))
+    ]
+
+-- what the lines of an input are, once each is ended: the input, but for its last end
+abbrev IsJoined : List (List ℕ) → List ℕ → Type 0
+IsJoined all bs = (all_ended all ≡ bs) ⊎ (all_ended all ≡ ended bs)
+
+first-joined : (b : ℕ) (all : List (List ℕ)) (bs : List ℕ) → IsJoined all bs → IsJoined (first_byte b all) (b ∷ bs)
+first-joined b [] [] (inl e) = inr refl
+first-joined b [] (d ∷ bs) (inl e) = absurd (cc)
+first-joined b [] [] (inr e) = absurd (cc)
+first-joined b [] (d ∷ bs) (inr e) = absurd (cc)
+first-joined b (line ∷ rest) bs (inl e) = inl (cc)
+first-joined b (line ∷ rest) bs (inr e) = inr (cc)
+
+next-joined : (all : List (List ℕ)) (bs : List ℕ) → IsJoined all bs → IsJoined ([] ∷ all) (line_feed ∷ bs)
+next-joined all bs (inl e) = inl (cc)
+next-joined all bs (inr e) = inr (cc)
+
+joined : (bs : List ℕ) → IsJoined (lines bs) bs
+joined [] = inl refl
+joined (b ∷ bs) =
+    elim (ends b) [
+      | inl is ↦ rw is (next-joined (lines bs) bs (joined bs))
+      | inr other ↦ rw (not_line_feed b other) (first-joined b (lines bs) bs (joined bs))
+    ]
+
+lines-joined : (bs : List ℕ) → (all_ended (lines bs) ≡ bs) ⊎ (all_ended (lines bs) ≡ ended bs)
+lines-joined bs = joined bs
 
 pub returns : goal.returns
 returns c = record {

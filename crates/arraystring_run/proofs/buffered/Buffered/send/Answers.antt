@@ -1,7 +1,26 @@
-use Rattle.std.proofs.Common.{ℕ, ◌≤◌, List, length, take, subst, sym}
+use Rattle.std.proofs.Common.{ℕ, ◌≤◌, List, length, take, drop, subst, sym, ◌∙◌, append_assoc, take-append-drop, Option, None, Some}
 use Rattle.std.specs.Io.KnownBytes.{Keeps, Appends, append_known}
-use Rattle.arraystring_run.proofs.BufferLemmas.{keeps-on, keeps-sent, keeps-waiting, none-waits}
+use Rattle.arraystring_run.proofs.BufferLemmas.{none-waits}
 use Rattle.arraystring_run.proofs.buffered.Buffered.send.Goals as goal
+
+keeps-on : (a b c : Option (List ℕ)) → Keeps a b → Keeps b c → Keeps a c
+keeps-on None b c e f = tt
+keeps-on (Some xs) None c e f = absurd e
+keeps-on (Some xs) (Some ys) None e f = absurd f
+keeps-on (Some xs) (Some ys) (Some zs) e f = f ∙ e
+
+keeps-waiting : (old new : Option (List ℕ)) (items : List ℕ) → Keeps old new → Keeps (append_known old items) (append_known new items)
+keeps-waiting None new items e = tt
+keeps-waiting (Some xs) None items e = absurd e
+keeps-waiting (Some xs) (Some ys) items e = cc
+
+-- what was taken of the front waits no more
+keeps-sent : (old new : Option (List ℕ)) (items : List ℕ) (n : ℕ) → Appends old new (take n items)
+    → Keeps (append_known old items) (append_known new (drop n items))
+keeps-sent None new items n e = tt
+keeps-sent (Some xs) None items n e = absurd e
+keeps-sent (Some xs) (Some ys) items n e =
+    cc (e, append_assoc xs (take n items) (drop n items), take-append-drop n items)
 
 pub loop-preserved : goal.loop-preserved
 loop-preserved g c =
