@@ -1,9 +1,10 @@
+// NOT PROVED: rust/proved.txt does not have the sources of this crate as they are.
 // Made from crates/arraystring/src/lib.rt by rust/erase. A change goes there.
 //! `ArrayString`, a string of bounded size in an array inside the value, under all its paths.
 //! Its tests are in `tests`, beside `src`.
 //!
-//! The calls are those of [`ArrayString`]. What is proved of each folds out under *Contract*, and [`contracts`] says how to read
-//! it.
+//! The calls are those of [`ArrayString`]. What is proved of each folds out under *Contract*: [`contracts`] says how to read it, and
+//! [`trust`] what it rests on.
 //!
 #![doc = include_str!("../README.md")]
 #![no_std]
@@ -24,7 +25,7 @@ mod arraystring_core;
 
 mod by_hand;
 
-pub use by_hand::contracts;
+pub use by_hand::{contracts, trust};
 
 mod cache_string;
 

@@ -132,7 +132,6 @@ pub const REASONS: &[Reasons] = &[
     )
     .anyway(COUNTED),
     // arraystring_core: how a string is made
-    of("fill::fill", &[("fill::write_by_call", OWN), ("moves::write_over", OWN)]),
     of(
         "fill::try_fill",
         &[
@@ -143,7 +142,7 @@ pub const REASONS: &[Reasons] = &[
     ),
     of("fill::try_fill_small", &[("moves::write_over", TESTED)]),
     of("ArrayString::from_str_truncate", &[("ArrayString::from_str_unchecked", CUT)]),
-    of("ArrayString::from_str_unchecked", &[("fill::fill", "by this function's `# Safety`, since the capacity is at most `N`")]),
+    of("ArrayString::from_str_unchecked", &[("moves::write_over", "by this function's `# Safety`, since the capacity is at most `N`")]),
     of("ArrayString::try_from_iterator", &[("ArrayString::append_strs", EMPTY)]).anyway(ENDLESS),
     of("ArrayString::from_iterator", &[("ArrayString::append_strs", EMPTY)]).anyway(ENDLESS),
     of(
@@ -342,7 +341,6 @@ pub const REASONS: &[Reasons] = &[
     of("Drain::as_str", &[(ACCESSES, "`front <= size` and `start + size <= N`, as the fields of `Drain` say")]),
     of("Drain::default", &[("Drain::new", "there are none")]),
     of("Drain::next", &[(ACCESSES, LEFT)]),
-    of("Drain::next_back", &[(ACCESSES, LEFT)]).anyway(COUNTED),
     // arraystring
     of("CacheString::from_str_unchecked", &[("ArrayString::from_str_unchecked", OWN)]),
     of("CacheString::from_iterator_unchecked", &[("ArrayString::from_iterator_unchecked", OWN)]).anyway(PROMISED),

@@ -1,3 +1,4 @@
+// NOT PROVED: rust/proved.txt does not have the sources of this crate as they are.
 // Made from crates/arraystring_core/src/array_string.rt by rust/erase. A change goes there.
 //! `ArrayString`: the type, and the calls that read all of it. The modules below have its other calls,
 //! `traits` its impls of traits, and `in_place` the private calls that put bytes into its array or take
@@ -246,17 +247,21 @@ mod gap;
 /// A string of at most `N` bytes of UTF-8, and at most 255, stored inline. Sizes, indices and the
 /// capacity count bytes of UTF-8.
 ///
+/// A text *fits* if the string with it is not larger than the capacity. What does not fit is cut or
+/// refused, by the call:
+///
+/// - **Cut**, to the whole characters that fit: `from` and so `into`, [`from_str_truncate`](crate::ArrayString::from_str_truncate),
+///   [`from_chars`](crate::ArrayString::from_chars), [`from_iterator`](crate::ArrayString::from_iterator), [`from_utf8`](crate::ArrayString::from_utf8), [`from_utf16`](crate::ArrayString::from_utf16), [`from_utf16_lossy`](crate::ArrayString::from_utf16_lossy), [`push_str`](crate::ArrayString::push_str), `+`,
+///   [`extend_chars`](crate::ArrayString::extend_chars), [`extend_strs`](crate::ArrayString::extend_strs), [`insert_str`](crate::ArrayString::insert_str).
+/// - **Refused**, and then nothing has changed: `parse`, [`try_from_str`](crate::ArrayString::try_from_str), [`try_from_chars`](crate::ArrayString::try_from_chars),
+///   [`try_from_iterator`](crate::ArrayString::try_from_iterator), [`try_from_utf8`](crate::ArrayString::try_from_utf8), [`try_from_utf16`](crate::ArrayString::try_from_utf16), [`try_push`](crate::ArrayString::try_push), [`try_push_str`](crate::ArrayString::try_push_str), [`try_insert`](crate::ArrayString::try_insert),
+///   [`try_insert_str`](crate::ArrayString::try_insert_str), [`replace_range`](crate::ArrayString::replace_range), and each piece that `write!` writes.
+///
 /// A *boundary* is an index at which a character begins or the text ends. An index is *past* the
 /// text if it is greater than the length, and *inside* a character if it is less and no boundary.
-/// What is put in *fits* if the text with it is not larger than the capacity.
 ///
-/// Contracts name the text, the list of its characters, and no byte of the array.
-///
-/// # Ranges
-///
-/// A range that is passed in may be any `RangeBounds<u8>`. Contracts know its bounds if
-/// `has_bounds` holds of it. It holds of each range of std, except a `RangeInclusive` that was
-/// iterated to its end.
+/// A range that is passed in may be any `RangeBounds<u8>`. An iterator is asked for no item behind
+/// the first that does not fit.
 ///
 /// # Examples
 ///

@@ -1,10 +1,11 @@
+// NOT PROVED: rust/proved.txt does not have the sources of this crate as they are.
 // Made from crates/arraystring_core/src/array_string/construct.rt by rust/erase. A change goes there.
 //! The constructors: from a `&str`, from pieces, from characters and from bytes of UTF-8.
 
 use crate::arraystring_base::error::{Error, OutOfBounds, Utf8};
 use crate::arraystring_base::utils::{truncate_str, write_over};
 use crate::arraystring_core::ArrayString;
-use crate::arraystring_core::array_string::fill::{fill, try_fill};
+use crate::arraystring_core::array_string::fill::try_fill;
 use crate::arraystring_core::fast::well_formed::read_utf8;
 use crate::by_hand::str;
 
@@ -111,7 +112,7 @@ impl<const N: usize> ArrayString<N> {
         let mut array = [0; N];
         // SAFETY: `string.as_bytes().len() <= N`: by this function's `# Safety`, since the capacity is at most `N`.
         // Proved: crates/arraystring_core/src/array_string/construct.rt
-        unsafe { fill(&mut array, string.as_bytes()) };
+        unsafe { write_over(&mut array, 0, string.as_bytes()) };
         ArrayString { array, start: 0, size: string.len() as u8 }
     }
 

@@ -1,3 +1,4 @@
+// NOT PROVED: rust/proved.txt does not have the sources of this crate as they are.
 // Made from crates/arraystring_core/src/drain/traits.rt by rust/erase. A change goes there.
 //! The traits of a drain: its iterators, and how what is left is printed, compared and hashed.
 
@@ -80,17 +81,6 @@ impl<const N: usize> DoubleEndedIterator for Drain<N> {
     /// after that.
     #[inline(always)]
     fn next_back(&mut self) -> Option<char> {
-        if self.size == self.front {
-            return None;
-        }
-        // SAFETY: this is within: the fields of `Drain` say that `front <= size` and `start + size <= N`, and the test
-        // above that `front != size`, whatever was counted.
-        // Proved: crates/arraystring_core/src/drain/traits.rt
-        let last = *get_unchecked!(self.array, self.start as usize + self.size as usize - 1);
-        if last < 0x80 {
-            self.size -= 1;
-            return Some(last as char);
-        }
         let (kept, ch) = last_char(self.as_str(), &mut Steps::new())?;
         self.size = self.front + kept as u8;
         Some(ch)
