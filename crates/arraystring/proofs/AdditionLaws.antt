@@ -8,7 +8,7 @@ use Rattle.arraystring_base.proofs.CutLaws.{cut-all, cut-past_part}
 use Rattle.arraystring_base.proofs.BoundaryLaws.{boundary-within, front-start, back-start, boundary-is}
 use Rattle.arraystring_base.specs.declared.error.Error.{Error}
 use Rattle.arraystring_base.specs.declared.error.Error.TheVariants.{Utf8, OutOfBounds}
-use Rattle.arraystring_core.specs.Edits.{Cause, Past, Room, Inside, Makes, FirstHolds, error_of, past, addition, addition_of_cut, insertion, insertion_of_cut}
+use Rattle.arraystring_core.specs.Edits.{Past, Room, Inside, Makes, error_of, past, addition, addition_of_cut, insertion, insertion_of_cut}
 use Rattle.arraystring_core.proofs.EditLaws.{addition-no_cause, addition-room, inside-not, inside-so}
 pub use Rattle.arraystring_core.proofs.EditLaws.{addition-made, addition-refused}
 use Rattle.arraystring.proofs.TestLaws.{past-failed, past-held, inside-failed, inside-held, index-held}
@@ -55,17 +55,17 @@ module _ {t : List ℕ} (i : ℕ) (given : List ℕ) (n : ℕ) {new : List ℕ} 
       ⊎ ((i ≤ size t) × (n < size t + size given) × (error ≡ OutOfBounds))
       ⊎ ((i < size t) × (size t + size given ≤ n) × (boundary t i ≡ false) × (error ≡ Utf8)))
       × (new ≡ t)
-  insertion-refused {error} m = let was = edit-first_held m in (go was.1 was.2, was.3)
-    where
-      go : {cause : Cause} → FirstHolds (insertion t i given n).tests cause → error ≡ error_of cause
-          → ((size t < i) × (error ≡ OutOfBounds))
-          ⊎ ((i ≤ size t) × (n < size t + size given) × (error ≡ OutOfBounds))
-          ⊎ ((i < size t) × (size t + size given ≤ n) × (boundary t i ≡ false) × (error ≡ Utf8))
-      go (inl (far, is)) e = inl (past-held t i far, e ∙ ap error_of is)
-      go (inr (near, inl (over, is))) e = inr (inl (past-failed t i near, ltb-true n (size t + size given) over, e ∙ ap error_of is))
-      go (inr (near, inr (fits, inl (inner, is)))) e =
-          let at = inside-held t i inner in inr (inr (at.0, ltb-false n (size t + size given) fits, at.1, e ∙ ap error_of is))
-      go (inr (near, inr (fits, inr (out, none)))) e = absurd none
+  insertion-refused m =
+      let (cause, held, e, same) = edit-first_held m in (
+        elim held [
+          | inl (far, is) ↦ inl (past-held t i far, e ∙ ap error_of is)
+          | inr (near, inl (over, is)) ↦ inr (inl (past-failed t i near, ltb-true n (size t + size given) over, e ∙ ap error_of is))
+          | inr (near, inr (fits, inl (inner, is))) ↦
+              let at = inside-held t i inner in inr (inr (at.0, ltb-false n (size t + size given) fits, at.1, e ∙ ap error_of is))
+          | inr (near, inr (fits, inr (out, none))) ↦ absurd none
+        ],
+        same,
+      )
 
 module _ {t : List ℕ} (i : ℕ) (given : List ℕ) (n : ℕ) {new : List ℕ} {result : Result (Unit {0}) Error} where
   -- what fits is put at a boundary
@@ -102,15 +102,12 @@ module _ {t : List ℕ} (given : List ℕ) (n : ℕ) {new : List ℕ} where
   -- one that returned `Err`: it did not fit, and the text is the old one
   pub insertion_at_start-refused : {error : Error} → Makes (insertion t 0 given n) t (Err error) new
       → (n < size t + size given) × (error ≡ OutOfBounds) × (new ≡ t)
-  insertion_at_start-refused {error} m = go (insertion-refused 0 given n m).0 m.err
-    where
-      go : ((size t < 0) × (error ≡ OutOfBounds))
-          ⊎ ((0 ≤ size t) × (n < size t + size given) × (error ≡ OutOfBounds))
-          ⊎ ((0 < size t) × (size t + size given ≤ n) × (boundary t 0 ≡ false) × (error ≡ Utf8))
-          → new ≡ t → (n < size t + size given) × (error ≡ OutOfBounds) × (new ≡ t)
-      go (inl past) same = absurd (omega (arith, past.0))
-      go (inr (inl over)) same = (over.1, over.2, same)
-      go (inr (inr inner)) same = absurd (both_ways (boundary t 0) inner.2 (boundary-is [] t 0 refl))
+  insertion_at_start-refused m =
+      elim (insertion-refused 0 given n m).0 [
+        | inl past ↦ absurd (omega (arith, past.0))
+        | inr (inl over) ↦ (over.1, over.2, m.err)
+        | inr (inr inner) ↦ absurd (both_ways (boundary t 0) inner.2 (boundary-is [] t 0 refl))
+      ]
 
 -- what fits of `given` is put at `i`
 module _ {t : List ℕ} (i : ℕ) (given : List ℕ) (n : ℕ) {new : List ℕ} where

@@ -7,7 +7,7 @@ use Rattle.arraystring_base.specs.Text.{size, front, back, boundary}
 use Rattle.arraystring_base.proofs.BoundaryLaws.{boundary-within}
 use Rattle.arraystring_base.specs.declared.error.Error.{Error}
 use Rattle.arraystring_base.specs.declared.error.Error.TheVariants.{Utf8, OutOfBounds}
-use Rattle.arraystring_core.specs.Edits.{Cause, Past, Room, Inside, Makes, FirstHolds, error_of, crossed, part, draining, replacement}
+use Rattle.arraystring_core.specs.Edits.{Past, Room, Inside, Makes, error_of, crossed, part, draining, replacement}
 use Rattle.arraystring_core.proofs.EditLaws.{inside-not}
 use Rattle.arraystring.proofs.TestLaws.{past-failed, past-held, inside-failed, inside-held, ends-held}
 use Rattle.arraystring.proofs.EditLaws.{edit-made, edit-makes, edit-refuses, edit-none_held, edit-first_held}
@@ -33,22 +33,21 @@ module _ {t : List ℕ} (start end : ℕ) {new : List ℕ} where
       ⊎ ((start ≤ end) × (end ≤ size t) × (boundary t start ≡ false) × (error ≡ Utf8))
       ⊎ ((start ≤ end) × (end ≤ size t) × (boundary t start ≡ true) × (boundary t end ≡ false) × (error ≡ Utf8)))
       × (new ≡ t)
-  draining-refused {error} m = let was = edit-first_held m in (go was.1 was.2, was.3)
-    where
-      go : {cause : Cause} → FirstHolds (draining t start end).tests cause → error ≡ error_of cause
-          → ((end < start) × (error ≡ OutOfBounds))
-          ⊎ ((start ≤ end) × (size t < end) × (error ≡ OutOfBounds))
-          ⊎ ((start ≤ end) × (end ≤ size t) × (boundary t start ≡ false) × (error ≡ Utf8))
-          ⊎ ((start ≤ end) × (end ≤ size t) × (boundary t start ≡ true) × (boundary t end ≡ false) × (error ≡ Utf8))
-      go (inl (crossed, is)) e = inl (ltb-true end start crossed, e ∙ ap error_of is)
-      go (inr (near, inl (far, is))) e = inr (inl (ltb-false end start near, past-held t end far, e ∙ ap error_of is))
-      go (inr (near, inr (none, inl (inner, is)))) e =
-          inr (inr (inl (ltb-false end start near, past-failed t end none, (inside-held t start inner).1, e ∙ ap error_of is)))
-      go (inr (near, inr (none, inr (out, inl (inner, is))))) e =
-          let order : start ≤ end = ltb-false end start near in
-          let within = past-failed t end none in
-          inr (inr (inr (order, within, inside-failed t start (omega arith) out, (inside-held t end inner).1, e ∙ ap error_of is)))
-      go (inr (near, inr (none, inr (out, inr (ends, nothing))))) e = absurd nothing
+  draining-refused m =
+      let (cause, held, e, same) = edit-first_held m in (
+        elim held [
+          | inl (crossed, is) ↦ inl (ltb-true end start crossed, e ∙ ap error_of is)
+          | inr (near, inl (far, is)) ↦ inr (inl (ltb-false end start near, past-held t end far, e ∙ ap error_of is))
+          | inr (near, inr (none, inl (inner, is))) ↦
+              inr (inr (inl (ltb-false end start near, past-failed t end none, (inside-held t start inner).1, e ∙ ap error_of is)))
+          | inr (near, inr (none, inr (out, inl (inner, is)))) ↦
+              let order : start ≤ end = ltb-false end start near in
+              let within = past-failed t end none in
+              inr (inr (inr (order, within, inside-failed t start (omega arith) out, (inside-held t end inner).1, e ∙ ap error_of is)))
+          | inr (near, inr (none, inr (out, inr (ends, nothing)))) ↦ absurd nothing
+        ],
+        same,
+      )
 
 module _ {t : List ℕ} (start end : ℕ) {new : List ℕ} {result : Result (List ℕ) Error} where
   -- the part between two boundaries is drained
@@ -93,27 +92,24 @@ module _ {t : List ℕ} (start end : ℕ) (given : List ℕ) (n : ℕ) {new : Li
       ⊎ ((start ≤ end) × (end ≤ size t) × (size t - (end - start) + size given ≤ n) × (boundary t start ≡ true) × (boundary t end ≡ false)
       × (error ≡ Utf8)))
       × (new ≡ t)
-  replacement-refused {error} m = let was = edit-first_held m in (go was.1 was.2, was.3)
-    where
-      go : {cause : Cause} → FirstHolds (replacement t start end given n).tests cause → error ≡ error_of cause
-          → ((end < start) × (error ≡ OutOfBounds))
-          ⊎ ((start ≤ end) × (size t < end) × (error ≡ OutOfBounds))
-          ⊎ ((start ≤ end) × (end ≤ size t) × (n < size t - (end - start) + size given) × (error ≡ OutOfBounds))
-          ⊎ ((start ≤ end) × (end ≤ size t) × (size t - (end - start) + size given ≤ n) × (boundary t start ≡ false) × (error ≡ Utf8))
-          ⊎ ((start ≤ end) × (end ≤ size t) × (size t - (end - start) + size given ≤ n) × (boundary t start ≡ true) × (boundary t end ≡ false)
-          × (error ≡ Utf8))
-      go (inl (crossed, is)) e = inl (ltb-true end start crossed, e ∙ ap error_of is)
-      go (inr (near, inl (far, is))) e = inr (inl (ltb-false end start near, past-held t end far, e ∙ ap error_of is))
-      go (inr (near, inr (none, inl (over, is)))) e =
-          inr (inr (inl (ltb-false end start near, past-failed t end none, ltb-true n _ over, e ∙ ap error_of is)))
-      go (inr (near, inr (none, inr (fits, inl (inner, is))))) e =
-          inr (inr (inr (inl (ltb-false end start near, past-failed t end none, ltb-false n _ fits, (inside-held t start inner).1, e ∙ ap error_of is))))
-      go (inr (near, inr (none, inr (fits, inr (out, inl (inner, is)))))) e =
-          let order : start ≤ end = ltb-false end start near in
-          let within = past-failed t end none in
-          let starts = inside-failed t start (omega arith) out in
-          inr (inr (inr (inr (order, within, ltb-false n _ fits, starts, (inside-held t end inner).1, e ∙ ap error_of is))))
-      go (inr (near, inr (none, inr (fits, inr (out, inr (ends, nothing)))))) e = absurd nothing
+  replacement-refused m =
+      let (cause, held, e, same) = edit-first_held m in (
+        elim held [
+          | inl (crossed, is) ↦ inl (ltb-true end start crossed, e ∙ ap error_of is)
+          | inr (near, inl (far, is)) ↦ inr (inl (ltb-false end start near, past-held t end far, e ∙ ap error_of is))
+          | inr (near, inr (none, inl (over, is))) ↦
+              inr (inr (inl (ltb-false end start near, past-failed t end none, ltb-true n _ over, e ∙ ap error_of is)))
+          | inr (near, inr (none, inr (fits, inl (inner, is)))) ↦
+              inr (inr (inr (inl (ltb-false end start near, past-failed t end none, ltb-false n _ fits, (inside-held t start inner).1, e ∙ ap error_of is))))
+          | inr (near, inr (none, inr (fits, inr (out, inl (inner, is))))) ↦
+              let order : start ≤ end = ltb-false end start near in
+              let within = past-failed t end none in
+              let starts = inside-failed t start (omega arith) out in
+              inr (inr (inr (inr (order, within, ltb-false n _ fits, starts, (inside-held t end inner).1, e ∙ ap error_of is))))
+          | inr (near, inr (none, inr (fits, inr (out, inr (ends, nothing))))) ↦ absurd nothing
+        ],
+        same,
+      )
 
 module _ {t : List ℕ} (start end : ℕ) (given : List ℕ) (n : ℕ) {new : List ℕ} {result : Result (Unit {0}) Error} where
   -- what fits replaces the part between two boundaries

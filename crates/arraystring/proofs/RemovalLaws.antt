@@ -10,7 +10,7 @@ use Rattle.arraystring_base.proofs.TextLaws.{width-bounds}
 use Rattle.arraystring_base.proofs.BoundaryLaws.{back-size, boundary-within}
 use Rattle.arraystring_base.specs.declared.error.Error.{Error}
 use Rattle.arraystring_base.specs.declared.error.Error.TheVariants.{Utf8, OutOfBounds}
-use Rattle.arraystring_core.specs.Edits.{Cause, Past, Inside, Makes, FirstHolds, error_of, popping, truncation, trimming, removal, clearing, split, uppercase, lowercase, last_of, all_but_last, without_leading, without_trailing}
+use Rattle.arraystring_core.specs.Edits.{Past, Inside, Makes, error_of, popping, truncation, trimming, removal, clearing, split, uppercase, lowercase, last_of, all_but_last, without_leading, without_trailing}
 use Rattle.arraystring_core.proofs.EditLaws.{inside-not, inside-so}
 use Rattle.arraystring.proofs.TestLaws.{past-failed, inside-failed, inside-held, inside-fails, index-held}
 use Rattle.arraystring.proofs.EditLaws.{edit-made, edit-makes, edit-refuses, edit-none_held, edit-first_held}
@@ -52,12 +52,12 @@ module _ {t : List ℕ} (i : ℕ) {new : List ℕ} where
   -- one that returned `Err`: the index is inside a character
   pub truncation-refused : {error : Error} → Makes (truncation t i) t (Err error) new
       → (i < size t) × (boundary t i ≡ false) × (error ≡ Utf8) × (new ≡ t)
-  truncation-refused {error} m = let was = edit-first_held m in go was.1 was.2 was.3
-    where
-      go : {cause : Cause} → FirstHolds (truncation t i).tests cause → error ≡ error_of cause → new ≡ t
-          → (i < size t) × (boundary t i ≡ false) × (error ≡ Utf8) × (new ≡ t)
-      go (inl (inner, is)) e same = let at = inside-held t i inner in (at.0, at.1, e ∙ ap error_of is, same)
-      go (inr (out, none)) e same = absurd none
+  truncation-refused m =
+      let (cause, held, e, same) = edit-first_held m in
+      elim held [
+        | inl (inner, is) ↦ let at = inside-held t i inner in (at.0, at.1, e ∙ ap error_of is, same)
+        | inr (out, none) ↦ absurd none
+      ]
 
 module _ {t : List ℕ} (i : ℕ) {new : List ℕ} {result : Result (Unit {0}) Error} where
   -- at a boundary, or past the text, it returns `Ok`
@@ -107,13 +107,15 @@ module _ {t : List ℕ} (i : ℕ) {new : List ℕ} where
   -- one that returned `Err`: the index is not below the size of the text, or inside a character
   pub removal-refused : {error : Error} → Makes (removal t i) t (Err error) new
       → (((size t ≤ i) × (error ≡ OutOfBounds)) ⊎ ((i < size t) × (boundary t i ≡ false) × (error ≡ Utf8))) × (new ≡ t)
-  removal-refused {error} m = let was = edit-first_held m in (go was.1 was.2, was.3)
-    where
-      go : {cause : Cause} → FirstHolds (removal t i).tests cause → error ≡ error_of cause
-          → ((size t ≤ i) × (error ≡ OutOfBounds)) ⊎ ((i < size t) × (boundary t i ≡ false) × (error ≡ Utf8))
-      go (inl (far, is)) e = inl (leb-true (size t) i far, e ∙ ap error_of is)
-      go (inr (near, inl (inner, is))) e = let at = inside-held t i inner in inr (at.0, at.1, e ∙ ap error_of is)
-      go (inr (near, inr (out, none))) e = absurd none
+  removal-refused m =
+      let (cause, held, e, same) = edit-first_held m in (
+        elim held [
+          | inl (far, is) ↦ inl (leb-true (size t) i far, e ∙ ap error_of is)
+          | inr (near, inl (inner, is)) ↦ let at = inside-held t i inner in inr (at.0, at.1, e ∙ ap error_of is)
+          | inr (near, inr (out, none)) ↦ absurd none
+        ],
+        same,
+      )
 
 module _ {t : List ℕ} (i : ℕ) {new : List ℕ} {result : Result ℕ Error} where
   -- the character that begins at a boundary is removed
