@@ -1,5 +1,4 @@
-//! Why what an `unsafe` worker requires is true where a body calls it, and why the accesses of a body without `# Safety` are
-//! within: the part of each line `// SAFETY` that no rule can make. Each entry was read off the body, and speaks of Rust alone:
+//! Why what an `unsafe` worker requires is true where a body calls it, and why its accesses are within: the part of each line `// SAFETY` that no rule can make. Each entry was read off the body, and speaks of Rust alone:
 //! of a test above, of a `# Safety`, of what the fields of a type hold, or of what another function returns.
 //!
 //! A call or an access without an entry stops the eraser, and so does an entry that nothing needs.
@@ -113,6 +112,12 @@ pub const REASONS: &[Reasons] = &[
         ],
     ),
     of("moves::put_pair", &[("moves::put_bytes", OWN)]),
+    of("moves::move_any_run", &[(ACCESSES, OWN)]),
+    of("moves::write_any_run", &[(ACCESSES, OWN)]),
+    of("moves::bytes_of", &[(ACCESSES, OWN)]),
+    of("moves::put_bytes", &[(ACCESSES, OWN)]),
+    of("steps::look_unchecked", &[(ACCESSES, OWN)]),
+    of("utf8::encode", &[(ACCESSES, "by this function's `# Safety`, since `ch` takes as many bytes as are written")]),
     of(
         "utf8::truncate_str_counted",
         &[("utf8::last_boundary", TESTED), (ACCESSES, "`last_boundary` returns a boundary of `text`")],
@@ -142,6 +147,7 @@ pub const REASONS: &[Reasons] = &[
         ],
     ),
     of("fill::try_fill_small", &[("moves::write_over", TESTED)]),
+    of("fill::write_by_call", &[(ACCESSES, OWN)]),
     of("ArrayString::from_str_truncate", &[("ArrayString::from_str_unchecked", CUT)]),
     of("ArrayString::from_str_unchecked", &[("fill::fill", "by this function's `# Safety`, since the capacity is at most `N`")]),
     of("ArrayString::try_from_iterator", &[("ArrayString::append_strs", EMPTY)]).anyway(ENDLESS),
@@ -300,7 +306,8 @@ pub const REASONS: &[Reasons] = &[
         ],
     ),
     of("ArrayString::clear", &[("ArrayString::keep", "each text begins there")]),
-    of("ArrayString::char_at", &[("remove::first_char", OWN)]),
+    of("ArrayString::char_at", &[("remove::first_char", OWN), (ACCESSES, OWN)]),
+    of("remove::first_char", &[(ACCESSES, OWN)]),
     of(
         "remove::retain_at",
         &[
@@ -338,6 +345,8 @@ pub const REASONS: &[Reasons] = &[
     of("ArrayString::make_ascii_lowercase_in", &[("ArrayString::lowercase_between", INDEXED)]).anyway(NOT_ASKED),
     of("ArrayString::uppercase_between", &[("ascii::uppercase_bytes", OWN_AND_FIELDS)]),
     of("ArrayString::lowercase_between", &[("ascii::lowercase_bytes", OWN_AND_FIELDS)]),
+    of("ascii::uppercase_bytes", &[(ACCESSES, OWN)]),
+    of("ascii::lowercase_bytes", &[(ACCESSES, OWN)]),
     // arraystring_core: what was taken out
     of("Drain::as_str", &[(ACCESSES, "`front <= size` and `start + size <= N`, as the fields of `Drain` say")]),
     of("Drain::default", &[("Drain::new", "there are none")]),

@@ -358,6 +358,8 @@ impl<const N: usize> ArrayString<N> {
     unsafe fn char_at(&self, at: usize) -> (char, usize) {
         // SAFETY: `0 < self.as_str()[at..].len()`: by this function's `# Safety`.
         // Proved: crates/arraystring_core/src/array_string/remove.rt
+        // SAFETY: this is within: by this function's `# Safety`.
+        // Proved: crates/arraystring_core/src/array_string/remove.rt
         unsafe { first_char(get_unchecked!(self.as_str(), at..)) }
     }
 }
@@ -385,6 +387,8 @@ impl<const N: usize> ArrayString<N> {
 unsafe fn first_char(text: &str) -> (char, usize) {
     let mut rest = text.chars();
     let Some(ch) = rest.next() else {
+        // SAFETY: this is not reached: by this function's `# Safety`.
+        // Proved: crates/arraystring_core/src/array_string/remove.rt
         unreachable_unchecked!();
     };
     (ch, text.len() - rest.as_str().len())
