@@ -54,11 +54,6 @@ impl Here<'_> {
         tally.used.insert(format!("anyway {call}"));
         Ok(format!("{why}, {}", reasons.anyway))
     }
-
-    /// Whether the body says why its accesses are within: its `# Safety` alone is enough where no clause is given up.
-    fn explains(&self, tally: &Tally) -> bool {
-        !tally.contracts.is_unsafe(self.call) || tally.contracts.is_given_up(self.call)
-    }
 }
 
 /// Rewrites a body, which is given by its tokens.
@@ -87,7 +82,7 @@ impl Calls<'_, '_> {
     /// Rewrites what begins at a token.
     fn token(&mut self, at: usize) -> Result<(), Fault> {
         let body = &self.body;
-        if self.here.proves && access::rewrite(body, at, self.edits, self.tally)? && self.here.explains(self.tally) {
+        if self.here.proves && access::rewrite(body, at, self.edits, self.tally)? {
             self.access(at)?;
         }
         let body = &self.body;
@@ -113,7 +108,8 @@ impl Calls<'_, '_> {
         }
         let why = self.here.reason(ACCESSES, 0, self.body.at(at).start, self.tally)?;
         if self.numbers.insert(ACCESSES.to_string(), 1).is_none() {
-            self.say(at, &format!("this is within: {why}"));
+            let what = if self.body.text(at) == "unreachable" { "this is not reached" } else { "this is within" };
+            self.say(at, &format!("{what}: {why}"));
         }
         Ok(())
     }
@@ -191,8 +187,9 @@ impl Calls<'_, '_> {
     /// Puts a reason before the line of a token, and the source whose proof has it.
     fn say(&mut self, at: usize, why: &str) {
         let (start, indent) = self.body.line(at);
-        let proved = format!("Proved: crates/{}", self.here.path);
-        let put = lines(indent, "//", &format!("SAFETY: {why}.")) + &lines(indent, "//", &proved);
+        let sign = format!("{indent}//");
+        let put =
+            lines(&sign, &sign, &format!("SAFETY: {why}.")) + &format!("{sign} Proved: crates/{}\n", self.here.path);
         if !self.edits.has(start, &put) {
             self.edits.insert(start, put);
         }

@@ -9,6 +9,7 @@ use crate::rules::{
     ADDED, BODIES, BY_HAND, BY_STD, CONSTANT, FATES, Fate, KNOWN, LEFT_OUT, REPLACED, Replaced, TESTS_RANGE, TWINS,
     WIDER,
 };
+use crate::sections::lines;
 
 /// The page, from the top of the repository.
 const PAGE: &str = "rust/arraystring/TRUST.md";
@@ -114,17 +115,9 @@ fn quoted(names: &[&str]) -> String {
     names.iter().map(|name| format!("`{name}`")).collect::<Vec<_>>().join(", ")
 }
 
-/// An item of a list, in lines of at most 120 characters.
+/// An item of a list.
 fn item(what: &str, why: &str) -> String {
-    let (mut put, mut line) = (String::new(), "-".to_string());
-    for word in format!("{what}: {why}.").split_whitespace() {
-        if line.chars().count() + word.chars().count() >= 120 {
-            put += &format!("{line}\n");
-            line = " ".to_string();
-        }
-        line += &format!(" {word}");
-    }
-    format!("{put}{line}\n")
+    lines("-", " ", &format!("{what}: {why}."))
 }
 
 #[cfg(test)]

@@ -1,6 +1,6 @@
-//! Why what an `unsafe` worker requires is true where a body calls it, and why the accesses of a body without `# Safety` are
-//! within: the part of each line `// SAFETY` that no rule can make. Each entry was read off the body, and speaks of Rust alone:
-//! of a test above, of a `# Safety`, of what the fields of a type hold, or of what another function returns.
+//! Why what an `unsafe` worker requires is true where a body calls it, and why its accesses are within: the part of each SAFETY
+//! comment that no rule can make. Each entry was read off the body, and speaks of Rust alone: of a test above, of a `# Safety`, of
+//! what the fields of a type say, or of what another function returns.
 //!
 //! A call or an access without an entry stops the eraser, and so does an entry that nothing needs.
 
@@ -88,21 +88,24 @@ pub const REASONS: &[Reasons] = &[
     of(
         "moves::move_ends",
         &[
-            ("moves::bytes_of", "`all` is the array, which has the `len` bytes from `from` on, and `rest + K` is `len`"),
+            (
+                "moves::bytes_of",
+                "`all` is the array, which has the `len` bytes from `from` on, and `rest + K` is `len`",
+            ),
             ("moves::put_bytes", "the array has the `len` bytes from `to` on, and `rest + K` is `len`"),
         ],
     ),
     of(
         "moves::move_pairs",
         &[
-            ("moves::bytes_of", "`all` is the array, which has the `len` bytes from `from` on, and `rest + K + K` is `len`"),
+            (
+                "moves::bytes_of",
+                "`all` is the array, which has the `len` bytes from `from` on, and `rest + K + K` is `len`",
+            ),
             ("moves::put_pair", "the array has the `len` bytes from `to` on, and `rest + (K + K)` is `len`"),
         ],
     ),
-    of(
-        "moves::write_over",
-        &[("moves::write_long_run", OWN_AND_TESTED), ("moves::write_short_run", OWN_AND_TESTED)],
-    ),
+    of("moves::write_over", &[("moves::write_long_run", OWN_AND_TESTED), ("moves::write_short_run", OWN_AND_TESTED)]),
     of("moves::write_short_run", &[("moves::copy_ends", OWN_AND_TESTED)]),
     of("moves::write_long_run", &[("moves::write_any_run", OWN), ("moves::copy_ends", SHORTER)]),
     of(
@@ -113,13 +116,25 @@ pub const REASONS: &[Reasons] = &[
         ],
     ),
     of("moves::put_pair", &[("moves::put_bytes", OWN)]),
+    of("moves::move_any_run", &[(ACCESSES, OWN)]),
+    of("moves::write_any_run", &[(ACCESSES, OWN)]),
+    of("moves::bytes_of", &[(ACCESSES, OWN)]),
+    of("moves::put_bytes", &[(ACCESSES, OWN)]),
+    of("steps::look_unchecked", &[(ACCESSES, OWN)]),
+    of("utf8::encode", &[(ACCESSES, "by this function's `# Safety`, since `ch` takes as many bytes as are written")]),
     of(
         "utf8::truncate_str_counted",
         &[("utf8::last_boundary", TESTED), (ACCESSES, "`last_boundary` returns a boundary of `text`")],
     )
     .anyway(COUNTED),
-    of("utf8::last_boundary", &[("steps::look_unchecked", "`end` is at most `limit`, which is below `text.len()` by this function's `# Safety`")])
-        .anyway(COUNTED),
+    of(
+        "utf8::last_boundary",
+        &[(
+            "steps::look_unchecked",
+            "`end` is at most `limit`, which is below `text.len()` by this function's `# Safety`",
+        )],
+    )
+    .anyway(COUNTED),
     of("utf8::last_char", &[("utf8::char_before_end", "the test above returned for an empty text")]).anyway(COUNTED),
     of(
         "utf8::char_before_end",
@@ -141,13 +156,20 @@ pub const REASONS: &[Reasons] = &[
         ],
     ),
     of("fill::try_fill_small", &[("moves::write_over", TESTED)]),
+    of("fill::write_by_call", &[(ACCESSES, OWN)]),
     of("ArrayString::from_str_truncate", &[("ArrayString::from_str_unchecked", CUT)]),
-    of("ArrayString::from_str_unchecked", &[("moves::write_over", "by this function's `# Safety`, since the capacity is at most `N`")]),
+    of(
+        "ArrayString::from_str_unchecked",
+        &[("moves::write_over", "by this function's `# Safety`, since the capacity is at most `N`")],
+    ),
     of("ArrayString::try_from_iterator", &[("ArrayString::append_strs", EMPTY)]).anyway(ENDLESS),
     of("ArrayString::from_iterator", &[("ArrayString::append_strs", EMPTY)]).anyway(ENDLESS),
     of(
         "ArrayString::from_iterator_unchecked",
-        &[("moves::write_over", "by this function's `# Safety` all pieces fit together, and `end` is the size of those before this one")],
+        &[(
+            "moves::write_over",
+            "by this function's `# Safety` all pieces fit together, and `end` is the size of those before this one",
+        )],
     )
     .anyway(PROMISED),
     of("ArrayString::try_from_chars", &[("ArrayString::append_chars", EMPTY)]).anyway(ENDLESS),
@@ -164,7 +186,10 @@ pub const REASONS: &[Reasons] = &[
     ),
     of(
         "ArrayString::write_char",
-        &[("ArrayString::has_room", "by this function's `# Safety`, since the capacity is at most 255"), ("utf8::encode", HAS_ROOM)],
+        &[
+            ("ArrayString::has_room", "by this function's `# Safety`, since the capacity is at most 255"),
+            ("utf8::encode", HAS_ROOM),
+        ],
     ),
     of("utf16::write_ascii", &[(ACCESSES, "`run` is below `most`, which is at most `units.len()` and at most `N`")]),
     // arraystring_core: what is put at the end
@@ -190,7 +215,10 @@ pub const REASONS: &[Reasons] = &[
     of(
         "ArrayString::append_strs",
         &[
-            ("ArrayString::append_past_end", "so it is by this function's `# Safety` before the loop, and each turn keeps it"),
+            (
+                "ArrayString::append_past_end",
+                "so it is by this function's `# Safety` before the loop, and each turn keeps it",
+            ),
             ("moves::write_over", TESTED),
         ],
     )
@@ -198,13 +226,19 @@ pub const REASONS: &[Reasons] = &[
     of(
         "ArrayString::append_past_end",
         &[
-            ("push::make_room", "by this function's `# Safety`, and `part` has no more bytes than `truncate_str` was told"),
+            (
+                "push::make_room",
+                "by this function's `# Safety`, and `part` has no more bytes than `truncate_str` was told",
+            ),
             ("moves::write_over", "`make_room` left room for `part` behind the text, which ends at `end`"),
         ],
     ),
     of(
         "ArrayString::append_chars",
-        &[("ArrayString::append_char", "so it is by this function's `# Safety` before the loop, and `append_char` returns the new end")],
+        &[(
+            "ArrayString::append_char",
+            "so it is by this function's `# Safety` before the loop, and `append_char` returns the new end",
+        )],
     )
     .anyway(ENDLESS),
     of(
@@ -212,14 +246,20 @@ pub const REASONS: &[Reasons] = &[
         &[
             ("ArrayString::has_room", "by this function's `# Safety` the text ends at `end`, and within the capacity"),
             ("ArrayString::has_room", "`held` is at most `end`"),
-            ("push::compact_and_append", "`held` is `*len` by this function's `# Safety`, and `has_room` returned true for it"),
+            (
+                "push::compact_and_append",
+                "`held` is `*len` by this function's `# Safety`, and `has_room` returned true for it",
+            ),
             ("utf8::encode", HAS_ROOM),
         ],
     ),
     of("push::make_room", &[("moves::shift", "by this function's `# Safety` the text lies in the array")]),
     of(
         "push::compact_and_append",
-        &[("moves::shift", "by this function's `# Safety` the text lies in the array"), ("utf8::encode", "by this function's `# Safety`, since the capacity is at most `N`")],
+        &[
+            ("moves::shift", "by this function's `# Safety` the text lies in the array"),
+            ("utf8::encode", "by this function's `# Safety`, since the capacity is at most `N`"),
+        ],
     ),
     of(
         "ArrayString::try_push_near_end",
@@ -227,24 +267,39 @@ pub const REASONS: &[Reasons] = &[
     ),
     of(
         "ArrayString::compact_and_push",
-        &[("moves::shift", FIELDS), ("utf8::encode", "by this function's `# Safety`, since `size` is the length of the text")],
+        &[
+            ("moves::shift", FIELDS),
+            ("utf8::encode", "by this function's `# Safety`, since `size` is the length of the text"),
+        ],
     ),
     of(
         "ArrayString::compact_and_push_str",
-        &[("ArrayString::compact_and_splice", "`len` is the length of the text, and this function's `# Safety` has the last")],
+        &[(
+            "ArrayString::compact_and_splice",
+            "`len` is the length of the text, and this function's `# Safety` has the last",
+        )],
     ),
     // arraystring_core: what is put in
     of("ArrayString::try_insert", &[("ArrayString::insert_unchecked", TESTED)]),
     of("ArrayString::insert_unchecked", &[("ArrayString::put_char", OWN)]),
     of("ArrayString::try_insert_str_counted", &[("ArrayString::splice", TESTED)]).anyway(COUNTED),
-    of("ArrayString::insert_str", &[("ArrayString::insert_str_unchecked", "by the test above, and since `truncate_str` returns at most `room` bytes")]),
+    of(
+        "ArrayString::insert_str",
+        &[(
+            "ArrayString::insert_str_unchecked",
+            "by the test above, and since `truncate_str` returns at most `room` bytes",
+        )],
+    ),
     of("ArrayString::insert_str_unchecked", &[("ArrayString::splice", OWN)]),
     of("ArrayString::replace_between", &[("ArrayString::splice", "`check_replacement` returned `Ok`")]).anyway(COUNTED),
     of(
         "ArrayString::splice",
         &[
             ("ArrayString::compact_and_splice", OWN),
-            ("gap::open_gap", "by this function's `# Safety`, what the fields of `ArrayString` say, and the test above"),
+            (
+                "gap::open_gap",
+                "by this function's `# Safety`, what the fields of `ArrayString` say, and the test above",
+            ),
             ("moves::write_over", ROOM_BEHIND),
         ],
     )
@@ -261,7 +316,10 @@ pub const REASONS: &[Reasons] = &[
         "ArrayString::put_char",
         &[
             ("ArrayString::compact_and_insert", OWN),
-            ("gap::open_gap", "by this function's `# Safety`, what the fields of `ArrayString` say, and the test above"),
+            (
+                "gap::open_gap",
+                "by this function's `# Safety`, what the fields of `ArrayString` say, and the test above",
+            ),
             ("utf8::encode", ROOM_BEHIND),
         ],
     ),
@@ -285,7 +343,10 @@ pub const REASONS: &[Reasons] = &[
         "ArrayString::remove_counted",
         &[
             ("ArrayString::char_at", TESTED),
-            ("ArrayString::take_out", "a character begins at `start` by the tests above, and `char_at` returned that it takes `width` bytes"),
+            (
+                "ArrayString::take_out",
+                "a character begins at `start` by the tests above, and `char_at` returned that it takes `width` bytes",
+            ),
         ],
     )
     .anyway(COUNTED),
@@ -299,21 +360,32 @@ pub const REASONS: &[Reasons] = &[
         ],
     ),
     of("ArrayString::clear", &[("ArrayString::keep", "each text begins there")]),
-    of("ArrayString::char_at", &[("remove::first_char", OWN)]),
+    of("ArrayString::char_at", &[("remove::first_char", OWN), (ACCESSES, OWN)]),
+    of("remove::first_char", &[(ACCESSES, OWN)]),
     of(
         "remove::retain_at",
         &[
-            ("moves::shift", "`read` is below `size`, and `*kept` at most `read`, and the array has the `size` bytes from `offset` on"),
-            ("moves::shift", "the character ends in the text, the text in the array, and `*kept` is at most `read`"),
-            ("remove::first_char", "`read` is below `size`"),
-            (ACCESSES, "`read` is below `size`, and the array has the `size` bytes from `offset` on"),
+            ("moves::shift", "`*kept <= read`, `read < size`, and the array has the `size` bytes from `offset` on"),
+            ("moves::shift", "the character ends in the text, the text in the array, and `*kept <= read`"),
+            ("remove::first_char", "`read < size`"),
+            (ACCESSES, "`read < size`, and the array has the `size` bytes from `offset` on"),
         ],
     )
     .anyway(ANSWERED),
     of("ArrayString::drain", &[("Drain::new", OF_THE_PART), ("ArrayString::take_out", OF_THE_PART)]),
     of("ArrayString::drain_counted", &[("Drain::new", OF_THE_PART), ("ArrayString::take_out", OF_THE_PART)])
         .anyway(COUNTED),
-    of("ArrayString::take_out", &[("ArrayString::drop_front", OWN), ("moves::shift", "`end + tail` is the size of the text, which ends in the array, and `start` is at most `end`")]).anyway(COUNTED),
+    of(
+        "ArrayString::take_out",
+        &[
+            ("ArrayString::drop_front", OWN),
+            (
+                "moves::shift",
+                "`end + tail` is the size of the text, which ends in the array, and `start` is at most `end`",
+            ),
+        ],
+    )
+    .anyway(COUNTED),
     of(
         "ArrayString::drop_trailing",
         &[("ArrayString::keep", "`last_char` returns where the last character begins, which is below 255")],
@@ -337,6 +409,8 @@ pub const REASONS: &[Reasons] = &[
     of("ArrayString::make_ascii_lowercase_in", &[("ArrayString::lowercase_between", INDEXED)]).anyway(NOT_ASKED),
     of("ArrayString::uppercase_between", &[("ascii::uppercase_bytes", OWN_AND_FIELDS)]),
     of("ArrayString::lowercase_between", &[("ascii::lowercase_bytes", OWN_AND_FIELDS)]),
+    of("ascii::uppercase_bytes", &[(ACCESSES, OWN)]),
+    of("ascii::lowercase_bytes", &[(ACCESSES, OWN)]),
     // arraystring_core: what was taken out
     of("Drain::as_str", &[(ACCESSES, "`front <= size` and `start + size <= N`, as the fields of `Drain` say")]),
     of("Drain::default", &[("Drain::new", "there are none")]),

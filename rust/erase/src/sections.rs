@@ -41,8 +41,8 @@ pub fn documented(indent: &str, lines: &str) -> String {
     lines.lines().map(|line| format!("{}\n", format!("{indent}/// {line}").trim_end())).collect()
 }
 
-/// Words as the lines of a comment, each of which begins with `sign`.
-pub fn lines(indent: &str, sign: &str, words: &str) -> String {
+/// Words as lines of at most 120 characters, of which the first begins with one sign, and the others with another.
+pub fn lines(first: &str, others: &str, words: &str) -> String {
     let mut pieces = Vec::<String>::new();
     for word in words.split_whitespace() {
         match pieces.last_mut() {
@@ -52,11 +52,11 @@ pub fn lines(indent: &str, sign: &str, words: &str) -> String {
         }
     }
     let mut put = String::new();
-    let mut line = format!("{indent}{sign}");
+    let mut line = first.to_string();
     for word in pieces {
         if line.chars().count() + word.chars().count() >= 120 {
             put += &format!("{line}\n");
-            line = format!("{indent}{sign}");
+            line = others.to_string();
         }
         line += &format!(" {word}");
     }
@@ -65,7 +65,8 @@ pub fn lines(indent: &str, sign: &str, words: &str) -> String {
 
 /// A section of words.
 pub fn section(indent: &str, title: &str, words: &str) -> String {
-    format!("{indent}/// # {title}\n{indent}///\n{}", lines(indent, "///", words))
+    let sign = format!("{indent}///");
+    format!("{sign} # {title}\n{sign}\n{}", lines(&sign, &sign, words))
 }
 
 /// What stands under `# Safety` of a private function that requires these.

@@ -26,6 +26,8 @@ const REASONS: &[Reasons] = &[
     of("sample::third", &[(ACCESSES, WHY)]),
     of("sample::twice", &[("sample::put", "it is the first"), ("sample::put", "it is the last")]),
     of("sample::counted", &[("sample::put", WHY), ("steps::look_unchecked", WHY)]).anyway("whatever was counted"),
+    of("sample::put", &[(ACCESSES, WHY)]),
+    of("steps::look_unchecked", &[(ACCESSES, WHY)]),
     of("remove::retain_at", &[(ACCESSES, WHY)]).anyway("whatever the closure answers"),
     of("Text::put", &[("sample::shift", WHY), ("Text::push", "it is short"), ("Text::spelled", "it is a text")]),
     of("Number::fmt", &[("steps::look_unchecked", WHY)]),

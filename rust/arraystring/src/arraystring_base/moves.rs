@@ -228,6 +228,8 @@ unsafe fn move_much<const N: usize>(array: &mut [u8; N], from: usize, to: usize,
 #[inline(never)]
 unsafe fn move_any_run<const N: usize>(array: &mut [u8; N], from: usize, to: usize, len: usize) {
     let all = &mut array[..];
+    // SAFETY: this is within: by this function's `# Safety`.
+    // Proved: crates/arraystring_base/src/moves.rt
     copy_within_unchecked!(all, from..from + len, to);
 }
 
@@ -451,6 +453,8 @@ unsafe fn write_long_run<const N: usize>(array: &mut [u8; N], at: usize, given: 
 /// </details>
 unsafe fn write_any_run<const N: usize>(array: &mut [u8; N], at: usize, given: &[u8]) {
     let all = &mut array[..];
+    // SAFETY: this is within: by this function's `# Safety`.
+    // Proved: crates/arraystring_base/src/moves.rt
     copy_from_slice_unchecked!(all, at..at + given.len(), given);
 }
 
@@ -508,6 +512,8 @@ unsafe fn copy_ends<const N: usize, const K: usize>(array: &mut [u8; N], at: usi
 ///
 /// </details>
 unsafe fn bytes_of<const K: usize>(given: &[u8], at: usize) -> Simd<u8, K> {
+    // SAFETY: this is within: by this function's `# Safety`.
+    // Proved: crates/arraystring_base/src/moves.rt
     Simd::<u8, K>::from_slice(get_unchecked!(given, at..at + K))
 }
 
@@ -529,6 +535,8 @@ unsafe fn bytes_of<const K: usize>(given: &[u8], at: usize) -> Simd<u8, K> {
 /// </details>
 unsafe fn put_bytes<const N: usize, const K: usize>(array: &mut [u8; N], at: usize, bytes: Simd<u8, K>) {
     let all = &mut array[..];
+    // SAFETY: this is within: by this function's `# Safety`.
+    // Proved: crates/arraystring_base/src/moves.rt
     bytes.copy_to_slice(get_unchecked_mut!(all, at..at + K));
 }
 

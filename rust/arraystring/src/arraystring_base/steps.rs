@@ -174,6 +174,8 @@ pub fn look(bytes: &[u8], at: usize, steps: &mut Steps) -> u8 {
 #[inline(always)]
 pub(crate) unsafe fn look_unchecked(bytes: &[u8], at: usize, steps: &mut Steps) -> u8 {
     steps.looked = steps.looked.saturating_add(1);
+    // SAFETY: this is within: by this function's `# Safety`.
+    // Proved: crates/arraystring_base/src/steps.rt
     *get_unchecked!(bytes, at)
 }
 

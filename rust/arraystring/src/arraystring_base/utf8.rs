@@ -291,6 +291,8 @@ pub unsafe fn encode<const N: usize>(ch: char, array: &mut [u8; N], at: usize) -
     let code = ch as u32;
     let all = &mut array[..];
     if code < 0x80 {
+        // SAFETY: this is within: by this function's `# Safety`, since `ch` takes as many bytes as are written.
+        // Proved: crates/arraystring_base/src/utf8.rt
         *get_unchecked_mut!(all, at) = code as u8;
         1
     } else if code < 0x800 {

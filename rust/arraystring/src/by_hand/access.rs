@@ -2,9 +2,8 @@
 //!
 //! A function of the sources is accepted only if it is proved never to panic. So each index and each part in it is within, each
 //! copy is between parts of one length, and no `unreachable!()` is reached. rustc can't see that proof, and would test all
-//! this again. So the eraser writes each by a macro of this file, which has the name of what it stands for in std. What bounds it
-//! is in the `# Safety` of its function, or in a line before it: a test above, what the fields of `ArrayString` and `Drain` say, or
-//! what another function returned.
+//! this again. So the eraser writes each by a macro of this file, which has the name of what it stands for in std. A line
+//! before the first in a body says what bounds them.
 //!
 //! (An `unsafe` block of a body may lie around an access, whose own one is not needed then.)
 

@@ -172,7 +172,7 @@ fn a_call_of_a_worker_has_a_reason_or_stops_the_eraser() {
 }
 
 #[test]
-fn an_access_of_a_function_without_safety_has_a_reason_or_stops_the_eraser() {
+fn an_access_has_a_reason_or_stops_the_eraser() {
     let source = |name: &str, clauses: &str| {
         format!("fn {name}(all: &mut [u8], at: usize)\n{clauses}{{\n    all[at] = 1;\n    all[0] = 2;\n}}\n")
     };
@@ -182,6 +182,7 @@ fn an_access_of_a_function_without_safety_has_a_reason_or_stops_the_eraser() {
     assert!(listed.contains(line), "{listed}");
     let why = "`sample::without`: src/reasons.rs does not say why what `[]` requires is true there";
     assert_eq!(made(&source("without", "")).unwrap_err(), format!("3: {why}"));
-    let bounded = made(&source("without", "    requires { at < length all.old }\n")).unwrap();
-    assert!(bounded.contains("/// - `at < all.len()`\n") && !bounded.contains("SAFETY"), "{bounded}");
+    assert_eq!(made(&source("without", "    requires { at < length all.old }\n")).unwrap_err(), format!("4: {why}"));
+    let not_reached = made("fn f() {\n    unreachable!();\n}\n").unwrap();
+    assert!(not_reached.contains("    // SAFETY: this is not reached: by the test above.\n"), "{not_reached}");
 }

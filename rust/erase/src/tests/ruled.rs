@@ -33,6 +33,7 @@ fn a_line_is_another_one_and_tests_by_hand_lie_in_a_module() {
         "    steps.looked = steps.looked.saturating_add(1);\n    bytes[at]\n}\n\n/// `look` where bodies call it, without a test.\n///\n\
          /// # Safety\n///\n/// - `at < bytes.len()`\n#[inline(always)]\npub(crate) unsafe fn look_unchecked(\
          bytes: &[u8], at: usize, steps: &mut Steps) -> u8 {\n    steps.looked = steps.looked.saturating_add(1);\n    \
+         // SAFETY: this is within: by the test above.\n    // Proved: crates/arraystring_base/src/steps.rt\n    \
          *get_unchecked!(bytes, at)\n}\n",
         "/// # Panics\n///\n/// Where the index is not below the length.\n///\n/// <details>",
         "\npub fn look(bytes: &[u8], at: usize",

@@ -142,6 +142,8 @@ impl<const N: usize> ArrayString<N> {
 #[inline]
 unsafe fn uppercase_bytes<const N: usize>(array: &mut [u8; N], start: usize, end: usize) {
     let all = &mut array[..];
+    // SAFETY: this is within: by this function's `# Safety`.
+    // Proved: crates/arraystring_core/src/array_string/ascii.rt
     get_unchecked_mut!(all, start..end).make_ascii_uppercase();
 }
 
@@ -166,5 +168,7 @@ unsafe fn uppercase_bytes<const N: usize>(array: &mut [u8; N], start: usize, end
 #[inline]
 unsafe fn lowercase_bytes<const N: usize>(array: &mut [u8; N], start: usize, end: usize) {
     let all = &mut array[..];
+    // SAFETY: this is within: by this function's `# Safety`.
+    // Proved: crates/arraystring_core/src/array_string/ascii.rt
     get_unchecked_mut!(all, start..end).make_ascii_lowercase();
 }

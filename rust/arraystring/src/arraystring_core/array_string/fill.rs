@@ -86,5 +86,7 @@ unsafe fn try_fill_small<const N: usize>(array: &mut [u8; N], given: &[u8]) -> (
 #[inline(always)]
 unsafe fn write_by_call<const N: usize>(array: &mut [u8; N], at: usize, given: &[u8]) {
     let all = &mut array[..];
+    // SAFETY: this is within: by this function's `# Safety`.
+    // Proved: crates/arraystring_core/src/array_string/fill.rt
     copy_from_slice_unchecked!(all, at..at + given.len(), given);
 }

@@ -358,6 +358,8 @@ impl<const N: usize> ArrayString<N> {
     unsafe fn char_at(&self, at: usize) -> (char, usize) {
         // SAFETY: `0 < self.as_str()[at..].len()`: by this function's `# Safety`.
         // Proved: crates/arraystring_core/src/array_string/remove.rt
+        // SAFETY: this is within: by this function's `# Safety`.
+        // Proved: crates/arraystring_core/src/array_string/remove.rt
         unsafe { first_char(get_unchecked!(self.as_str(), at..)) }
     }
 }
@@ -385,6 +387,8 @@ impl<const N: usize> ArrayString<N> {
 unsafe fn first_char(text: &str) -> (char, usize) {
     let mut rest = text.chars();
     let Some(ch) = rest.next() else {
+        // SAFETY: this is not reached: by this function's `# Safety`.
+        // Proved: crates/arraystring_core/src/array_string/remove.rt
         unreachable_unchecked!();
     };
     (ch, text.len() - rest.as_str().len())
@@ -431,15 +435,15 @@ unsafe fn retain_at<const N: usize, F: FnMut(char) -> bool>(
     let mut read = 0;
     while read < size {
         // A byte of ASCII is its character; others take the decoder.
-        // SAFETY: this is within: `read` is below `size`, and the array has the `size` bytes from `offset` on, whatever
-        // the closure answers.
+        // SAFETY: this is within: `read < size`, and the array has the `size` bytes from `offset` on, whatever the
+        // closure answers.
         // Proved: crates/arraystring_core/src/array_string/remove.rt
         let first = *get_unchecked!(array, offset + read);
         if first < 0x80 {
             if f(first as char) {
                 let to = offset + *kept as usize;
-                // SAFETY: `offset + read + 1 <= N`; `to + 1 <= N`: `read` is below `size`, and `*kept` at most `read`,
-                // and the array has the `size` bytes from `offset` on, whatever the closure answers.
+                // SAFETY: `offset + read + 1 <= N`; `to + 1 <= N`: `*kept <= read`, `read < size`, and the array has
+                // the `size` bytes from `offset` on, whatever the closure answers.
                 // Proved: crates/arraystring_core/src/array_string/remove.rt
                 unsafe { shift(array, offset + read, to, 1, &mut Steps::new()) };
                 *kept += 1;
@@ -450,13 +454,13 @@ unsafe fn retain_at<const N: usize, F: FnMut(char) -> bool>(
             // SAFETY: the `size` bytes from `offset` on were UTF-8. No byte from `read` on was moved, and a
             // character begins there.
             let text = unsafe { str::from_utf8_unchecked(get_unchecked!(all, offset + read..offset + size)) };
-            // SAFETY: `0 < text.len()`: `read` is below `size`, whatever the closure answers.
+            // SAFETY: `0 < text.len()`: `read < size`, whatever the closure answers.
             // Proved: crates/arraystring_core/src/array_string/remove.rt
             let (ch, width) = unsafe { first_char(text) };
             if f(ch) {
                 let to = offset + *kept as usize;
                 // SAFETY: `offset + read + width <= N`; `to + width <= N`: the character ends in the text, the text in
-                // the array, and `*kept` is at most `read`, whatever the closure answers.
+                // the array, and `*kept <= read`, whatever the closure answers.
                 // Proved: crates/arraystring_core/src/array_string/remove.rt
                 unsafe { shift(array, offset + read, to, width, &mut Steps::new()) };
                 *kept += width as u8;
