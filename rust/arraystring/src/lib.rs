@@ -1,4 +1,3 @@
-// NOT PROVED: rust/proved.txt does not have the sources of this crate as they are.
 // Made from crates/arraystring/src/lib.rt by rust/erase. A change goes there.
 //! `ArrayString`, a string of bounded size in an array inside the value, under all its paths.
 //! Its tests are in `tests`, beside `src`.
