@@ -33,11 +33,11 @@ impl Here<'_> {
     fn reason(&self, worker: &str, number: usize, at: usize, tally: &mut Tally) -> Result<String, Fault> {
         let call = self.call;
         let reasons = tally.reasons.iter().find(|reasons| reasons.of == call);
-        let whys = reasons.into_iter().flat_map(|reasons| reasons.calls).filter(|(of, _)| *of == worker);
+        let whys = reasons.into_iter().flat_map(|reasons| &reasons.calls).filter(|(of, _)| *of == worker);
         let whys: Vec<_> = whys.map(|(_, why)| *why).collect();
         let number = if whys.len() == 1 { 0 } else { number };
         let (Some(why), Some(reasons)) = (whys.get(number), reasons) else {
-            let why = format!("`{call}`: src/reasons.rs does not say why what `{worker}` requires is true there");
+            let why = format!("`{call}`: src/reasons.txt does not say why what `{worker}` requires is true there");
             return Err(Fault::new(at, why));
         };
         tally.used.insert(format!("reason {call} {worker} {number}"));
@@ -47,7 +47,7 @@ impl Here<'_> {
         }
         if reasons.anyway.is_empty() {
             let why = format!(
-                "`{call}`: Rust gives up a clause of it, and src/reasons.rs does not say why `{worker}` needs none"
+                "`{call}`: Rust gives up a clause of it, and src/reasons.txt does not say why `{worker}` needs none"
             );
             return Err(Fault::new(at, why));
         }

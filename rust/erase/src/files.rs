@@ -8,7 +8,7 @@ use std::process::{Command, Stdio};
 
 use crate::erase::{Source, Tally, erase, line_of};
 use crate::names;
-use crate::reasons::{REASONS, Reasons};
+use crate::reasons::{self, Reasons};
 use crate::rules::{
     ADDED, BODIES, BY_HAND, BY_STD, CONSTANT, CRATES, FATES, GIVEN_UP, KNOWN, LEFT_OUT, MORE, NAMED, ONCE, ORDER,
     REPLACED, TESTED, TWINS, WIDER,
@@ -21,9 +21,10 @@ pub type Made = BTreeMap<String, String>;
 /// Makes all files out of the sources in a folder of crates.
 pub fn made(crates: &Path) -> Result<(Made, Tally), String> {
     // Read twice: a call is `unsafe` by the contract of what it calls, which may come later.
-    let (_, mut read) = read_all(crates, Tally::of(REASONS))?;
+    let reasons = reasons::all()?;
+    let (_, mut read) = read_all(crates, Tally::of(reasons))?;
     read.contracts.is_whole = true;
-    let (made, tally) = read_all(crates, Tally { contracts: read.contracts, ..Tally::of(REASONS) })?;
+    let (made, tally) = read_all(crates, Tally { contracts: read.contracts, ..Tally::of(reasons) })?;
     all_used(&tally)?;
     names::laws_change_nothing(|path| self::read(&crates.join(path)))?;
     width::bounded(&made)?;
@@ -67,14 +68,14 @@ fn target(krate: &str, module: &str) -> String {
 }
 
 /// The entries of all lists of rules, each of which has to match.
-pub fn entries() -> Vec<String> {
+pub fn entries(reasons: &[Reasons]) -> Vec<String> {
     let names = FATES.iter().map(|(name, _)| name.to_string());
     let names = names.chain(WIDER.iter().map(|rule| format!("wider {}", rule.call)));
     let names = names.chain(REPLACED.iter().map(|rule| format!("line {}", rule.from)));
     let names = names.chain(BY_STD.iter().map(|rule| format!("by std {}", rule.file)));
     let names = names.chain(BY_STD.iter().flat_map(|rule| rule.calls).map(|call| format!("by std {call}")));
     let names = names.chain(KNOWN.iter().map(|(call, clause)| format!("known {call} {clause}")));
-    let names = names.chain(REASONS.iter().flat_map(Reasons::entries));
+    let names = names.chain(reasons.iter().flat_map(Reasons::entries));
     let names = names.chain(GIVEN_UP.iter().map(|clause| format!("given up `{clause}`")));
     let names = names.chain(NAMED.iter().flat_map(|named| named.paths).map(|path| format!("named {path}")));
     let names = names.chain(BODIES.iter().map(|rule| format!("body {}", rule.call)));
@@ -91,7 +92,7 @@ pub fn entries() -> Vec<String> {
 
 /// Each rule has matched.
 pub fn all_used(tally: &Tally) -> Result<(), String> {
-    match entries().iter().find(|name| !tally.used.contains(*name)) {
+    match entries(tally.reasons).iter().find(|name| !tally.used.contains(*name)) {
         Some(name) => Err(format!("rust/erase/src: nothing in the sources matches the entry `{name}`")),
         None => Ok(()),
     }

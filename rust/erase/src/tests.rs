@@ -1,6 +1,6 @@
 //! Samples of sources, and what comes of them.
 
-use crate::reasons::{ACCESSES, of};
+use crate::reasons;
 
 use super::*;
 
@@ -18,27 +18,59 @@ mod refused;
 mod ruled;
 
 /// Why what is called in samples may be called there.
-const WHY: &str = "by the test above";
-const REASONS: &[Reasons] = &[
-    of("sample::f", &[(ACCESSES, WHY), ("sample::put", WHY), ("a::put", WHY), ("steps::look_unchecked", WHY)]),
-    of("sample::first", &[(ACCESSES, WHY), ("steps::look_unchecked", WHY)]),
-    of("sample::second", &[(ACCESSES, WHY), ("sample::third", WHY)]),
-    of("sample::third", &[(ACCESSES, WHY)]),
-    of("sample::twice", &[("sample::put", "it is the first"), ("sample::put", "it is the last")]),
-    of("sample::counted", &[("sample::put", WHY), ("steps::look_unchecked", WHY)]).anyway("whatever was counted"),
-    of("sample::put", &[(ACCESSES, WHY)]),
-    of("steps::look_unchecked", &[(ACCESSES, WHY)]),
-    of("remove::retain_at", &[(ACCESSES, WHY)]).anyway("whatever the closure answers"),
-    of("Text::put", &[("sample::shift", WHY), ("Text::push", "it is short"), ("Text::spelled", "it is a text")]),
-    of("Number::fmt", &[("steps::look_unchecked", WHY)]),
-    of("ArrayString::push_str", &[("ArrayString::put", WHY)]),
-    of("ArrayString::make_ascii_uppercase_in", &[("ArrayString::uppercase_between", "the index above panics else")])
-        .anyway("so no caller shows it"),
-];
+const REASONS: &str = "\
+sample::f
+    accesses: by the test above
+    sample::put: by the test above
+    a::put: by the test above
+    steps::look_unchecked: by the test above
+
+sample::first
+    accesses: by the test above
+    steps::look_unchecked: by the test above
+
+sample::second
+    accesses: by the test above
+    sample::third: by the test above
+
+sample::third
+    accesses: by the test above
+
+sample::twice
+    sample::put: it is the first
+    sample::put: it is the last
+
+sample::counted (whatever was counted)
+    sample::put: by the test above
+    steps::look_unchecked: by the test above
+
+sample::put
+    accesses: by the test above
+
+steps::look_unchecked
+    accesses: by the test above
+
+remove::retain_at (whatever the closure answers)
+    accesses: by the test above
+
+Text::put
+    sample::shift: by the test above
+    Text::push: it is short
+    Text::spelled: it is a text
+
+Number::fmt
+    steps::look_unchecked: by the test above
+
+ArrayString::push_str
+    ArrayString::put: by the test above
+
+ArrayString::make_ascii_uppercase_in (so no caller shows it)
+    ArrayString::uppercase_between: the index above panics else
+";
 
 /// What is known of functions that samples call.
 fn tally() -> Tally {
-    let mut tally = Tally::of(REASONS);
+    let mut tally = Tally::of(reasons::read(REASONS).unwrap());
     let text = ruled::STEPS;
     erase(&Source { krate: "arraystring_base", path: "arraystring_base/src/steps.rt", text }, &mut tally).unwrap();
     tally

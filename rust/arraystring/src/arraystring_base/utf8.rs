@@ -98,7 +98,7 @@ pub fn truncate_str_counted<'a>(text: &'a str, size: u8, steps: &mut Steps) -> &
     if text.len() <= limit {
         return text;
     }
-    // SAFETY: `limit < text.len()`: by the tests above, whatever was counted.
+    // SAFETY: `limit < text.len()`: by the test above, whatever was counted.
     // Proved: crates/arraystring_base/src/utf8.rt
     let end = unsafe { last_boundary(text, limit, steps) };
     // SAFETY: this is within: `last_boundary` returns a boundary of `text`, whatever was counted.

@@ -137,7 +137,8 @@ fn {worker}(all: &mut [u8], at: usize)
         )
     };
     let given_up = "steps.old.moved ≤ 2 ^ 63";
-    let why = "`sample::f`: Rust gives up a clause of it, and src/reasons.rs does not say why `sample::put` needs none";
+    let why =
+        "`sample::f`: Rust gives up a clause of it, and src/reasons.txt does not say why `sample::put` needs none";
     assert_eq!(made(&source("f", "put", given_up)).unwrap_err(), format!("4: {why}"));
     assert!(made(&source("f", "put", "0 < 3")).unwrap().contains("unsafe { put(all, 0) };"));
     let listed = made(&source("counted", "put", given_up)).unwrap();
@@ -157,7 +158,7 @@ fn calling(name: &str, count: usize) -> String {
 fn a_call_of_a_worker_has_a_reason_or_stops_the_eraser() {
     let made_of = |name: &str, count: usize| made(&calling(name, count));
     let missing = |name: &str| {
-        format!("`sample::{name}`: src/reasons.rs does not say why what `sample::put` requires is true there")
+        format!("`sample::{name}`: src/reasons.txt does not say why what `sample::put` requires is true there")
     };
     assert_eq!(made_of("without", 1).unwrap_err(), format!("2: {}", missing("without")));
     let one = made_of("f", 3).unwrap();
@@ -180,7 +181,7 @@ fn an_access_has_a_reason_or_stops_the_eraser() {
                 *get_unchecked_mut!(all, at) = 1;\n    *get_unchecked_mut!(all, 0) = 2;\n";
     let listed = made(&source("f", "")).unwrap();
     assert!(listed.contains(line), "{listed}");
-    let why = "`sample::without`: src/reasons.rs does not say why what `[]` requires is true there";
+    let why = "`sample::without`: src/reasons.txt does not say why what `accesses` requires is true there";
     assert_eq!(made(&source("without", "")).unwrap_err(), format!("3: {why}"));
     assert_eq!(made(&source("without", "    requires { at < length all.old }\n")).unwrap_err(), format!("4: {why}"));
     let not_reached = made("fn f() {\n    unreachable!();\n}\n").unwrap();

@@ -99,13 +99,13 @@ fn a_rule_that_matches_nothing_is_told() {
     use crate::rules::*;
     let crates = concat!(env!("CARGO_MANIFEST_DIR"), "/../../crates");
     let (_, mut tally) = crate::files::made(std::path::Path::new(crates)).unwrap();
-    let reasons = crate::reasons::REASONS.iter().map(|reasons| reasons.entries().len()).sum::<usize>();
+    let reasons = tally.reasons.iter().map(|reasons| reasons.entries().len()).sum::<usize>();
     let named = NAMED.iter().map(|named| named.paths.len()).sum::<usize>();
     let of_std = BY_STD.iter().map(|rule| rule.calls.len()).sum::<usize>();
     let lists = [FATES.len(), WIDER.len(), REPLACED.len(), BY_STD.len(), KNOWN.len(), BODIES.len()];
     let more = [CONSTANT.len(), ADDED.len(), ONCE.len(), ORDER.len(), MORE.len(), TESTED.len(), LEFT_OUT.len()];
     let all = lists.iter().chain(&more).sum::<usize>() + reasons + 2 * TWINS.len() + GIVEN_UP.len() + named + of_std;
-    let names = entries();
+    let names = entries(tally.reasons);
     assert_eq!(names.len(), all);
     for name in names {
         assert!(tally.used.remove(&name), "{name}");

@@ -411,7 +411,7 @@ impl<const N: usize> ArrayString<N> {
         if text.len() > Self::capacity() as usize {
             return Err(Error::OutOfBounds);
         }
-        // SAFETY: `text.len() <= Self::capacity()`: by the tests above.
+        // SAFETY: `text.len() <= Self::capacity()`: by the test above.
         // Proved: crates/arraystring_core/src/array_string/construct.rt
         Ok(unsafe { Self::from_str_unchecked(text) })
     }

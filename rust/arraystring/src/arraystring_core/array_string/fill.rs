@@ -23,7 +23,7 @@ use crate::arraystring_core::ArrayString;
 #[inline(always)]
 pub(super) fn try_fill<const N: usize>(array: &mut [u8; N], given: &[u8]) -> (bool, u8) {
     if N <= 64 {
-        // SAFETY: `N <= 64`: by the tests above.
+        // SAFETY: `N <= 64`: by the test above.
         // Proved: crates/arraystring_core/src/array_string/fill.rt
         return unsafe { try_fill_small(array, given) };
     }
@@ -61,7 +61,7 @@ unsafe fn try_fill_small<const N: usize>(array: &mut [u8; N], given: &[u8]) -> (
     if given.len() > N {
         return (true, 0);
     }
-    // SAFETY: `given.len() <= N`: by the tests above.
+    // SAFETY: `given.len() <= N`: by the test above.
     // Proved: crates/arraystring_core/src/array_string/fill.rt
     unsafe { write_over(array, 0, given) };
     (false, given.len() as u8)

@@ -85,7 +85,7 @@ impl<const N: usize> ArrayString<N> {
             // Proved: crates/arraystring_core/src/array_string/push.rt
             return unsafe { self.compact_and_push(ch) };
         }
-        // SAFETY: `end + ch.len_utf8() <= N`: `has_room` returned true.
+        // SAFETY: `end + ch.len_utf8() <= N`: `has_room` returned true, and the capacity is at most `N`.
         // Proved: crates/arraystring_core/src/array_string/push.rt
         let len = unsafe { encode(ch, &mut self.array, end) };
         self.size = (self.size as usize + len) as u8;
@@ -128,11 +128,12 @@ impl<const N: usize> ArrayString<N> {
             if size + string.len() > capacity {
                 return Err(OutOfBounds);
             }
-            // SAFETY: `self.len() + string.len() <= Self::capacity()`: by the tests above.
+            // SAFETY: `self.len() + string.len() <= Self::capacity()`: by the inner test above.
             // Proved: crates/arraystring_core/src/array_string/push.rt
             unsafe { self.compact_and_push_str(string) };
         } else {
-            // SAFETY: `self.len() + string.len() <= Self::capacity()`: by the tests above.
+            // SAFETY: `self.len() + string.len() <= Self::capacity()`: by the test above, in which `self.start` is
+            // added, too.
             // Proved: crates/arraystring_core/src/array_string/push.rt
             unsafe { self.push_str_unchecked(string) };
         }
@@ -207,7 +208,7 @@ impl<const N: usize> ArrayString<N> {
             return unsafe { self.compact_and_push_str(string) };
         }
         self.size = (self.size as usize + string.len()) as u8;
-        // SAFETY: `end + string.as_bytes().len() <= N`: by the tests above.
+        // SAFETY: `end + string.as_bytes().len() <= N`: by the test above, and the capacity is at most `N`.
         // Proved: crates/arraystring_core/src/array_string/push.rt
         unsafe { write_over(&mut self.array, end, string.as_bytes()) };
     }
@@ -374,7 +375,8 @@ impl<const N: usize> ArrayString<N> {
                 continue;
             }
             *len += piece.len() as u8;
-            // SAFETY: `end + piece.as_bytes().len() <= N`: by the tests above, whether or not the iterator ends.
+            // SAFETY: `end + piece.as_bytes().len() <= N`: by the test above, and the capacity is at most `N`, whether
+            // or not the iterator ends.
             // Proved: crates/arraystring_core/src/array_string/push.rt
             unsafe { write_over(array, end, piece.as_bytes()) };
             end = next;
@@ -512,7 +514,7 @@ impl<const N: usize> ArrayString<N> {
             *len = held as u8;
             return Some(held);
         }
-        // SAFETY: `end + ch.len_utf8() <= N`: `has_room` returned true.
+        // SAFETY: `end + ch.len_utf8() <= N`: `has_room` returned true, and the capacity is at most `N`.
         // Proved: crates/arraystring_core/src/array_string/push.rt
         let next = end + unsafe { encode(ch, array, end) };
         *len = (next - *start as usize) as u8;

@@ -45,7 +45,7 @@ impl<const N: usize> ArrayString<N> {
         if !self.is_boundary(size as usize) {
             return Err(Utf8);
         }
-        // SAFETY: `size` is a boundary of `self`: by the tests above.
+        // SAFETY: `size` is a boundary of `self`: by the test above.
         // Proved: crates/arraystring_core/src/array_string/remove.rt
         unsafe { self.keep(size) };
         Ok(())
@@ -299,7 +299,7 @@ impl<const N: usize> ArrayString<N> {
         // SAFETY: this is within: `at` is a boundary, by the test above.
         // Proved: crates/arraystring_core/src/array_string/remove.rt
         let rest = unsafe { Self::from_str_unchecked(get_unchecked!(self.as_str(), at as usize..)) };
-        // SAFETY: `at` is a boundary of `self`: by the tests above.
+        // SAFETY: `at` is a boundary of `self`: by the test above.
         // Proved: crates/arraystring_core/src/array_string/remove.rt
         unsafe { self.keep(at) };
         Ok(rest)

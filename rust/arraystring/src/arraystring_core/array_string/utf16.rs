@@ -199,7 +199,7 @@ impl<const N: usize> ArrayString<N> {
         if !unsafe { Self::has_room(end, ch) } {
             return None;
         }
-        // SAFETY: `end + ch.len_utf8() <= N`: `has_room` returned true.
+        // SAFETY: `end + ch.len_utf8() <= N`: `has_room` returned true, and the capacity is at most `N`.
         // Proved: crates/arraystring_core/src/array_string/utf16.rt
         Some(end + unsafe { encode(ch, array, end) })
     }
