@@ -1,4 +1,5 @@
-//! What Rust asks beyond erasure: nothing here is proved. `access` and `known!` have `unsafe` blocks, which rest on the proofs, and
+//! What Rust asks beyond erasure: nothing here is proved. `access` and `known!` have `unsafe` blocks, which rest on the proofs, or on the
+//! comments of bodies by hand, and
 //! the calls of `char` and `str` are `unsafe`, as those of std are. The rest has none; but `simd` and `constant` could break UTF-8
 //! all the same.
 //!

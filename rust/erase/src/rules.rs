@@ -100,6 +100,8 @@ pub enum Fate {
 use Fate::{Panics, Safe, Unsafe};
 
 const MUST_FIT: &[&str] = &["The text after the call must fit into the capacity."];
+const ALL_MUST_FIT: &[&str] =
+    &["All that the iterator gives must fit into the capacity together, also if it never ends, or panics."];
 const MUST_BE_A_PLACE: &[&str] =
     &["The index must be a boundary of the text.", "The text after the call must fit into the capacity."];
 const MUST_BE_TEXT: &[&str] = &["The bytes must be well-formed UTF-8.", "They must fit into the capacity."];
@@ -175,7 +177,7 @@ pub const FATES: &[(&str, Fate)] = &[
     (
         "ArrayString::from_iterator_unchecked",
         Unsafe(
-            MUST_FIT,
+            ALL_MUST_FIT,
             &[
                 "// SAFETY: the pieces take four bytes together.",
                 "let string = unsafe { ArrayString::<4>::from_iterator_unchecked([\"a\", \"bcd\"]) };",
@@ -186,7 +188,7 @@ pub const FATES: &[(&str, Fate)] = &[
     (
         "ArrayString::from_chars_unchecked",
         Unsafe(
-            MUST_FIT,
+            ALL_MUST_FIT,
             &[
                 "// SAFETY: the digits take a byte each, and there are four.",
                 "let string = unsafe { ArrayString::<4>::from_chars_unchecked('6'..='9') };",
@@ -219,7 +221,7 @@ pub const FATES: &[(&str, Fate)] = &[
     (
         "CacheString::from_iterator_unchecked",
         Unsafe(
-            MUST_FIT,
+            ALL_MUST_FIT,
             &[
                 "// SAFETY: the pieces take less than 63 bytes together.",
                 "let key = unsafe { CacheString::from_iterator_unchecked([\"user\", \":\", \"42\"]) };",
@@ -230,7 +232,7 @@ pub const FATES: &[(&str, Fate)] = &[
     (
         "CacheString::from_chars_unchecked",
         Unsafe(
-            MUST_FIT,
+            ALL_MUST_FIT,
             &[
                 "// SAFETY: the letters take a byte each, and there are 26.",
                 "let letters = unsafe { CacheString::from_chars_unchecked('a'..='z') };",

@@ -275,7 +275,7 @@ fn retain_at<const N: usize, F: FnMut(char) -> bool + Drop>(
     ensures text { IsUtf8 (take kept.new (drop offset array.new)) }
     ensures filtered { IsFiltered F.step f (chars (take size (drop offset array.old))) (chars (take kept.new (drop offset array.new))) }
 {
-    // From `read` on no byte was moved.
+    // From `read` on no byte was written over.
     *kept = 0;
     let mut read = 0;
     while read < size {
@@ -291,8 +291,9 @@ fn retain_at<const N: usize, F: FnMut(char) -> bool + Drop>(
             read += 1;
         } else {
             let all = &array[..];
-            // SAFETY: the `size` bytes from `offset` on were UTF-8. No byte from `read` on was moved, and a
-            // character begins there.
+            // SAFETY: the `size` bytes from `offset` on were UTF-8 at the start. No byte from `read` on was
+            // written over, since `*kept <= read`: each turn adds no more to it. `read` goes on by whole
+            // characters, so one begins there, whatever the closure answers.
             let text = unsafe { str::from_utf8_unchecked(&all[offset + read..offset + size]) };
             let (ch, width) = first_char(text);
             if f(ch) {

@@ -1,9 +1,10 @@
-//! What a proved body reads and writes, without a test that it is there.
+//! What is read and written without a test that it is there.
 //!
 //! A function of the sources is accepted only if it is proved never to panic. So each index and each part in it is within, each
 //! copy is between parts of one length, and no `unreachable!()` is reached. rustc can't see that proof, and would test all
 //! this again. So the eraser writes each by a macro of this file, which has the name of what it stands for in std. A line
-//! before the first in a body says what bounds them.
+//! before the first in a body says what bounds them. `as_str`, `as_bytes` and the test for ASCII have such accesses in bodies
+//! by hand, and the line there is all that holds them.
 //!
 //! (An `unsafe` block of a body may lie around an access, whose own one is not needed then.)
 
@@ -17,7 +18,7 @@ macro_rules! get_unchecked {
             &$of[$at]
         } else {
             #[allow(unused_unsafe)]
-            // SAFETY: this stands for an index of a proved body, which says why it is within.
+            // SAFETY: this stands for an index of a body that says why it is within.
             let it = unsafe { $of.get_unchecked($at) };
             it
         }
@@ -31,7 +32,7 @@ macro_rules! get_unchecked_mut {
             &mut $of[$at]
         } else {
             #[allow(unused_unsafe)]
-            // SAFETY: this stands for an index of a proved body, which says why it is within.
+            // SAFETY: this stands for an index of a body that says why it is within.
             let it = unsafe { $of.get_unchecked_mut($at) };
             it
         }
@@ -45,7 +46,7 @@ macro_rules! split_at_unchecked {
             $of.split_at($at)
         } else {
             #[allow(unused_unsafe)]
-            // SAFETY: this stands for a part of a proved body, which says why it is within.
+            // SAFETY: this stands for a part of a body that says why it is within.
             let it = unsafe { $of.split_at_unchecked($at) };
             it
         }
