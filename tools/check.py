@@ -32,7 +32,7 @@ LEAST = {
     "{} tests of the tools": 100,
     "run: {} definitions": 60,
     "all public contracts: {} definitions": 190,
-    "{} lemmas and laws are cited": 990,
+    "{} lemmas and laws are cited": 980,
     "{} blocks are as in the files": 14,
     "the pages name {} public calls": 58,
     "public calls and {} traits": 18,

@@ -4,7 +4,7 @@
 use crate::arraystring_base::error::{Error, OutOfBounds, Utf8};
 use crate::arraystring_base::utils::{truncate_str, write_over};
 use crate::arraystring_core::ArrayString;
-use crate::arraystring_core::array_string::fill::try_fill;
+use crate::arraystring_core::array_string::fill::{fill, try_fill};
 use crate::arraystring_core::fast::well_formed::read_utf8;
 use crate::by_hand::str;
 
@@ -105,8 +105,8 @@ impl<const N: usize> ArrayString<N> {
     pub unsafe fn from_str_unchecked<S: AsRef<str>>(string: S) -> Self {
         let string = string.as_ref();
         let mut array = [0; N];
-        // SAFETY: the proof of `from_str_unchecked` in crates/arraystring_core/src/array_string/construct.rt shows the precondition of `write_over`.
-        unsafe { write_over(&mut array, 0, string.as_bytes()) };
+        // SAFETY: the proof of `from_str_unchecked` in crates/arraystring_core/src/array_string/construct.rt shows the precondition of `fill`.
+        unsafe { fill(&mut array, string.as_bytes()) };
         ArrayString { array, start: 0, size: string.len() as u8 }
     }
 
