@@ -8,7 +8,7 @@ ghost use Rattle.arraystring_core.specs.Construct.{IsWholeOrRefused};
 ghost use Rattle.arraystring_core.specs.Taken.{Takes, TakesAll, Fits, Gives, joined, joined_pieces, piece_text};
 
 use crate::ArrayString;
-use crate::array_string::fill::try_fill;
+use crate::array_string::fill::{fill, try_fill};
 use crate::fast::well_formed::read_utf8;
 use arraystring_base::error::{Error, OutOfBounds, Utf8};
 use arraystring_base::utils::{truncate_str, write_over};
@@ -70,7 +70,7 @@ impl<const N: usize> ArrayString<N> {
         ensures { result.text ≡ chars string.now }
     {
         let mut array = [0; N];
-        write_over(&mut array, 0, string.as_bytes());
+        fill(&mut array, string.as_bytes());
         ArrayString {
             array,
             start: 0,

@@ -5,9 +5,23 @@ ghost use Rattle.arraystring_base.specs.Text.{cap};
 use crate::ArrayString;
 use arraystring_base::utils::write_over;
 
-/// Writes `given` at the start of a new array if it is not larger than the capacity, and else
-/// nothing. Returns whether it is refused, and how many bytes were written. A large array is written
-/// with no branch: where branches join, the compiler copies the array once more.
+/// Writes `given` at the start of a new array. In a large one it is written by one call whatever its
+/// length, and the compiler then makes fewer copies of the array on its way out.
+#[inline(always)]
+pub(super) fn fill<const N: usize>(array: &mut [u8; N], given: &[u8])
+    requires { length given.now ≤ N }
+    ensures { array.new ≡ take 0 array.old ++ (given.now ++ drop (0 + length given.now) array.old) }
+{
+    if N > 64 {
+        write_by_call(array, 0, given);
+    } else {
+        write_over(array, 0, given);
+    }
+}
+
+/// The same if `given` is not larger than the capacity, and else nothing. Returns whether it is
+/// refused, and how many bytes were written. It has no branch of its own: where branches join, the
+/// compiler copies the array once more.
 #[inline(always)]
 pub(super) fn try_fill<const N: usize>(array: &mut [u8; N], given: &[u8]) -> (bool, u8)
     ensures len { length array.new ≡ N }

@@ -4,9 +4,37 @@
 use crate::arraystring_base::utils::write_over;
 use crate::arraystring_core::ArrayString;
 
-/// Writes `given` at the start of a new array if it is not larger than the capacity, and else
-/// nothing. Returns whether it is refused, and how many bytes were written. A large array is written
-/// with no branch: where branches join, the compiler copies the array once more.
+/// Writes `given` at the start of a new array. In a large one it is written by one call whatever its
+/// length, and the compiler then makes fewer copies of the array on its way out.
+///
+/// # Safety
+///
+/// The contract requires `length given.now ≤ N`.
+///
+/// <details><summary>Contract</summary>
+///
+/// ```text
+/// requires { length given.now ≤ N }
+/// ensures { array.new ≡ take 0 array.old ++ (given.now ++ drop (0 + length given.now) array.old) }
+/// ```
+///
+/// [How to read a contract](crate::contracts)
+///
+/// </details>
+#[inline(always)]
+pub(super) unsafe fn fill<const N: usize>(array: &mut [u8; N], given: &[u8]) {
+    if N > 64 {
+        // SAFETY: the proof of `fill` in crates/arraystring_core/src/array_string/fill.rt shows the precondition of `write_by_call`.
+        unsafe { write_by_call(array, 0, given) };
+    } else {
+        // SAFETY: the proof of `fill` in crates/arraystring_core/src/array_string/fill.rt shows the precondition of `write_over`.
+        unsafe { write_over(array, 0, given) };
+    }
+}
+
+/// The same if `given` is not larger than the capacity, and else nothing. Returns whether it is
+/// refused, and how many bytes were written. It has no branch of its own: where branches join, the
+/// compiler copies the array once more.
 ///
 /// <details><summary>Contract</summary>
 ///

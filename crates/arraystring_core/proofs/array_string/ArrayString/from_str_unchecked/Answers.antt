@@ -6,8 +6,8 @@ use Rattle.arraystring_base.proofs.TextLaws.{size-borrowed}
 use Rattle.arraystring_core.proofs.GapLemmas.{written-length}
 use Rattle.arraystring_core.proofs.array_string.ArrayString.from_str_unchecked.Goals as goal
 
-pub write_over-requires : goal.write_over-requires
-write_over-requires g c =
+pub fill-requires : goal.fill-requires
+fill-requires g c =
     (search rules, omega (arith, size-borrowed c.utf8.string, ap length c.as_bytes.ensures.value))
 
 pub overflow_cast-result : goal.overflow_cast-result
@@ -16,10 +16,10 @@ overflow_cast-result g c = omega (arith, size-borrowed c.utf8.string)
 pub invariant_of-result : goal.invariant_of-result
 invariant_of-result g c =
     let given = c.args.string.now in
-    let copied = rw c.as_bytes.ensures.value at c.write_over.ensures in
+    let copied = rw c.as_bytes.ensures.value at c.fill.ensures in
     let fits : 0 + length given ≤ cap g.row.N = omega (arith, size-borrowed c.utf8.string) in
     let zeros : length (replicate g.row.N 0) ≡ g.row.N = length-replicate g.row.N 0 in
-    let long = written-length (replicate g.row.N 0) c.write_over.new.array given 0 (omega (arith, fits, zeros)) copied ∙ zeros in
+    let long = written-length (replicate g.row.N 0) c.fill.new.array given 0 (omega (arith, fits, zeros)) copied ∙ zeros in
     record {
       within = fits;
       length = long;
@@ -29,5 +29,5 @@ invariant_of-result g c =
 pub returns : goal.returns
 returns g c =
     let given = c.args.string.now in
-    let copied = rw c.as_bytes.ensures.value at c.write_over.ensures in
+    let copied = rw c.as_bytes.ensures.value at c.fill.ensures in
     ap (λ l. chars (take (length given) l)) copied ∙ ap chars (take_at given _ (length given) refl)
