@@ -247,7 +247,7 @@ impl CacheString {
     ///
     /// # Safety
     ///
-    /// The text after the call must fit into the capacity.
+    /// All that the iterator gives must fit into the capacity together, also if it never ends, or panics.
     ///
     /// # Examples
     ///
@@ -359,7 +359,7 @@ impl CacheString {
     ///
     /// # Safety
     ///
-    /// The text after the call must fit into the capacity.
+    /// All that the iterator gives must fit into the capacity together, also if it never ends, or panics.
     ///
     /// # Examples
     ///

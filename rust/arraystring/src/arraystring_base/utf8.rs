@@ -235,7 +235,8 @@ unsafe fn char_before_end(text: &str, steps: &mut Steps) -> (usize, char) {
     let second = unsafe { look_unchecked(all, end - 2, steps) } as u32;
     if second >= 0xC0 {
         let code = (second - 0xC0) * 64 + (last - 0x80);
-        // SAFETY: the bytes of a `&str` are UTF-8, and the first of these two begins a character, so they spell it.
+        // SAFETY: the bytes of a `&str` are UTF-8. `second` begins a character and `last` continues it, so `code` is
+        // its number, a scalar value.
         return (end - 2, unsafe { crate::by_hand::char::from_u32_unchecked(code) });
     }
     // SAFETY: `end - 3 < all.len()`: the last two bytes only continue a character, so it has one more before them,
@@ -244,7 +245,8 @@ unsafe fn char_before_end(text: &str, steps: &mut Steps) -> (usize, char) {
     let third = unsafe { look_unchecked(all, end - 3, steps) } as u32;
     if third >= 0xC0 {
         let code = (third - 0xE0) * 4096 + (second - 0x80) * 64 + (last - 0x80);
-        // SAFETY: the bytes of a `&str` are UTF-8, and the first of these three begins a character, so they spell it.
+        // SAFETY: the bytes of a `&str` are UTF-8. `third` begins a character and the two behind it continue it, so
+        // `code` is its number, a scalar value.
         return (end - 3, unsafe { crate::by_hand::char::from_u32_unchecked(code) });
     }
     // SAFETY: `end - 4 < all.len()`: the last three bytes only continue a character, so it has one more before them,
@@ -253,7 +255,8 @@ unsafe fn char_before_end(text: &str, steps: &mut Steps) -> (usize, char) {
     let fourth = unsafe { look_unchecked(all, end - 4, steps) } as u32;
     let front = (fourth - 0xF0) * 262_144 + (third - 0x80) * 4096;
     let code = front + (second - 0x80) * 64 + (last - 0x80);
-    // SAFETY: the bytes of a `&str` are UTF-8, and the last three of these continue a character, so all four spell it.
+    // SAFETY: the bytes of a `&str` are UTF-8. `fourth` begins a character, since none has more than four bytes, and the
+    // three behind it continue it, so `code` is its number, a scalar value.
     (end - 4, unsafe { crate::by_hand::char::from_u32_unchecked(code) })
 }
 

@@ -4,7 +4,7 @@
 use crate::arraystring_base::error::{Error, OutOfBounds, Utf8};
 use crate::arraystring_base::utils::{truncate_str, write_over};
 use crate::arraystring_core::ArrayString;
-use crate::arraystring_core::array_string::fill::try_fill;
+use crate::arraystring_core::array_string::fill::{fill, try_fill};
 use crate::arraystring_core::fast::well_formed::read_utf8;
 use crate::by_hand::str;
 
@@ -73,7 +73,7 @@ impl<const N: usize> ArrayString<N> {
     pub fn from_str_truncate<S: AsRef<str>>(string: S) -> Self {
         let string = string.as_ref();
         // SAFETY: `truncate_str(string, Self::capacity()).len() <= Self::capacity()`: `truncate_str` returns no more
-        // bytes than it is told, which is the room.
+        // bytes than it is told, which is the capacity.
         // Proved: crates/arraystring_core/src/array_string/construct.rt
         unsafe { Self::from_str_unchecked(truncate_str(string, Self::capacity())) }
     }
@@ -111,7 +111,7 @@ impl<const N: usize> ArrayString<N> {
         let mut array = [0; N];
         // SAFETY: `string.as_bytes().len() <= N`: by this function's `# Safety`, since the capacity is at most `N`.
         // Proved: crates/arraystring_core/src/array_string/construct.rt
-        unsafe { write_over(&mut array, 0, string.as_bytes()) };
+        unsafe { fill(&mut array, string.as_bytes()) };
         ArrayString { array, start: 0, size: string.len() as u8 }
     }
 
@@ -206,7 +206,7 @@ impl<const N: usize> ArrayString<N> {
     ///
     /// # Safety
     ///
-    /// The text after the call must fit into the capacity.
+    /// All that the iterator gives must fit into the capacity together, also if it never ends, or panics.
     ///
     /// # Examples
     ///
@@ -337,7 +337,7 @@ impl<const N: usize> ArrayString<N> {
     ///
     /// # Safety
     ///
-    /// The text after the call must fit into the capacity.
+    /// All that the iterator gives must fit into the capacity together, also if it never ends, or panics.
     ///
     /// # Examples
     ///

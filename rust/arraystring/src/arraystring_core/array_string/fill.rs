@@ -9,7 +9,7 @@ use crate::arraystring_core::ArrayString;
 ///
 /// # Safety
 ///
-/// The contract requires `length given.now ≤ N`.
+/// - `given.len() <= N`
 ///
 /// <details><summary>Contract</summary>
 ///
@@ -24,10 +24,12 @@ use crate::arraystring_core::ArrayString;
 #[inline(always)]
 pub(super) unsafe fn fill<const N: usize>(array: &mut [u8; N], given: &[u8]) {
     if N > 64 {
-        // SAFETY: the proof of `fill` in crates/arraystring_core/src/array_string/fill.rt shows the precondition of `write_by_call`.
+        // SAFETY: `given.len() <= N`: by this function's `# Safety`.
+        // Proved: crates/arraystring_core/src/array_string/fill.rt
         unsafe { write_by_call(array, 0, given) };
     } else {
-        // SAFETY: the proof of `fill` in crates/arraystring_core/src/array_string/fill.rt shows the precondition of `write_over`.
+        // SAFETY: `given.len() <= N`: by this function's `# Safety`.
+        // Proved: crates/arraystring_core/src/array_string/fill.rt
         unsafe { write_over(array, 0, given) };
     }
 }

@@ -335,7 +335,7 @@ impl<const N: usize> ArrayString<N> {
         let (start, end) = plain_ends(range, self.len());
         let _ = &self.as_str()[start..end];
         // SAFETY: `start <= end`; `start` is a boundary of `self`; `end` is a boundary of `self`: the index above
-        // panics where one of these does not hold, so that its caller need not show them.
+        // panics where one of these does not hold, so that the caller of this function need not show them.
         // Proved: crates/arraystring_core/src/array_string/range.rt
         unsafe { self.uppercase_between(start, end) };
     }
@@ -379,7 +379,7 @@ impl<const N: usize> ArrayString<N> {
         let (start, end) = plain_ends(range, self.len());
         let _ = &self.as_str()[start..end];
         // SAFETY: `start <= end`; `start` is a boundary of `self`; `end` is a boundary of `self`: the index above
-        // panics where one of these does not hold, so that its caller need not show them.
+        // panics where one of these does not hold, so that the caller of this function need not show them.
         // Proved: crates/arraystring_core/src/array_string/range.rt
         unsafe { self.lowercase_between(start, end) };
     }

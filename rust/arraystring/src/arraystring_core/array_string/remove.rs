@@ -430,7 +430,7 @@ unsafe fn retain_at<const N: usize, F: FnMut(char) -> bool>(
     size: usize,
     mut f: F,
 ) {
-    // From `read` on no byte was moved.
+    // From `read` on no byte was written over.
     *kept = 0;
     let mut read = 0;
     while read < size {
@@ -442,8 +442,8 @@ unsafe fn retain_at<const N: usize, F: FnMut(char) -> bool>(
         if first < 0x80 {
             if f(first as char) {
                 let to = offset + *kept as usize;
-                // SAFETY: `offset + read + 1 <= N`; `to + 1 <= N`: `*kept <= read`, `read < size`, and the array has
-                // the `size` bytes from `offset` on, whatever the closure answers.
+                // SAFETY: `offset + read + 1 <= N`; `to + 1 <= N`: `*kept <= read`, since a turn adds no more to it,
+                // `read < size`, and the array has the `size` bytes from `offset` on, whatever the closure answers.
                 // Proved: crates/arraystring_core/src/array_string/remove.rt
                 unsafe { shift(array, offset + read, to, 1, &mut Steps::new()) };
                 *kept += 1;
@@ -451,8 +451,9 @@ unsafe fn retain_at<const N: usize, F: FnMut(char) -> bool>(
             read += 1;
         } else {
             let all = &array[..];
-            // SAFETY: the `size` bytes from `offset` on were UTF-8. No byte from `read` on was moved, and a
-            // character begins there.
+            // SAFETY: the `size` bytes from `offset` on were UTF-8 at the start. No byte from `read` on was
+            // written over, since `*kept <= read`: each turn adds no more to it. `read` goes on by whole
+            // characters, so one begins there, whatever the closure answers.
             let text = unsafe { str::from_utf8_unchecked(get_unchecked!(all, offset + read..offset + size)) };
             // SAFETY: `0 < text.len()`: `read < size`, whatever the closure answers.
             // Proved: crates/arraystring_core/src/array_string/remove.rt
@@ -460,7 +461,7 @@ unsafe fn retain_at<const N: usize, F: FnMut(char) -> bool>(
             if f(ch) {
                 let to = offset + *kept as usize;
                 // SAFETY: `offset + read + width <= N`; `to + width <= N`: the character ends in the text, the text in
-                // the array, and `*kept <= read`, whatever the closure answers.
+                // the array, and `*kept <= read`, since a turn adds no more to it, whatever the closure answers.
                 // Proved: crates/arraystring_core/src/array_string/remove.rt
                 unsafe { shift(array, offset + read, to, width, &mut Steps::new()) };
                 *kept += width as u8;
