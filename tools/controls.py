@@ -7,8 +7,8 @@ tools/run controls --check           tries none, and fails where a control has n
 A control stands in the edit of its wrong body, crates/CRATE/must-fail/NAME.edit, by lines `# right:`. Each is put into a
 copy of the repository among the temporary files, checked there with what earlier checks kept in out/, and taken out
 again. Of each that proves .ci/controls.txt gets a line: its name and a checksum of what was tried. That is the edit, the
-files that it changes, the stored proofs of the functions that it changes and of those that call them, and the logic that
-`rt version` names. The line is fresh while the checksum is the same. Nothing else of the repository is written. It fails
+files that it changes without their lines of comments, the stored proofs of the functions that it changes and of those that
+call them, and the logic that `rt version` names. The line is fresh while the checksum is the same. Nothing else of the repository is written. It fails
 where a control is refused or cannot be read. No other `rt` may write in out/ while the copy is made.
 """
 import hashlib
@@ -56,6 +56,11 @@ def stored_proofs(folder, places):
     return [it for it in sorted(folder.glob("proofs/**/*.antt")) if it.parent.name in names]
 
 
+def proved_part(file):
+    """What a check reads of a file: all but its lines of comments."""
+    return b"".join(it for it in file.read_bytes().splitlines(keepends=True) if not it.lstrip().startswith((b"//", b"--")))
+
+
 def checksum_of(root, control, logic):
     """The checksum of what the control depends on; None where it cannot be applied."""
     edit, folder = edit_of(root, control)
@@ -63,7 +68,7 @@ def checksum_of(root, control, logic):
     try:
         texts, places = edits.applied(edit, folder, is_right=True)
         for file in [edit, *texts, *stored_proofs(folder, places)]:
-            digest.update(hashlib.sha256(file.read_bytes()).digest())
+            digest.update(hashlib.sha256(proved_part(file)).digest())
     except edits.BadEdit:
         return None
     return digest.hexdigest()[:16]
