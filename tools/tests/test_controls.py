@@ -71,6 +71,9 @@ class Controls(TreeTest):
         self.assert_passes(controls)
         self.write("crates/numbers/must-fail/twice_is_none.edit", EDIT.replace("+ 0", "- value"))
         self.write("crates/numbers/proofs/other/Answers.antt", "d")
+        for path, sign in (("src/lib.rt", "//"), ("proofs/twice/Answers.antt", "--")):
+            text = (self.root / "crates/numbers" / path).read_text(encoding="utf-8")
+            self.write(f"crates/numbers/{path}", f"{sign} What no proof reads.\n{text}")
         self.assert_passes(controls, "--check")
         with mock.patch.object(rt, "logic", lambda: "another logic"):
             self.assert_fails("not as it was when it proved", controls, "--check")
