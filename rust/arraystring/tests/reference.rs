@@ -283,7 +283,7 @@ fn each_unsafe_function_says_what_it_requires_in_words_of_rust() {
     }
     let planted = |head: &str, docs: &[&str]| {
         let docs = docs.iter().map(|line| line.to_string()).collect();
-        fault_of_section(&Item { file: String::new(), head: head.to_string(), docs })
+        fault_of_section(&Item { file: String::new(), head: head.to_string(), docs, is_exported: false })
     };
     for docs in [&["It."][..], &["# Safety", ""], &["# Safety", "", "- `a <= b`", "it"], &["# Safety", "", "- `a ≤ b`"]]
     {

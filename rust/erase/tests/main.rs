@@ -38,7 +38,7 @@ impl Tree {
             copy(&Path::new(ROOT).join(krate).join("src"), &folder.join(krate).join("src"));
         }
         copy(&Path::new(ROOT).join(WRITTEN), &folder.join(WRITTEN));
-        for file in ["rust/rustfmt.toml", "rust/arraystring/README.md"] {
+        for file in ["rust/rustfmt.toml", "rust/arraystring/TRUST.md"] {
             fs::copy(Path::new(ROOT).join(file), folder.join(file)).unwrap();
         }
         Tree(folder)
