@@ -1,6 +1,6 @@
-//! The smallest loop that orders two strings with vectors of 16 bytes, the largest of the kit's target. It shows what of the peers'
-//! counts, whose C library has vectors of 32, can be reached. The strings lie in their arrays as the port's do, and fewer than
-//! 16 bytes are compared as the port compares them.
+//! The smallest loops that order two strings, and that say whether they are equal, with vectors of 16 bytes, the largest of the
+//! kit's target. They show what of the peers' counts, whose C library has vectors of 32, can be reached. The strings lie in their
+//! arrays as the port's do, and fewer than 16 bytes are compared as the port compares them.
 //!
 //! A group of 64 bytes takes eight loads, four comparisons, three joins and one test. The last group overlaps the one before it,
 //! and so do the blocks of up to 64 bytes. What was compared is kept for the search of the byte. bench/least counts it.
@@ -130,6 +130,13 @@ fn of_last<const K: usize>(a: &[u8], b: &[u8], places: [usize; K]) -> Ordering {
 }
 
 #[inline(always)]
+fn is_same<const K: usize>(a: &[u8], b: &[u8], places: [usize; K]) -> bool {
+    let blocks = compared(a, b, places);
+    // SAFETY: the target has these instructions.
+    unsafe { _mm_movemask_epi8(blocks[1..].iter().fold(blocks[0], |all, block| _mm_and_si128(all, *block))) == 0xFFFF }
+}
+
+#[inline(always)]
 fn looped(a: &[u8], b: &[u8], common: usize) -> Ordering {
     if common <= 64 {
         return match common {
@@ -146,6 +153,43 @@ fn looped(a: &[u8], b: &[u8], common: usize) -> Ordering {
         at += 64;
     }
     of_last::<4>(a, b, [common - 64, common - 48, common - 32, common - 16])
+}
+
+#[inline(always)]
+fn are_few_same(a: &[u8], b: &[u8]) -> bool {
+    match a.len() {
+        0 => true,
+        // SAFETY: both have so many bytes.
+        1..4 => (0..a.len()).all(|at| unsafe { a.get_unchecked(at) == b.get_unchecked(at) }),
+        4..8 => half(a, 0) == half(b, 0) && half(a, a.len() - 4) == half(b, b.len() - 4),
+        _ => word(a, 0) == word(b, 0) && word(a, a.len() - 8) == word(b, b.len() - 8),
+    }
+}
+
+#[inline(always)]
+fn are_same(a: &[u8], b: &[u8]) -> bool {
+    let size = a.len();
+    if size <= 64 {
+        return match size {
+            16 => is_same::<1>(a, b, [0]),
+            17..=32 => is_same::<2>(a, b, [0, size - 16]),
+            _ => is_same::<4>(a, b, [0, 16, size - 32, size - 16]),
+        };
+    }
+    let mut at = 0;
+    while at + 64 < size {
+        if !is_same::<4>(a, b, [at, at + 16, at + 32, at + 48]) {
+            return false;
+        }
+        at += 64;
+    }
+    is_same::<4>(a, b, [size - 64, size - 48, size - 32, size - 16])
+}
+
+#[inline(never)]
+fn counted_eq<const N: usize>(text: &Text<N>, other: &Text<N>) -> bool {
+    let (a, b) = (text.bytes(), other.bytes());
+    a.len() == b.len() && if a.len() < 16 { are_few_same(a, b) } else { are_same(a, b) }
 }
 
 #[inline(never)]
@@ -169,10 +213,14 @@ fn tell<const N: usize>(times: u32) {
             if let Some(index) = index {
                 given[index] = b'z';
             }
-            next_edge(black_box(&format!("{title}|{size}")));
             let (text, other) = (black_box(Text::<N>::new(&text)), black_box(Text::<N>::new(&given)));
+            next_edge(black_box(&format!("cmp, {title}|{size}")));
             for _ in 0..times {
                 assert_eq!(counted_cmp(&text, &other), text.bytes().cmp(other.bytes()));
+            }
+            next_edge(black_box(&format!("==, {title}|{size}")));
+            for _ in 0..times {
+                assert_eq!(counted_eq(&text, &other), text.bytes() == other.bytes());
             }
         }
     }

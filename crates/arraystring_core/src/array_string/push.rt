@@ -233,6 +233,7 @@ impl<const N: usize> ArrayString<N> {
 
     /// Appends `string` to a text of the array, and returns where it ends then. If not all of it fits,
     /// appends what does and returns `None`. It is for a text that has no room for `string` behind it.
+    /// Afterwards the `len` bytes from `start` on are UTF-8 and end within the capacity.
     #[cold]
     #[inline(never)]
     fn append_past_end(
@@ -290,7 +291,8 @@ impl<const N: usize> ArrayString<N> {
     }
 
     /// Appends `ch` to a text of the array that ends at `end`, and returns where it ends then. Returns
-    /// `None` if it does not fit.
+    /// `None` if it does not fit. Afterwards the `len` bytes from `start` on are UTF-8 and end within
+    /// the capacity.
     #[inline(always)]
     fn append_char(
         array: &mut [u8; N],

@@ -46,7 +46,7 @@ macro_rules! split_at_unchecked {
             $of.split_at($at)
         } else {
             #[allow(unused_unsafe)]
-            // SAFETY: this stands for a part of a body that says why it is within.
+            // SAFETY: this stands for a split in a body that says why the index is within.
             let it = unsafe { $of.split_at_unchecked($at) };
             it
         }

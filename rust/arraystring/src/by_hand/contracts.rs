@@ -1,7 +1,7 @@
 //! How to read a contract.
 //!
 //! What folds out under *Contract* is what is proved of a call, in the language of the proofs. A program needs none of it: a call's
-//! words, errors and examples stand above its contract. Each word of a contract is below, but for the names in the call's own
+//! words, errors and examples stand above its contract. Each word of a public call's contract is below, but for the names in the call's own
 //! signature and those that the contract itself gives (`λ x.`, `let x =`, `(x : List ℕ)`).
 //!
 //! - `requires { .. }` is what holds when the call is made, and `ensures { .. }` what holds when it returns. A name before the
