@@ -258,18 +258,20 @@ unsafe fn move_any_run<const N: usize>(array: &mut [u8; N], from: usize, to: usi
 unsafe fn move_ends<const N: usize, const K: usize>(array: &mut [u8; N], from: usize, to: usize, len: usize) {
     let rest = len - K;
     let all = &array[..];
-    // SAFETY: `from + K <= all.len()`: `all` is the array, which has the `len` bytes from `from` on, and `rest + K` is
-    // `len`.
+    // SAFETY: `from + K <= all.len()`: `all` is the array, which has the `len` bytes from `from` on by this function's
+    // `# Safety`, and `rest + K` is `len`.
     // Proved: crates/arraystring_base/src/moves.rt
     let first = unsafe { bytes_of::<K>(all, from) };
-    // SAFETY: `from + rest + K <= all.len()`: `all` is the array, which has the `len` bytes from `from` on, and
-    // `rest + K` is `len`.
+    // SAFETY: `from + rest + K <= all.len()`: `all` is the array, which has the `len` bytes from `from` on by this
+    // function's `# Safety`, and `rest + K` is `len`.
     // Proved: crates/arraystring_base/src/moves.rt
     let last = unsafe { bytes_of::<K>(all, from + rest) };
-    // SAFETY: `to + K <= N`: the array has the `len` bytes from `to` on, and `rest + K` is `len`.
+    // SAFETY: `to + K <= N`: the array has the `len` bytes from `to` on by this function's `# Safety`, and `rest + K`
+    // is `len`.
     // Proved: crates/arraystring_base/src/moves.rt
     unsafe { put_bytes(array, to, first) };
-    // SAFETY: `to + rest + K <= N`: the array has the `len` bytes from `to` on, and `rest + K` is `len`.
+    // SAFETY: `to + rest + K <= N`: the array has the `len` bytes from `to` on by this function's `# Safety`, and
+    // `rest + K` is `len`.
     // Proved: crates/arraystring_base/src/moves.rt
     unsafe { put_bytes(array, to + rest, last) };
 }
@@ -300,20 +302,20 @@ unsafe fn move_pairs<const N: usize, const K: usize>(array: &mut [u8; N], from: 
     known!(source: from + len <= N);
     let rest = len - (K + K);
     let all = &array[..];
-    // SAFETY: `from + K <= all.len()`: `all` is the array, which has the `len` bytes from `from` on, and `rest + K + K`
-    // is `len`.
+    // SAFETY: `from + K <= all.len()`: `all` is the array, which has the `len` bytes from `from` on by this function's
+    // `# Safety`, and `rest + K + K` is `len`.
     // Proved: crates/arraystring_base/src/moves.rt
     let front = unsafe { bytes_of::<K>(all, from) };
-    // SAFETY: `from + K + K <= all.len()`: `all` is the array, which has the `len` bytes from `from` on, and
-    // `rest + K + K` is `len`.
+    // SAFETY: `from + K + K <= all.len()`: `all` is the array, which has the `len` bytes from `from` on by this
+    // function's `# Safety`, and `rest + K + K` is `len`.
     // Proved: crates/arraystring_base/src/moves.rt
     let after_front = unsafe { bytes_of::<K>(all, from + K) };
-    // SAFETY: `from + rest + K <= all.len()`: `all` is the array, which has the `len` bytes from `from` on, and
-    // `rest + K + K` is `len`.
+    // SAFETY: `from + rest + K <= all.len()`: `all` is the array, which has the `len` bytes from `from` on by this
+    // function's `# Safety`, and `rest + K + K` is `len`.
     // Proved: crates/arraystring_base/src/moves.rt
     let before_end = unsafe { bytes_of::<K>(all, from + rest) };
-    // SAFETY: `from + rest + K + K <= all.len()`: `all` is the array, which has the `len` bytes from `from` on, and
-    // `rest + K + K` is `len`.
+    // SAFETY: `from + rest + K + K <= all.len()`: `all` is the array, which has the `len` bytes from `from` on by this
+    // function's `# Safety`, and `rest + K + K` is `len`.
     // Proved: crates/arraystring_base/src/moves.rt
     let end = unsafe { bytes_of::<K>(all, from + rest + K) };
     // SAFETY: `to + (K + K) <= N`: the array has the `len` bytes from `to` on, and `rest + (K + K)` is `len`.
@@ -480,17 +482,19 @@ unsafe fn write_any_run<const N: usize>(array: &mut [u8; N], at: usize, given: &
 /// </details>
 unsafe fn copy_ends<const N: usize, const K: usize>(array: &mut [u8; N], at: usize, given: &[u8]) {
     let rest = given.len() - K;
-    // SAFETY: `K <= given.len()`: by this function's `# Safety`, and since `rest + K` is `given.len()`.
+    // SAFETY: `K <= given.len()`: `rest + K` is `given.len()`, which is at least `K` by this function's `# Safety`.
     // Proved: crates/arraystring_base/src/moves.rt
     let first = unsafe { bytes_of::<K>(given, 0) };
-    // SAFETY: `rest + K <= given.len()`: by this function's `# Safety`, and since `rest + K` is `given.len()`.
+    // SAFETY: `rest + K <= given.len()`: `rest + K` is `given.len()`, which is at least `K` by this function's
+    // `# Safety`.
     // Proved: crates/arraystring_base/src/moves.rt
     let last = unsafe { bytes_of::<K>(given, rest) };
-    // SAFETY: `at + K <= N`: the array has the `given.len()` bytes from `at` on, and `rest + K` is `given.len()`.
+    // SAFETY: `at + K <= N`: the array has the `given.len()` bytes from `at` on by this function's `# Safety`, and
+    // `rest + K` is `given.len()`.
     // Proved: crates/arraystring_base/src/moves.rt
     unsafe { put_bytes(array, at, first) };
-    // SAFETY: `at + rest + K <= N`: the array has the `given.len()` bytes from `at` on, and `rest + K` is
-    // `given.len()`.
+    // SAFETY: `at + rest + K <= N`: the array has the `given.len()` bytes from `at` on by this function's `# Safety`,
+    // and `rest + K` is `given.len()`.
     // Proved: crates/arraystring_base/src/moves.rt
     unsafe { put_bytes(array, at + rest, last) };
 }

@@ -364,8 +364,9 @@ impl<const N: usize> ArrayString<N> {
             let next = end + piece.len();
             if next > Self::capacity() as usize {
                 // SAFETY: the `*len` bytes of `array` from `*start` on are UTF-8 and end within the capacity: so it is
-                // by this function's `# Safety` before the loop, and each turn keeps it, whether or not the iterator
-                // ends.
+                // by this function's `# Safety` before the loop, where `end` is `*start + *len`; a turn that fits
+                // writes the piece at `end` and adds its size to both, and `append_past_end` keeps it and returns the
+                // new end, whether or not the iterator ends.
                 // Proved: crates/arraystring_core/src/array_string/push.rt
                 let appended = unsafe { Self::append_past_end(array, start, len, piece) };
                 let Some(next) = appended else {
@@ -386,6 +387,7 @@ impl<const N: usize> ArrayString<N> {
 
     /// Appends `string` to a text of the array, and returns where it ends then. If not all of it fits,
     /// appends what does and returns `None`. It is for a text that has no room for `string` behind it.
+    /// Afterwards the `len` bytes from `start` on are UTF-8 and end within the capacity.
     ///
     /// # Safety
     ///
@@ -459,8 +461,8 @@ impl<const N: usize> ArrayString<N> {
         let mut end = *start as usize + *len as usize;
         for ch in characters {
             // SAFETY: the `*len` bytes of `array` from `*start` on are UTF-8 and end within the capacity;
-            // `end == *start + *len`: so it is by this function's `# Safety` before the loop, and `append_char` returns
-            // the new end, whether or not the iterator ends.
+            // `end == *start + *len`: so it is by this function's `# Safety` before the loop, and `append_char` keeps
+            // it and returns the new end, whether or not the iterator ends.
             // Proved: crates/arraystring_core/src/array_string/push.rt
             match unsafe { Self::append_char(array, start, len, end, ch) } {
                 Some(next) => {
@@ -473,7 +475,8 @@ impl<const N: usize> ArrayString<N> {
     }
 
     /// Appends `ch` to a text of the array that ends at `end`, and returns where it ends then. Returns
-    /// `None` if it does not fit.
+    /// `None` if it does not fit. Afterwards the `len` bytes from `start` on are UTF-8 and end within
+    /// the capacity.
     ///
     /// # Safety
     ///

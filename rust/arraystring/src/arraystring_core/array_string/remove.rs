@@ -442,8 +442,9 @@ unsafe fn retain_at<const N: usize, F: FnMut(char) -> bool>(
         if first < 0x80 {
             if f(first as char) {
                 let to = offset + *kept as usize;
-                // SAFETY: `offset + read + 1 <= N`; `to + 1 <= N`: `*kept <= read`, since a turn adds no more to it,
-                // `read < size`, and the array has the `size` bytes from `offset` on, whatever the closure answers.
+                // SAFETY: `offset + read + 1 <= N`; `to + 1 <= N`: `*kept <= read`, since a turn adds to it at most
+                // what it adds to `read`, `read < size`, and the array has the `size` bytes from `offset` on, whatever
+                // the closure answers.
                 // Proved: crates/arraystring_core/src/array_string/remove.rt
                 unsafe { shift(array, offset + read, to, 1, &mut Steps::new()) };
                 *kept += 1;
@@ -461,7 +462,8 @@ unsafe fn retain_at<const N: usize, F: FnMut(char) -> bool>(
             if f(ch) {
                 let to = offset + *kept as usize;
                 // SAFETY: `offset + read + width <= N`; `to + width <= N`: the character ends in the text, the text in
-                // the array, and `*kept <= read`, since a turn adds no more to it, whatever the closure answers.
+                // the array, and `*kept <= read`, since a turn adds to it at most what it adds to `read`, whatever the
+                // closure answers.
                 // Proved: crates/arraystring_core/src/array_string/remove.rt
                 unsafe { shift(array, offset + read, to, width, &mut Steps::new()) };
                 *kept += width as u8;

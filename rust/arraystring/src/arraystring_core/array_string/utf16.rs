@@ -206,7 +206,7 @@ impl<const N: usize> ArrayString<N> {
 }
 
 /// Writes the units before the first that is not ASCII as bytes at the start of the array, as far as
-/// there is room. Returns how many: so many bytes are then a text.
+/// the capacity goes. Returns how many: so many bytes are then a text.
 ///
 /// <details><summary>Contract</summary>
 ///
