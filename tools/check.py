@@ -1,8 +1,8 @@
 """What a change has to pass before anything is proved: the tests of the tools; specs/ has definitions alone and the page has
 them; something cites each lemma and uses each import of a proof; the pages are as the files that they quote, name each public
-call and trait of the string; every move goes through `shift`; a wrong body touches each public function and impl; and each
-control and each source of the Rust crate is as it was when it proved. What a part says that it looked at has to be at least
-what LEAST says.
+call and trait of the string; what stands in two lists is the same in both; every move goes through `shift`; a wrong body touches
+each public function and impl; and each control and each source of the Rust crate is as it was when it proved. What a part says
+that it looked at has to be at least what LEAST says.
 
 tools/run check             writes nothing
 tools/run check --write     first lays out each crate by `rt fmt`, makes the Rust crate by rust/erase/run where cargo is there,
@@ -35,7 +35,7 @@ LEAST = {
     "{} blocks are as in the files": 14,
     "the pages name {} public calls": 58,
     "public calls and {} traits": 18,
-    "makes {} calls": 44,
+    "{} names stand in two places": 190,
     "{} files move by shift alone": 80,
     "wrong bodies try {} functions": 189,
     "{} controls are as they were": 115,

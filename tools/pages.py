@@ -1,4 +1,4 @@
-"""What a Markdown page is made of: sections, inline code and blocks of code."""
+"""What a Markdown page is made of: sections and inline code."""
 import re
 
 
@@ -16,8 +16,3 @@ def prose(text):
 def inline_code(text):
     """What stands between backticks, without the blocks of code."""
     return re.findall(r"`([^`\n]+)`", prose(text))
-
-
-def fenced_blocks(text):
-    """The blocks of code, each with the line before it."""
-    return re.findall(r"([^\n]*)\n+```\w+\n(.*?)\n```", text, re.S)

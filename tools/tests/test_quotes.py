@@ -17,6 +17,7 @@ fn greet() {
 |`IsShort t`|4|short|
 
 - `Words`: `IsShort`, which are all that it has.
+- `IsShort.is_never_so` and `*.is_never_so` are refused.
 """
 SOURCE = """\
 fn greet() {
@@ -31,6 +32,7 @@ class Quotes(TreeTest):
         "page.md": PAGE,
         "src/greet.rt": SOURCE,
         "crates/base/specs/Words.antt": WORDS,
+        "crates/base/must-fail/IsShort.is_never_so.edit": "",
     }
 
     def assert_told(self, wanted):
@@ -44,6 +46,12 @@ class Quotes(TreeTest):
         self.assert_told("page.md: the list of Words and the module differ in Word")
         self.replace("page.md", ": `IsShort`, which", ": `IsShort`,\n  `Word` and `text`, which")
         self.assert_told("page.md: the list of Words and the module differ in text")
+
+    def test_a_wrong_body_that_a_page_names_is_there(self):
+        names = ["IsShort.is_always_so", "*.is_gone", ".is_never_so"]
+        self.write("docs/review.md", f"`{'`, `'.join(names)}` and `greet.rt`\n\n```text\n`a.block_of_code`\n```\n")
+        told = "".join(f"docs/review.md: no wrong body is named {it}\n" for it in names)
+        self.assertEqual(self.told(quotes), (True, told))
 
     def test_a_line_that_the_file_lacks_is_told(self):
         self.replace("src/greet.rt", "    hello()", "    good_day()")
