@@ -62,7 +62,9 @@ impl<'a> File<'a, '_> {
             return Ok(());
         }
         self.define(name, inside, word.at.start)?;
-        self.tally.contracts.note(&function.call, &self.text[function.head.clone()], &function.preconditions);
+        // (std asks for nothing)
+        let asked = if self.is_by_std() { &[][..] } else { &function.preconditions[..] };
+        self.tally.contracts.note(&function.call, &self.text[function.head.clone()], asked);
         if is_public {
             self.tally.contracts.note_public(&function.call);
         }
@@ -212,7 +214,7 @@ impl<'a> File<'a, '_> {
                 return Ok(true);
             }
             None if !has_precondition || !(function.is_public || inside.of_trait) => {
-                if rests && !self.is_by_std() {
+                if rests {
                     self.tally.count("private functions that are `unsafe` in Rust");
                     self.edits.replace(function.head.start..function.head.start + "fn".len(), "unsafe fn");
                     let facts = self.said(function)?;

@@ -172,7 +172,7 @@ impl<const N: usize> Ord for Drain<N> {
         ensures of_bytes { result ≡ slice_cmp nat_cmp (bytes self.now.left) (bytes other.now.left) }
         ensures says { MatchOrdering result (IsBefore self.now.left other.now.left) (self.now.left ≡ other.now.left) (IsBefore other.now.left self.now.left) }
     {
-        order(self.as_str(), other.as_str())
+        order::<N>(self.as_str(), other.as_str())
     }
 }
 

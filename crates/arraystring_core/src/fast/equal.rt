@@ -23,7 +23,7 @@ pub(crate) fn equal(text: &str, other: &str) -> bool
     equal_by_blocks(a, b)
 }
 
-/// The same for fewer than 16 bytes.
+/// Whether fewer than 16 bytes are equal.
 #[inline(always)]
 fn equal_few(a: &[u8], b: &[u8]) -> bool
     requires same { length a.now ≡ length b.now }
@@ -45,7 +45,7 @@ fn equal_few(a: &[u8], b: &[u8]) -> bool
     a[0] == b[0]
 }
 
-/// The same for 16 to 256 bytes.
+/// Whether 16 to 256 bytes are equal.
 #[inline(always)]
 fn equal_by_blocks(a: &[u8], b: &[u8]) -> bool
     requires same { length a.now ≡ length b.now }
@@ -65,7 +65,7 @@ fn equal_by_blocks(a: &[u8], b: &[u8]) -> bool
     equal_by_two::<16>(a, b)
 }
 
-/// The same for 128 to 256 bytes: the last 128 and the first 128, which may overlap. In the other order
+/// Whether 128 to 256 bytes are equal: the last 128 and the first 128, which may overlap. In the other order
 /// the compiler reads 64 bytes ahead of the test of the size, which costs 16 instructions more.
 #[inline(always)]
 fn equal_by_four(a: &[u8], b: &[u8]) -> bool
@@ -81,7 +81,7 @@ fn equal_by_four(a: &[u8], b: &[u8]) -> bool
     first & last
 }
 
-/// The same for `K` to `2 * K` bytes: the first `K` and the last `K`, which may overlap.
+/// Whether `K` to `2 * K` bytes are equal: the first `K` and the last `K`, which may overlap.
 #[inline(always)]
 fn equal_by_two<const K: usize>(a: &[u8], b: &[u8]) -> bool
     requires lanes { K ≤ 64 }
@@ -96,7 +96,7 @@ fn equal_by_two<const K: usize>(a: &[u8], b: &[u8]) -> bool
     first & last
 }
 
-/// The same for `K` bytes.
+/// Whether `K` bytes are equal.
 #[inline(always)]
 pub(crate) fn equal_block<const K: usize>(a: &[u8], b: &[u8]) -> bool
     requires lanes { K ≤ 64 }

@@ -10,7 +10,8 @@ use std::simd::Simd;
 
 /// How two texts are ordered by their bytes. Most differ in the first 16.
 #[inline(always)]
-pub(crate) fn order(text: &str, other: &str) -> Ordering
+pub(crate) fn order<const N: usize>(text: &str, other: &str) -> Ordering
+    requires most { length text.now ≤ N }
     ensures { result ≡ slice_cmp nat_cmp text.now other.now }
 {
     let (a, b) = (text.as_bytes(), other.as_bytes());
@@ -27,13 +28,13 @@ pub(crate) fn order(text: &str, other: &str) -> Ordering
     if let Some(order) = block_order::<16>(a, b, 0) {
         return order;
     }
-    if common <= 64 {
-        return order_by_blocks(a, b, common);
+    if N > 80 && common > 80 {
+        return order_by_groups(a, b, common);
     }
-    order_by_groups(a, b, common)
+    order_by_blocks::<N>(a, b, common)
 }
 
-/// The same of few bytes, one after the other.
+/// The order of texts of which one has fewer than 4 bytes, one byte after the other.
 #[inline(always)]
 fn order_by_bytes(a: &[u8], b: &[u8], common: usize) -> Ordering
     requires lesser { common ≡ min (length a.now) (length b.now) }
@@ -49,7 +50,8 @@ fn order_by_bytes(a: &[u8], b: &[u8], common: usize) -> Ordering
     order_of_lengths(a, b)
 }
 
-/// The same of `K` to `2 * K` bytes: the first `K` decide, or else the last `K`. For these bytes stand numbers.
+/// The order of texts of which the shorter has `K` to `2 * K` bytes: its first `K` decide, or else its last `K`. For these bytes
+/// stand numbers.
 #[inline(always)]
 fn order_by_ends<const K: usize>(
     a: &[u8],
@@ -126,31 +128,40 @@ fn order_of_different(one: u64, other: u64) -> Ordering
     Ordering::Greater
 }
 
-/// The same of up to 64 bytes, of which the first 16 are equal: by the blocks of 16 behind them.
+/// The order of texts of which the shorter has up to 80 bytes, and the first 16 are equal: by the blocks of 16 behind
+/// them. What `N` bytes can't have is not tested.
 #[inline(always)]
-fn order_by_blocks(a: &[u8], b: &[u8], common: usize) -> Ordering
+fn order_by_blocks<const N: usize>(a: &[u8], b: &[u8], common: usize) -> Ordering
     requires least { 16 ≤ common }
-    requires most { common ≤ 64 }
+    requires most { common ≤ N }
+    requires few { common ≤ 80 }
     requires lesser { common ≡ min (length a.now) (length b.now) }
     requires front { take 16 a.now ≡ take 16 b.now }
     ensures { result ≡ slice_cmp nat_cmp a.now b.now }
 {
-    if common <= 32 {
+    if N <= 32 || common <= 32 {
         return order_by_block::<16>(a, b, common, 16);
     }
     if let Some(order) = block_order::<16>(a, b, 16) {
         return order;
     }
-    if common <= 48 {
+    if N <= 48 || common <= 48 {
         return order_by_block::<16>(a, b, common, 32);
     }
     if let Some(order) = block_order::<16>(a, b, 32) {
         return order;
     }
-    order_by_block::<16>(a, b, common, 48)
+    if N <= 64 || common <= 64 {
+        return order_by_block::<16>(a, b, common, 48);
+    }
+    if let Some(order) = block_order::<16>(a, b, 48) {
+        return order;
+    }
+    order_by_block::<16>(a, b, common, 64)
 }
 
-/// The same of more: past groups of 64 bytes that are equal, and past one block of 32.
+/// The order of longer texts, of which the first 16 bytes are equal: past groups of 64 bytes that are equal, and past
+/// one block of 32.
 #[inline(always)]
 fn order_by_groups(a: &[u8], b: &[u8], common: usize) -> Ordering
     requires least { 32 ≤ common }
@@ -158,9 +169,9 @@ fn order_by_groups(a: &[u8], b: &[u8], common: usize) -> Ordering
     requires front { take 16 a.now ≡ take 16 b.now }
     ensures { result ≡ slice_cmp nat_cmp a.now b.now }
 {
-    let at = equal_groups(a, b, common);
+    let mut at = equal_groups(a, b, common);
     if at + 32 < common && equal_block::<32>(&a[at..at + 32], &b[at..at + 32]) {
-        return order_by_block::<32>(a, b, common, at + 32);
+        at += 32;
     }
     order_by_block::<32>(a, b, common, at)
 }

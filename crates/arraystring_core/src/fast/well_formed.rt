@@ -17,7 +17,7 @@ pub(crate) fn read_utf8(given: &[u8]) -> Result<&str, Utf8>
     read_characters(given)
 }
 
-/// The same of any text. std tests what is left behind the characters that a quick test takes, so std
+/// What `read_utf8` returns, of any text. std tests what is left behind the characters that a quick test takes, so std
 /// alone refuses.
 #[inline(never)]
 fn read_characters(given: &[u8]) -> Result<&str, Utf8>
@@ -126,7 +126,7 @@ fn is_ascii(given: &[u8]) -> bool
     }
 }
 
-/// The same by blocks of `K` bytes. The last block ends where the bytes end, and may overlap the one
+/// Whether all bytes are ASCII, by blocks of `K` bytes. The last block ends where the bytes end, and may overlap the one
 /// before it.
 #[inline(always)]
 fn is_ascii_by_blocks<const K: usize>(given: &[u8]) -> bool
