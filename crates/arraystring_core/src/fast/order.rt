@@ -164,34 +164,54 @@ fn order_by_blocks<const N: usize>(a: &[u8], b: &[u8], common: usize) -> Orderin
 /// one block of 32.
 #[inline(always)]
 fn order_by_groups(a: &[u8], b: &[u8], common: usize) -> Ordering
-    requires least { 32 ≤ common }
+    requires least { 64 ≤ common }
     requires lesser { common ≡ min (length a.now) (length b.now) }
     requires front { take 16 a.now ≡ take 16 b.now }
     ensures { result ≡ slice_cmp nat_cmp a.now b.now }
 {
-    let mut at = equal_groups(a, b, common);
-    if at + 32 < common && equal_block::<32>(&a[at..at + 32], &b[at..at + 32]) {
-        at += 32;
+    match equal_groups(a, b, common) {
+        Some(at) => order_in_group(a, b, common, at.min(common - 64)),
+        None => order_by_block::<32>(a, b, common, common - 32),
     }
-    order_by_block::<32>(a, b, common, at)
 }
 
-/// How many bytes at the front are equal: 16, and behind them groups of 64. The group behind all differs,
-/// or the first `common` bytes end in it.
+/// How many bytes at the front are equal, if the group of 64 behind them differs, or the last 64 of the first `common` bytes
+/// do where there are fewer. `None` if at most the last 32 differ.
 #[inline(always)]
-fn equal_groups(a: &[u8], b: &[u8], common: usize) -> usize
-    requires least { 16 ≤ common }
+fn equal_groups(a: &[u8], b: &[u8], common: usize) -> Option<usize>
+    requires least { 64 ≤ common }
     requires lesser { common ≡ min (length a.now) (length b.now) }
     requires front { take 16 a.now ≡ take 16 b.now }
-    ensures within { result ≤ common }
-    ensures before { take result a.now ≡ take result b.now }
-    ensures rest { take (result + 64) a.now ≡ take (result + 64) b.now → common ≤ result + 64 }
+    ensures before { IfSome result (λ at. take at a.now ≡ take at b.now) }
+    ensures apart { IfSome result (λ at. take (min at (common - 64) + 64) a.now ≢ take (min at (common - 64) + 64) b.now) }
+    ensures none { IfNone result (take (common - 32) a.now ≡ take (common - 32) b.now) }
 {
-    let mut end = 16;
-    while end + 64 < common && equal_block::<64>(&a[end..end + 64], &b[end..end + 64]) {
-        end += 64;
+    let mut at = 16;
+    while at + 64 < common {
+        if !equal_block::<64>(&a[at..at + 64], &b[at..at + 64]) {
+            return Some(at);
+        }
+        at += 64;
     }
-    end
+    if at + 32 < common && !equal_block::<32>(&a[at..at + 32], &b[at..at + 32]) {
+        return Some(at);
+    }
+    None
+}
+
+/// The order of texts that differ in the 64 bytes from `at` on, and not before.
+#[inline(always)]
+fn order_in_group(a: &[u8], b: &[u8], common: usize, at: usize) -> Ordering
+    requires within { at + 64 ≤ common }
+    requires lesser { common ≡ min (length a.now) (length b.now) }
+    requires before { take at a.now ≡ take at b.now }
+    requires apart { take (at + 64) a.now ≢ take (at + 64) b.now }
+    ensures { result ≡ slice_cmp nat_cmp a.now b.now }
+{
+    if equal_block::<32>(&a[at..at + 32], &b[at..at + 32]) {
+        return order_by_block::<32>(a, b, common, at + 32);
+    }
+    order_by_block::<32>(a, b, common, at)
 }
 
 /// How two texts are ordered of which the first `at` bytes are equal. Of the `K` behind them some differ, or the first

@@ -1,8 +1,8 @@
 use Rattle.std.proofs.Common.{◌-◌, ◌≡◌, ◌≤◌, take}
 use Rattle.arraystring_core.proofs.fast.order.equal_groups.Given as goal
 
-abbrev pub invariant-loop-end : goal.invariant-loop-end
-invariant-loop-end l = (take l.end l.a ≡ take l.end l.b) × (l.end ≤ l.common)
+abbrev pub invariant-loop-at : goal.invariant-loop-at
+invariant-loop-at l = (take l.at l.a ≡ take l.at l.b) × (l.at ≤ l.common)
 
-abbrev pub decreases-loop-end : goal.decreases-loop-end
-decreases-loop-end l = l.common - l.end
+abbrev pub decreases-loop-at : goal.decreases-loop-at
+decreases-loop-at l = l.common - l.at
