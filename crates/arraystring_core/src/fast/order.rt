@@ -47,7 +47,7 @@ fn order_by_bytes(a: &[u8], b: &[u8], common: usize) -> Ordering
         }
         at += 1;
     }
-    order_of_lengths(a, b)
+    a.len().cmp(&b.len())
 }
 
 /// The order of texts of which the shorter has `K` to `2 * K` bytes: its first `K` decide, or else its last `K`. For these bytes
@@ -68,12 +68,12 @@ fn order_by_ends<const K: usize>(
     ensures { result ≡ slice_cmp nat_cmp a.now b.now }
 {
     if first.0 != first.1 {
-        return order_of_different(first.0, first.1);
+        return first.0.cmp(&first.1);
     }
     if last.0 != last.1 {
-        return order_of_different(last.0, last.1);
+        return last.0.cmp(&last.1);
     }
-    order_of_lengths(a, b)
+    a.len().cmp(&b.len())
 }
 
 /// Two numbers that are ordered as the 8 bytes of each text from `at` on.
@@ -103,29 +103,6 @@ fn halves(a: &[u8], b: &[u8], at: usize) -> (u64, u64)
         u32::from_be_bytes(*one) as u64,
         u32::from_be_bytes(*other) as u64,
     )
-}
-
-/// The order of two texts of which one begins the other.
-#[inline(always)]
-fn order_of_lengths(a: &[u8], b: &[u8]) -> Ordering
-    ensures { result ≡ nat_cmp (length a.now) (length b.now) }
-{
-    if a.len() == b.len() {
-        return Ordering::Equal;
-    }
-    a.len().cmp(&b.len())
-}
-
-/// The order of two numbers that differ.
-#[inline(always)]
-fn order_of_different(one: u64, other: u64) -> Ordering
-    requires { one ≢ other }
-    ensures { result ≡ nat_cmp one other }
-{
-    if one < other {
-        return Ordering::Less;
-    }
-    Ordering::Greater
 }
 
 /// The order of texts of which the shorter has up to 80 bytes, and the first 16 are equal: by the blocks of 16 behind
@@ -169,10 +146,14 @@ fn order_by_groups(a: &[u8], b: &[u8], common: usize) -> Ordering
     requires front { take 16 a.now ≡ take 16 b.now }
     ensures { result ≡ slice_cmp nat_cmp a.now b.now }
 {
-    match equal_groups(a, b, common) {
-        Some(at) => order_in_group(a, b, common, at.min(common - 64)),
-        None => order_by_block::<32>(a, b, common, common - 32),
+    let Some(at) = equal_groups(a, b, common) else {
+        return order_by_block::<32>(a, b, common, common - 32);
+    };
+    let at = at.min(common - 64);
+    if equal_block::<32>(&a[at..at + 32], &b[at..at + 32]) {
+        return order_by_block::<32>(a, b, common, at + 32);
     }
+    order_by_block::<32>(a, b, common, at)
 }
 
 /// How many bytes at the front are equal, if the group of 64 behind them differs, or the last 64 of the first `common` bytes
@@ -199,21 +180,6 @@ fn equal_groups(a: &[u8], b: &[u8], common: usize) -> Option<usize>
     None
 }
 
-/// The order of texts that differ in the 64 bytes from `at` on, and not before.
-#[inline(always)]
-fn order_in_group(a: &[u8], b: &[u8], common: usize, at: usize) -> Ordering
-    requires within { at + 64 ≤ common }
-    requires lesser { common ≡ min (length a.now) (length b.now) }
-    requires before { take at a.now ≡ take at b.now }
-    requires apart { take (at + 64) a.now ≢ take (at + 64) b.now }
-    ensures { result ≡ slice_cmp nat_cmp a.now b.now }
-{
-    if equal_block::<32>(&a[at..at + 32], &b[at..at + 32]) {
-        return order_by_block::<32>(a, b, common, at + 32);
-    }
-    order_by_block::<32>(a, b, common, at)
-}
-
 /// How two texts are ordered of which the first `at` bytes are equal. Of the `K` behind them some differ, or the first
 /// `common` bytes end there: then the last `K` are looked at.
 #[inline(always)]
@@ -228,7 +194,7 @@ fn order_by_block<const K: usize>(a: &[u8], b: &[u8], common: usize, at: usize) 
 {
     match block_order::<K>(a, b, at.min(common - K)) {
         Some(order) => order,
-        None => order_of_lengths(a, b),
+        None => a.len().cmp(&b.len()),
     }
 }
 
@@ -260,5 +226,5 @@ fn order_at(a: &[u8], b: &[u8], at: usize) -> Ordering
     requires apart { slice_index_or a.now at 0 ≢ slice_index_or b.now at 0 }
     ensures { result ≡ slice_cmp nat_cmp a.now b.now }
 {
-    order_of_different(a[at] as u64, b[at] as u64)
+    a[at].cmp(&b[at])
 }

@@ -4,5 +4,5 @@ use Rattle.arraystring_core.proofs.fast.order.order_at.Goals as goal
 
 pub returns : goal.returns
 returns c =
-    c.order_of_different.ensures
+    c.cmp.ensures
     ∙ sym (first_decides c.args.a.now c.args.b.now c.args.at c.requires.one c.requires.other c.requires.before c.requires.apart)
