@@ -7,7 +7,7 @@ use Rattle.arraystring_run.specs.declared.commands.Command.{Command}
 use Rattle.arraystring_run.specs.declared.commands.Command.TheVariants as command
 use Rattle.arraystring.specs.Edits.{addition, addition_of_cut, insertion, insertion_of_cut, replacement}
 use Rattle.arraystring_run.specs.Runs.{Edited, edit, leaves, done, Done}
-use Rattle.arraystring_run.specs.Grammar.{Argument, Number, Character, Text, word, arguments}
+use Rattle.arraystring_run.specs.Line.{Argument, Number, Character, Text, word, arguments}
 
 -- small letters and underscores
 unfoldable pub are_letters : List ℕ → Bool

@@ -16,7 +16,7 @@ use Rattle.arraystring.proofs.TextLaws.{bytes-utf8, well_formed-utf8, utf8-well_
 use Rattle.arraystring_run.specs.declared.commands.Command.{Command}
 use Rattle.arraystring_run.specs.declared.commands.Command.TheVariants as command
 use Rattle.arraystring_run.proofs.CommandLemmas.{are_letters, word-letters, kind, kinds, numbers_first, kinds-numbers_first, namesakes}
-use Rattle.arraystring_run.specs.Grammar.{Argument, Number, Character, Text, word, arguments, AreDigits, value_after, IsNumber, IsNumberBefore, IsSpelled, AreSpelled, IsLineOf, IsOneWord, space, spellings, line_of, AreArguments}
+use Rattle.arraystring_run.specs.Line.{Argument, Number, Character, Text, word, arguments, AreDigits, value_after, IsNumber, IsNumberBefore, IsSpelled, AreSpelled, IsLineOf, IsOneWord, space, spellings, line_of, AreArguments}
 
 -- the first space ends a word
 pub first-space : (v w x y : List ℕ) → IsOneWord v → IsOneWord w → v ++ space ∷ x ≡ w ++ space ∷ y → (v ≡ w) × (x ≡ y)

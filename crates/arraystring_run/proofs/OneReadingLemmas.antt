@@ -5,8 +5,8 @@ use Rattle.std.proofs.lemmas.Bool.{and_parts, eqb-true}
 use Rattle.arraystring.proofs.TextLaws.{bytes_same}
 use Rattle.arraystring_run.specs.declared.commands.Command.{Command}
 use Rattle.arraystring_run.specs.Runs.{edit, after}
-use Rattle.arraystring_run.specs.Grammar.{Argument, Number, Character, Text, word, arguments, IsSpelled, AreSpelled, IsLineOf, IsOneWord}
-use Rattle.arraystring_run.specs.Script.{AreLinesOf, IsBadAt}
+use Rattle.arraystring_run.specs.Line.{Argument, Number, Character, Text, word, arguments, IsSpelled, AreSpelled, IsLineOf, IsOneWord}
+use Rattle.arraystring_run.specs.ScriptLines.{AreLinesOf, IsBadAt}
 use Rattle.arraystring_run.proofs.CommandLemmas.{kind, numbers_first, kinds-numbers_first, namesakes}
 use Rattle.arraystring_run.proofs.GrammarLemmas.{first-space, no-space, one-word, number-one}
 

@@ -1,7 +1,10 @@
 -- What a program did, by what came of its script.
 use Rattle.std.proofs.Common.{◌≡◌, ◌≢◌, ℕ, ◌≤◌, ◌⊎◌, List, ◌++◌, refl, sym, ◌∙◌, arith, false, if◌then◌else◌, is_ok, is_err, Option, Some, None, IfSome, Result, Ok, Err, IfErr, OnOk, inl, inr}
 use Rattle.std.specs.Borrow.{Bor}
-use Rattle.arraystring_run.specs.Script.{lines, IsBadAt, IfBadLine, IsPlayed, IsPartPlayed, IsServed, AppendsPrefix, capacity_named, status_of, report_of, fault_line, usage_line}
+use Rattle.arraystring_run.specs.ScriptLines.{lines, IsBadAt}
+use Rattle.arraystring_run.specs.Writing.{AppendsPrefix}
+use Rattle.arraystring_run.specs.Player.{IfBadLine, IsPlayed, IsPartPlayed}
+use Rattle.arraystring_run.specs.Program.{IsServed, capacity_named, status_of, report_of, fault_line, usage_line}
 use Rattle.arraystring_run.specs.declared.player.PlayFault.{PlayFault}
 use Rattle.arraystring_run.specs.declared.player.PlayFault.TheVariants.{BadLine, Memory, Read, Write}
 

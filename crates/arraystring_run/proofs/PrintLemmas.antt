@@ -8,7 +8,9 @@ use Rattle.arraystring_run.specs.declared.commands.Reply.{Reply}
 use Rattle.std.proofs.KnownBytes.{Appends-trans, Appends-kept}
 use Rattle.std.specs.Io.KnownBytes.{Appends, Keeps}
 use Rattle.arraystring_run.proofs.RunLemmas.{is_empty-none}
-use Rattle.arraystring_run.specs.Script.{line_feed, ended, printed, replies_printed, AppendsPrefix}
+use Rattle.arraystring_run.specs.ScriptLines.{line_feed, ended}
+use Rattle.arraystring_run.specs.Printing.{printed, replies_printed}
+use Rattle.arraystring_run.specs.Writing.{AppendsPrefix}
 
 pub printed-more : (rs : List Said) (r : Said) → replies_printed (rs ++ r ∷ []) ≡ replies_printed rs ++ ended (printed r)
 printed-more [] r = append-nil (ended (printed r))

@@ -7,8 +7,8 @@ use Rattle.std.specs.Char.{encode_utf8}
 use Rattle.arraystring.specs.Text.{utf8, IsScalarValue, IsText}
 use Rattle.arraystring.proofs.TextLaws.{utf8-is, text-chars, length-utf8, width-bounds}
 use Rattle.arraystring_run.specs.declared.commands.Command.{Command}
-use Rattle.arraystring_run.specs.Grammar.{IsLineOf}
-use Rattle.arraystring_run.specs.Script.{lines, line_feed, first_byte, AreLinesOf, IsBadAt}
+use Rattle.arraystring_run.specs.Line.{IsLineOf}
+use Rattle.arraystring_run.specs.ScriptLines.{lines, line_feed, first_byte, AreLinesOf, IsBadAt}
 
 -- a text that begins with the character c, whether it is c alone or not
 module _ (bs rest : List ℕ) (c : ℕ) (is : bs ≡ encode_utf8 c ++ rest) where

@@ -5,7 +5,8 @@ use Rattle.std.proofs.lemmas.List.{append-nil}
 use Rattle.std.specs.Prelude.{Option, None, Some, IfSome}
 use Rattle.std.specs.Borrow.{Bor}
 use Rattle.std.specs.Io.KnownBytes.{Appends, append_known}
-use Rattle.arraystring_run.specs.Script.{IsServed, AppendsPrefix, capacity_named, fault_line}
+use Rattle.arraystring_run.specs.Writing.{AppendsPrefix}
+use Rattle.arraystring_run.specs.Program.{IsServed, capacity_named, fault_line}
 use Rattle.arraystring_run.specs.declared.player.PlayFault.TheVariants.{Write}
 use Rattle.arraystring_run.proofs.GrammarLemmas.{if_some-map}
 use Rattle.arraystring_run.proofs.PrintLemmas.{front-all}

@@ -1,6 +1,6 @@
 -- The first space of a line, as a search finds it.
 use Rattle.std.proofs.Common.{◌≡◌, ◌≢◌, ℕ, suc, zero, ◌+◌, ◌<◌, ◌≤◌, List, [], ◌∷◌, ◌++◌, length, take, drop, slice_index, arith}
-use Rattle.arraystring_run.specs.Grammar.{IsOneWord, space}
+use Rattle.arraystring_run.specs.Line.{IsOneWord, space}
 
 -- the bytes before the first space are one word
 pub word-before : (bs : List ℕ) (n : ℕ) → n ≤ length bs → ((i : ℕ) → i < n → slice_index bs i ≢ space) → IsOneWord (take n bs)

@@ -1,6 +1,6 @@
 use Rattle.std.proofs.Common.{◌≡◌, ◌≢◌, ◌<◌, ℕ, List, [], ◌∷◌, ◌++◌, ◌⊎◌, length, refl, sym, ap, ◌∙◌, arith, append_assoc, Bool, true, false, ◌==◌, inl, inr}
 use Rattle.std.proofs.lemmas.Bool.{eqb-true}
-use Rattle.arraystring_run.specs.Script.{lines, line_feed, first_byte, ended, all_ended, IsOneLine, AreOneLine}
+use Rattle.arraystring_run.specs.ScriptLines.{lines, line_feed, first_byte, ended, all_ended, IsOneLine, AreOneLine}
 use Rattle.arraystring_run.proofs.ScriptLemmas.{not_line_feed}
 use Rattle.arraystring_run.proofs.laws.lines_of_input.Goals as goal
 

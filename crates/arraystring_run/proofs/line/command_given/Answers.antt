@@ -2,7 +2,7 @@ use Rattle.std.proofs.Common.{length, refl, arith, inl, inr}
 use Rattle.std.proofs.lemmas.Bool.{cases_lt}
 use Rattle.arraystring.proofs.TextLaws.{utf8-well_formed}
 use Rattle.arraystring_run.specs.declared.commands.Command.TheVariants as command
-use Rattle.arraystring_run.specs.Grammar.{Number, Character, Text, arguments}
+use Rattle.arraystring_run.specs.Line.{Number, Character, Text, arguments}
 use Rattle.arraystring_run.proofs.GrammarLemmas.{unread, no-character, no-number, if-none, line-parts, line-given, has-argument, spelled-one}
 use Rattle.arraystring_run.proofs.line.command_given.Goals as goal
 

@@ -1,7 +1,7 @@
 use Rattle.std.proofs.Common.{◌∷◌, [], ◌∙◌, ap, map, refl, subst, sym}
 use Rattle.arraystring.proofs.TextLaws.{well_formed-utf8}
 use Rattle.arraystring_run.specs.declared.commands.Command.TheVariants as command
-use Rattle.arraystring_run.specs.Grammar.{Number, Character, Text, AreSpelled, arguments}
+use Rattle.arraystring_run.specs.Line.{Number, Character, Text, AreSpelled, arguments}
 use Rattle.arraystring_run.proofs.CommandLemmas.{kind}
 use Rattle.arraystring_run.proofs.GrammarLemmas.{if-none, if_some-map, ranges, unread, no-before, no-start, line-parts, no-character, no-number, reads-behind, line-given, spelled-one, spelled-before, number-behind}
 use Rattle.arraystring_run.proofs.line.command_given_more.Goals as goal

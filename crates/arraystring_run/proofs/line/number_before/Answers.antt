@@ -1,5 +1,5 @@
 use Rattle.std.proofs.Common.{◌∙◌, sym, subst}
-use Rattle.arraystring_run.specs.Grammar.{IsNumber}
+use Rattle.arraystring_run.specs.Line.{IsNumber}
 use Rattle.arraystring_run.proofs.GrammarLemmas.{no-space, number-one, first-space}
 use Rattle.arraystring_run.proofs.line.number_before.Goals as goal
 

@@ -1,6 +1,6 @@
 use Rattle.std.proofs.Common.{◌≡◌, ◌≢◌, ◌<◌, ℕ, arith, ap, subst, length, slice_index, slice_range, take, take_all}
 use Rattle.std.proofs.lemmas.Str.{lead_after_ascii}
-use Rattle.arraystring_run.specs.Grammar.{IsOneWord, space}
+use Rattle.arraystring_run.specs.Line.{IsOneWord, space}
 use Rattle.arraystring_run.proofs.SpaceLemmas.{word-before, around-space}
 use Rattle.arraystring_run.proofs.line.split_at_space.Goals as goal
 

@@ -1,7 +1,8 @@
 use Rattle.std.proofs.Common.{◌∙◌, subst}
 use Rattle.std.specs.Io.KnownBytes.{Appends}
 use Rattle.arraystring.specs.Text.{cap}
-use Rattle.arraystring_run.specs.Script.{lines, AreLinesOf, run_printed}
+use Rattle.arraystring_run.specs.ScriptLines.{lines, AreLinesOf}
+use Rattle.arraystring_run.specs.Printing.{run_printed}
 use Rattle.arraystring_run.proofs.GrammarLemmas.{if_some-map}
 use Rattle.arraystring_run.proofs.PrintLemmas.{on-ok}
 use Rattle.arraystring_run.proofs.player.play.Goals as goal

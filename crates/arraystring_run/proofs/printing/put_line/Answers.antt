@@ -1,6 +1,6 @@
 use Rattle.std.proofs.Common.{◌++◌, ◌∷◌, []}
 use Rattle.std.proofs.KnownBytes.{Appends-trans}
-use Rattle.arraystring_run.specs.Script.{line_feed}
+use Rattle.arraystring_run.specs.ScriptLines.{line_feed}
 use Rattle.arraystring_run.proofs.PrintLemmas.{on-ok, front-more, front-then}
 use Rattle.arraystring_run.proofs.printing.put_line.Goals as goal
 

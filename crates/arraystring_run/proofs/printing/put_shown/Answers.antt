@@ -1,7 +1,7 @@
 use Rattle.std.proofs.Common.{ap, subst}
 use Rattle.std.specs.Io.KnownBytes.{Appends}
 use Rattle.arraystring.specs.Text.{bytes}
-use Rattle.arraystring_run.specs.Script.{AppendsPrefix}
+use Rattle.arraystring_run.specs.Writing.{AppendsPrefix}
 use Rattle.arraystring_run.proofs.PrintLemmas.{on-ok, line_shown}
 use Rattle.arraystring_run.proofs.printing.put_shown.Goals as goal
 

@@ -4,7 +4,9 @@ use Rattle.std.proofs.KnownBytes.{Appends-nil, Appends-trans, Appends-kept}
 use Rattle.std.specs.Io.KnownBytes.{Appends}
 use Rattle.arraystring.specs.Text.{bytes}
 use Rattle.arraystring_run.specs.Runs.{said}
-use Rattle.arraystring_run.specs.Script.{ended, printed, replies_printed, AppendsPrefix}
+use Rattle.arraystring_run.specs.ScriptLines.{ended}
+use Rattle.arraystring_run.specs.Printing.{printed, replies_printed}
+use Rattle.arraystring_run.specs.Writing.{AppendsPrefix}
 use Rattle.arraystring_run.specs.declared.commands.Reply.{Reply}
 use Rattle.arraystring_run.proofs.PrintLemmas.{printed-more, printed-parts, front-all, front-more, front-then}
 use Rattle.arraystring_run.proofs.printing.write_all_replies.Goals as goal

@@ -1,7 +1,7 @@
 use Rattle.std.proofs.Common.{map, take}
 use Rattle.std.specs.Io.KnownBytes.{Appends}
 use Rattle.arraystring_run.specs.Runs.{said}
-use Rattle.arraystring_run.specs.Script.{replies_printed}
+use Rattle.arraystring_run.specs.Printing.{replies_printed}
 use Rattle.arraystring_run.proofs.printing.write_all_replies.Given as goal
 
 abbrev pub invariant-loop-reply : goal.invariant-loop-reply

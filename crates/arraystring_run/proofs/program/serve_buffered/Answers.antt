@@ -1,6 +1,6 @@
 use Rattle.std.proofs.Common.{◌≡◌, ap, sym, subst, ◌∙◌}
 use Rattle.std.specs.Io.KnownBytes.{append_known}
-use Rattle.arraystring_run.specs.Script.{IsServed}
+use Rattle.arraystring_run.specs.Program.{IsServed}
 use Rattle.arraystring_run.specs.declared.buffered.Buffered.{Buffered}
 use Rattle.arraystring_run.proofs.BufferLemmas.{none-waits}
 use Rattle.arraystring_run.proofs.ServedLemmas.{served-through, served-cut}

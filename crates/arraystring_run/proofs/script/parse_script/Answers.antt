@@ -1,8 +1,8 @@
 use Rattle.std.proofs.Common.{◌≡◌, ◌+◌, ◌++◌, ◌∷◌, [], ap, drop, length, slice_range, subst, arith, rules, length-drop, length-take, ◌-◌}
 use Rattle.std.proofs.lemmas.List.{drop_all}
 use Rattle.std.proofs.lemmas.Str.{IsCharBoundary-start}
-use Rattle.arraystring_run.specs.Grammar.{IsLineOf}
-use Rattle.arraystring_run.specs.Script.{lines}
+use Rattle.arraystring_run.specs.Line.{IsLineOf}
+use Rattle.arraystring_run.specs.ScriptLines.{lines}
 use Rattle.arraystring_run.proofs.ScriptLemmas.{IsPartRead, line-from, after-line_feed, read-all, read-none, read-more, read-bad}
 use Rattle.arraystring_run.proofs.script.parse_script.Goals as goal
 

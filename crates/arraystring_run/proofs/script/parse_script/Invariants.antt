@@ -1,5 +1,5 @@
 use Rattle.std.proofs.Common.{◌≡◌, ◌+◌, ◌-◌, ◌<◌, ◌≤◌, drop, length, slice_index, IfSome, IsUtf8}
-use Rattle.arraystring_run.specs.Script.{lines}
+use Rattle.arraystring_run.specs.ScriptLines.{lines}
 use Rattle.arraystring_run.proofs.ScriptLemmas.{IsPartRead}
 use Rattle.arraystring_run.proofs.script.parse_script.Given as goal
 

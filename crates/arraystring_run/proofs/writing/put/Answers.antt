@@ -1,7 +1,7 @@
 use Rattle.std.proofs.Common.{[], ◌∙◌, refl, sym}
 use Rattle.std.proofs.KnownBytes.{Appends-nil}
 use Rattle.arraystring_run.proofs.PrintLemmas.{appended-all, appended-rest, front-all, front-kept, front-rest, on-ok}
-use Rattle.arraystring_run.proofs.printing.put.Goals as goal
+use Rattle.arraystring_run.proofs.writing.put.Goals as goal
 
 pub returns-clause-part : goal.returns-clause-part
 returns-clause-part g c =
