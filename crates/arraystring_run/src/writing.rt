@@ -23,7 +23,7 @@ pub(crate) fn put<O: Write>(output: &mut O, text: &str) -> io::Result<()>
     put_rest(output, rest)
 }
 
-/// The same of the bytes that the first write left.
+/// Writes the bytes that the first write left. If a write fails, a prefix of them was written.
 #[cold]
 #[inline(never)]
 fn put_rest<O: Write>(output: &mut O, bytes: &[u8]) -> io::Result<()>
