@@ -1,10 +1,9 @@
 mod RunLemmas
 mod CommandLemmas
-mod GrammarLemmas
+mod LineLemmas
 mod ScriptLemmas
 mod SpaceLemmas
 mod PrintLemmas
-mod OneReadingLemmas
 mod AgreementLemmas
 mod PlayLemmas
 mod BufferLemmas

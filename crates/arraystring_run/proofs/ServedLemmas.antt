@@ -8,7 +8,7 @@ use Rattle.std.specs.Io.KnownBytes.{Appends, append_known}
 use Rattle.arraystring_run.specs.Writing.{AppendsPrefix}
 use Rattle.arraystring_run.specs.Program.{IsServed, capacity_named, fault_line}
 use Rattle.arraystring_run.specs.declared.player.PlayFault.TheVariants.{Write}
-use Rattle.arraystring_run.proofs.GrammarLemmas.{if_some-map}
+use Rattle.arraystring_run.proofs.LineLemmas.{if_some-map}
 use Rattle.arraystring_run.proofs.PrintLemmas.{front-all}
 
 append-nothing : (known : Option (List ℕ)) → append_known known [] ≡ known

@@ -3,7 +3,7 @@ use Rattle.std.specs.Io.KnownBytes.{Appends}
 use Rattle.arraystring.specs.Text.{cap}
 use Rattle.arraystring_run.specs.ScriptLines.{lines, AreLinesOf}
 use Rattle.arraystring_run.specs.Printing.{run_printed}
-use Rattle.arraystring_run.proofs.GrammarLemmas.{if_some-map}
+use Rattle.arraystring_run.proofs.LineLemmas.{if_some-map}
 use Rattle.arraystring_run.proofs.PrintLemmas.{on-ok}
 use Rattle.arraystring_run.proofs.player.play.Goals as goal
 
