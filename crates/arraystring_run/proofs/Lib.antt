@@ -1,10 +1,4 @@
 mod RunLemmas
 mod CommandLemmas
 mod LineLemmas
-mod ScriptLemmas
-mod SpaceLemmas
 mod PrintLemmas
-mod AgreementLemmas
-mod PlayLemmas
-mod BufferLemmas
-mod ServedLemmas

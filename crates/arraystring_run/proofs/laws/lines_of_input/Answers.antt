@@ -1,16 +1,15 @@
 use Rattle.std.proofs.Common.{◌≡◌, ◌≢◌, ◌<◌, ℕ, List, [], ◌∷◌, ◌++◌, ◌⊎◌, length, refl, sym, ap, ◌∙◌, arith, append_assoc, Bool, true, false, ◌==◌, inl, inr}
-use Rattle.std.proofs.lemmas.Bool.{eqb-true}
+use Rattle.std.proofs.lemmas.Bool.{eqb-true, ne_eqb}
 use Rattle.arraystring_run.specs.ScriptLines.{lines, line_feed, first_byte, ended, all_ended, IsOneLine, AreOneLine}
-use Rattle.arraystring_run.proofs.ScriptLemmas.{not_line_feed}
 use Rattle.arraystring_run.proofs.laws.lines_of_input.Goals as goal
 
 line-before : (line rest : List ℕ) → IsOneLine line → lines (line ++ line_feed ∷ rest) ≡ line ∷ lines rest
 line-before [] rest one = refl
-line-before (b ∷ line) rest one = rw (not_line_feed b one.0) (ap (first_byte b) (line-before line rest one.1))
+line-before (b ∷ line) rest one = rw (ne_eqb b line_feed one.0) (ap (first_byte b) (line-before line rest one.1))
 
 line-alone : (b : ℕ) (line : List ℕ) → IsOneLine (b ∷ line) → lines (b ∷ line) ≡ (b ∷ line) ∷ []
-line-alone b [] one = rw (not_line_feed b one.0) refl
-line-alone b (d ∷ line) one = rw (not_line_feed b one.0) (ap (first_byte b) (line-alone d line one.1))
+line-alone b [] one = rw (ne_eqb b line_feed one.0) refl
+line-alone b (d ∷ line) one = rw (ne_eqb b line_feed one.0) (ap (first_byte b) (line-alone d line one.1))
 
 line-ended : (line rest : List ℕ) → IsOneLine line → lines (ended line ++ rest) ≡ line ∷ lines rest
 line-ended line rest one = cc (append_assoc line (line_feed ∷ []) rest, line-before line rest one)
@@ -46,7 +45,7 @@ lines-one_line [] = tt
 lines-one_line (b ∷ bs) =
     elim (ends b) [
       | inl is ↦ rw is (tt, lines-one_line bs)
-      | inr other ↦ rw (not_line_feed b other) (first-one_line b (lines bs) other (lines-one_line bs))
+      | inr other ↦ rw (ne_eqb b line_feed other) (first-one_line b (lines bs) other (lines-one_line bs))
     ]
 
 -- what the lines of an input are, once each is ended: the input, but for its last end
@@ -70,7 +69,7 @@ joined [] = inl refl
 joined (b ∷ bs) =
     elim (ends b) [
       | inl is ↦ rw is (next-joined (lines bs) bs (joined bs))
-      | inr other ↦ rw (not_line_feed b other) (first-joined b (lines bs) bs (joined bs))
+      | inr other ↦ rw (ne_eqb b line_feed other) (first-joined b (lines bs) bs (joined bs))
     ]
 
 lines-joined : (bs : List ℕ) → (all_ended (lines bs) ≡ bs) ⊎ (all_ended (lines bs) ≡ ended bs)

@@ -1,11 +1,10 @@
-use Rattle.std.proofs.Common.{◌≡◌, ℕ, List, [], ◌∷◌, map, refl, sym, ap, subst, ◌∙◌, arith, true, ◌==◌}
+use Rattle.std.proofs.Common.{◌≡◌, ℕ, List, [], ◌∷◌, map, refl, sym, subst, ◌∙◌, arith, true, ◌==◌}
 use Rattle.std.proofs.lemmas.List.{append-nil}
 use Rattle.std.proofs.lemmas.Bool.{and_parts, eqb-true}
 use Rattle.arraystring.proofs.TextLaws.{bytes_same}
 use Rattle.arraystring_run.specs.declared.commands.Command.{Command}
-use Rattle.arraystring_run.specs.Runs.{edit, after}
+use Rattle.arraystring_run.specs.Runs.{edit}
 use Rattle.arraystring_run.specs.Line.{Argument, Number, Character, Text, word, arguments, IsSpelled, AreSpelled, IsLineOf, IsOneWord}
-use Rattle.arraystring_run.specs.ScriptLines.{AreLinesOf}
 use Rattle.arraystring_run.proofs.CommandLemmas.{kind, numbers_first, kinds-numbers_first, same-kinds, same-edit}
 use Rattle.arraystring_run.proofs.LineLemmas.{same-word, spelled-behind, one-word, digits-one}
 use Rattle.arraystring_run.proofs.laws.one_reading.Goals as goal

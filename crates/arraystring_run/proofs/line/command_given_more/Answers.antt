@@ -1,4 +1,4 @@
-use Rattle.std.proofs.Common.{◌≡◌, ◌≤◌, ℕ, List, ◌∷◌, ◌++◌, [], ◌∙◌, ◌+◌, ◌<◌, ap, map, arith, codes, drop, get_or, length, length-append, refl, subst, sym, true, IsUtf8}
+use Rattle.std.proofs.Common.{◌≡◌, ◌≤◌, ℕ, List, ◌∷◌, ◌++◌, [], ◌∙◌, ◌+◌, ◌<◌, ap, map, arith, codes, get_or, length, length-append, refl, subst, sym, true, IsUtf8}
 use Rattle.std.proofs.Math.Seq.{get_or-append_seam, drop-append-add}
 use Rattle.std.proofs.lemmas.Str.{IsUtf8-drop, IsCharBoundary-after_ascii}
 use Rattle.arraystring.specs.Text.{IsWellFormed}

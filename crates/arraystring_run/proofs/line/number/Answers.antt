@@ -1,4 +1,4 @@
-use Rattle.std.proofs.Common.{◌≡◌, ◌≢◌, ◌<◌, ◌≤◌, ℕ, List, length, get_or, true, arith, rules, Result, Ok, Err, IfSome, IfNone}
+use Rattle.std.proofs.Common.{◌≡◌, ◌<◌, ◌≤◌, ℕ, List, length, true, arith, rules, Result, Ok, Err, IfSome, IfNone}
 use Rattle.std.proofs.lemmas.Str.Parse.{numerals_by_fold, parse_plain}
 use Rattle.std.proofs.lemmas.Str.Pattern.{starts_char}
 use Rattle.std.specs.Result.{OkIff, result_ok}
