@@ -1,4 +1,4 @@
-use Rattle.std.proofs.Common.{◌≡◌, ◌≤◌, ℕ, List, ◌∷◌, ◌++◌, [], ◌∙◌, ◌+◌, ◌<◌, ap, map, arith, codes, get_or, length, length-append, refl, subst, sym, true, IsUtf8}
+use Rattle.std.proofs.Common.{◌≡◌, ◌≢◌, ◌≤◌, ℕ, List, ◌∷◌, ◌++◌, [], ◌∙◌, ◌+◌, ◌<◌, ap, map, arith, codes, get_or, length, length-append, refl, subst, sym, true, IsUtf8}
 use Rattle.std.proofs.Math.Seq.{get_or-append_seam, drop-append-add}
 use Rattle.std.proofs.lemmas.Str.{IsUtf8-drop, IsCharBoundary-after_ascii}
 use Rattle.arraystring.specs.Text.{IsWellFormed}
@@ -29,17 +29,17 @@ no-start rest bad (Number n ∷ b ∷ given) first more spelled = no-before rest
 no-start rest bad other first more spelled = cc
 
 -- the other words of two arguments or more take the ends of a range, and no more
-ranges : (c : Command) → 2 ≤ length (arguments c) → (word c ≡ codes "try_insert" → ⊥) → (word c ≡ codes "try_insert_str" → ⊥)
-    → (word c ≡ codes "insert_str" → ⊥) → (word c ≡ codes "replace_range" → ⊥) → (m : ℕ) × (n : ℕ) × (arguments c ≡ Number m ∷ Number n ∷ [])
-ranges (command.TryInsert i c) more a b d e = absurd (a refl)
-ranges (command.TryInsertStr i given) more a b d e = absurd (b refl)
-ranges (command.InsertStr i given) more a b d e = absurd (d refl)
-ranges (command.Drain m n) more a b d e = (m, n, refl)
-ranges (command.DrainThrough m n) more a b d e = (m, n, refl)
-ranges (command.DrainBack m n) more a b d e = (m, n, refl)
-ranges (command.ReplaceRange m n given) more a b d e = absurd (e refl)
-ranges (command.Get m n) more a b d e = (m, n, refl)
-ranges other more a b d e = absurd (omega arith)
+ranges : {w : List ℕ} (c : Command) → 2 ≤ length (arguments c) → w ≡ word c → w ≢ codes "try_insert" → w ≢ codes "try_insert_str"
+    → w ≢ codes "insert_str" → w ≢ codes "replace_range" → (m : ℕ) × (n : ℕ) × (arguments c ≡ Number m ∷ Number n ∷ [])
+ranges (command.TryInsert i c) more is a b d e = absurd (a is)
+ranges (command.TryInsertStr i given) more is a b d e = absurd (b is)
+ranges (command.InsertStr i given) more is a b d e = absurd (d is)
+ranges (command.Drain m n) more is a b d e = (m, n, refl)
+ranges (command.DrainThrough m n) more is a b d e = (m, n, refl)
+ranges (command.DrainBack m n) more is a b d e = (m, n, refl)
+ranges (command.ReplaceRange m n given) more is a b d e = absurd (e is)
+ranges (command.Get m n) more is a b d e = (m, n, refl)
+ranges other more is a b d e = absurd (omega arith)
 
 -- what is after a number that was read
 reads-behind : (rest : List ℕ) (n : ℕ) (behind : List ℕ) (k : ℕ) (kinds : List ℕ) → IsNumberBefore rest n behind
@@ -110,7 +110,7 @@ returns-in_err-number-in_default-clause-none c =
     rw c.from_residual-in_err-number-in_default.ensures (λ d more line.
     let (is, spelled) = line-parts _ _ d c.requires line in
     let arm = c.in_default in
-    let (m, n, ends) = ranges d more (λ e. arm.not-try_insert (is ∙ e)) (λ e. arm.not-try_insert_str (is ∙ e)) (λ e. arm.not-insert_str (is ∙ e)) (λ e. arm.not-replace_range (is ∙ e)) in
+    let (m, n, ends) = ranges d more is arm.not-try_insert arm.not-try_insert_str arm.not-insert_str arm.not-replace_range in
     no-number _ c.in_err-number-in_default.ensures.none (reads-behind _ _ _ _ _ c.in_ok-start.ensures.some (arguments d, ap (map kind) ends, spelled)))
 
 pub returns-in_ok-number-in_default-clause-some : goal.returns-in_ok-number-in_default-clause-some
@@ -124,5 +124,5 @@ returns-in_ok-number-in_default-clause-none c =
     if-none c.command_of_range.result (λ none d more line.
     let (is, spelled) = line-parts _ _ d c.requires line in
     let arm = c.in_default in
-    let (m, n, ends) = ranges d more (λ e. arm.not-try_insert (is ∙ e)) (λ e. arm.not-try_insert_str (is ∙ e)) (λ e. arm.not-insert_str (is ∙ e)) (λ e. arm.not-replace_range (is ∙ e)) in
+    let (m, n, ends) = ranges d more is arm.not-try_insert arm.not-try_insert_str arm.not-insert_str arm.not-replace_range in
     none d m n is ends) c.command_of_range.ensures.none

@@ -61,7 +61,7 @@ returns g c =
       | then-status-eq0+then-not-is_whole w ↦ (
         waiting.items,
         λ other. absurd (other w.result-is),
-        rw w.result-is (served-cut (λ e. ap g.E.Write.contents e) (rw w.if-status-eq0.true at through)),
+        rw w.result-is (served-cut (ap g.E.Write.contents) (rw w.if-status-eq0.true at through)),
       )
       | else-status-eq0 w ↦ (
         waiting.items,

@@ -31,15 +31,16 @@ module _ (bs : List ℕ) (start len : ℕ) where
   rest-is : rest ≡ drop start bs
   rest-is = take_all (length bs - start) (drop start bs) (omega (arith, length-drop start bs))
 
-  line-from : start < length bs → len ≤ length rest → (len < length rest → slice_index rest len ≡ line_feed)
+  next-line : {all : List (List ℕ)} {done : List Command} {number : ℕ} → IsPartRead all done (lines (drop start bs)) number
+      → start < length bs → len ≤ length rest → (len < length rest → slice_index rest len ≡ line_feed)
       → ((i : ℕ) → i < len → slice_index rest i ≢ line_feed)
-      → lines (drop start bs) ≡ slice_range bs start (start + len) ∷ lines (drop (start + len + 1) bs)
-  line-from lt le ended one =
+      → IsPartRead all done (slice_range bs start (start + len) ∷ lines (drop (start + len + 1) bs)) number
+  next-line {all} {done} {number} way lt le ended one =
       let some : 0 < length rest = omega (arith, ap length rest-is, length-drop start bs) in
       let size : start + len - start ≡ len = omega arith in
       let up : start + (len + 1) ≡ start + len + 1 = omega arith in
       let next : drop (len + 1) (drop start bs) ≡ drop (start + len + 1) bs = drop-drop (len + 1) start bs ∙ ap (λ k. drop k bs) up in
-      cc (rest-is, first-line rest len some le ended one)
+      subst (λ l. IsPartRead all done l number) (cc (rest-is, first-line rest len some le ended one)) way
 
   -- a character begins after its end
   after-line_feed : (len < length rest → slice_index rest len ≡ line_feed)
@@ -48,9 +49,6 @@ module _ (bs : List ℕ) (start len : ℕ) where
       let at = subst (λ l. len < length l → slice_index l len ≡ line_feed) rest-is ended (omega (arith, length-drop start bs)) in
       lead_after_ascii bs (start + len) u (omega (arith, get_or-drop start bs len 0)) lt
 
-read-none : (all : List (List ℕ)) → IsPartRead all [] all 0
-read-none all = record { front = []; whole = refl; count = refl; read = tt }
-
 more-lines : (front : List (List ℕ)) (done : List Command) (line : List ℕ) (c : Command) → AreLinesOf front done → IsLineOf line c
     → AreLinesOf (front ++ line ∷ []) (done ++ c ∷ [])
 more-lines [] [] line c are is = (is, tt)
@@ -58,85 +56,64 @@ more-lines [] (d ∷ done) line c are is = absurd are
 more-lines (l ∷ front) [] line c are is = absurd are
 more-lines (l ∷ front) (d ∷ done) line c are is = (are.0, more-lines front done line c are.1 is)
 
-read-more : (all : List (List ℕ)) (done : List Command) (line : List ℕ) (left : List (List ℕ)) (number : ℕ) (c : Command)
-    → IsPartRead all done (line ∷ left) number → IsLineOf line c → IsPartRead all (done ++ c ∷ []) left (number + 1)
-read-more all done line left number c way is = record {
-  front = way.front ++ line ∷ [];
-  whole = way.whole ∙ sym (append_assoc way.front (line ∷ []) left);
-  count = omega (arith, length-append way.front (line ∷ []));
-  read = more-lines way.front done line c way.read is;
-}
+module _ {all : List (List ℕ)} {done : List Command} {line : List ℕ} {left : List (List ℕ)} {number : ℕ} (way : IsPartRead all done (line ∷ left) number) where
+  read-more : (c : Command) → IsLineOf line c → IsPartRead all (done ++ c ∷ []) left (number + 1)
+  read-more c is = record {
+    front = way.front ++ line ∷ [];
+    whole = way.whole ∙ sym (append_assoc way.front (line ∷ []) left);
+    count = omega (arith, length-append way.front (line ∷ []));
+    read = more-lines way.front done line c way.read is;
+  }
 
-read-bad : (all : List (List ℕ)) (done : List Command) (line : List ℕ) (left : List (List ℕ)) (number : ℕ)
-    → IsPartRead all done (line ∷ left) number → ((c : Command) → IsLineOf line c → ⊥) → IsBadAt all (number + 1)
-read-bad all done line left number way bad = record {
-  front = way.front;
-  commands = done;
-  line = line;
-  rest = left;
-  whole = way.whole;
-  number = omega arith;
-  before = way.read;
-  bad = bad;
-}
-
-read-all : (all : List (List ℕ)) (done : List Command) (number : ℕ) → IsPartRead all done [] number → AreLinesOf all done
-read-all all done number way = subst (λ l. AreLinesOf l done) (sym (way.whole ∙ append-nil way.front)) way.read
+  read-bad : ((c : Command) → IsLineOf line c → ⊥) → IsBadAt all (number + 1)
+  read-bad bad = record {
+    front = way.front;
+    commands = done;
+    line = line;
+    rest = left;
+    whole = way.whole;
+    number = omega arith;
+    before = way.read;
+    bad = bad;
+  }
 
 pub loop-start-init : goal.loop-start-init
 loop-start-init c =
-    let bs = c.args.script.now in
     let none : c.new-commands.result.items ≡ [] = search rules in
     record {
       short = omega arith;
       within = omega arith;
-      read = rw none (read-none (lines bs));
+      read = rw none (record { front = []; whole = refl; count = refl; read = tt });
       text = search rules;
-      boundary = λ u. (IsCharBoundary-start bs u).1;
+      boundary = λ u. (IsCharBoundary-start c.args.script.now u).1;
     }
 
 pub returns-in_default-clause-bad_line : goal.returns-in_default-clause-bad_line
 returns-in_default-clause-bad_line c =
-    let bs = c.args.script.now in
-    let all = lines bs in
-    let start = c.loop-start.start in
-    let size = c.find_byte.result in
-    let done = c.loop-start.commands.items in
-    let number = c.loop-start.number in
     let found = c.find_byte.ensures in
-    let parts = line-from bs start size c.loop-start-test.true found.at_most found.found found.before in
-    let here = subst (λ l. IsPartRead all done l number) parts c.loop-start.invariant.read in
-    read-bad all done (slice_range bs start (start + size)) (lines (drop (start + size + 1) bs)) number here c.in_default.ensures.none
+    read-bad (next-line _ _ _ c.loop-start.invariant.read c.loop-start-test.true found.at_most found.found found.before) c.in_default.ensures.none
 
 pub loop-start-preserved : goal.loop-start-preserved
 loop-start-preserved c =
     let bs = c.args.script.now in
-    let all = lines bs in
     let start = c.loop-start.start in
-    let size = c.find_byte.result in
-    let done = c.loop-start.commands.items in
-    let number = c.loop-start.number in
     let way = c.loop-start.invariant in
     let found = c.find_byte.ensures in
-    let parts = line-from bs start size c.loop-start-test.true found.at_most found.found found.before in
-    let here = subst (λ l. IsPartRead all done l number) parts way.read in
-    let line = slice_range bs start (start + size) in
-    let is : IsLineOf line c.in-Some.command = c.in-Some.ensures.some in
-    let pushed : c.push.new.self.items ≡ done ++ c.in-Some.command ∷ [] = search rules in
+    let here = next-line _ _ _ way.read c.loop-start-test.true found.at_most found.found found.before in
+    let pushed : c.push.new.self.items ≡ c.loop-start.commands.items ++ c.in-Some.command ∷ [] = search rules in
     record {
       short = omega arith;
       within = omega (arith, length-take (length bs - start) (drop start bs), length-drop start bs);
-      read = rw pushed (read-more all done line (lines (drop (start + size + 1) bs)) number c.in-Some.command here is);
+      read = rw pushed (read-more here c.in-Some.command c.in-Some.ensures.some);
       text = way.text;
-      boundary = after-line_feed bs start size found.found;
+      boundary = after-line_feed bs start c.find_byte.result found.found;
     }
 
 pub returns-clause-accepted : goal.returns-clause-accepted
 returns-clause-accepted c =
-    let bs = c.args.script.now in
-    let done = c.loop-start.commands.items in
-    let none = ap lines (drop_all c.loop-start.start bs c.loop-start-test.false) in
-    read-all (lines bs) done c.loop-start.number (subst (λ l. IsPartRead (lines bs) done l c.loop-start.number) none c.loop-start.invariant.read)
+    let way = c.loop-start.invariant.read in
+    let none = ap (λ l. way.front ++ lines l) (drop_all c.loop-start.start c.args.script.now c.loop-start-test.false) in
+    subst (λ l. AreLinesOf l c.loop-start.commands.items) (sym (way.whole ∙ none ∙ append-nil way.front)) way.read
 
 pub returns-in_default-clause-faults : goal.returns-in_default-clause-faults
 returns-in_default-clause-faults c = search rules
