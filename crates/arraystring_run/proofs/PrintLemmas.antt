@@ -26,11 +26,13 @@ front-then a b c bs cs p q = record {
 }
 
 -- a first write that left nothing
-pub appended-all : (a b : Option (List ℕ)) (all done rest : List ℕ) → all ≡ done ++ rest → true ≡ (length rest == 0) → Appends a b done → Appends a b all
+pub appended-all : (a b : Option (List ℕ)) (all done rest : List ℕ) → all ≡ done ++ rest → true ≡ (length rest == 0)
+    → Appends a b done → Appends a b all
 appended-all a b all done rest parts none p = rw (parts, is_empty-none rest none, append-nil) p
 
 -- a first write, and nothing of the rest
-pub front-kept : (a b c : Option (List ℕ)) (all done rest : List ℕ) → all ≡ done ++ rest → Appends a b done → Keeps b c → AppendsPrefix a c all
+pub front-kept : (a b c : Option (List ℕ)) (all done rest : List ℕ) → all ≡ done ++ rest
+    → Appends a b done → Keeps b c → AppendsPrefix a c all
 front-kept a b c all done rest parts p q = record { done = done; later = rest; whole = parts; appended = Appends-kept a b c done p q }
 
 pub on-ok : {A E : Type 0} (r : Result A E) (P Q : Type 0) → (P → Q) → OnOk r P → OnOk r Q

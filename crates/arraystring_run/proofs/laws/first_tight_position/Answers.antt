@@ -20,9 +20,11 @@ IsFirstFrom k cs t n o = MatchOption o (NoneTight cs t n) (λ j. (before : List 
 
 first-from : (k : ℕ) (cs : List Command) (t : List ℕ) (n : ℕ) → IsFirstFrom k cs t n (first_tight_from k cs t n)
 first-from k [] t n = none-empty t n
-first-from k (d ∷ ds) t n = go (tight d t n) (first_tight_from (k + 1) ds (edit d t n).text n) refl (first-from (k + 1) ds (edit d t n).text n)
+first-from k (d ∷ ds) t n = go (tight d t n) (first_tight_from (k + 1) ds (edit d t n).text n) refl
+    (first-from (k + 1) ds (edit d t n).text n)
   where
-    go : (b : Bool) (o : Option ℕ) → tight d t n ≡ b → IsFirstFrom (k + 1) ds (edit d t n).text n o → IsFirstFrom k (d ∷ ds) t n (if b then Some k else o)
+    go : (b : Bool) (o : Option ℕ) → tight d t n ≡ b → IsFirstFrom (k + 1) ds (edit d t n).text n o
+        → IsFirstFrom k (d ∷ ds) t n (if b then Some k else o)
     go true o is rest = ([], d, ds, refl, omega arith, is, none-empty t n)
     go false None loose none = none-cons d ds t n loose none
     go false (Some j) loose (before, c, later, parts, at, is, none) =

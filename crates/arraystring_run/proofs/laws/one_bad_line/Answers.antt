@@ -19,7 +19,9 @@ returns c = record {
       let most = at-most at.front all at.line at.rest [] cs (sym at.whole ∙ sym (append-nil all)) are at.bad in
       omega (arith, ap length at.whole, length-append at.front (at.line ∷ at.rest));
   first = λ all j k at also.
-      let one = at-most at.front also.front at.line at.rest (also.line ∷ also.rest) also.commands (sym at.whole ∙ also.whole) also.before at.bad in
-      let other = at-most also.front at.front also.line also.rest (at.line ∷ at.rest) at.commands (sym also.whole ∙ at.whole) at.before also.bad in
+      let one = at-most at.front also.front at.line at.rest (also.line ∷ also.rest) also.commands
+      (sym at.whole ∙ also.whole) also.before at.bad in
+      let other = at-most also.front at.front also.line also.rest (at.line ∷ at.rest) at.commands
+      (sym also.whole ∙ at.whole) at.before also.bad in
       omega arith;
 }

@@ -38,8 +38,8 @@ arguments-same given also bs e first is too = absurd (cc)
 
 line-same : (line : List ℕ) (c d : Command) (t : List ℕ) (n : ℕ) → IsLineOf line c → IsLineOf line d → edit c t n ≡ edit d t n
 line-same line c d t n (x, line_is, spelled) (y, also, too) =
-    let same = same-word (word c) (word d) x y (one-word c) (one-word d) (spelled-behind (arguments c) x spelled) (spelled-behind (arguments d) y too)
-    (sym line_is ∙ also) in
+    let same = same-word (word c) (word d) x y (one-word c) (one-word d)
+    (spelled-behind (arguments c) x spelled) (spelled-behind (arguments d) y too) (sym line_is ∙ also) in
     same-edit c d t n same.0 (arguments-same (arguments c) (arguments d) y (same-kinds c d same.0) (kinds-numbers_first c)
     (subst (λ l. AreSpelled l (arguments c)) same.1 spelled) too)
 

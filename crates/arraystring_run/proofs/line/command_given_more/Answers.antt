@@ -46,7 +46,8 @@ reads-behind : (rest : List ℕ) (n : ℕ) (behind : List ℕ) (k : ℕ) (kinds 
     → Reads rest (0 ∷ k ∷ kinds) → Reads behind (k ∷ kinds)
 reads-behind rest n behind k kinds (digits, number, e) read =
     let (m, others, (also, is, f), found) = reads-before rest k kinds read in
-    let same = same-word digits also (space ∷ behind) (space ∷ others) (digits-one digits number.digits) (digits-one also is.digits) refl refl (sym e ∙ f) in
+    let same = same-word digits also (space ∷ behind) (space ∷ others) (digits-one digits number.digits)
+    (digits-one also is.digits) refl refl (sym e ∙ f) in
     let this : others ≡ behind = cc in subst (λ l. Reads l (k ∷ kinds)) this found
 
 spelled-before : (rest : List ℕ) (n : ℕ) (behind : List ℕ) (given : List Argument) → IsNumberBefore rest n behind

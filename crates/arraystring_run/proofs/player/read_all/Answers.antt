@@ -5,7 +5,8 @@ use Rattle.arraystring_run.proofs.player.read_all.Goals.{in-Ok+else-is_err, in-E
 use Rattle.arraystring_run.proofs.player.read_all.Goals as goal
 
 -- a list that was extended, and not refused
-extended : {A E : Type 0} (r : Result A E) (new old more : List ℕ) → new ≡ (if is_ok r then old ++ more else old) → false ≡ is_err r → new ≡ old ++ more
+extended : {A E : Type 0} (r : Result A E) (new old more : List ℕ)
+    → new ≡ (if is_ok r then old ++ more else old) → false ≡ is_err r → new ≡ old ++ more
 extended (Ok x) new old more is taken = is
 extended (Err e) new old more is taken = absurd (cc)
 

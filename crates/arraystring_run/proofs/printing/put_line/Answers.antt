@@ -11,7 +11,8 @@ returns-in_err-put-2-clause-part g c =
 
 pub returns-clause-whole : goal.returns-clause-whole
 returns-clause-whole g c =
-    on-ok c.put-3.result _ _ (Appends-trans _ _ _ _ _ (Appends-trans _ _ _ _ _ c.in_ok-put.ensures.whole c.in_ok-put-2.ensures.whole)) c.put-3.ensures.whole
+    on-ok c.put-3.result _ _
+    (Appends-trans _ _ _ _ _ (Appends-trans _ _ _ _ _ c.in_ok-put.ensures.whole c.in_ok-put-2.ensures.whole)) c.put-3.ensures.whole
 
 pub returns-clause-part : goal.returns-clause-part
 returns-clause-part g c =

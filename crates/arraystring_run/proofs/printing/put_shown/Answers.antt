@@ -10,7 +10,8 @@ use Rattle.arraystring_run.proofs.printing.put_shown.Given as given
 use Rattle.arraystring_run.proofs.printing.put_shown.Goals as goal
 
 line_shown : {W : Type 0} (contents : W → List ℕ) (word : List ℕ) (o : Option (List ℕ)) (s t : W) (P : List ℕ → Type 0)
-    → WritesText (λ x given y. contents y ≡ contents x ++ given) s (option_append (Some word) (option_append o (Some (line_feed ∷ [])))) t
+    → WritesText (λ x given y. contents y ≡ contents x ++ given) s
+    (option_append (Some word) (option_append o (Some (line_feed ∷ [])))) t
     → contents s ≡ [] → P (contents t) → IfSome o (λ bs. P (ended (word ++ bs)))
 line_shown contents word None s t P w none p = tt
 line_shown contents word (Some bs) s t P w none p =

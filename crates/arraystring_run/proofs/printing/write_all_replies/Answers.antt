@@ -35,14 +35,17 @@ loop-reply-preserved g c =
 pub returns-in_err-write_reply-clause-part : goal.returns-in_err-write_reply-clause-part
 returns-in_err-write_reply-clause-part g c =
     let (done, parts, appended) = c.loop-reply.invariant in
-    front-more _ _ (replies_printed (map said c.args.replies.now)) _ (rw (one-more _ _ _ done c.loop-reply-test.true c.reply-item.is parts)
+    front-more _ _ (replies_printed (map said c.args.replies.now)) _
+    (rw (one-more _ _ _ done c.loop-reply-test.true c.reply-item.is parts)
     (front-more _ _ _ _ (front-then _ _ _ _ _ appended c.in_err-write_reply.ensures.part)))
 
 pub returns-in_err-put_line-clause-part : goal.returns-in_err-put_line-clause-part
 returns-in_err-put_line-clause-part g c =
-    front-then _ _ _ _ _ (all-written _ _ _ _ c.loop-reply-test.false c.loop-reply.invariant) (rw c.as_str.ensures.bytes at c.in_err-put_line.ensures.part)
+    front-then _ _ _ _ _ (all-written _ _ _ _ c.loop-reply-test.false c.loop-reply.invariant)
+    (rw c.as_str.ensures.bytes at c.in_err-put_line.ensures.part)
 
 pub returns-clause-part : goal.returns-clause-part
 returns-clause-part g c =
     let line = rw c.as_str.ensures.bytes at c.in_ok-put_line.ensures.whole in
-    front-all _ _ _ (Appends-kept _ _ _ _ (Appends-trans _ _ _ _ _ (all-written _ _ _ _ c.loop-reply-test.false c.loop-reply.invariant) line) c.flush.ensures.bytes)
+    front-all _ _ _ (Appends-kept _ _ _ _
+    (Appends-trans _ _ _ _ _ (all-written _ _ _ _ c.loop-reply-test.false c.loop-reply.invariant) line) c.flush.ensures.bytes)

@@ -11,4 +11,5 @@ IsPartWritten rs i old new =
     (done : List ℕ) × (replies_printed (map said rs) ≡ done ++ replies_printed (map said (drop i rs))) × Appends old new done
 
 abbrev pub invariant-loop-reply : goal.invariant-loop-reply
-invariant-loop-reply g l = IsPartWritten l.replies l.reply-index (g.O.Write.contents l.initial.output) (g.O.Write.contents l.output)
+invariant-loop-reply g l =
+    IsPartWritten l.replies l.reply-index (g.O.Write.contents l.initial.output) (g.O.Write.contents l.output)

@@ -18,16 +18,19 @@ at-0 (Ok _) whole e = whole
 at-0 (Err Write) whole e = absurd (omega arith)
 at-0 other whole e = absurd (omega arith)
 
-at-2 : (Line : List ℕ → Type 0) {Bad : ℕ → Type 0} (played : Result (Unit {0}) PlayFault) → IfErr played (λ e. IfBadLine e Bad) → Line (report_of played)
+at-2 : (Line : List ℕ → Type 0) {Bad : ℕ → Type 0} (played : Result (Unit {0}) PlayFault)
+    → IfErr played (λ e. IfBadLine e Bad) → Line (report_of played)
     → status_of played ≡ 2 → (k : ℕ) × Bad k × Line (fault_line (BadLine k))
 at-2 Line (Err (BadLine k)) bad line e = (k, bad, line)
 at-2 Line other bad line e = absurd (omega arith)
 
-at-3 : (Line : List ℕ → Type 0) (played : Result (Unit {0}) PlayFault) → Line (report_of played) → status_of played ≡ 3 → Line (fault_line Memory)
+at-3 : (Line : List ℕ → Type 0) (played : Result (Unit {0}) PlayFault)
+    → Line (report_of played) → status_of played ≡ 3 → Line (fault_line Memory)
 at-3 Line (Err Memory) line e = line
 at-3 Line other line e = absurd (omega arith)
 
-at-4 : (Line : List ℕ → Type 0) {SameOutput Part : Type 0} (played : Result (Unit {0}) PlayFault) → IfErr played (λ e. e ≢ Write → SameOutput) → IfErr played (λ e. e ≡ Write → Part)
+at-4 : (Line : List ℕ → Type 0) {SameOutput Part : Type 0} (played : Result (Unit {0}) PlayFault)
+    → IfErr played (λ e. e ≢ Write → SameOutput) → IfErr played (λ e. e ≡ Write → Part)
     → Line (report_of played) → status_of played ≡ 4 → (SameOutput × Line (fault_line Read)) ⊎ (Part × Line (fault_line Write))
 at-4 Line (Err Read) same part line e = inl (same (λ f. cc), line)
 at-4 Line (Err Write) same part line e = inr (part refl, line)
@@ -39,7 +42,8 @@ unwritten (Ok _) same ne _ = absurd (ne refl)
 unwritten (Err Write) same _ ne = absurd (ne refl)
 unwritten (Err e) same _ _ = same (λ f. cc)
 
-module _ {word : Option (Bor (List ℕ))} {given old new errors_old errors_new : Option (List ℕ)} {SameInput SameOutput SameErrors : Type 0} where
+module _ {word : Option (Bor (List ℕ))} {given old new errors_old errors_new : Option (List ℕ)}
+    {SameInput SameOutput SameErrors : Type 0} where
   -- a script that was played, or not, at the capacity n
   served : (n : ℕ) {status : ℕ} (played : Result (Unit {0}) PlayFault) → capacity_named word ≡ Some n
       → OnOk played (IfSome given (λ input. IsPlayed input n old new))

@@ -15,13 +15,15 @@ append-nothing : (known : Option (List ℕ)) → append_known known [] ≡ known
 append-nothing None = refl
 append-nothing (Some xs) = rw append-nil refl
 
-module _ {word : Option (Bor (List ℕ))} {given old new errors_old errors_new : Option (List ℕ)} {SameInput SameOutput SameErrors : Type 0} where
+module _ {word : Option (Bor (List ℕ))} {given old new errors_old errors_new : Option (List ℕ)}
+    {SameInput SameOutput SameErrors : Type 0} where
   -- what holds of an empty buffer holds of the output
   served-through : {SameBuffer : Type 0} {status : ℕ} {waiting : List ℕ} → (SameBuffer → SameOutput) → waiting ≡ []
       → IsServed word given (append_known old waiting) new errors_old errors_new SameInput SameBuffer SameErrors status
       → IsServed word given old new errors_old errors_new SameInput SameOutput SameErrors status
   served-through {SameBuffer} {status} {waiting} same none is =
-      let s = subst (λ l. IsServed word given l new errors_old errors_new SameInput SameBuffer SameErrors status) (ap (append_known old) none ∙ append-nothing old) is in
+      let s = subst (λ l. IsServed word given l new errors_old errors_new SameInput SameBuffer SameErrors status)
+      (ap (append_known old) none ∙ append-nothing old) is in
       record {
         other_word = λ e. let o = s.other_word e in (o.0, o.1, same o.2, o.3);
         played = s.played;
@@ -55,7 +57,8 @@ pub returns : goal.returns
 returns g c =
     let buffered = c.serve-status.new.output in
     let waiting = buffered.waiting in
-    let through = served-through {SameOutput = buffered.output ≡ c.args.output} (λ e. ap (λ (b : Buffered g.row.O.Denot). b.output) {x = buffered} e)
+    let through = served-through {SameOutput = buffered.output ≡ c.args.output}
+    (λ e. ap (λ (b : Buffered g.row.O.Denot). b.output) {x = buffered} e)
     c.buffer-waiting.ensures.empty c.serve-status.ensures in
     elim c.if-status-eq0.branch [
       | then-status-eq0+then-not-is_whole w ↦ (
@@ -69,7 +72,8 @@ returns g c =
           | else-status-eq0-via-then-status-eq0+else-not-is_whole v ↦
               is_empty-none waiting.items (sym v.if-not-is_whole.false ∙ c.is_empty-is_whole.ensures ∙ ap (λ n. n == 0) waiting.ok.0)
           | else-status-eq0-via-else-status-eq0 v ↦
-              ap (λ (b : Buffered g.row.O.Denot). b.waiting.items) {x = buffered} (c.serve-status.ensures.unwritten v.if-status-eq0.false (λ e. other (w.result-is ∙ e)))
+              ap (λ (b : Buffered g.row.O.Denot). b.waiting.items) {x = buffered}
+              (c.serve-status.ensures.unwritten v.if-status-eq0.false (λ e. other (w.result-is ∙ e)))
               ∙ c.buffer-waiting.ensures.empty
         ],
         rw w.result-is through,

@@ -15,7 +15,8 @@ earlier_of-step None true i rest = refl
 earlier_of-step None false i rest = refl
 earlier_of-step (Some k) b i rest = refl
 
-module _ {cs : List Command} {t₀ : List ℕ} {n i : ℕ} {done : List Said} {t : List ℕ} {first : Option ℕ} (way : IsPartWay cs t₀ n i done t first) where
+module _ {cs : List Command} {t₀ : List ℕ} {n i : ℕ} {done : List Said} {t : List ℕ} {first : Option ℕ}
+    (way : IsPartWay cs t₀ n i done t first) where
   at-end : length cs ≤ i → ((after cs t₀ n).replies ≡ done) × ((after cs t₀ n).text ≡ t) × (first_tight_from 0 cs t₀ n ≡ first)
   at-end le =
       let none = drop_all i cs le in (
@@ -26,12 +27,14 @@ module _ {cs : List Command} {t₀ : List ℕ} {n i : ℕ} {done : List Said} {t
 
   -- the next command is done
   one-more : (d : Command) → i < length cs → let command = get_or cs i d in
-      IsPartWay cs t₀ n (i + 1) (done ++ (edit command t n).reply ∷ []) (edit command t n).text (earlier_of first (if tight command t n then Some i else None))
+      IsPartWay cs t₀ n (i + 1) (done ++ (edit command t n).reply ∷ []) (edit command t n).text
+      (earlier_of first (if tight command t n then Some i else None))
   one-more d lt =
       let command = get_or cs i d in
       let next = drop_more cs i d lt in
       let later = (edit command t n).text in record {
-        replies = way.replies ∙ rw next (sym (append_assoc done ((edit command t n).reply ∷ []) (after (drop (i + 1) cs) later n).replies));
+        replies = way.replies ∙ rw next (sym (append_assoc done ((edit command t n).reply ∷ [])
+            (after (drop (i + 1) cs) later n).replies));
         text = way.text ∙ rw next refl;
         tight = way.tight ∙ rw next (earlier_of-step first (tight command t n) i (first_tight_from (i + 1) (drop (i + 1) cs) later n));
       }

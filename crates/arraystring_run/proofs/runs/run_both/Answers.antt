@@ -86,14 +86,16 @@ alike (c ∷ cs) t n m le = go (tight c t n) refl (alike cs (edit c t n).text n 
 
     go : (b : Bool) → tight c t n ≡ b → AreAlike cs (edit c t n).text n m (first_tight_from 0 cs (edit c t n).text n)
         → AreAlike (c ∷ cs) t n m (if b then Some 0 else first_tight_from 1 cs (edit c t n).text n)
-    go true e rest = record { agree = tt; no_sooner = zero-first (first_tight_from 0 (c ∷ cs) t m); same_text = λ none. absurd (cc) }
+    go true e rest =
+        record { agree = tt; no_sooner = zero-first (first_tight_from 0 (c ∷ cs) t m); same_text = λ none. absurd (cc) }
     go false e rest =
         let same = same-step c t n m le e in
         let first = first_tight_from 0 cs (edit c t n).text n in
         let later = tight-from_next 0 cs (edit c t n).text in
         record {
           agree = rw (later n, untight-next c cs first) (same.agrees, rw (← same.text) rest.agree);
-          no_sooner = rw (same.untight, ← same.text, later n, later m) (no_sooner-next first (first_tight_from 0 cs (edit c t n).text m) rest.no_sooner);
+          no_sooner = rw (same.untight, ← same.text, later n, later m)
+              (no_sooner-next first (first_tight_from 0 cs (edit c t n).text m) rest.no_sooner);
           same_text = λ none. cc (rest.same_text (none-next first (sym (later n) ∙ none)), same.text);
         }
 

@@ -56,7 +56,8 @@ more-lines [] (d ∷ done) line c are is = absurd are
 more-lines (l ∷ front) [] line c are is = absurd are
 more-lines (l ∷ front) (d ∷ done) line c are is = (are.0, more-lines front done line c are.1 is)
 
-module _ {all : List (List ℕ)} {done : List Command} {line : List ℕ} {left : List (List ℕ)} {number : ℕ} (way : IsPartRead all done (line ∷ left) number) where
+module _ {all : List (List ℕ)} {done : List Command} {line : List ℕ} {left : List (List ℕ)} {number : ℕ}
+    (way : IsPartRead all done (line ∷ left) number) where
   read-more : (c : Command) → IsLineOf line c → IsPartRead all (done ++ c ∷ []) left (number + 1)
   read-more c is = record {
     front = way.front ++ line ∷ [];

@@ -13,7 +13,8 @@ returns-clause-part g c =
 pub returns-clause-whole : goal.returns-clause-whole
 returns-clause-whole g c =
     let (done, parts, appended) = c.in_ok-rest.ensures.some in
-    on-ok c.put_rest.result _ _ (λ p. subst (Appends _ _) (sym parts ∙ c.as_bytes.ensures.value) (Appends-trans _ _ _ _ _ appended p)) c.put_rest.ensures.whole
+    on-ok c.put_rest.result _ _ (λ p. subst (Appends _ _) (sym parts ∙ c.as_bytes.ensures.value) (Appends-trans _ _ _ _ _ appended p))
+    c.put_rest.ensures.whole
 
 pub returns-then-is_empty-clause-whole : goal.returns-then-is_empty-clause-whole
 returns-then-is_empty-clause-whole g c =

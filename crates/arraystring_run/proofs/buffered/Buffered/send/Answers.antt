@@ -12,7 +12,8 @@ loop-preserved g c =
     let count = c.in_ok-count.count in
     let taken = subst (λ l. Appends old new (take count l)) c.deref.ensures.value c.in_ok-count.ensures.bytes in
     rw c.drop_front.ensures
-    (Keeps-trans _ _ _ c.loop.invariant (append_known-moved old new (take count items) (drop count items) items taken (sym (take-append-drop count items))))
+    (Keeps-trans _ _ _ c.loop.invariant
+    (append_known-moved old new (take count items) (drop count items) items taken (sym (take-append-drop count items))))
 
 pub returns-then-is_empty-clause-sent : goal.returns-then-is_empty-clause-sent
 returns-then-is_empty-clause-sent g c =
