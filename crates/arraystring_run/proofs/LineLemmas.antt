@@ -1,5 +1,5 @@
 -- Lines as words and arguments: what a line is the line of.
-use Rattle.std.proofs.Common.{◌≡◌, ℕ, ◌<◌, List, [], ◌∷◌, ◌++◌, map, refl, sym, subst, ◌∙◌, arith, IsUtf8, nat_lt, true, Option, Some, None, IfSome, IfNone}
+use Rattle.std.proofs.Common.{◌≡◌, ℕ, ◌<◌, List, [], ◌∷◌, ◌++◌, map, refl, sym, subst, ◌∙◌, arith, IsUtf8, nat_lt, true, Option, Some, None, IfNone}
 use Rattle.std.specs.Bool.{⊤}
 use Rattle.std.proofs.lemmas.List.{append-nil}
 use Rattle.std.proofs.lemmas.Bool.{and_parts, ltb-true}
@@ -74,10 +74,6 @@ no-number rest bad (other, e, spelled) = absurd (cc)
 pub if-none : {T A B : Type 0} (o : Option T) → (A → B) → IfNone o A → IfNone o B
 if-none None f a = f a
 if-none (Some x) f a = tt
-
-pub if_some-map : {A : Type 0} {P Q : A → Type 0} (o : Option A) → ((a : A) → P a → Q a) → IfSome o P → IfSome o Q
-if_some-map None f p = tt
-if_some-map (Some a) f p = f a p
 
 -- a line of a word and arguments
 pub line-given : (c : Command) (w rest : List ℕ) → w ≡ word c → AreSpelled (space ∷ rest) (arguments c) → IsLineOf (w ++ space ∷ rest) c

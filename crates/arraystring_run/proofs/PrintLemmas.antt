@@ -1,5 +1,5 @@
 -- What was appended, all or a prefix of what was to be.
-use Rattle.std.proofs.Common.{◌≡◌, ℕ, ◌==◌, true, length, List, [], ◌++◌, sym, append_assoc, Option, Result, Ok, Err, OnOk}
+use Rattle.std.proofs.Common.{◌≡◌, ℕ, ◌==◌, true, length, List, [], ◌++◌, sym, append_assoc, Option}
 use Rattle.std.proofs.lemmas.List.{append-nil}
 use Rattle.std.proofs.KnownBytes.{Appends-trans, Appends-kept}
 use Rattle.std.specs.Io.KnownBytes.{Appends, Keeps}
@@ -34,7 +34,3 @@ appended-all a b all done rest parts none p = rw (parts, is_empty-none rest none
 pub front-kept : (a b c : Option (List ℕ)) (all done rest : List ℕ) → all ≡ done ++ rest
     → Appends a b done → Keeps b c → AppendsPrefix a c all
 front-kept a b c all done rest parts p q = record { done = done; later = rest; whole = parts; appended = Appends-kept a b c done p q }
-
-pub on-ok : {A E : Type 0} (r : Result A E) (P Q : Type 0) → (P → Q) → OnOk r P → OnOk r Q
-on-ok (Ok x) P Q f p = f p
-on-ok (Err e) P Q f p = tt

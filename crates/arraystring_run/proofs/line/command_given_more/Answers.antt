@@ -1,5 +1,6 @@
 use Rattle.std.proofs.Common.{◌≡◌, ◌≢◌, ◌≤◌, ℕ, List, ◌∷◌, ◌++◌, [], ◌∙◌, ◌+◌, ◌<◌, ap, map, arith, codes, get_or, length, length-append, refl, subst, sym, true, IsUtf8}
 use Rattle.std.proofs.Math.Seq.{get_or-append_seam, drop-append-add}
+use Rattle.std.proofs.lemmas.Option.{IfSome_then}
 use Rattle.std.proofs.lemmas.Str.{IsUtf8-drop, IsCharBoundary-after_ascii}
 use Rattle.arraystring.specs.Text.{IsWellFormed}
 use Rattle.arraystring.proofs.TextLaws.{well_formed-utf8, utf8-well_formed}
@@ -7,7 +8,7 @@ use Rattle.arraystring_run.specs.declared.commands.Command.{Command}
 use Rattle.arraystring_run.specs.declared.commands.Command.TheVariants as command
 use Rattle.arraystring_run.specs.Line.{Argument, Number, Character, Text, AreSpelled, IsNumberBefore, arguments, word, space}
 use Rattle.arraystring_run.proofs.CommandLemmas.{kind, numbers_first, kinds-numbers_first}
-use Rattle.arraystring_run.proofs.LineLemmas.{Reads, same-word, digits-one, if-none, if_some-map, unread, line-parts, no-character, no-number, line-given, spelled-one}
+use Rattle.arraystring_run.proofs.LineLemmas.{Reads, same-word, digits-one, if-none, unread, line-parts, no-character, no-number, line-given, spelled-one}
 use Rattle.arraystring_run.proofs.line.command_given_more.Goals as goal
 
 reads-before : (rest : List ℕ) (k : ℕ) (kinds : List ℕ) → Reads rest (0 ∷ k ∷ kinds)
@@ -116,9 +117,9 @@ returns-in_err-number-in_default-clause-none c =
 
 pub returns-in_ok-number-in_default-clause-some : goal.returns-in_ok-number-in_default-clause-some
 returns-in_ok-number-in_default-clause-some c =
-    if_some-map c.command_of_range.result (λ d found.
+    IfSome_then c.command_of_range.result c.command_of_range.ensures.some (λ d found.
     line-given d _ _ found.0 (subst (AreSpelled _) (sym found.1)
-    (spelled-before _ _ _ (Number _ ∷ []) c.in_ok-start.ensures.some (spelled-one (Number _) _ c.in_ok-number-in_default.ensures.some)))) c.command_of_range.ensures.some
+    (spelled-before _ _ _ (Number _ ∷ []) c.in_ok-start.ensures.some (spelled-one (Number _) _ c.in_ok-number-in_default.ensures.some))))
 
 pub returns-in_ok-number-in_default-clause-none : goal.returns-in_ok-number-in_default-clause-none
 returns-in_ok-number-in_default-clause-none c =

@@ -1,5 +1,6 @@
 use Rattle.std.proofs.KnownBytes.{Appends-trans}
-use Rattle.arraystring_run.proofs.PrintLemmas.{on-ok, front-more, front-then}
+use Rattle.std.proofs.lemmas.Result.{on_ok_weaker}
+use Rattle.arraystring_run.proofs.PrintLemmas.{front-more, front-then}
 use Rattle.arraystring_run.proofs.printing.put_line.Goals as goal
 
 pub returns-in_err-put-clause-part : goal.returns-in_err-put-clause-part
@@ -11,7 +12,7 @@ returns-in_err-put-2-clause-part g c =
 
 pub returns-clause-whole : goal.returns-clause-whole
 returns-clause-whole g c =
-    on-ok c.put-3.result _ _
+    on_ok_weaker c.put-3.result
     (Appends-trans _ _ _ _ _ (Appends-trans _ _ _ _ _ c.in_ok-put.ensures.whole c.in_ok-put-2.ensures.whole)) c.put-3.ensures.whole
 
 pub returns-clause-part : goal.returns-clause-part

@@ -1,11 +1,11 @@
 use Rattle.std.proofs.Common.{◌≡◌, ℕ, List, [], ◌∷◌, ◌++◌, ◌∙◌, ap, sym, subst, append_assoc, Option, Some, None, IfSome}
 use Rattle.std.proofs.lemmas.Fmt.{contents_after_writes}
+use Rattle.std.proofs.lemmas.Result.{on_ok_weaker}
 use Rattle.std.specs.Fmt.{WritesText, option_append}
 use Rattle.std.specs.Io.KnownBytes.{Appends}
 use Rattle.arraystring.specs.Text.{bytes}
 use Rattle.arraystring_run.specs.ScriptLines.{line_feed, ended}
 use Rattle.arraystring_run.specs.Writing.{AppendsPrefix}
-use Rattle.arraystring_run.proofs.PrintLemmas.{on-ok}
 use Rattle.arraystring_run.proofs.printing.put_shown.Given as given
 use Rattle.arraystring_run.proofs.printing.put_shown.Goals as goal
 
@@ -27,7 +27,7 @@ of_line g c P p =
     c.in_ok-writeln.ensures.writes (ap bytes c.new-line.ensures) (subst P c.as_str.ensures.bytes p)
 
 pub returns-clause-whole : goal.returns-clause-whole
-returns-clause-whole g c = on-ok c.put.result _ _ (of_line g c (Appends _ _)) c.put.ensures.whole
+returns-clause-whole g c = on_ok_weaker c.put.result (of_line g c (Appends _ _)) c.put.ensures.whole
 
 pub returns-clause-part : goal.returns-clause-part
 returns-clause-part g c = of_line g c (AppendsPrefix _ _) c.put.ensures.part

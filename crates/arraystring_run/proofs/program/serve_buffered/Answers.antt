@@ -1,11 +1,11 @@
 use Rattle.std.proofs.Common.{◌≡◌, ◌==◌, ℕ, List, [], refl, ap, sym, subst, ◌∙◌, arith, inl, inr, Option, None, Some}
 use Rattle.std.proofs.KnownBytes.{Appends-nil, Keeps-refl}
 use Rattle.std.proofs.lemmas.List.{append-nil}
+use Rattle.std.proofs.lemmas.Option.{IfSome_then}
 use Rattle.std.specs.Borrow.{Bor}
 use Rattle.std.specs.Io.KnownBytes.{append_known}
 use Rattle.arraystring_run.specs.Program.{IsServed, capacity_named}
 use Rattle.arraystring_run.specs.declared.buffered.Buffered.{Buffered}
-use Rattle.arraystring_run.proofs.LineLemmas.{if_some-map}
 use Rattle.arraystring_run.proofs.PrintLemmas.{front-all, front-kept}
 use Rattle.arraystring_run.proofs.RunLemmas.{is_empty-none}
 use Rattle.arraystring_run.proofs.program.serve_buffered.Goals as goal
@@ -29,7 +29,7 @@ module _ {word : Option (Bor (List ℕ))} {given old new errors_old errors_new :
         played = s.played;
         bad_line = s.bad_line;
         no_memory = s.no_memory;
-        failed = if_some-map (capacity_named word) (λ n p e. elim (p e) [ inl f ↦ inl (same f.0, f.1) | inr f ↦ inr f ]) s.failed;
+        failed = IfSome_then (capacity_named word) s.failed (λ n p e. elim (p e) [ inl f ↦ inl (same f.0, f.1) | inr f ↦ inr f ]);
         quiet = s.quiet;
         unwritten = λ a b. same (s.unwritten a b);
         known = s.known;
@@ -41,13 +41,13 @@ module _ {word : Option (Bor (List ℕ))} {given old new errors_old errors_new :
       → IsServed word given old new errors_old errors_new SameInput SameOutput SameErrors 4
   served-cut quiet s = record {
     other_word = λ e. absurd (omega (arith, (s.other_word e).0));
-    played = if_some-map (capacity_named word) (λ n p e. absurd (omega arith)) s.played;
-    bad_line = if_some-map (capacity_named word) (λ n p e. absurd (omega arith)) s.played;
+    played = IfSome_then (capacity_named word) s.played (λ n p e. absurd (omega arith));
+    bad_line = IfSome_then (capacity_named word) s.played (λ n p e. absurd (omega arith));
     no_memory = λ e. absurd (omega arith);
-    failed = if_some-map (capacity_named word) (λ n p e. inr (
-      if_some-map given (λ input q. (q.0, q.1, front-all old new _ q.2)) (p refl),
+    failed = IfSome_then (capacity_named word) s.played (λ n p e. inr (
+      IfSome_then given (p refl) (λ input q. (q.0, q.1, front-all old new _ q.2)),
       rw (quiet (s.quiet refl)) (front-kept _ _ _ _ [] _ refl (Appends-nil _) (Keeps-refl _)),
-    )) s.played;
+    ));
     quiet = λ e. absurd (omega arith);
     unwritten = λ a b. absurd (b refl);
     known = (omega arith, λ e. absurd (omega arith));

@@ -1,8 +1,9 @@
 use Rattle.std.proofs.Common.{[], ◌∙◌, refl, sym, subst}
 use Rattle.std.proofs.KnownBytes.{Appends-nil, Appends-trans}
+use Rattle.std.proofs.lemmas.Result.{on_ok_weaker}
 use Rattle.std.specs.Io.KnownBytes.{Appends}
 use Rattle.arraystring_run.specs.Writing.{AppendsPrefix}
-use Rattle.arraystring_run.proofs.PrintLemmas.{appended-all, front-all, front-kept, front-then, on-ok}
+use Rattle.arraystring_run.proofs.PrintLemmas.{appended-all, front-all, front-kept, front-then}
 use Rattle.arraystring_run.proofs.writing.put.Goals as goal
 
 pub returns-clause-part : goal.returns-clause-part
@@ -13,7 +14,7 @@ returns-clause-part g c =
 pub returns-clause-whole : goal.returns-clause-whole
 returns-clause-whole g c =
     let (done, parts, appended) = c.in_ok-rest.ensures.some in
-    on-ok c.put_rest.result _ _ (λ p. subst (Appends _ _) (sym parts ∙ c.as_bytes.ensures.value) (Appends-trans _ _ _ _ _ appended p))
+    on_ok_weaker c.put_rest.result (λ p. subst (Appends _ _) (sym parts ∙ c.as_bytes.ensures.value) (Appends-trans _ _ _ _ _ appended p))
     c.put_rest.ensures.whole
 
 pub returns-then-is_empty-clause-whole : goal.returns-then-is_empty-clause-whole
