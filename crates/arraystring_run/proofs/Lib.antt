@@ -1,11 +1,4 @@
 mod RunLemmas
 mod CommandLemmas
-mod GrammarLemmas
-mod ScriptLemmas
-mod SpaceLemmas
+mod LineLemmas
 mod PrintLemmas
-mod OneReadingLemmas
-mod AgreementLemmas
-mod PlayLemmas
-mod BufferLemmas
-mod ServedLemmas

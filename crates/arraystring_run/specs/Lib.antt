@@ -9,6 +9,14 @@ pub use Rattle.arraystring.specs.Drained
 pub use Rattle.arraystring.specs.Refusals
 pub mod Runs
 pub mod Agreement
-pub mod Grammar
+pub mod Line
+pub mod ScriptLines
+pub mod Printing
+pub mod Writing
+pub mod Player
+pub mod Program
+pub mod Arguments
+-- paths that callers name
 pub mod Script
-pub mod Word
+pub use Rattle.arraystring_run.specs.Line as Grammar
+pub use Rattle.arraystring_run.specs.Arguments as Word

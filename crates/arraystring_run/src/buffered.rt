@@ -3,7 +3,7 @@ ghost use Rattle.std.specs.Prelude.{◌≡◌, ◌+◌, ◌≤◌, ◌++◌, [],
 ghost use Rattle.std.specs.Io.{WritesAtMost};
 ghost use Rattle.std.specs.Io.KnownBytes.{Keeps, WriteAppends, append_known};
 
-use crate::printing::write_once;
+use crate::writing::write_once;
 use std::io;
 use std::io::{ErrorKind, Write};
 

@@ -50,7 +50,8 @@ pub enum Command<'a> {
     /// Takes the part from `start` through the byte at `last`, as `Drain` with the lesser of `last
     /// + 1` and 255 as its end.
     DrainThrough { start: u8, last: u8 },
-    /// The same as `Drain`, with the characters in the reply from the last to the first.
+    /// Takes the part from `start` to `end`, as `Drain` does. The reply has its characters from the last
+    /// to the first.
     DrainBack { start: u8, end: u8 },
     /// Replaces the part from `start` to `end`. Refused if the part ends before it starts, then if
     /// it ends past the text, then if the result does not fit, then if the start is inside a

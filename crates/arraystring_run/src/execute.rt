@@ -51,7 +51,7 @@ pub(crate) fn execute<const N: usize>(
     }
 }
 
-/// The same of a command that some text refuses.
+/// Executes a command that some text refuses. Returns the reply, and whether the command is tight.
 fn execute_refusable<const N: usize>(
     text: &mut ArrayString<N>,
     command: Command<'_>,

@@ -2,8 +2,8 @@
 //! carries its fact in its contract.
 ghost use Rattle.std.specs.Prelude.{◌≡◌, ◌<◌, ◌⊎◌, ◌++◌, ◌∷◌, [], ℕ, List, MatchOption, length};
 ghost use Rattle.arraystring_run.specs.Runs.{after, first_tight_from, NoneTight, IsFirstTight};
-ghost use Rattle.arraystring_run.specs.Grammar.{arguments, line_of, AreArguments, IsLineOf};
-ghost use Rattle.arraystring_run.specs.Script.{lines, ended, all_ended, IsOneLine, AreOneLine, AreLinesOf, IsBadAt};
+ghost use Rattle.arraystring_run.specs.Line.{arguments, line_of, AreArguments, IsLineOf};
+ghost use Rattle.arraystring_run.specs.ScriptLines.{lines, ended, all_ended, IsOneLine, AreOneLine, AreLinesOf, IsBadAt};
 ghost use Rattle.arraystring_run.specs.declared.commands.Command.{Command};
 
 /// The first tight position of a run is that of a command that is tight on the text that those

@@ -2,6 +2,7 @@
 //! has what the `main` of such a player calls. Its tests are in `crates/arraystring_run_tests`.
 #![tactic(auto)]
 
+mod arguments;
 pub mod buffered;
 mod commands;
 mod execute;
@@ -13,6 +14,7 @@ mod printing;
 pub mod program;
 mod runs;
 mod script;
+mod writing;
 
 pub use commands::{Command, Reply};
 pub use line::command;

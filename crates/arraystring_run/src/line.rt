@@ -1,7 +1,7 @@
 //! The command of a line.
 ghost use Rattle.std.specs.Prelude.{◌≡◌, ◌≤◌, [], ◌∷◌, ◌++◌, ℕ, List, length, IfSome, IfNone};
 ghost use Rattle.arraystring.specs.Text.{utf8, IsScalarValue};
-ghost use Rattle.arraystring_run.specs.Grammar.{word as word_of, arguments, Number, IsLineOf, IsNumber, IsNumberBefore, IsOneWord, space};
+ghost use Rattle.arraystring_run.specs.Line.{word as word_of, arguments, Number, IsLineOf, IsNumber, IsNumberBefore, IsOneWord, space};
 ghost use Rattle.arraystring_run.specs.declared.commands.Command.{Command};
 
 use crate::Command;
@@ -18,7 +18,7 @@ pub fn command(line: &[u8]) -> Option<Command<'_>>
     command_of_text(str::from_utf8(line).ok()?)
 }
 
-/// The same of a line that is known to be UTF-8.
+/// The command of a line that is known to be UTF-8.
 pub(crate) fn command_of_text(text: &str) -> Option<Command<'_>>
     ensures some { IfSome result (λ c. IsLineOf text.now c) }
     ensures none { IfNone result ((c : Command) → IsLineOf text.now c → ⊥) }
@@ -78,7 +78,8 @@ fn command_given<'a>(word: &str, rest: &'a str) -> Option<Command<'a>>
     }
 }
 
-/// The same of a word that takes two arguments or more. The first of them is a number.
+/// The command of a word that takes two arguments or more, of which the first is a number. The word is
+/// followed by one space and `rest`.
 fn command_given_more<'a>(word: &str, rest: &'a str) -> Option<Command<'a>>
     requires { IsOneWord word.now }
     ensures some { IfSome result (λ c. IsLineOf (word.now ++ space ∷ rest.now) c) }

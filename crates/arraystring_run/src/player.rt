@@ -2,7 +2,10 @@
 ghost use Rattle.std.specs.Prelude.{◌≡◌, ◌≢◌, IfOk, IfErr, IfSome, OnOk};
 ghost use Rattle.std.specs.Io.KnownBytes.{Appends, IsAtEnd};
 ghost use Rattle.arraystring.specs.Text.{cap};
-ghost use Rattle.arraystring_run.specs.Script.{lines, IsBadAt, IfBadLine, IsPlayed, IsPartPlayed, AppendsPrefix, run_printed};
+ghost use Rattle.arraystring_run.specs.ScriptLines.{lines, IsBadAt};
+ghost use Rattle.arraystring_run.specs.Printing.{run_printed};
+ghost use Rattle.arraystring_run.specs.Writing.{AppendsPrefix};
+ghost use Rattle.arraystring_run.specs.Player.{IfBadLine, IsPlayed, IsPartPlayed};
 
 use crate::printing::write_all_replies;
 use crate::script::parse_script;

@@ -1,8 +1,9 @@
 //! The commands of a script.
 ghost use Rattle.std.specs.Prelude.{◌≡◌, ◌≢◌, ◌≤◌, length, IfSome, IfNone, IfOk, IfErr, slice_range};
 ghost use Rattle.std.specs.Str.{IsCharBoundary};
-ghost use Rattle.arraystring_run.specs.Grammar.{IsLineOf};
-ghost use Rattle.arraystring_run.specs.Script.{lines, AreLinesOf, IsBadAt, IfBadLine};
+ghost use Rattle.arraystring_run.specs.Line.{IsLineOf};
+ghost use Rattle.arraystring_run.specs.ScriptLines.{lines, AreLinesOf, IsBadAt};
+ghost use Rattle.arraystring_run.specs.Player.{IfBadLine};
 ghost use Rattle.arraystring_run.specs.declared.commands.Command.{Command};
 
 use crate::Command;

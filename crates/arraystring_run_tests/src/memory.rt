@@ -98,7 +98,7 @@ fn played_without_memory(
     0
 }
 
-/// The same of `play`.
+/// `play` reports want of memory, at each amount of memory that is left, and writes nothing then.
 #[test]
 fn want_of_memory_is_reported(rt: HostRuntime) -> Result<(), Fail> {
     let mut output = Vec::with_capacity(rt.alloc(), 1000)?;

@@ -1,16 +1,16 @@
-use Rattle.std.proofs.Common.{◌≡◌, ◌≢◌, ◌<◌, ℕ, List, [], ◌∷◌, ◌++◌, ◌⊎◌, length, refl, sym, ap, ◌∙◌, arith, append_assoc, Bool, true, false, ◌==◌, inl, inr}
-use Rattle.std.proofs.lemmas.Bool.{eqb-true}
-use Rattle.arraystring_run.specs.Script.{lines, line_feed, first_byte, ended, all_ended, IsOneLine, AreOneLine}
-use Rattle.arraystring_run.proofs.ScriptLemmas.{not_line_feed}
+use Rattle.std.proofs.Common.{◌≡◌, ◌≢◌, ◌<◌, ℕ, List, [], ◌∷◌, ◌++◌, ◌⊎◌, length, refl, ap, arith, append_assoc, inl, inr}
+use Rattle.std.proofs.lemmas.Bool.{ne_eqb}
+use Rattle.std.proofs.lemmas.Bool.Decides.{eqb_tells}
+use Rattle.arraystring_run.specs.ScriptLines.{lines, line_feed, first_byte, ended, all_ended, IsOneLine, AreOneLine}
 use Rattle.arraystring_run.proofs.laws.lines_of_input.Goals as goal
 
 line-before : (line rest : List ℕ) → IsOneLine line → lines (line ++ line_feed ∷ rest) ≡ line ∷ lines rest
 line-before [] rest one = refl
-line-before (b ∷ line) rest one = rw (not_line_feed b one.0) (ap (first_byte b) (line-before line rest one.1))
+line-before (b ∷ line) rest one = rw (ne_eqb b line_feed one.0) (ap (first_byte b) (line-before line rest one.1))
 
 line-alone : (b : ℕ) (line : List ℕ) → IsOneLine (b ∷ line) → lines (b ∷ line) ≡ (b ∷ line) ∷ []
-line-alone b [] one = rw (not_line_feed b one.0) refl
-line-alone b (d ∷ line) one = rw (not_line_feed b one.0) (ap (first_byte b) (line-alone d line one.1))
+line-alone b [] one = rw (ne_eqb b line_feed one.0) refl
+line-alone b (d ∷ line) one = rw (ne_eqb b line_feed one.0) (ap (first_byte b) (line-alone d line one.1))
 
 line-ended : (line rest : List ℕ) → IsOneLine line → lines (ended line ++ rest) ≡ line ∷ lines rest
 line-ended line rest one = cc (append_assoc line (line_feed ∷ []) rest, line-before line rest one)
@@ -30,13 +30,6 @@ lines-open (line ∷ rest) (b ∷ last) are one some =
       lines-open rest (b ∷ last) are.1 one some,
     )
 
--- a byte ends a line, or it does not
-ends : (b : ℕ) → (b ≡ line_feed) ⊎ (b ≢ line_feed)
-ends b = ends-by (b == line_feed) refl where
-  ends-by : (t : Bool) → (b == line_feed) ≡ t → (b ≡ line_feed) ⊎ (b ≢ line_feed)
-  ends-by true e = inl (eqb-true b line_feed e)
-  ends-by false e = inr (λ same. let is : (line_feed == line_feed) ≡ false = ap (λ k. k == line_feed) (sym same) ∙ e in absurd (cc))
-
 first-one_line : (b : ℕ) (all : List (List ℕ)) → b ≢ line_feed → AreOneLine all → AreOneLine (first_byte b all)
 first-one_line b [] other are = ((other, tt), tt)
 first-one_line b (line ∷ rest) other are = ((other, are.0), are.1)
@@ -44,9 +37,9 @@ first-one_line b (line ∷ rest) other are = ((other, are.0), are.1)
 lines-one_line : (bs : List ℕ) → AreOneLine (lines bs)
 lines-one_line [] = tt
 lines-one_line (b ∷ bs) =
-    elim (ends b) [
-      | inl is ↦ rw is (tt, lines-one_line bs)
-      | inr other ↦ rw (not_line_feed b other) (first-one_line b (lines bs) other (lines-one_line bs))
+    elim (eqb_tells b line_feed) [
+      | inl (e, is) ↦ rw e (tt, lines-one_line bs)
+      | inr (e, other) ↦ rw e (first-one_line b (lines bs) other (lines-one_line bs))
     ]
 
 -- what the lines of an input are, once each is ended: the input, but for its last end
@@ -55,8 +48,8 @@ IsJoined all bs = (all_ended all ≡ bs) ⊎ (all_ended all ≡ ended bs)
 
 first-joined : (b : ℕ) (all : List (List ℕ)) (bs : List ℕ) → IsJoined all bs → IsJoined (first_byte b all) (b ∷ bs)
 first-joined b [] [] (inl e) = inr refl
-first-joined b [] (d ∷ bs) (inl e) = absurd (cc)
 first-joined b [] [] (inr e) = absurd (cc)
+first-joined b [] (d ∷ bs) (inl e) = absurd (cc)
 first-joined b [] (d ∷ bs) (inr e) = absurd (cc)
 first-joined b (line ∷ rest) bs (inl e) = inl (cc)
 first-joined b (line ∷ rest) bs (inr e) = inr (cc)
@@ -68,18 +61,15 @@ next-joined all bs (inr e) = inr (cc)
 joined : (bs : List ℕ) → IsJoined (lines bs) bs
 joined [] = inl refl
 joined (b ∷ bs) =
-    elim (ends b) [
-      | inl is ↦ rw is (next-joined (lines bs) bs (joined bs))
-      | inr other ↦ rw (not_line_feed b other) (first-joined b (lines bs) bs (joined bs))
+    elim (eqb_tells b line_feed) [
+      | inl (e, is) ↦ rw (e, is) (next-joined (lines bs) bs (joined bs))
+      | inr (e, other) ↦ rw e (first-joined b (lines bs) bs (joined bs))
     ]
-
-lines-joined : (bs : List ℕ) → (all_ended (lines bs) ≡ bs) ⊎ (all_ended (lines bs) ≡ ended bs)
-lines-joined bs = joined bs
 
 pub returns : goal.returns
 returns c = record {
   all_ended = lines-ended;
   last_open = lines-open;
   no_ends = lines-one_line;
-  input = lines-joined;
+  input = joined;
 }

@@ -1,7 +1,7 @@
 use Rattle.std.proofs.Common.{◌≡◌, subst, rules, IsUtf8, IfNone}
 use Rattle.arraystring_run.specs.declared.commands.Command.{Command}
-use Rattle.arraystring_run.specs.Grammar.{IsLineOf}
-use Rattle.arraystring_run.proofs.GrammarLemmas.{line-utf8}
+use Rattle.arraystring_run.specs.Line.{IsLineOf}
+use Rattle.arraystring_run.proofs.LineLemmas.{line-utf8}
 use Rattle.arraystring_run.proofs.line.command.Goals as goal
 
 pub returns-in_err-ok-clause-none : goal.returns-in_err-ok-clause-none

@@ -1,10 +1,15 @@
-use Rattle.std.proofs.Common.{length, refl, arith, inl, inr}
+use Rattle.std.proofs.Common.{◌≢◌, ℕ, List, [], ◌∷◌, length, refl, arith, inl, inr}
 use Rattle.std.proofs.lemmas.Bool.{cases_lt}
 use Rattle.arraystring.proofs.TextLaws.{utf8-well_formed}
 use Rattle.arraystring_run.specs.declared.commands.Command.TheVariants as command
-use Rattle.arraystring_run.specs.Grammar.{Number, Character, Text, arguments}
-use Rattle.arraystring_run.proofs.GrammarLemmas.{unread, no-character, no-number, if-none, line-parts, line-given, has-argument, spelled-one}
+use Rattle.arraystring_run.specs.Line.{Argument, Number, Character, Text, AreSpelled, arguments, space}
+use Rattle.arraystring_run.proofs.LineLemmas.{unread, no-character, no-number, if-none, line-parts, line-given, spelled-one}
 use Rattle.arraystring_run.proofs.line.command_given.Goals as goal
+
+-- a space is followed by an argument
+has-argument : (rest : List ℕ) (given : List Argument) → AreSpelled (space ∷ rest) given → given ≢ []
+has-argument rest [] none e = absurd (cc)
+has-argument rest (a ∷ given) spelled e = absurd (cc)
 
 pub returns-in_err-only_char-in-try_push-clause-none : goal.returns-in_err-only_char-in-try_push-clause-none
 returns-in_err-only_char-in-try_push-clause-none c =

@@ -1,8 +1,15 @@
-use Rattle.std.proofs.Common.{◌≡◌, ◌≢◌, ◌<◌, ℕ, arith, ap, subst, length, slice_index, slice_range, take, take_all}
+use Rattle.std.proofs.Common.{◌≡◌, ◌≢◌, ◌<◌, ◌≤◌, ℕ, suc, zero, List, [], ◌∷◌, arith, ap, subst, length, slice_index, slice_range, take, take_all, take-append-drop}
+use Rattle.std.proofs.lemmas.List.{drop_more}
 use Rattle.std.proofs.lemmas.Str.{lead_after_ascii}
-use Rattle.arraystring_run.specs.Grammar.{IsOneWord, space}
-use Rattle.arraystring_run.proofs.SpaceLemmas.{word-before, around-space}
+use Rattle.arraystring_run.specs.Line.{IsOneWord, space}
 use Rattle.arraystring_run.proofs.line.split_at_space.Goals as goal
+
+-- the bytes before the first space are one word
+word-before : (bs : List ℕ) (n : ℕ) → n ≤ length bs → ((i : ℕ) → i < n → slice_index bs i ≢ space) → IsOneWord (take n bs)
+word-before [] zero le other = tt
+word-before [] (suc n) le other = tt
+word-before (b ∷ bs) zero le other = tt
+word-before (b ∷ bs) (suc n) le other = (other 0 (omega arith), word-before bs n (omega arith) (λ i lt. other (suc i) (omega arith)))
 
 pub returns-then-end-text-clause-none : goal.returns-then-end-text-clause-none
 returns-then-end-text-clause-none c =
@@ -30,6 +37,6 @@ returns-clause-some c =
     let before = subst (λ l. (i : ℕ) → i < end → slice_index l i ≢ space) c.as_bytes.ensures.value found.before in
     let front : slice_range bs 0 end ≡ take end bs = grind arith in
     rw (c.range.ensures.value, front, c.range_from.ensures.value) (
-      around-space bs end within is,
+      cc (take-append-drop end bs, drop_more bs end 0 within, is),
       word-before bs end (omega arith) before,
     )

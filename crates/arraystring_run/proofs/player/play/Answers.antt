@@ -1,9 +1,10 @@
 use Rattle.std.proofs.Common.{◌∙◌, subst}
+use Rattle.std.proofs.lemmas.Option.{IfSome_then}
+use Rattle.std.proofs.lemmas.Result.{on_ok_weaker}
 use Rattle.std.specs.Io.KnownBytes.{Appends}
 use Rattle.arraystring.specs.Text.{cap}
-use Rattle.arraystring_run.specs.Script.{lines, AreLinesOf, run_printed}
-use Rattle.arraystring_run.proofs.GrammarLemmas.{if_some-map}
-use Rattle.arraystring_run.proofs.PrintLemmas.{on-ok}
+use Rattle.arraystring_run.specs.ScriptLines.{lines, AreLinesOf}
+use Rattle.arraystring_run.specs.Printing.{run_printed}
 use Rattle.arraystring_run.proofs.player.play.Goals as goal
 
 pub returns-clause-played : goal.returns-clause-played
@@ -11,8 +12,8 @@ returns-clause-played g c =
     let cs = c.in_ok-commands.commands.items in
     let old = g.O.Write.contents c.args.output.now in
     let new = g.O.Write.contents c.play_commands.new.output in
-    on-ok c.play_commands.result _ _ (λ written. if_some-map (g.I.Read.remaining c.args.input.now) (λ given same. (
+    on_ok_weaker c.play_commands.result (λ written. IfSome_then (g.I.Read.remaining c.args.input.now) c.in_ok-script.ensures.whole (λ given same. (
       cs,
       subst (λ l. AreLinesOf (lines l) cs) (c.deref.ensures.value ∙ same) c.in_ok-commands.ensures.accepted,
       subst (λ l. Appends old new (run_printed l (cap g.row.N))) c.deref-2.ensures.value written,
-    )) c.in_ok-script.ensures.whole) c.play_commands.ensures.whole
+    ))) c.play_commands.ensures.whole

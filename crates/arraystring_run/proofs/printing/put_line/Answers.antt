@@ -1,25 +1,20 @@
-use Rattle.std.proofs.Common.{◌++◌, ◌∷◌, []}
 use Rattle.std.proofs.KnownBytes.{Appends-trans}
-use Rattle.arraystring_run.specs.Script.{line_feed}
-use Rattle.arraystring_run.proofs.PrintLemmas.{on-ok, front-more, front-then}
+use Rattle.std.proofs.lemmas.Result.{on_ok_weaker}
+use Rattle.arraystring_run.proofs.PrintLemmas.{front-more, front-then}
 use Rattle.arraystring_run.proofs.printing.put_line.Goals as goal
 
 pub returns-in_err-put-clause-part : goal.returns-in_err-put-clause-part
-returns-in_err-put-clause-part g c =
-    let w = c.args.word.now in let r = c.args.text.now in
-    front-more _ _ (w ++ r) (line_feed ∷ []) (front-more _ _ w r c.in_err-put.ensures.part)
+returns-in_err-put-clause-part g c = front-more _ _ _ _ (front-more _ _ _ _ c.in_err-put.ensures.part)
 
 pub returns-in_err-put-2-clause-part : goal.returns-in_err-put-2-clause-part
 returns-in_err-put-2-clause-part g c =
-    let w = c.args.word.now in let r = c.args.text.now in
-    front-more _ _ (w ++ r) (line_feed ∷ []) (front-then _ _ _ w r c.in_ok-put.ensures.whole c.in_err-put-2.ensures.part)
+    front-more _ _ _ _ (front-then _ _ _ _ _ c.in_ok-put.ensures.whole c.in_err-put-2.ensures.part)
 
 pub returns-clause-whole : goal.returns-clause-whole
 returns-clause-whole g c =
-    let w = c.args.word.now in let r = c.args.text.now in
-    on-ok c.put-3.result _ _ (Appends-trans _ _ _ (w ++ r) (line_feed ∷ []) (Appends-trans _ _ _ w r c.in_ok-put.ensures.whole c.in_ok-put-2.ensures.whole)) c.put-3.ensures.whole
+    on_ok_weaker c.put-3.result
+    (Appends-trans _ _ _ _ _ (Appends-trans _ _ _ _ _ c.in_ok-put.ensures.whole c.in_ok-put-2.ensures.whole)) c.put-3.ensures.whole
 
 pub returns-clause-part : goal.returns-clause-part
 returns-clause-part g c =
-    let w = c.args.word.now in let r = c.args.text.now in
-    front-then _ _ _ (w ++ r) (line_feed ∷ []) (Appends-trans _ _ _ w r c.in_ok-put.ensures.whole c.in_ok-put-2.ensures.whole) c.put-3.ensures.part
+    front-then _ _ _ _ _ (Appends-trans _ _ _ _ _ c.in_ok-put.ensures.whole c.in_ok-put-2.ensures.whole) c.put-3.ensures.part

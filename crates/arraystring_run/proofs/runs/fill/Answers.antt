@@ -1,26 +1,59 @@
-use Rattle.std.proofs.Common.{◌∙◌, map, refl, rules, subst, sym, None}
-use Rattle.std.proofs.lemmas.List.{nil_from_length}
-use Rattle.arraystring.specs.Text.{cap}
-use Rattle.arraystring_run.specs.Runs.{said}
-use Rattle.arraystring_run.proofs.RunLemmas.{IsPartWay, at-start, one-more, at-end}
+use Rattle.std.proofs.Common.{◌≡◌, ℕ, ◌+◌, ◌<◌, ◌≤◌, List, [], ◌∷◌, ◌++◌, length, drop, get_or, append_assoc, refl, rules, sym, ◌∙◌, Option, Some, None, Bool, true, false, if◌then◌else◌}
+use Rattle.std.proofs.lemmas.List.{append-nil, drop_all, drop_more, nil_from_length}
+use Rattle.arraystring_run.specs.Runs.{Said, edit, tight, after, first_tight_from, earlier_of}
+use Rattle.arraystring_run.specs.declared.commands.Command.{Command}
+use Rattle.arraystring_run.proofs.runs.fill.Invariants.{IsPartWay}
 use Rattle.arraystring_run.proofs.runs.fill.Goals as goal
 
+earlier_of-none : (first : Option ℕ) → earlier_of first None ≡ first
+earlier_of-none None = refl
+earlier_of-none (Some k) = refl
+
+earlier_of-step : (first : Option ℕ) (b : Bool) (i : ℕ) (rest : Option ℕ)
+    → earlier_of first (if b then Some i else rest) ≡ earlier_of (earlier_of first (if b then Some i else None)) rest
+earlier_of-step None true i rest = refl
+earlier_of-step None false i rest = refl
+earlier_of-step (Some k) b i rest = refl
+
+module _ {cs : List Command} {t₀ : List ℕ} {n i : ℕ} {done : List Said} {t : List ℕ} {first : Option ℕ}
+    (way : IsPartWay cs t₀ n i done t first) where
+  at-end : length cs ≤ i → ((after cs t₀ n).replies ≡ done) × ((after cs t₀ n).text ≡ t) × (first_tight_from 0 cs t₀ n ≡ first)
+  at-end le =
+      let none = drop_all i cs le in (
+        way.replies ∙ rw none (append-nil done),
+        way.text ∙ rw none refl,
+        way.tight ∙ rw none (earlier_of-none first),
+      )
+
+  -- the next command is done
+  one-more : (d : Command) → i < length cs → let command = get_or cs i d in
+      IsPartWay cs t₀ n (i + 1) (done ++ (edit command t n).reply ∷ []) (edit command t n).text
+      (earlier_of first (if tight command t n then Some i else None))
+  one-more d lt =
+      let command = get_or cs i d in
+      let next = drop_more cs i d lt in
+      let later = (edit command t n).text in record {
+        replies = way.replies ∙ rw next (sym (append_assoc done ((edit command t n).reply ∷ [])
+            (after (drop (i + 1) cs) later n).replies));
+        text = way.text ∙ rw next refl;
+        tight = way.tight ∙ rw next (earlier_of-step first (tight command t n) i (first_tight_from (i + 1) (drop (i + 1) cs) later n));
+      }
+
 pub returns-clause-replies : goal.returns-clause-replies
-returns-clause-replies g c = sym (at-end _ _ _ _ _ _ _ c.loop-position-test.false c.loop-position.invariant.way).0
+returns-clause-replies g c = sym (at-end c.loop-position.invariant.way c.loop-position-test.false).0
 
 pub returns-clause-text : goal.returns-clause-text
-returns-clause-text g c = sym (at-end _ _ _ _ _ _ _ c.loop-position-test.false c.loop-position.invariant.way).1
+returns-clause-text g c = sym (at-end c.loop-position.invariant.way c.loop-position-test.false).1
 
 pub returns-clause-first_tight : goal.returns-clause-first_tight
-returns-clause-first_tight g c = sym (at-end _ _ _ _ _ _ _ c.loop-position-test.false c.loop-position.invariant.way).2
+returns-clause-first_tight g c = sym (at-end c.loop-position.invariant.way c.loop-position-test.false).2
 
 pub loop-position-init : goal.loop-position-init
 loop-position-init g c =
     let replies = c.args.replies.now in
-    let t = c.args.text.now.text in
     let none = nil_from_length replies.items (sym replies.ok.0 ∙ c.requires.empty) in
     record {
-      way = subst (λ l. IsPartWay c.args.commands.now t (cap g.row.N) 0 (map said l) t None) (sym none) (at-start c.args.commands.now t (cap g.row.N));
+      way = rw none (record { replies = refl; text = refl; tight = refl });
       one_each = c.requires.empty;
       reserved = c.requires.room;
       in_place = refl;
@@ -31,7 +64,7 @@ pub loop-position-preserved : goal.loop-position-preserved
 loop-position-preserved g c =
     let l = c.loop-position in
     let added = c.add_reply-is_tight.ensures in
-    let next = one-more _ _ _ l.position (map said l.replies.items) l.text.text l.first_tight _ c.loop-position-test.true l.invariant.way in
+    let next = one-more l.invariant.way _ c.loop-position-test.true in
     record {
       way = rw (added.reply, added.text, c.earlier-first_tight.ensures, added.tight) next;
       one_each = search rules;

@@ -9,8 +9,8 @@ pub returns-clause-replies : goal.returns-clause-replies
 returns-clause-replies g c = elim c.if-not-is_empty.branch [
   | then-not-is_empty w ↦ ap (λ v. map said v.items) w.replies-is ∙ w.fill-first_tight.ensures.replies
   | else-not-is_empty w ↦
-      let none = of-none c.args.commands.now c.args.text.now.text (cap g.row.N) w.if-not-is_empty.ensures in
-      ap (λ v. map said v.items) w.replies-is ∙ ap (map said) c.in_ok-replies.ensures.items ∙ sym none.0
+      ap (λ v. map said v.items) w.replies-is ∙ ap (map said) c.in_ok-replies.ensures.items
+      ∙ sym (of-none _ c.args.text.now.text (cap g.row.N) w.if-not-is_empty.ensures).0
 ]
 
 pub returns-clause-one_each : goal.returns-clause-one_each
@@ -23,15 +23,11 @@ returns-clause-one_each g c = elim c.if-not-is_empty.branch [
 pub returns-clause-text : goal.returns-clause-text
 returns-clause-text g c = elim c.if-not-is_empty.branch [
   | then-not-is_empty w ↦ ap (λ t. t.text) w.text-is ∙ w.fill-first_tight.ensures.text
-  | else-not-is_empty w ↦
-      let none = of-none c.args.commands.now c.args.text.now.text (cap g.row.N) w.if-not-is_empty.ensures in
-      ap (λ t. t.text) w.text-is ∙ sym none.1
+  | else-not-is_empty w ↦ ap (λ t. t.text) w.text-is ∙ sym (of-none _ c.args.text.now.text (cap g.row.N) w.if-not-is_empty.ensures).1
 ]
 
 pub returns-clause-first_tight : goal.returns-clause-first_tight
 returns-clause-first_tight g c = elim c.if-not-is_empty.branch [
   | then-not-is_empty w ↦ w.first_tight-is ∙ w.fill-first_tight.ensures.first_tight
-  | else-not-is_empty w ↦
-      let none = of-none c.args.commands.now c.args.text.now.text (cap g.row.N) w.if-not-is_empty.ensures in
-      w.first_tight-is ∙ sym none.2
+  | else-not-is_empty w ↦ w.first_tight-is ∙ sym (of-none _ c.args.text.now.text (cap g.row.N) w.if-not-is_empty.ensures).2
 ]

@@ -1,7 +1,14 @@
-use Rattle.std.proofs.Common.{◌≡◌, ◌+◌, ◌-◌, ◌<◌, ◌≤◌, drop, length, slice_index, IfSome, IsUtf8}
-use Rattle.arraystring_run.specs.Script.{lines}
-use Rattle.arraystring_run.proofs.ScriptLemmas.{IsPartRead}
+use Rattle.std.proofs.Common.{◌≡◌, ℕ, ◌+◌, ◌-◌, ◌<◌, ◌≤◌, List, ◌++◌, drop, length, slice_index, IfSome, IsUtf8}
+use Rattle.arraystring_run.specs.ScriptLines.{lines, AreLinesOf}
+use Rattle.arraystring_run.specs.declared.commands.Command.{Command}
 use Rattle.arraystring_run.proofs.script.parse_script.Given as goal
+
+-- the first lines are read, and `left` are not
+pub record IsPartRead (all : List (List ℕ)) (done : List Command) (left : List (List ℕ)) (number : ℕ) : Type 0 where
+  pub front : List (List ℕ)
+  pub whole : all ≡ front ++ left
+  pub count : number ≡ length front
+  pub read : AreLinesOf front done
 
 abbrev pub invariant-loop-start : goal.invariant-loop-start
 invariant-loop-start l = record {

@@ -1,0 +1,30 @@
+-- The lines that are printed of a run.
+use Rattle.std.specs.Prelude.{ℕ, List, [], ◌∷◌, ◌++◌, codes, decimal}
+use Rattle.arraystring.specs.Names.{error_name}
+use Rattle.arraystring.specs.Text.{utf8, bytes}
+use Rattle.arraystring_run.specs.Runs.{after, Said, Done, Char, NoChar, Text, NoText, Number, Refused}
+use Rattle.arraystring_run.specs.ScriptLines.{ended}
+use Rattle.arraystring_run.specs.declared.commands.Command.{Command}
+
+-- the line of a reply
+abbrev pub printed : Said → List ℕ
+printed Done = codes "done"
+printed (Char c) = codes "char " ++ utf8 c
+printed NoChar = codes "no char"
+printed (Text t) = codes "text " ++ bytes t
+printed NoText = codes "no text"
+printed (Number n) = codes "number " ++ decimal n
+printed (Refused e) = codes "refused " ++ error_name e
+
+-- a line for each reply
+abbrev pub replies_printed : List Said → List ℕ
+replies_printed [] = []
+replies_printed (r ∷ rs) = ended (printed r) ++ replies_printed rs
+
+-- and one for the last text
+abbrev pub all_printed : List Said → List ℕ → List ℕ
+all_printed rs t = replies_printed rs ++ ended (codes "final " ++ bytes t)
+
+-- the printed lines of a run from the empty text at the capacity n
+abbrev pub run_printed : List Command → ℕ → List ℕ
+run_printed cs n = let ran = after cs [] n in all_printed ran.replies ran.text

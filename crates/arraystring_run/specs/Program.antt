@@ -1,0 +1,58 @@
+-- What a program does that is given a word: the capacity, the faults that it reports, and its exit status.
+use Rattle.std.specs.Prelude.{◌≡◌, ◌≢◌, ◌≤◌, ◌⊎◌, ℕ, List, [], ◌++◌, if◌then◌else◌, Option, Some, None, IfSome, Result, Ok, Err, codes, decimal, nat_eq}
+use Rattle.std.specs.Borrow.{Bor}
+use Rattle.std.specs.Cmp.Lexicographic.{pointwise}
+use Rattle.arraystring_run.specs.Player.{IsPlayed, IsPartPlayed}
+use Rattle.arraystring_run.specs.ScriptLines.{ended, lines, IsBadAt}
+use Rattle.arraystring_run.specs.Writing.{AppendsPrefix}
+use Rattle.arraystring_run.specs.declared.player.PlayFault.{PlayFault}
+use Rattle.arraystring_run.specs.declared.player.PlayFault.TheVariants.{BadLine, Memory, Read, Write}
+
+-- the capacity that a word names
+abbrev pub capacity_named : Option (Bor (List ℕ)) → Option ℕ
+capacity_named None = None
+capacity_named (Some word) =
+    if pointwise nat_eq word.now (codes "small") then Some 23 else
+    if pointwise nat_eq word.now (codes "cache") then Some 63 else
+    if pointwise nat_eq word.now (codes "max") then Some 255 else None
+
+-- the exit status of a script that was played, or not
+abbrev pub status_of : {A : Type 0} → Result A PlayFault → ℕ
+status_of (Ok _) = 0
+status_of (Err (BadLine k)) = 2
+status_of (Err Memory) = 3
+status_of (Err Read) = 4
+status_of (Err Write) = 4
+
+-- the line that says how a program is called
+abbrev pub usage_line : List ℕ
+usage_line = ended (codes "usage: arraystring_run small or cache or max")
+
+-- the line of a fault
+abbrev pub fault_line : PlayFault → List ℕ
+fault_line (BadLine k) = ended (codes "bad line " ++ decimal k)
+fault_line Memory = ended (codes "out of memory")
+fault_line Read = ended (codes "read failed")
+fault_line Write = ended (codes "write failed")
+
+-- what is said of a script that was played, or not
+abbrev pub report_of : {A : Type 0} → Result A PlayFault → List ℕ
+report_of (Ok _) = []
+report_of (Err e) = fault_line e
+
+-- what a program did that was given a word: the bytes of its input, those of its output and of its errors before and after,
+-- whether each of the three is as it was, and the exit status
+pub record IsServed (word : Option (Bor (List ℕ))) (given old new errors_old errors_new : Option (List ℕ))
+    (SameInput SameOutput SameErrors : Type 0) (status : ℕ) : Type 0 where
+  pub other_word : capacity_named word ≡ None → (status ≡ 2) × SameInput × SameOutput × AppendsPrefix errors_old errors_new usage_line
+  pub played : IfSome (capacity_named word) (λ n. status ≡ 0 → IfSome given (λ input. IsPlayed input n old new))
+  pub bad_line : IfSome (capacity_named word) (λ _. status ≡ 2
+      → (k : ℕ) × IfSome given (λ input. IsBadAt (lines input) k) × AppendsPrefix errors_old errors_new (fault_line (BadLine k)))
+  pub no_memory : status ≡ 3 → AppendsPrefix errors_old errors_new (fault_line Memory)
+  pub failed : IfSome (capacity_named word) (λ n. status ≡ 4
+      → (SameOutput × AppendsPrefix errors_old errors_new (fault_line Read))
+      ⊎ (IfSome given (λ input. IsPartPlayed input n old new) × AppendsPrefix errors_old errors_new (fault_line Write)))
+  pub quiet : status ≡ 0 → SameErrors
+  pub unwritten : status ≢ 0 → status ≢ 4 → SameOutput
+  -- 0, 2, 3 or 4
+  pub known : (status ≤ 4) × (status ≢ 1)

@@ -1,0 +1,10 @@
+-- What a write that failed may have written.
+use Rattle.std.specs.Prelude.{◌≡◌, ℕ, List, ◌++◌, Option}
+use Rattle.std.specs.Io.KnownBytes.{Appends}
+
+-- some prefix of bs was appended
+pub record AppendsPrefix (old new : Option (List ℕ)) (bs : List ℕ) : Type 0 where
+  pub done : List ℕ
+  pub later : List ℕ
+  pub whole : bs ≡ done ++ later
+  pub appended : Appends old new done

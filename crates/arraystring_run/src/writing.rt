@@ -1,0 +1,73 @@
+//! Writing to a device: what a write leaves is written again. If a write fails, what was written is a
+//! prefix of what was to be.
+ghost use Rattle.std.specs.Prelude.{◌≡◌, ◌++◌, ℕ, List, IfOk, OnOk, OnErr};
+ghost use Rattle.std.specs.Io.{WritesAtMost};
+ghost use Rattle.std.specs.Io.KnownBytes.{Appends, Keeps, WriteAppends};
+ghost use Rattle.arraystring_run.specs.Writing.{AppendsPrefix};
+
+use std::io;
+use std::io::Write;
+
+/// Writes a text; an interrupted write is tried again. If another fails, a prefix of the text was
+/// written.
+// In its caller a constant text is copied without a call. Most writes take all of a text.
+#[inline(always)]
+pub(crate) fn put<O: Write>(output: &mut O, text: &str) -> io::Result<()>
+    ensures whole { OnOk result (Appends (O.contents output.old) (O.contents output.new) text.now) }
+    ensures part { AppendsPrefix (O.contents output.old) (O.contents output.new) text.now }
+{
+    let rest = put_some(output, text.as_bytes())?;
+    if rest.is_empty() {
+        return Ok(());
+    }
+    put_rest(output, rest)
+}
+
+/// Writes the bytes that the first write left. If a write fails, a prefix of them was written.
+#[cold]
+#[inline(never)]
+fn put_rest<O: Write>(output: &mut O, bytes: &[u8]) -> io::Result<()>
+    ensures whole { OnOk result (Appends (O.contents output.old) (O.contents output.new) bytes.now) }
+    ensures part { AppendsPrefix (O.contents output.old) (O.contents output.new) bytes.now }
+{
+    let mut rest = bytes;
+    for _ in 0..u64::MAX {
+        if rest.is_empty() {
+            return Ok(());
+        }
+        rest = put_some(output, rest)?;
+    }
+    Err(io::ErrorKind::Other.into())
+}
+
+/// Writes once, if there are bytes, and returns those that are left.
+#[inline(always)]
+fn put_some<'a, O: Write>(output: &mut O, bytes: &'a [u8]) -> io::Result<&'a [u8]>
+    ensures some { IfOk result (λ rest. (done : List ℕ) × (bytes.now ≡ done ++ rest.now) × Appends (O.contents output.old) (O.contents output.new) done) }
+    ensures none { OnErr result (Keeps (O.contents output.old) (O.contents output.new)) }
+{
+    if bytes.is_empty() {
+        return Ok(bytes);
+    }
+    let count = write_once(output, bytes)?;
+    Ok(&bytes[count..])
+}
+
+/// Writes bytes, of which there are some, by one call, and returns how many were taken. An
+/// interrupted write takes none. A writer that takes none has failed.
+#[inline(always)]
+pub(crate) fn write_once<O: Write>(output: &mut O, bytes: &[u8]) -> io::Result<usize>
+    ensures bound { WritesAtMost result bytes.now }
+    ensures bytes { WriteAppends (O.contents output.old) (O.contents output.new) result bytes.now }
+{
+    match output.write(bytes) {
+        Ok(0) => Err(io::ErrorKind::WriteZero.into()),
+        Ok(count) => Ok(count),
+        Err(error) => {
+            if error.kind() != io::ErrorKind::Interrupted {
+                return Err(error);
+            }
+            Ok(0)
+        }
+    }
+}
