@@ -62,10 +62,10 @@ module _ {array_size : ℕ} {array : List ℕ} {p n : ℕ} (is : IsStored array_
   spliced d u = (opened-size is e, opened-within is e _ d, size-borrowed u)
 
   -- `given` was written behind the text
-  pub appended : {given : List ℕ} → IsUtf8 given → p + n + length given ≤ cap array_size → {after : List ℕ}
+  pub appended : {given after : List ℕ} → IsUtf8 given → p + n + length given ≤ cap array_size
       → after ≡ take (p + n) array ++ (given ++ drop (p + n + length given) array)
       → Lies array_size after p (n + length given) (v.text ++ chars given)
-  appended {given} u room {after} put =
+  appended {given} {after} u room put =
       let there = written array after given (p + n) (length given) refl (omega arith) put in
       let long = there.long ∙ is.length in
       joined (laid after p n (stored-utf8 is) (ap (λ w. w.text) e) long is.within (there.before p n (omega arith)))
@@ -127,8 +127,8 @@ module _ {array_size : ℕ} {array : List ℕ} {p n : ℕ} (is : IsStored array_
   compact-stored = compacted.held
 
   -- and `given` was written behind it
-  pub appended_at_start : {v : Stored} → stored array p n ≡ v → {given : List ℕ} → IsUtf8 given → n + length given ≤ cap array_size → {after : List ℕ}
+  pub appended_at_start : {v : Stored} → stored array p n ≡ v → {given after : List ℕ} → IsUtf8 given → n + length given ≤ cap array_size
       → after ≡ take n compact ++ (given ++ drop (n + length given) compact) → Lies array_size after 0 (n + length given) (v.text ++ chars given)
-  appended_at_start e u room {after} over =
+  appended_at_start e {after = after} u room over =
       let zero : 0 + n ≡ n = omega arith in
-      rw (compacted.shown ∙ ap (λ w. w.text) e) at (appended compact-stored refl u (omega arith) {after = after} (rw zero over))
+      rw (compacted.shown ∙ ap (λ w. w.text) e) at (appended compact-stored refl {after = after} u (omega arith) (rw zero over))
