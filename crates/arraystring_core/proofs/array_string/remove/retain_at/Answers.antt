@@ -2,7 +2,8 @@ use Rattle.std.proofs.Common.{◌≡◌, ◌+◌, ◌-◌, [], take, drop, chars
 use Rattle.std.proofs.lemmas.List.{append-nil}
 use Rattle.std.proofs.lemmas.Str.{chars-nil}
 use Rattle.arraystring_base.specs.Text.{width}
-use Rattle.arraystring_core.proofs.RetainLemmas.{char-begins, callable-next, retained-init, retained-moved, retained-left_out, unread, ascii-begins, ascii-width}
+use Rattle.arraystring_core.proofs.RetainLemmas.{char-begins, callable-next, retained-init, retained-moved, retained-left_out, unread, ascii-begins}
+use Rattle.arraystring_core.proofs.EndLemmas.{low-width}
 use Rattle.arraystring_core.proofs.array_string.remove.retain_at.Goals as goal
 use Rattle.arraystring_core.proofs.array_string.remove.retain_at.Goals.{then-f, else-f, then-f-2, else-f-2}
 
@@ -20,7 +21,7 @@ loop-read-preserved-then-first-lt128 g c =
     let l = c.loop-read in
     let begins = ascii-begins l.array c.args.offset l.read c.args.size c.loop-read-test.true (omega arith) c.if-first-lt128.true in
     let one : width (get_or l.array (c.args.offset + l.read) 0) ≡ 1 =
-    ascii-width l.array c.args.offset l.read c.args.size c.loop-read-test.true (omega arith) c.if-first-lt128.true in
+    low-width _ c.if-first-lt128.true in
     elim c.if-f.branch [
       | then-f w ↦
           rw (w.array-is, w.kept-is)
