@@ -28,23 +28,6 @@ pub record IsPartRetained {F : Type 0} (can : F → ℕ → Type 0) (steps : F �
   pub filtered : (more : List ℕ) → IsFiltered steps f (chars (unread array offset read size)) more
       → IsFiltered steps f₀ (chars (take size (drop offset array₀))) (chars (take kept (drop offset array)) ++ more)
 
--- nothing was judged
-pub retained-init : {F : Type 0} (can : F → ℕ → Type 0) (steps : F → ℕ → Bool → F → Type 0) {array_size : ℕ} (array : List ℕ) (f : F) (offset size : ℕ)
-    → length array ≡ array_size → IsUtf8 (take size (drop offset array)) → IsCallableInTurn can steps f (chars (take size (drop offset array)))
-    → IsPartRetained can steps array_size array f offset size array f 0 0
-retained-init can steps array f offset size long text callable =
-    let all : unread array offset 0 size ≡ take size (drop offset array) = grind arith in
-    let nothing : take 0 (drop offset array) ≡ [] = refl in
-    record {
-      long = long;
-      kept_first = omega arith;
-      read_within = omega arith;
-      rest_text = rw all text;
-      kept_text = IsUtf8-nil;
-      callable = rw all callable;
-      filtered = λ more h. rw chars-nil (rw all at h);
-    }
-
 -- the bytes begin with the character c
 pub record BeginsWith (bytes : List ℕ) (c : ℕ) : Type 0 where
   pub rest : List ℕ
