@@ -1,8 +1,8 @@
 -- A character comes off the front, or off the back, of what is left.
-use Rattle.std.proofs.Common.{◌≡◌, ◌≢◌, ℕ, ◌+◌, ◌-◌, ◌<◌, ◌≤◌, List, [], ◌∷◌, ◌++◌, refl, sym, ap, ◌∙◌, arith, true, length, append_assoc, get_or, chars, take, drop, IsUtf8}
+use Rattle.std.proofs.Common.{◌≡◌, ◌≢◌, ℕ, ◌+◌, ◌-◌, ◌<◌, ◌≤◌, List, [], ◌∷◌, ◌++◌, refl, sym, ap, ◌∙◌, arith, true, length, append_assoc, get_or, chars, take, drop, IsUtf8, length-take-le, length-drop}
 use Rattle.std.proofs.lemmas.Str.{chars_past_char}
 use Rattle.std.specs.Char.{encode_utf8}
-use Rattle.std.proofs.lemmas.List.{get_or-take, get_or-drop}
+use Rattle.std.proofs.lemmas.List.{get_or-take, get_or-drop, drop_more}
 use Rattle.arraystring_base.specs.Text.{width, size, cap, bytes, front, back, boundary}
 use Rattle.arraystring_base.proofs.TextLaws.{size-append, size-borrowed, chars-bytes, empty-size}
 use Rattle.arraystring_base.proofs.BoundaryLaws.{front-back, front-is, back-is, front-size, back-size, boundary-is, bytes-back, next-char}
@@ -11,7 +11,7 @@ use Rattle.arraystring_core.specs.GhostProofs.{stored-utf8, stored-size, stored-
 use Rattle.arraystring_core.specs.Drained.{Drained, drained}
 use Rattle.arraystring_core.proofs.StoredLaws.{opened-within}
 use Rattle.arraystring_core.proofs.SpanLemmas.{dropped as dropped_part, kept as kept_part}
-use Rattle.arraystring_core.proofs.EndLemmas.{first-low}
+use Rattle.arraystring_core.proofs.EndLemmas.{low-width, first-low}
 
 -- c came off the front, or off the back, of the text t, and the part from i on of the n bytes from the offset p on is left
 pub record GivesFirst (array_size : ℕ) (array : List ℕ) (p n i : ℕ) (t : List ℕ) (c : ℕ) : Type 0 where
@@ -62,9 +62,6 @@ module _ {array_size : ℕ} {array : List ℕ} {p n i : ℕ} (is : IsDrained arr
     pub none-left : n ≤ i → v.left ≡ []
     none-left past = empty-size (omega (arith, left-size))
 
-    some-left : i < n → v.left ≢ []
-    some-left some none = absurd (omega (arith, left-size, ap size none))
-
     -- the first character is given
     module _ (c : ℕ) (rest : List ℕ) (starts : v.left ≡ c ∷ rest) where
       front-given : GivesFirst array_size array p n (i + width c) v.left c
@@ -92,17 +89,14 @@ module _ {array_size : ℕ} {array : List ℕ} {p n i : ℕ} (is : IsDrained arr
 
     -- if it is ASCII
     module _ (some : i < n) (low : get_or array (p + i) 0 < 128) where
-      first-byte : get_or (bytes v.left) 0 0 ≡ get_or array (p + i) 0
-      first-byte =
-          let same : i + 0 ≡ i = omega arith in
-          ap (λ l. get_or l 0 0) left-bytes ∙ get_or-drop i (take n (drop p array)) 0 0
-          ∙ ap (λ k. get_or (take n (drop p array)) k 0) same ∙ get_or-take n (drop p array) i 0 some ∙ get_or-drop p array i 0
-
-      abbrev first-is : (rest : List ℕ) × (v.left ≡ get_or array (p + i) 0 ∷ rest) × (width (get_or array (p + i) 0) ≡ 1)
-      first-is = first-low v.left (get_or array (p + i) 0) (some-left some) first-byte low
+      first-is : (rest : List ℕ) × (v.left ≡ get_or array (p + i) 0 ∷ rest)
+      first-is =
+          let bs = take n (drop p array) in
+          let long = length-take-le n (drop p array) (omega (arith, length-drop p array, is.held)) in
+          first-low v.left (left-bytes ∙ rw (get_or-take n (drop p array) i 0 some, get_or-drop p array i 0) at (drop_more bs i 0 (omega arith))) low
 
       pub first-given : GivesFirst array_size array p n (i + 1) v.left (get_or array (p + i) 0)
-      first-given = rw (← first-is.2) (front-given (get_or array (p + i) 0) first-is.0 first-is.1)
+      first-given = rw (low-width _ low) at (front-given (get_or array (p + i) 0) first-is.0 first-is.1)
 
     -- the last character is given
     module _ (c : ℕ) (rest : List ℕ) (ends : v.left ≡ rest ++ c ∷ []) where

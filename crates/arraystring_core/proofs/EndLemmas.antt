@@ -21,9 +21,9 @@ unfolding utf8
 first-ascii c rest low = grind (arith, nat_tests)
 
 -- a text whose first byte is below 128 begins with it
-pub first-low : (t : List ℕ) (b : ℕ) → t ≢ [] → get_or (bytes t) 0 0 ≡ b → b < 128 → (rest : List ℕ) × (t ≡ b ∷ rest) × (width b ≡ 1)
-first-low [] b some e lt = absurd (some refl)
-first-low (c ∷ cs) b some e lt =
-    let low = first-ascii c (bytes cs) (rw e lt) in
-    let same : c ≡ b = sym (ap (λ l. get_or (l ++ bytes cs) 0 0) (utf8-one c low)) ∙ e in
-    (cs, ap (λ x. x ∷ cs) same, low-width b lt)
+pub first-low : (t : List ℕ) {b : ℕ} {more : List ℕ} → bytes t ≡ b ∷ more → b < 0x80 → (rest : List ℕ) × (t ≡ b ∷ rest)
+first-low [] e lt = absurd (cc)
+first-low (c ∷ cs) e lt =
+    let first = ap (λ l. get_or l 0 0) e in
+    let one = utf8-one c (first-ascii c (bytes cs) (rw first lt)) in
+    (cs, ap (λ x. x ∷ cs) (sym (ap (λ l. get_or (l ++ bytes cs) 0 0) one) ∙ first))
