@@ -10,7 +10,7 @@ use Rattle.arraystring_core.specs.Layout.{stored, IsStored, IsDrained}
 use Rattle.arraystring_core.specs.GhostProofs.{stored-utf8, stored-size, stored-bytes}
 use Rattle.arraystring_core.specs.Drained.{Drained, drained}
 use Rattle.arraystring_core.proofs.StoredLaws.{opened-within}
-use Rattle.arraystring_core.proofs.SpanLemmas.{dropped as dropped_part, kept as kept_part}
+use Rattle.arraystring_core.proofs.SpanLemmas.{Lies, dropped, kept}
 use Rattle.arraystring_core.proofs.EndLemmas.{low-width, first-low}
 
 -- c came off the front, or off the back, of the text t, and the part from i on of the n bytes from the offset p on is left
@@ -29,8 +29,8 @@ module _ {array_size : ℕ} {array : List ℕ} {p n i : ℕ} (is : IsDrained arr
   pub given-within : i ≤ n
   given-within = opened-within is.held refl i is.at
 
-  borrowed-stored : IsStored array_size array (p + i) (n - i)
-  borrowed-stored = (dropped_part is.held refl i is.at).held
+  lies : Lies array_size array (p + i) (n - i) (back removed i)
+  lies = dropped is.held refl i is.at
 
   -- the bytes of what is left are those of the array from f to t
   module _ (f t : ℕ) (from : f ≡ p + i) (to : t ≡ p + n) where
@@ -38,12 +38,10 @@ module _ {array_size : ℕ} {array : List ℕ} {p n i : ℕ} (is : IsDrained arr
     long = omega (arith, given-within)
 
     pub borrowed-utf8 : IsUtf8 (take (t - f) (drop f array))
-    borrowed-utf8 = rw (long, from) (stored-utf8 borrowed-stored)
+    borrowed-utf8 = rw (long, from) (stored-utf8 lies.held)
 
     pub borrowed-bytes : {v : Drained} → drained (stored array p n) i ≡ v → take (t - f) (drop f array) ≡ bytes v.left
-    borrowed-bytes e =
-        ap (λ k. take k (drop f array)) long ∙ ap (λ k. take (n - i) (drop k array)) from ∙ sym (stored-bytes borrowed-stored)
-        ∙ ap bytes ((dropped_part is.held refl i is.at).shown ∙ ap (λ d. d.left) e)
+    borrowed-bytes e = rw (long, from) (sym (stored-bytes lies.held) ∙ ap bytes (lies.shown ∙ ap (λ d. d.left) e))
 
   -- the value that a contract sees
   module _ {v : Drained} (e : drained (stored array p n) i ≡ v) where
@@ -51,7 +49,7 @@ module _ {array_size : ℕ} {array : List ℕ} {p n i : ℕ} (is : IsDrained arr
     left-is = ap (λ d. d.left) e
 
     left-size : size v.left ≡ n - i
-    left-size = ap size (sym left-is) ∙ back-size removed i is.at ∙ ap (λ k. k - i) (stored-size is.held)
+    left-size = omega (arith, ap size left-is, back-size removed i is.at, stored-size is.held)
 
     left-bytes : bytes v.left ≡ drop i (take n (drop p array))
     left-bytes = ap bytes (sym left-is) ∙ sym (bytes-back removed i is.at) ∙ ap (drop i) (stored-bytes is.held)
@@ -65,10 +63,9 @@ module _ {array_size : ℕ} {array : List ℕ} {p n i : ℕ} (is : IsDrained arr
     -- the first character is given
     module _ (c : ℕ) (rest : List ℕ) (starts : v.left ≡ c ∷ rest) where
       front-given : GivesFirst array_size array p n (i + width c) v.left c
-      front-given = record {
-        held = record { held = is.held; at = (next-char removed i is.at c rest (left-is ∙ starts)).0 };
-        rest = starts ∙ ap (λ l. c ∷ l) (sym (next-char removed i is.at c rest (left-is ∙ starts)).1);
-      }
+      front-given =
+          let next = next-char removed i is.at c rest (left-is ∙ starts) in
+          record { held = record { held = is.held; at = next.0 }; rest = rw next.1 starts }
 
     -- if what is left is known by its bytes, and by those after its first character
     module _ {bs : List ℕ} (u : IsUtf8 bs) (shown : bs ≡ bytes v.left) (c : ℕ) {rest : List ℕ} (w : IsUtf8 rest) (begins : bs ≡ encode_utf8 c ++ rest) where
@@ -78,14 +75,11 @@ module _ {array_size : ℕ} {array : List ℕ} {p n i : ℕ} (is : IsDrained arr
       stepped : i + width c + length rest ≡ n
       stepped = omega (arith, given-within, left-size, ap size begun, size-borrowed w)
 
-      next : i + width c ≡ n - length rest
-      next = omega (arith, stepped)
-
       pub decoded-within : length rest ≤ n
       decoded-within = omega (arith, stepped)
 
       pub decoded : GivesFirst array_size array p n (n - length rest) v.left c
-      decoded = rw (← next) (front-given c (chars rest) begun)
+      decoded = let next : i + width c ≡ n - length rest = omega (arith, stepped) in rw next at (front-given c (chars rest) begun)
 
     -- if it is ASCII
     module _ (some : i < n) (low : get_or array (p + i) 0 < 128) where
@@ -107,24 +101,23 @@ module _ {array_size : ℕ} {array : List ℕ} {p n i : ℕ} (is : IsDrained arr
       parts = sym (front-back removed i) ∙ ap (λ l. before ++ l) (left-is ∙ ends) ∙ sym (append_assoc before rest (c ∷ []))
 
       shorter : size (before ++ rest) ≡ i + size rest
-      shorter = size-append before rest ∙ ap (λ k. k + size rest) (front-size removed i is.at)
+      shorter = omega (arith, size-append before rest, front-size removed i is.at)
 
       last-starts : boundary removed (i + size rest) ≡ true
-      last-starts = ap (λ t. boundary t (i + size rest)) parts ∙ boundary-is (before ++ rest) (c ∷ []) (i + size rest) shorter
+      last-starts = rw parts (boundary-is (before ++ rest) (c ∷ []) (i + size rest) shorter)
+
+      kept_lies : Lies array_size array p (i + size rest) (front removed (i + size rest))
+      kept_lies = kept is.held refl (i + size rest) last-starts
 
       kept-text : (stored array p (i + size rest)).text ≡ before ++ rest
       kept-text =
-          (kept_part is.held refl (i + size rest) last-starts).shown
-          ∙ ap (λ t. front t (i + size rest)) parts ∙ front-is (before ++ rest) (c ∷ []) (i + size rest) shorter
+          kept_lies.shown ∙ ap (λ t. front t (i + size rest)) parts ∙ front-is (before ++ rest) (c ∷ []) (i + size rest) shorter
 
       pub back-within : i + size rest ≤ n
       back-within = opened-within is.held refl (i + size rest) last-starts
 
       pub back-given : GivesLast array_size array p (i + size rest) i v.left c
       back-given = record {
-        held = record {
-          held = (kept_part is.held refl (i + size rest) last-starts).held;
-          at = ap (λ t. boundary t i) kept-text ∙ boundary-is before rest i (front-size removed i is.at);
-        };
-        rest = ends ∙ ap (λ l. l ++ c ∷ []) (sym (ap (λ t. back t i) kept-text ∙ back-is before rest i (front-size removed i is.at)));
+        held = record { held = kept_lies.held; at = rw kept-text (boundary-is before rest i (front-size removed i is.at)) };
+        rest = rw (kept-text, back-is before rest i (front-size removed i is.at)) ends;
       }
