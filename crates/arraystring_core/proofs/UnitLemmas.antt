@@ -22,15 +22,12 @@ apart-behind u items apart (x ∷ before) after high low e up down =
     let rest : items ≡ before ++ Lone high ∷ Lone low ∷ after = cc in
     apart before after high low rest up down
 
-one-unit : (u : ℕ) → u < 0x80 → utf16 u ≡ u ∷ []
-one-unit u small = let low : u < 0x1_0000 = omega arith in rw (lt-ltb u 0x1_0000 low) refl
-
 unit-reads : (u : ℕ) (units : List ℕ) (items : List Unit16) → u < 0x80 → IsReading units items → IsReading (u ∷ units) (Char u ∷ items)
 unit-reads u units items small part = record {
   each_unit = All-cons (λ unit. unit < 0x1_0000) u units (omega arith) part.each_unit;
   each_item = All-cons IsItem (Char u) items (inl (omega arith)) part.each_item;
-  joined = ap (λ l. u ∷ l) part.joined ∙ ap (λ l. l ++ joined_units items) (sym (one-unit u small));
-  apart = λ before after high low e up down. apart-behind u items part.apart before after high low e up down;
+  joined = rw (lt-ltb u 0x1_0000 (omega arith)) (ap (λ l. u ∷ l) part.joined);
+  apart = apart-behind u items part.apart;
 }
 
 -- what is read behind a run, and all of it
