@@ -34,16 +34,10 @@ module _ (f : ℕ → ℕ) (is : IsAsciiChange f) where
 
   bytes-change : (t : List ℕ) → bytes (map f t) ≡ map f (bytes t)
   bytes-change [] = refl
-  bytes-change (c ∷ cs) =
-      ap (λ l. l ++ bytes (map f cs)) (utf8-change c) ∙ ap (λ l. map f (utf8 c) ++ l) (bytes-change cs)
-      ∙ sym (map-append f (utf8 c) (bytes cs))
+  bytes-change (c ∷ cs) = rw (utf8-change c, bytes-change cs, map-append f (utf8 c) (bytes cs)) refl
 
   scalar-change : (c : ℕ) → IsScalarValue c → IsScalarValue (f c)
-  scalar-change c s =
-      elim (cases_lt c 128) [
-        | inl lt ↦ inl (omega (arith, is.low c lt))
-        | inr ge ↦ rw (is.high c ge) s
-      ]
+  scalar-change c s = grind (arith, is.low c, is.high c)
 
   text-change : (t : List ℕ) → IsText t → IsText (map f t)
   text-change [] s = s
@@ -80,5 +74,4 @@ module _ {f : ℕ → ℕ} (is : IsAsciiChange f) {array_size : ℕ} {array : Li
 -- all of a text is changed
 pub whole-changed : (f : ℕ → ℕ) (t : List ℕ) {n : ℕ} {new : List ℕ} → n ≡ size t → new ≡ front t 0 ++ (map f (part t 0 n) ++ back t n) → new ≡ map f t
 whole-changed f t long written =
-    written ∙ ap (λ k. front t 0 ++ (map f (part t 0 k) ++ back t k)) long
-    ∙ rw (front-start t, back-start (front t (size t)), front-end t, back-end t) (append-nil (map f t))
+    rw (long, front-start t, back-start (front t (size t)), front-end t, back-end t, append-nil (map f t)) at written

@@ -45,7 +45,7 @@ module _ {array_size : ℕ} {array : List ℕ} {p n : ℕ} (is : IsStored array_
         let within = opened-within is e m b in
         let text = front-text v.text m (opened-text is e) in
         laid array p m (bytes-utf8 _ text) (text_spelled _ text) is.length (omega arith)
-        (sym (take-take m n (drop p array) within) ∙ ap (take m) (sym (opened-bytes is e)) ∙ bytes-front v.text m b)
+        (rw (← take-take m n (drop p array) within, ← opened-bytes is e) (bytes-front v.text m b))
 
     pub dropped : Lies array_size array (p + m) (n - m) (back v.text m)
     dropped =
@@ -53,8 +53,7 @@ module _ {array_size : ℕ} {array : List ℕ} {p n : ℕ} (is : IsStored array_
         let whole : m + (n - m) ≡ n = omega arith in
         let text = back-text v.text m (opened-text is e) in
         laid array (p + m) (n - m) (bytes-utf8 _ text) (text_spelled _ text) is.length (omega arith)
-        (ap (take (n - m)) (sym (drop-drop m p array)) ∙ sym (drop-take m (n - m) (drop p array))
-        ∙ ap (λ k. drop m (take k (drop p array))) whole ∙ ap (drop m) (sym (opened-bytes is e)) ∙ bytes-back v.text m b)
+        (rw (← drop-drop m p array, ← drop-take m (n - m) (drop p array), whole, ← opened-bytes is e) (bytes-back v.text m b))
 
   -- what the sizes of the text and of `given` are, and that a boundary is within
   pub spliced : {end : ℕ} → boundary v.text end ≡ true → {given : List ℕ} → IsUtf8 given
