@@ -6,6 +6,7 @@ use Rattle.std.specs.declared.iter.Copied.{Copied}
 use Rattle.std.specs.declared.str.Chars.{Chars}
 use Rattle.std.proofs.iter.Yields.{copies, fronts, gives_left, gives_Drains, Copied-slice}
 use Rattle.std.proofs.iter.TextItems.{spells}
+use Rattle.std.proofs.lemmas.Iterator.Consumers.{YieldsList-from_first}
 use Rattle.std.proofs.lemmas.Str.{Chars-gives, encodes-chars}
 use Rattle.std.specs.Borrow.{Bor}
 use Rattle.arraystring_base.specs.Text.{size, bytes, cut}
@@ -118,16 +119,6 @@ slice-gives s it pieces rest e =
 pub text-gives : (s it : Chars) (bs : List ℕ) → IsUtf8 bs → s.rest.now ≡ bs → it ≡ s → AlwaysYields spells (λ c. c) it (chars bs)
 text-gives s it bs u rest e = Chars-gives (chars bs) it (encodes-chars bs u ∙ sym (ap (λ i. i.rest.now) e ∙ rest))
 
--- an iterator that gives the first of what is left, and leaves the others, gives all that is left
-first-gives : {S A : Type 0} (rest : S → List A) (s : S) (all : List A) → rest s ≡ all → AlwaysYields (YieldsFirst rest) (λ x. x) s all
-first-gives rest s [] e = λ x j step. absurd (omega (arith, ap length (sym e ∙ step)))
-first-gives rest s (y ∷ ys) e = (
-  λ j step. absurd (omega (arith, ap length (sym e ∙ step.0))),
-  λ x j step.
-      let same : y ∷ ys ≡ x ∷ rest j = sym e ∙ step in
-      (sym (ap (λ l. get_or l 0 x) same), first-gives rest j ys (sym (ap (drop 1) same))),
-)
-
 -- a `Drain` gives the characters that are left
 pub drain-gives : (s it : Drained) (left : List ℕ) → s.left ≡ left → it ≡ s → AlwaysYields (YieldsFirst (λ d. d.left)) (λ c. c) it left
-drain-gives s it left is e = first-gives (λ d. d.left) it left (ap (λ d. d.left) e ∙ is)
+drain-gives s it left is e = (YieldsList-from_first (λ c. c) (λ (d : Drained). d.left) left (ap (λ d. d.left) e ∙ is)).runs
