@@ -32,3 +32,8 @@ written old new given at k wide within is =
 pub shifted : (old new : List ℕ) (from to k : ℕ) → from + k ≤ length old → to + k ≤ length old
     → new ≡ take to old ++ (take k (drop from old) ++ drop (to + k) old) → IsWritten old new (take k (drop from old)) to k
 shifted old new from to k source = written old new _ to k (length-take-le k (drop from old) (omega (arith, length-drop from old)))
+
+-- what was written from `at` on, said of 0 + at
+pub written-from-zero : (old new given : List ℕ) (at : ℕ) → new ≡ take at old ++ (given ++ drop (at + length given) old)
+    → new ≡ take (0 + at) old ++ (given ++ drop (0 + at + length given) old)
+written-from-zero old new given at is = let zero : 0 + at ≡ at = omega arith in rw zero is

@@ -10,7 +10,7 @@ use Rattle.arraystring_core.specs.Stored.{Stored}
 use Rattle.arraystring_core.specs.Layout.{stored, IsStored}
 use Rattle.arraystring_core.specs.GhostProofs.{stored-utf8}
 use Rattle.arraystring_core.proofs.StoredLaws.{opened-bytes, opened-size, opened-within, opened-text, text_spelled}
-use Rattle.arraystring_core.proofs.GapLemmas.{IsWritten, written, shifted}
+use Rattle.arraystring_core.proofs.GapLemmas.{written, written-from-zero, shifted}
 
 -- the n bytes of the array from the offset p on are the text t, and end within the capacity
 pub record Lies (array_size : ℕ) (array : List ℕ) (p n : ℕ) (t : List ℕ) : Type 0 where
@@ -111,8 +111,7 @@ module _ {array_size : ℕ} {array : List ℕ} {p n : ℕ} (is : IsStored array_
           → Lies array_size after 0 (start + (len + (count - end))) (front v.text start ++ (chars given ++ back v.text end))
       moved_to_start moved tail over =
           let sum : 0 + (start + length given) ≡ start + length given = omega arith in
-          let zero : 0 + start ≡ start = omega arith in
-          put 0 (omega (arith, spliced d u)) (rw at at moved) (rw sum (rw (at, many, wide) at tail)) (rw zero over)
+          put 0 (omega (arith, spliced d u)) (rw at at moved) (rw sum (rw (at, many, wide) at tail)) (written-from-zero _ _ _ start over)
 
 -- the text was moved to offset 0
 module _ {array_size : ℕ} {array : List ℕ} {p n : ℕ} (is : IsStored array_size array p n) {compact : List ℕ}
@@ -128,6 +127,5 @@ module _ {array_size : ℕ} {array : List ℕ} {p n : ℕ} (is : IsStored array_
   -- and `given` was written behind it
   pub appended_at_start : {v : Stored} → stored array p n ≡ v → {given after : List ℕ} → IsUtf8 given → n + length given ≤ cap array_size
       → after ≡ take n compact ++ (given ++ drop (n + length given) compact) → Lies array_size after 0 (n + length given) (v.text ++ chars given)
-  appended_at_start e {after = after} u room over =
-      let zero : 0 + n ≡ n = omega arith in
-      rw (compacted.shown ∙ ap (λ w. w.text) e) at (appended compact-stored refl {after = after} u (omega arith) (rw zero over))
+  appended_at_start e u room over =
+      rw (compacted.shown ∙ ap (λ w. w.text) e) at (appended compact-stored refl u (omega arith) (written-from-zero _ _ _ n over))

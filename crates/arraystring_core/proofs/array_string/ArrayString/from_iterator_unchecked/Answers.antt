@@ -1,4 +1,4 @@
-use Rattle.std.proofs.Common.{◌≡◌, ◌+◌, ◌≤◌, length, refl, ap, ◌∙◌, arith, rules, IsUtf8}
+use Rattle.std.proofs.Common.{◌+◌, ◌≤◌, length, refl, ap, ◌∙◌, arith, rules, IsUtf8}
 use Rattle.std.proofs.iter.Next.{Yields-more}
 use Rattle.std.proofs.lemmas.List.{length-replicate}
 use Rattle.std.proofs.lemmas.Str.{IsUtf8-nil, chars-nil}
@@ -7,6 +7,7 @@ use Rattle.arraystring_base.proofs.TextLaws.{size-borrowed}
 use Rattle.arraystring_core.specs.GhostProofs.{stored-size}
 use Rattle.arraystring_core.specs.Layout.{stored}
 use Rattle.arraystring_core.specs.Taken.{piece_text}
+use Rattle.arraystring_core.proofs.GapLemmas.{written-from-zero}
 use Rattle.arraystring_core.proofs.SpanLemmas.{appended}
 use Rattle.arraystring_core.proofs.TakenLaws.{pieces-all}
 use Rattle.arraystring_core.proofs.TakenLemmas.{of_pieces, next-fits, next-text}
@@ -51,9 +52,7 @@ loop-piece-preserved g c =
     let long = stored-size inv.held in
     let wide = size-borrowed utf8 in
     let room : 0 + c.loop-piece.end + length x.now ≤ n = omega arith in
-    let zero : 0 + c.loop-piece.end ≡ c.loop-piece.end = omega arith in
-    let copied = rw c.as_bytes.ensures.value at c.write_over.ensures in
-    let lies = appended inv.held refl {after = c.write_over.new.array} utf8 room (rw zero copied) in
+    let lies = appended inv.held refl utf8 room (written-from-zero c.loop-piece.array _ x.now c.loop-piece.end (rw c.as_bytes.ensures.value at c.write_over.ensures)) in
     let on = c.in-Some.ensures.goes.on inv.ends in
     record {
       can = on.0;
