@@ -1,8 +1,8 @@
 -- What is known where no test of a replacement holds.
-use Rattle.std.proofs.Common.{◌≡◌, ℕ, ◌+◌, ◌-◌, ◌≤◌, Option, Some, None, Ok, List, refl, arith, true}
+use Rattle.std.proofs.Common.{◌≡◌, ℕ, ◌+◌, ◌-◌, ◌≤◌, None, Ok, List, arith, true}
 use Rattle.std.proofs.lemmas.Bool.{ltb-false}
 use Rattle.arraystring_base.specs.Text.{size, boundary}
-use Rattle.arraystring_core.specs.Edits.{Cause, Test, first_cause, ok_unless, replacement}
+use Rattle.arraystring_core.specs.Edits.{Test, first_cause, ok_unless, replacement}
 use Rattle.arraystring_core.proofs.EditLaws.{none-holds, inside-failed}
 
 pub no_cause : (tests : List Test) → Ok (tt {0}) ≡ ok_unless (first_cause tests) (tt {0}) → first_cause tests ≡ None

@@ -1,12 +1,12 @@
 -- A character comes off the front, or off the back, of what is left.
-use Rattle.std.proofs.Common.{◌≡◌, ◌≢◌, ℕ, ◌+◌, ◌-◌, ◌<◌, ◌≤◌, List, [], ◌∷◌, ◌++◌, refl, sym, ap, ◌∙◌, arith, true, length, append_assoc, get_or, chars, take, drop, IsUtf8, length-take-le, length-drop}
+use Rattle.std.proofs.Common.{◌≡◌, ℕ, ◌+◌, ◌-◌, ◌<◌, ◌≤◌, List, [], ◌∷◌, ◌++◌, refl, sym, ap, ◌∙◌, arith, true, length, append_assoc, get_or, chars, take, drop, IsUtf8, length-take-le, length-drop}
 use Rattle.std.proofs.lemmas.Str.{chars_past_char}
 use Rattle.std.specs.Char.{encode_utf8}
 use Rattle.std.proofs.lemmas.List.{get_or-take, get_or-drop, drop_more}
 use Rattle.arraystring_base.specs.Text.{width, size, cap, bytes, front, back, boundary}
 use Rattle.arraystring_base.proofs.TextLaws.{size-append, size-borrowed, chars-bytes, empty-size}
 use Rattle.arraystring_base.proofs.BoundaryLaws.{front-back, front-is, back-is, front-size, back-size, boundary-is, bytes-back, next-char}
-use Rattle.arraystring_core.specs.Layout.{stored, IsStored, IsDrained}
+use Rattle.arraystring_core.specs.Layout.{stored, IsDrained}
 use Rattle.arraystring_core.specs.GhostProofs.{stored-utf8, stored-size, stored-bytes}
 use Rattle.arraystring_core.specs.Drained.{Drained, drained}
 use Rattle.arraystring_core.proofs.StoredLaws.{opened-within}

@@ -2,7 +2,7 @@
 use Rattle.std.proofs.Common.{◌≡◌, ℕ, ◌+◌, ◌-◌, ◌<◌, ◌≤◌, Bool, true, false, List, [], ◌∷◌, ◌++◌, suc, length, take, drop, chars, refl, sym, ap, ◌∙◌, arith, IsUtf8, append_assoc, length-append, length-take-le, length-drop, take_at, take-take, get_or, inl}
 use Rattle.std.proofs.Math.Seq.{take-add}
 use Rattle.std.proofs.lemmas.List.{drop-drop, drop-take, drop_at, drop_more}
-use Rattle.std.proofs.lemmas.Str.{IsUtf8-append, IsUtf8-past_char, chars_past_char, chars-append, chars-nil, IsUtf8-nil}
+use Rattle.std.proofs.lemmas.Str.{IsUtf8-append, IsUtf8-past_char, chars_past_char, chars-append}
 use Rattle.std.specs.List.Retain.{IsFiltered}
 use Rattle.std.specs.Prelude.{encode_utf8}
 use Rattle.std.specs.Char.{IsScalar}
@@ -10,7 +10,7 @@ use Rattle.arraystring_base.specs.Text.{width, utf8}
 use Rattle.arraystring_base.proofs.TextLaws.{scalar-is, utf8-is, utf8-one, length-utf8}
 use Rattle.arraystring_core.specs.Retain.{IsCallableInTurn}
 use Rattle.arraystring_core.proofs.AppendLemmas.{char-utf8, char-chars}
-use Rattle.arraystring_core.proofs.GapLemmas.{IsWritten, shifted}
+use Rattle.arraystring_core.proofs.GapLemmas.{shifted}
 
 -- the bytes from offset + read to offset + size
 abbrev pub unread : List ℕ → ℕ → ℕ → ℕ → List ℕ

@@ -1,9 +1,9 @@
 -- A text at an offset of its array, and what it is once a part of it is replaced, dropped or kept.
-use Rattle.std.proofs.Common.{◌≡◌, ℕ, ◌+◌, ◌-◌, ◌≤◌, List, ◌++◌, length, take, drop, refl, sym, ap, ◌∙◌, arith, IsUtf8, chars, true, take-take}
+use Rattle.std.proofs.Common.{◌≡◌, ℕ, ◌+◌, ◌-◌, ◌≤◌, List, ◌++◌, length, take, drop, refl, ap, ◌∙◌, arith, IsUtf8, chars, true, take-take}
 use Rattle.std.proofs.lemmas.Str.{IsUtf8-append, chars-append}
 use Rattle.std.proofs.lemmas.List.{drop-take, drop-drop}
 use Rattle.std.proofs.Math.Seq.{take-add}
-use Rattle.arraystring_base.specs.Text.{IsText, size, bytes, cap, front, back, boundary}
+use Rattle.arraystring_base.specs.Text.{size, cap, front, back, boundary}
 use Rattle.arraystring_base.proofs.TextLaws.{bytes-utf8, size-borrowed}
 use Rattle.arraystring_base.proofs.BoundaryLaws.{bytes-front, bytes-back, front-text, back-text}
 use Rattle.arraystring_core.specs.Stored.{Stored}

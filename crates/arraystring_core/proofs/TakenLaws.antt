@@ -1,7 +1,7 @@
 -- Laws of texts that are joined, and of what is taken from an iterator.
-use Rattle.std.proofs.Common.{◌≡◌, ℕ, ◌<◌, ◌≤◌, List, [], ◌∷◌, ◌++◌, ◌⊎◌, refl, sym, ap, subst, ◌∙◌, arith, map, append_assoc, inl, inr, Option, Result, Iter, IsUtf8, chars, length, get_or, drop}
+use Rattle.std.proofs.Common.{◌≡◌, ℕ, ◌<◌, ◌≤◌, List, [], ◌∷◌, ◌++◌, refl, sym, ap, subst, ◌∙◌, arith, map, append_assoc, inl, inr, Option, Result, Iter, IsUtf8, chars}
 use Rattle.std.proofs.lemmas.List.{map-id}
-use Rattle.std.specs.Iterator.{AlwaysYields, Yields, Drains, YieldsFirst}
+use Rattle.std.specs.Iterator.{AlwaysYields, Yields, YieldsFirst}
 use Rattle.std.specs.declared.iter.Copied.{Copied}
 use Rattle.std.specs.declared.str.Chars.{Chars}
 use Rattle.std.proofs.iter.Yields.{copies, fronts, gives_left, gives_Drains, Copied-slice}

@@ -1,11 +1,11 @@
 -- One turn of a loop that adds what an iterator gives.
-use Rattle.std.proofs.Common.{◌≡◌, ℕ, ◌+◌, ◌-◌, ◌<◌, ◌≤◌, List, [], ◌∷◌, ◌++◌, Option, refl, sym, ap, ◌∙◌, arith, map, append_assoc, inl, inr}
+use Rattle.std.proofs.Common.{◌≡◌, ℕ, ◌+◌, ◌-◌, ◌<◌, ◌≤◌, List, [], ◌∷◌, ◌++◌, Option, refl, ap, ◌∙◌, arith, map, append_assoc, inl, inr}
 use Rattle.std.proofs.lemmas.Bool.{lt-leb}
 use Rattle.std.proofs.lemmas.List.{append-nil, map-append}
 use Rattle.arraystring_base.specs.Text.{width, size, cut}
 use Rattle.arraystring_base.proofs.TextLaws.{size-append}
 use Rattle.arraystring_base.proofs.CutLaws.{cut-all, cut-past_part}
-use Rattle.arraystring_core.specs.Taken.{IsFirstPast, Takes, TakesAll, Fits, joined, joined_pieces, piece_text}
+use Rattle.arraystring_core.specs.Taken.{IsFirstPast, Takes, TakesAll, Fits, joined_pieces, piece_text}
 use Rattle.arraystring_core.proofs.TakenLaws.{joined-append}
 
 -- one more character, and one more piece

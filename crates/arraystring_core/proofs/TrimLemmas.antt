@@ -1,12 +1,12 @@
 -- The characters at the ends of a text that pass a test.
-use Rattle.std.proofs.Common.{◌≡◌, ℕ, ◌+◌, ◌<◌, ◌≤◌, List, [], ◌∷◌, ◌++◌, suc, zero, length, take, drop, get_or, refl, sym, ap, subst, ◌∙◌, arith, Bool, true, false, inl, inr, append_assoc, take-append-drop, length-take-le, chars}
+use Rattle.std.proofs.Common.{◌≡◌, ℕ, ◌<◌, ◌≤◌, List, [], ◌∷◌, ◌++◌, suc, zero, length, take, drop, get_or, refl, sym, ap, subst, ◌∙◌, arith, Bool, true, false, inl, inr, append_assoc, take-append-drop, length-take-le, chars}
 use Rattle.std.proofs.lemmas.Bool.{cases_Bool}
 use Rattle.std.proofs.lemmas.List.{reverse-append, reverse-reverse, drop_more}
 use Rattle.std.proofs.lemmas.List.Elements.{All-nil, All-cons, All-head, All-tail, All-append}
 use Rattle.std.proofs.lemmas.Str.{chars-append}
 use Rattle.std.specs.Prelude.{All, IfSome, reverse}
 use Rattle.arraystring_base.specs.Text.{IsText, bytes, size, back, boundary}
-use Rattle.arraystring_base.proofs.TextLaws.{bytes-utf8, size-borrowed}
+use Rattle.arraystring_base.proofs.TextLaws.{size-borrowed}
 use Rattle.arraystring_base.proofs.BoundaryLaws.{boundary-is, back-is, bytes-back}
 use Rattle.arraystring_core.specs.Edits.{first_of, last_of, without_leading, without_trailing}
 use Rattle.arraystring_core.proofs.EditLaws.{last_of-push}

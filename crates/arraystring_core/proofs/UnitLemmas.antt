@@ -1,5 +1,5 @@
 -- A run of ASCII in front of units of UTF-16: its bytes, and how it is read.
-use Rattle.std.proofs.Common.{◌≡◌, ℕ, ◌+◌, ◌<◌, ◌≤◌, List, [], ◌∷◌, ◌++◌, suc, zero, map, length, take, take_at, drop, get_or, slice_set, take_all, refl, sym, ap, ◌∙◌, arith, inl, append_assoc, length-append, length-take-le, length-take, length-drop, ◌-◌}
+use Rattle.std.proofs.Common.{◌≡◌, ℕ, ◌+◌, ◌<◌, ◌≤◌, List, [], ◌∷◌, ◌++◌, suc, zero, map, length, take, take_at, drop, get_or, slice_set, refl, ap, ◌∙◌, arith, inl, append_assoc, length-append, length-take-le, length-take, length-drop, ◌-◌}
 use Rattle.std.proofs.lemmas.Bool.{lt-ltb}
 use Rattle.std.proofs.lemmas.List.{drop_more, take_more, take_rest, set_at, get_or-take}
 use Rattle.std.proofs.lemmas.Str.Ascii.{IsAscii-from_reads}
@@ -9,7 +9,7 @@ use Rattle.std.specs.Prelude.{IsUtf8, chars, IsAscii}
 use Rattle.arraystring_base.specs.Text.{cap}
 use Rattle.arraystring_base.specs.declared.utf16.Unit16.{Unit16}
 use Rattle.arraystring_base.specs.declared.utf16.Unit16.TheVariants.{Char, Lone}
-use Rattle.arraystring_base.specs.Utf16.{IsHigh, IsLow, utf16, joined_units, lossy_text, IsItem, NoPairApart, IsReading}
+use Rattle.arraystring_base.specs.Utf16.{IsHigh, IsLow, lossy_text, IsItem, NoPairApart, IsReading}
 use Rattle.arraystring_core.proofs.SpanLemmas.{Lies, laid}
 
 abbrev pub AreAscii : List ℕ → ℕ → Type 0

@@ -1,10 +1,7 @@
 -- Bytes that are UTF-8, by their first characters.
-use Rattle.std.proofs.Common.{◌≡◌, ℕ, ◌+◌, ◌-◌, ◌*◌, ◌<◌, ◌≤◌, ◌↔◌, ◌⊎◌, List, [], ◌∷◌, length, take, drop, get_or, sym, subst, arith, inl, inr, IsUtf8, length-take, take-append-drop}
-use Rattle.std.proofs.Math.Nat.{eq-or-lt_of_le}
-use Rattle.std.proofs.lemmas.Bool.{cases_lt}
-use Rattle.std.proofs.lemmas.List.{get_or-take, take_rest}
-use Rattle.std.proofs.lemmas.Str.{IsUtf8-append, IsUtf8-drop, IsUtf8-from_ascii, IsCharBoundary-from_take}
-use Rattle.std.proofs.lemmas.Str.Ascii.{IsAscii-from_reads}
+use Rattle.std.proofs.Common.{◌≡◌, ℕ, ◌+◌, ◌-◌, ◌<◌, ◌≤◌, ◌↔◌, List, [], ◌∷◌, length, take, drop, get_or, subst, arith, IsUtf8, take-append-drop}
+use Rattle.std.proofs.lemmas.List.{take_rest}
+use Rattle.std.proofs.lemmas.Str.{IsUtf8-append, IsUtf8-drop, IsCharBoundary-from_take}
 use Rattle.std.proofs.str.Valid.{of_one, of_two, of_three, of_four, longer}
 use Rattle.arraystring_core.proofs.UnitLemmas.{AreAscii, run-utf8}
 

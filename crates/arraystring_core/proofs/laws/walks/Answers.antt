@@ -1,4 +1,4 @@
-use Rattle.std.proofs.Common.{◌≡◌, ℕ, ◌-◌, ◌≤◌, List, [], ◌∷◌, ◌++◌, length, reverse, refl, sym, ap, ◌∙◌, arith, Some, append_assoc}
+use Rattle.std.proofs.Common.{◌≡◌, ℕ, ◌-◌, List, [], ◌∷◌, ◌++◌, length, reverse, refl, sym, ap, ◌∙◌, arith, Some, append_assoc}
 use Rattle.std.proofs.lemmas.List.{append-nil, nil_from_length, reverse-append}
 use Rattle.arraystring_core.specs.Drained.{End, Front, Back, from_back, walked}
 use Rattle.arraystring_core.proofs.EditLaws.{last_of-push, all_but_last-push}
