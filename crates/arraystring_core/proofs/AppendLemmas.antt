@@ -19,25 +19,29 @@ module _ (ch : ℕ) (scalar : IsScalar ch) where
 -- len is the length of its UTF-8
 module _ {array_size : ℕ} {array : List ℕ} {p n : ℕ} (is : IsStored array_size array p n) {v : Stored} (e : stored array p n ≡ v)
     (ch : ℕ) (scalar : IsScalar ch) {len : ℕ} (wide : len ≡ width ch) where
-  pub char-appended : {after : List ℕ} → p + n + width ch ≤ cap array_size → after ≡ take (p + n) array ++ (utf8 ch ++ drop (p + n + width ch) array)
+  pub char-appended : {after : List ℕ} → p + n + width ch ≤ cap array_size
+      → after ≡ take (p + n) array ++ (utf8 ch ++ drop (p + n + width ch) array)
       → Lies array_size after p (n + len) (v.text ++ ch ∷ [])
   char-appended =
       rw (wide, ← length-utf8 ch, ← char-chars ch scalar) (appended is e (char-utf8 ch scalar))
 
   -- the text was moved to offset 0 before
-  pub char-appended_at_start : {compact after : List ℕ} → n + width ch ≤ cap array_size → compact ≡ take 0 array ++ (take n (drop p array) ++ drop (0 + n) array)
+  pub char-appended_at_start : {compact after : List ℕ} → n + width ch ≤ cap array_size
+      → compact ≡ take 0 array ++ (take n (drop p array) ++ drop (0 + n) array)
       → after ≡ take n compact ++ (utf8 ch ++ drop (n + width ch) compact)
       → Lies array_size after 0 (n + len) (v.text ++ ch ∷ [])
   char-appended_at_start room moved =
-      rw (wide, ← length-utf8 ch, ← char-chars ch scalar) (appended_at_start is moved e (char-utf8 ch scalar) (rw (length-utf8 ch) room))
+      rw (wide, ← length-utf8 ch, ← char-chars ch scalar)
+      (appended_at_start is moved e (char-utf8 ch scalar) (rw (length-utf8 ch) room))
 
   -- the gap is at the boundary m; offset and count are the span of the text
-  module _ (m : ℕ) (b : boundary v.text m ≡ true) (room : size v.text + width ch ≤ cap array_size) {offset count : ℕ} (at : offset ≡ p) (many : count ≡ n)
-      (gapped : List ℕ) (long : length gapped ≡ array_size) where
+  module _ (m : ℕ) (b : boundary v.text m ≡ true) (room : size v.text + width ch ≤ cap array_size)
+      {offset count : ℕ} (at : offset ≡ p) (many : count ≡ n) (gapped : List ℕ) (long : length gapped ≡ array_size) where
     fits : size v.text - (m - m) + size (chars (utf8 ch)) ≤ cap array_size
     fits = omega (arith, size-borrowed (char-utf8 ch scalar), length-utf8 ch)
 
-    pub char-inserted : {after : List ℕ} → offset + (m + (len + (count - m))) ≤ cap array_size → take m (drop offset gapped) ≡ take m (drop offset array)
+    pub char-inserted : {after : List ℕ} → offset + (m + (len + (count - m))) ≤ cap array_size
+        → take m (drop offset gapped) ≡ take m (drop offset array)
         → take (count - m) (drop (offset + (m + len)) gapped) ≡ take (count - m) (drop (offset + m) array)
         → after ≡ take (offset + m) gapped ++ (utf8 ch ++ drop (offset + m + width ch) gapped)
         → Lies array_size after p (m + (len + (count - m))) (front v.text m ++ (ch ∷ back v.text m))

@@ -68,7 +68,8 @@ module _ {f : ℕ → ℕ} (is : IsAsciiChange f) {array_size : ℕ} {array : Li
       let tail : p + (start + (end - start)) ≡ p + end = omega arith in
       let whole : start + (end - start + (n - end)) ≡ n = omega (arith, opened-within held e end d) in
       rw (whole, same, changed-chars f is _ of) at
-      (filled held e order b d (omega (arith, spliced held e d u)) u refl refl wide array held.length (omega arith) refl (rw tail refl) (rw (less, past) at written))
+      (filled held e order b d (omega (arith, spliced held e d u)) u refl refl wide array held.length (omega arith) refl
+      (rw tail refl) (rw (less, past) at written))
 
 -- all of a text is changed
 pub whole-changed : (f : ℕ → ℕ) (t : List ℕ) {n : ℕ} {new : List ℕ} → n ≡ size t → new ≡ front t 0 ++ (map f (part t 0 n) ++ back t n) → new ≡ map f t

@@ -24,7 +24,8 @@ pub settled-cut : (t all : List ℕ) (n : ℕ) → IsAllOrPast t all n → cut t
 settled-cut t all n (inl ends) = ap (λ l. cut l n) ends.0
 settled-cut t all n (inr stops) = sym (ap (λ l. cut l n) stops.1 ∙ cut-past t stops.0 n stops.2)
 
-pub made-more : (result : Result Stored Error) (t all : List ℕ) (n : ℕ) → IsAllOrPast t all n → IsWholeOrRefused t n result → IsWholeOrRefused all n result
+pub made-more : (result : Result Stored Error) (t all : List ℕ) (n : ℕ) → IsAllOrPast t all n
+    → IsWholeOrRefused t n result → IsWholeOrRefused all n result
 made-more result t all n (inl ends) made = subst (λ l. IsWholeOrRefused l n result) ends.0 made
 made-more (Ok s) t all n (inr stops) made = absurd (omega arith)
 made-more (Err e) t all n (inr stops) made = (omega (arith, ap size stops.1, size-append t stops.0), made.1)

@@ -68,7 +68,8 @@ module _ {array_size : ℕ} {array : List ℕ} {p n i : ℕ} (is : IsDrained arr
           record { held = record { held = is.held; at = next.0 }; rest = rw next.1 starts }
 
     -- if what is left is known by its bytes, and by those after its first character
-    module _ {bs : List ℕ} (u : IsUtf8 bs) (shown : bs ≡ bytes v.left) (c : ℕ) {rest : List ℕ} (w : IsUtf8 rest) (begins : bs ≡ encode_utf8 c ++ rest) where
+    module _ {bs : List ℕ} (u : IsUtf8 bs) (shown : bs ≡ bytes v.left) (c : ℕ) {rest : List ℕ} (w : IsUtf8 rest)
+        (begins : bs ≡ encode_utf8 c ++ rest) where
       begun : v.left ≡ c ∷ chars rest
       begun = sym (chars-bytes u shown) ∙ chars_past_char bs rest c u begins
 
@@ -87,7 +88,8 @@ module _ {array_size : ℕ} {array : List ℕ} {p n i : ℕ} (is : IsDrained arr
       first-is =
           let bs = take n (drop p array) in
           let long = length-take-le n (drop p array) (omega (arith, length-drop p array, is.held)) in
-          first-low v.left (left-bytes ∙ rw (get_or-take n (drop p array) i 0 some, get_or-drop p array i 0) at (drop_more bs i 0 (omega arith))) low
+          let more = rw (get_or-take n (drop p array) i 0 some, get_or-drop p array i 0) at (drop_more bs i 0 (omega arith)) in
+          first-low v.left (left-bytes ∙ more) low
 
       pub first-given : GivesFirst array_size array p n (i + 1) v.left (get_or array (p + i) 0)
       first-given = rw (low-width _ low) at (front-given (get_or array (p + i) 0) first-is.0 first-is.1)

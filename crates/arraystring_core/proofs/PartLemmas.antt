@@ -17,7 +17,8 @@ module _ {array_size : ℕ} {array : List ℕ} {p n : ℕ} (is : IsStored array_
   pub part_lies : Lies array_size array (p + start) (end - start) (part v.text start end)
   part_lies =
       let front_is = kept is e end d in
-      let starts : boundary (stored array p end).text start ≡ true = rw front_is.shown (boundary-in_front v.text start end order b) in
+      let starts : boundary (stored array p end).text start ≡ true =
+      rw front_is.shown (boundary-in_front v.text start end order b) in
       let there = dropped front_is.held refl start starts in
       record { held = there.held; shown = there.shown ∙ ap (λ t. back t start) front_is.shown }
 

@@ -88,23 +88,27 @@ module _ {F : Type 0} {can : F → ℕ → Type 0} {steps : F → ℕ → Bool �
   after =
       let sum : offset + (read + width c) ≡ offset + read + width c = omega arith in
       let whole : width c + (size - (read + width c)) ≡ size - read = omega (arith, char-within) in
-      rw (sum, ← drop-drop (width c) (offset + read) array, ← drop-take (width c) (size - (read + width c)) (drop (offset + read) array), whole, begins.starts)
-      (drop_at (utf8 c) begins.rest (width c) (length-utf8 c))
+      rw (sum, ← drop-drop (width c) (offset + read) array, ← drop-take (width c) (size - (read + width c)) (drop (offset + read) array))
+      (rw (whole, begins.starts)
+      (drop_at (utf8 c) begins.rest (width c) (length-utf8 c)))
 
   -- it is moved after the first ones
   pub retained-moved : (moved : List ℕ)
       → moved ≡ take (offset + kept) array ++ (take (width c) (drop (offset + read) array) ++ drop (offset + kept + width c) array)
-      → (g : F) → steps f c true g → IsPartRetained can steps array_size array₀ f₀ offset size moved g (kept + width c) (read + width c)
+      → (g : F) → steps f c true g
+      → IsPartRetained can steps array_size array₀ f₀ offset size moved g (kept + width c) (read + width c)
   retained-moved moved written g step =
-      let there =
-      shifted array moved (offset + read) (offset + kept) (width c) (omega (arith, char-within)) (omega (arith, char-within)) written in
+      let inside = char-within in
+      let there = shifted array moved (offset + read) (offset + kept) (width c) (omega arith) (omega arith) written in
       let next = offset + (read + width c) in
-      let rest : unread moved offset (read + width c) size ≡ begins.rest = ap (take (size - (read + width c))) (there.behind next (omega arith)) ∙ after in
+      let rest : unread moved offset (read + width c) size ≡ begins.rest =
+      ap (take (size - (read + width c))) (there.behind next (omega arith)) ∙ after in
       let char : take (width c) (drop (offset + read) array) ≡ utf8 c =
       sym (take-take (width c) (size - read) (drop (offset + read) array) (omega (arith, char-within)))
       ∙ ap (take (width c)) begins.starts ∙ take_at (utf8 c) begins.rest (width c) (length-utf8 c) in
       let both : take (kept + width c) (drop offset moved) ≡ take kept (drop offset array) ++ utf8 c =
-      rw (take-add kept (width c) (drop offset moved), there.before offset kept (omega arith), drop-drop kept offset moved, there.here, char) refl in
+      take-add kept (width c) (drop offset moved)
+      ∙ rw (there.before offset kept (omega arith), drop-drop kept offset moved, there.here, char) refl in
       record {
         long = there.long ∙ part.long;
         kept_first = omega arith;
@@ -114,12 +118,14 @@ module _ {F : Type 0} {can : F → ℕ → Type 0} {steps : F → ℕ → Bool �
         callable = rw rest (callable-later true g step);
         filtered = λ more h.
             let h = rw rest at h in
-            rw (both, chars-append _ (utf8 c) part.kept_text, char-chars c begins.scalar, append_assoc (chars (take kept (drop offset array))) (c ∷ []) more)
+            let first = take kept (drop offset array) in
+            rw (both, chars-append first (utf8 c) part.kept_text, char-chars c begins.scalar, append_assoc (chars first) (c ∷ []) more)
             (filtered-rest (c ∷ more) (true ∷ h.0, h.1, ap suc h.2, (g, step, h.3), ap (λ l. c ∷ l) h.4));
       }
 
   -- it is left out
-  pub retained-left_out : (g : F) → steps f c false g → IsPartRetained can steps array_size array₀ f₀ offset size array g kept (read + width c)
+  pub retained-left_out : (g : F) → steps f c false g
+      → IsPartRetained can steps array_size array₀ f₀ offset size array g kept (read + width c)
   retained-left_out g step = record {
     long = part.long;
     kept_first = omega arith;

@@ -18,8 +18,8 @@ pub record Lies (array_size : ℕ) (array : List ℕ) (p n : ℕ) (t : List ℕ)
   pub shown : chars (take n (drop p array)) ≡ t
 
 -- these bytes are the UTF-8 of t
-pub laid : {array_size : ℕ} (array : List ℕ) (p n : ℕ) {bs t : List ℕ} → IsUtf8 bs → chars bs ≡ t → length array ≡ array_size → p + n ≤ cap array_size
-    → take n (drop p array) ≡ bs → Lies array_size array p n t
+pub laid : {array_size : ℕ} (array : List ℕ) (p n : ℕ) {bs t : List ℕ} → IsUtf8 bs → chars bs ≡ t → length array ≡ array_size
+    → p + n ≤ cap array_size → take n (drop p array) ≡ bs → Lies array_size array p n t
 laid array p n u is long within same =
     record { held = record { within = within; length = long; utf8 = ∣ rw same u ∣₁ }; shown = ap chars same ∙ is }
 
@@ -35,7 +35,8 @@ joined {array = array} {p} {n} {m} one two =
     let u = stored-utf8 one.held in
     let w = stored-utf8 two.held in
     let both = take-add n m (drop p array) ∙ ap (λ l. take n (drop p array) ++ take m l) (drop-drop n p array) in
-    laid array p (n + m) (IsUtf8-append _ _ u w) (rw (chars-append _ _ u, one.shown, two.shown)) one.held.length (omega (arith, two.held)) both
+    laid array p (n + m) (IsUtf8-append _ _ u w) (rw (chars-append _ _ u, one.shown, two.shown)) one.held.length
+    (omega (arith, two.held)) both
 
 module _ {array_size : ℕ} {array : List ℕ} {p n : ℕ} (is : IsStored array_size array p n) {v : Stored} (e : stored array p n ≡ v) where
   -- the part before the boundary m, and that from it on
@@ -72,7 +73,8 @@ module _ {array_size : ℕ} {array : List ℕ} {p n : ℕ} (is : IsStored array_
 
   module _ {start end : ℕ} (order : start ≤ end) (b : boundary v.text start ≡ true) (d : boundary v.text end ≡ true) where
     -- the bytes from the boundary `end` on were moved to the boundary `start`
-    pub closed : {after : List ℕ} → after ≡ take (p + start) array ++ (take (n - end) (drop (p + end) array) ++ drop (p + start + (n - end)) array)
+    pub closed : {after : List ℕ}
+        → after ≡ take (p + start) array ++ (take (n - end) (drop (p + end) array) ++ drop (p + start + (n - end)) array)
         → Lies array_size after p (start + (n - end)) (front v.text start ++ back v.text end)
     closed {after} moved =
         let within = opened-within is e end d in
@@ -82,9 +84,11 @@ module _ {array_size : ℕ} {array : List ℕ} {p n : ℕ} (is : IsStored array_
         (carried (dropped end d) after (p + start) long (omega arith) there.here)
 
     -- the text was moved to the offset q, and `given` was written into its gap
-    module _ {given : List ℕ} (room : size v.text - (end - start) + size (chars given) ≤ cap array_size) (u : IsUtf8 given) {offset count len : ℕ}
-        (at : offset ≡ p) (many : count ≡ n) (wide : len ≡ length given) (gapped : List ℕ) {after : List ℕ} (long : length gapped ≡ array_size) where
-      put : (q : ℕ) → q + (start + (length given + (n - end))) ≤ cap array_size → take start (drop q gapped) ≡ take start (drop p array)
+    module _ {given : List ℕ} (room : size v.text - (end - start) + size (chars given) ≤ cap array_size) (u : IsUtf8 given)
+        {offset count len : ℕ} (at : offset ≡ p) (many : count ≡ n) (wide : len ≡ length given)
+        (gapped : List ℕ) {after : List ℕ} (long : length gapped ≡ array_size) where
+      put : (q : ℕ) → q + (start + (length given + (n - end))) ≤ cap array_size
+          → take start (drop q gapped) ≡ take start (drop p array)
           → take (n - end) (drop (q + (start + length given)) gapped) ≡ take (n - end) (drop (p + end) array)
           → after ≡ take (q + start) gapped ++ (given ++ drop (q + start + length given) gapped)
           → Lies array_size after q (start + (len + (count - end))) (front v.text start ++ (chars given ++ back v.text end))
@@ -98,7 +102,8 @@ module _ {array_size : ℕ} {array : List ℕ} {p n : ℕ} (is : IsStored array_
           (carried (dropped end d) after (q + start + length given) still (omega arith)
           (ap (take (n - end)) (there.behind (q + start + length given) (omega arith)) ∙ rw sum tail))))
 
-      pub filled : offset + (start + (len + (count - end))) ≤ cap array_size → take start (drop offset gapped) ≡ take start (drop offset array)
+      pub filled : offset + (start + (len + (count - end))) ≤ cap array_size
+          → take start (drop offset gapped) ≡ take start (drop offset array)
           → take (count - end) (drop (offset + (start + len)) gapped) ≡ take (count - end) (drop (offset + end) array)
           → after ≡ take (offset + start) gapped ++ (given ++ drop (offset + start + length given) gapped)
           → Lies array_size after p (start + (len + (count - end))) (front v.text start ++ (chars given ++ back v.text end))
@@ -111,7 +116,8 @@ module _ {array_size : ℕ} {array : List ℕ} {p n : ℕ} (is : IsStored array_
           → Lies array_size after 0 (start + (len + (count - end))) (front v.text start ++ (chars given ++ back v.text end))
       moved_to_start moved tail over =
           let sum : 0 + (start + length given) ≡ start + length given = omega arith in
-          put 0 (omega (arith, spliced d u)) (rw at at moved) (rw sum (rw (at, many, wide) at tail)) (written-from-zero _ _ _ start over)
+          put 0 (omega (arith, spliced d u)) (rw at at moved) (rw sum (rw (at, many, wide) at tail))
+          (written-from-zero _ _ _ start over)
 
 -- the text was moved to offset 0
 module _ {array_size : ℕ} {array : List ℕ} {p n : ℕ} (is : IsStored array_size array p n) {compact : List ℕ}
@@ -125,7 +131,8 @@ module _ {array_size : ℕ} {array : List ℕ} {p n : ℕ} (is : IsStored array_
   compact-stored = compacted.held
 
   -- and `given` was written behind it
-  pub appended_at_start : {v : Stored} → stored array p n ≡ v → {given after : List ℕ} → IsUtf8 given → n + length given ≤ cap array_size
-      → after ≡ take n compact ++ (given ++ drop (n + length given) compact) → Lies array_size after 0 (n + length given) (v.text ++ chars given)
+  pub appended_at_start : {v : Stored} → stored array p n ≡ v → {given after : List ℕ} → IsUtf8 given
+      → n + length given ≤ cap array_size → after ≡ take n compact ++ (given ++ drop (n + length given) compact)
+      → Lies array_size after 0 (n + length given) (v.text ++ chars given)
   appended_at_start e u room over =
       rw (compacted.shown ∙ ap (λ w. w.text) e) at (appended compact-stored refl u (omega arith) (written-from-zero _ _ _ n over))

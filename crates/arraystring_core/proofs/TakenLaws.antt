@@ -43,8 +43,10 @@ record IsGiven {U T A : Type 0} (becomes : U → T → Type 0) (steps : T → Op
 -- if `whole` is the text of their values
 module _ {U T A B : Type 0} (becomes : U → T → Type 0) (steps : T → Option A → T → Type 0) (spelled : List A → List ℕ)
     (value : A → B) (whole : List B → List ℕ) (is : (items : List A) → spelled items ≡ whole (map value items))
-    (parts : (a b : List B) → whole (a ++ b) ≡ whole a ++ whole b) (iter : U) (all : List B) (gives : Gives becomes steps value iter all) where
-  prefix-text : (it : T) (items : List A) (t : T) → becomes iter it → Yields steps it items t → (more : List ℕ) × (whole all ≡ spelled items ++ more)
+    (parts : (a b : List B) → whole (a ++ b) ≡ whole a ++ whole b) (iter : U) (all : List B)
+    (gives : Gives becomes steps value iter all) where
+  prefix-text : (it : T) (items : List A) (t : T) → becomes iter it → Yields steps it items t
+      → (more : List ℕ) × (whole all ≡ spelled items ++ more)
   prefix-text it items t from yields =
       let rest = gives_left steps value items all it t (gives it from) yields in
       (whole rest.0, rw (is items) (ap whole rest.1 ∙ parts (map value items) rest.0))

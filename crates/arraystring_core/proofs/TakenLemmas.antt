@@ -25,7 +25,8 @@ of_characters = record { more = λ cs c. refl }
 pub of_pieces : IsSpelling joined_pieces piece_text
 of_pieces = record {
   more = λ pieces piece.
-      rw (map-append piece_text pieces (piece ∷ []), joined-append (map piece_text pieces) (piece_text piece ∷ []), append-nil (piece_text piece)) refl;
+      rw (map-append piece_text pieces (piece ∷ []), joined-append (map piece_text pieces) (piece_text piece ∷ []))
+      (rw (append-nil (piece_text piece)) refl);
 }
 
 -- a character that does not fit has no cut
@@ -69,7 +70,8 @@ module _ {A : Type 0} {spelled : List A → List ℕ} {one : A → List ℕ} (sp
   added-cut =
       let left : n - size now ≡ n - size old - size (spelled items) = omega (arith, sum) in
       let fits : size (spelled items) ≤ n - size old = omega arith in
-      rw (left, is.text, append_assoc old (spelled items) _, spelling.more items x, cut-past_part (spelled items) (one x) (n - size old) fits) refl
+      rw (left, is.text, append_assoc old (spelled items) _, spelling.more items x)
+      (rw (cut-past_part (spelled items) (one x) (n - size old) fits) refl)
 
   -- if a part of x was added, and if x has none
   pub added-part : {before new : List ℕ} → before ≡ now → new ≡ before ++ cut (one x) (n - size before)

@@ -46,7 +46,12 @@ leading p (c ∷ cs) =
       | inl passes ↦
           let rest = leading p cs in
           rw passes
-          record { dropped = c ∷ rest.dropped; parts = ap (λ l. c ∷ l) rest.parts; pass = All-cons (λ x. p x ≡ true) c rest.dropped passes rest.pass; bare = rest.bare }
+          record {
+            dropped = c ∷ rest.dropped;
+            parts = ap (λ l. c ∷ l) rest.parts;
+            pass = All-cons (λ x. p x ≡ true) c rest.dropped passes rest.pass;
+            bare = rest.bare;
+          }
       | inr stops ↦ rw stops record { dropped = []; parts = refl; pass = All-nil _; bare = stops }
     ]
 
@@ -71,7 +76,8 @@ trailing-bare p t =
     (rw (← is.parts, reverse-reverse (without_leading p (reverse t))) (leading p (reverse t)).bare)
 
 pub trimmed-parts : (p : ℕ → Bool) (t : List ℕ)
-    → t ≡ (leading p (without_trailing p t)).dropped ++ (without_leading p (without_trailing p t) ++ reverse (leading p (reverse t)).dropped)
+    → t ≡ (leading p (without_trailing p t)).dropped
+    ++ (without_leading p (without_trailing p t) ++ reverse (leading p (reverse t)).dropped)
 trimmed-parts p t =
     let is = leading p (without_trailing p t) in
     let end = leading p (reverse t) in
@@ -88,7 +94,8 @@ run-dropped p (b ∷ bs) (suc n) rest within pass =
     ∙ run-dropped p bs n rest (omega arith) (λ i lt. pass (suc i) (omega arith))
 
 -- n bytes of ASCII at the start of a text, given as `bs`
-module _ (text : List ℕ) (of : IsText text) {bs : List ℕ} (is : bs ≡ bytes text) {n : ℕ} (within : n ≤ length bs) (ascii : AreAscii bs n) where
+module _ (text : List ℕ) (of : IsText text) {bs : List ℕ} (is : bs ≡ bytes text) {n : ℕ} (within : n ≤ length bs)
+    (ascii : AreAscii bs n) where
   parts : text ≡ take n bs ++ chars (drop n bs)
   parts =
       sym (ap chars is ∙ text_spelled text of) ∙ ap chars (sym (take-append-drop n bs))
@@ -100,13 +107,16 @@ module _ (text : List ℕ) (of : IsText text) {bs : List ℕ} (is : bs ≡ bytes
   pub run-boundary : boundary text n ≡ true
   run-boundary = ap (λ t. boundary t n) parts ∙ boundary-is (take n bs) _ n long
 
-  pub run-passes : (p : ℕ → Bool) → ((i : ℕ) → i < n → p (get_or bs i 0) ≡ true) → without_leading p (back text n) ≡ without_leading p text
+  pub run-passes : (p : ℕ → Bool) → ((i : ℕ) → i < n → p (get_or bs i 0) ≡ true)
+      → without_leading p (back text n) ≡ without_leading p text
   run-passes p pass =
       ap (without_leading p) (ap (λ t. back t n) parts ∙ back-is (take n bs) _ n long)
       ∙ sym (ap (without_leading p) parts ∙ run-dropped p bs n _ within pass)
 
   -- and one more, which does not pass
-  pub run-stops : (p : ℕ → Bool) → n < length bs → get_or bs n 0 < 0x80 → p (get_or bs n 0) ≡ false → without_leading p (back text n) ≡ back text n
+  pub run-stops : (p : ℕ → Bool) → n < length bs → get_or bs n 0 < 0x80 → p (get_or bs n 0) ≡ false
+      → without_leading p (back text n) ≡ back text n
   run-stops p more low stops =
-      let next = first-low (back text n) (sym (bytes-back text n run-boundary) ∙ ap (drop n) (sym is) ∙ drop_more bs n 0 more) low in
+      let next =
+      first-low (back text n) (sym (bytes-back text n run-boundary) ∙ ap (drop n) (sym is) ∙ drop_more bs n 0 more) low in
       without_leading-stops p (back text n) _ next.0 next.1 stops

@@ -54,8 +54,8 @@ run-chars n units ascii = chars-IsAscii (take n units) (ascii-run n units ascii)
 pub run-longer : (array units : List ℕ) (n : ℕ) (now : List ℕ) → n < length array → n < length units → now ≡ take n units ++ drop n array
     → slice_set now n (get_or units n 0) ≡ take (n + 1) units ++ drop (n + 1) array
 run-longer array units n now in_array in_units is =
-    rw (is, drop_more array n 0 in_array, take_more units n 0 in_units, append_assoc (take n units) (get_or units n 0 ∷ []) (drop (n + 1) array))
-    (set_at (take n units) _ _ _ n (length-take-le n units (omega arith)))
+    rw (is, drop_more array n 0 in_array, take_more units n 0 in_units)
+    (rw (append_assoc (take n units) (get_or units n 0 ∷ []) (drop (n + 1) array)) (set_at (take n units) _ _ _ n (length-take-le n units (omega arith))))
 
 -- a run at the start of an array is the text of its bytes
 pub run-lies : {array_size : ℕ} (array units : List ℕ) (n : ℕ) {after : List ℕ} → length array ≡ array_size → n ≤ cap array_size → n ≤ length units
