@@ -3,7 +3,7 @@ use Rattle.std.proofs.lemmas.List.{length-replicate}
 use Rattle.std.proofs.Math.ListN.{replicate}
 use Rattle.arraystring_base.specs.Text.{cap}
 use Rattle.arraystring_base.proofs.TextLaws.{size-borrowed}
-use Rattle.arraystring_core.proofs.GapLemmas.{written}
+use Rattle.arraystring_core.proofs.GapLemmas.{written-length}
 use Rattle.arraystring_core.proofs.array_string.ArrayString.from_str_unchecked.Goals as goal
 
 pub fill-requires : goal.fill-requires
@@ -19,10 +19,10 @@ invariant_of-result g c =
     let copied = rw c.as_bytes.ensures.value at c.fill.ensures in
     let fits : 0 + length given ≤ cap g.row.N = omega (arith, size-borrowed c.utf8.string) in
     let zeros : length (replicate g.row.N 0) ≡ g.row.N = length-replicate g.row.N 0 in
-    let there = written (replicate g.row.N 0) c.fill.new.array given 0 (length given) refl (omega (arith, fits, zeros)) copied in
+    let long = written-length (replicate g.row.N 0) c.fill.new.array given 0 (omega (arith, fits, zeros)) copied ∙ zeros in
     record {
       within = fits;
-      length = there.long ∙ zeros;
+      length = long;
       utf8 = rw (ap (take (length given)) copied ∙ take_at given _ (length given) refl) (∣ c.utf8.string ∣₁);
     }
 
