@@ -14,11 +14,11 @@ use Rattle.arraystring_base.specs.declared.error.Error.TheVariants.{OutOfBounds}
 -- an edit with a cause, and one without
 module _ {A : Type 0} (edit : Edit A) (t : List ℕ) where
   pub refuses : (cause : Cause) → first_cause edit.tests ≡ Some cause → Makes edit t (Err (error_of cause)) t
-  refuses cause e = record { returns = ap (λ f. ok_unless f edit.result) (sym e); ok = tt; err = refl }
+  refuses cause e = record { returns = rw e refl; ok = tt; err = refl }
 
   pub makes : (value : A) (new : List ℕ) → first_cause edit.tests ≡ None → value ≡ edit.result → new ≡ edit.after
       → Makes edit t (Ok value) new
-  makes value new e a n = record { returns = ap Ok a ∙ ap (λ f. ok_unless f edit.result) (sym e); ok = n; err = tt }
+  makes value new e a n = record { returns = rw e (ap Ok a); ok = n; err = tt }
 
 -- if no cause is found, none of the tests holds
 pub none-holds : (tests : List Test) → first_cause tests ≡ None → NoneHolds tests

@@ -75,10 +75,6 @@ module _ {F : Type 0} {can : F → ℕ → Type 0} {steps : F → ℕ → Bool �
   callable-later : (b : Bool) (g : F) → steps f c b g → IsCallableInTurn can steps g (chars begins.rest)
   callable-later b g s = record { at = λ before d after h e w. callable.at (c ∷ before) d after h (ap (λ l. c ∷ l) e) (g, (b, s), w) }
 
-  filtered-rest : (more : List ℕ) → IsFiltered steps f (c ∷ chars begins.rest) more
-      → IsFiltered steps f₀ (chars (take size (drop offset array₀))) (chars (take kept (drop offset array)) ++ more)
-  filtered-rest = rw rest-chars at part.filtered
-
   char-within : read + width c ≤ size
   char-within =
       let long = length-take-le (size - read) (drop (offset + read) array) (omega (arith, length-drop (offset + read) array)) in
@@ -120,7 +116,7 @@ module _ {F : Type 0} {can : F → ℕ → Type 0} {steps : F → ℕ → Bool �
             let h = rw rest at h in
             let first = take kept (drop offset array) in
             rw (both, chars-append first (utf8 c) part.kept_text, char-chars c begins.scalar, append_assoc (chars first) (c ∷ []) more)
-            (filtered-rest (c ∷ more) (true ∷ h.0, h.1, ap suc h.2, (g, step, h.3), ap (λ l. c ∷ l) h.4));
+            ((rw rest-chars at part.filtered) (c ∷ more) (true ∷ h.0, h.1, ap suc h.2, (g, step, h.3), ap (λ l. c ∷ l) h.4));
       }
 
   -- it is left out
@@ -133,5 +129,5 @@ module _ {F : Type 0} {can : F → ℕ → Type 0} {steps : F → ℕ → Bool �
     rest_text = rw after rest-utf8;
     kept_text = part.kept_text;
     callable = rw after (callable-later false g step);
-    filtered = λ more h. let h = rw after at h in filtered-rest more (false ∷ h.0, h.1, ap suc h.2, (g, step, h.3), h.4);
+    filtered = λ more h. let h = rw after at h in (rw rest-chars at part.filtered) more (false ∷ h.0, h.1, ap suc h.2, (g, step, h.3), h.4);
   }

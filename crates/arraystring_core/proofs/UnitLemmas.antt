@@ -22,22 +22,20 @@ apart-behind u items apart (x ∷ before) after high low e up down =
     let rest : items ≡ before ++ Lone high ∷ Lone low ∷ after = cc in
     apart before after high low rest up down
 
-unit-reads : (u : ℕ) (units : List ℕ) (items : List Unit16) → u < 0x80 → IsReading units items → IsReading (u ∷ units) (Char u ∷ items)
-unit-reads u units items small part = record {
-  each_unit = All-cons (λ unit. unit < 0x1_0000) u units (omega arith) part.each_unit;
-  each_item = All-cons IsItem (Char u) items (inl (omega arith)) part.each_item;
-  joined = rw (lt-ltb u 0x1_0000 (omega arith)) (ap (λ l. u ∷ l) part.joined);
-  apart = apart-behind u items part.apart;
-}
-
 -- what is read behind a run, and all of it
 run-reads : (n : ℕ) (units : List ℕ) (items : List Unit16) → AreAscii units n → IsReading (drop n units) items
     → IsReading units (map Char (take n units) ++ items)
 run-reads zero units items ascii part = part
 run-reads (suc n) [] items ascii part = part
 run-reads (suc n) (u ∷ units) items ascii part =
-    unit-reads u units (map Char (take n units) ++ items) (ascii 0 (omega arith))
-    (run-reads n units items (λ i lt. ascii (suc i) (omega arith)) part)
+    let small : u < 0x80 = ascii 0 (omega arith) in
+    let rest = run-reads n units items (λ i lt. ascii (suc i) (omega arith)) part in
+    record {
+      each_unit = All-cons (λ unit. unit < 0x1_0000) u units (omega arith) rest.each_unit;
+      each_item = All-cons IsItem (Char u) (map Char (take n units) ++ items) (inl (omega arith)) rest.each_item;
+      joined = rw (lt-ltb u 0x1_0000 (omega arith)) (ap (λ l. u ∷ l) rest.joined);
+      apart = apart-behind u (map Char (take n units) ++ items) rest.apart;
+    }
 
 -- the bytes of a run are a text
 ascii-run : (n : ℕ) (units : List ℕ) → AreAscii units n → IsAscii (take n units)
