@@ -10,46 +10,49 @@ use Rattle.arraystring_core.specs.Layout.{stored, IsStored}
 use Rattle.arraystring_core.proofs.SpanLemmas.{Lies, appended, appended_at_start, filled, moved_to_start}
 
 module _ (ch : ℕ) (scalar : IsScalar ch) where
-  char-utf8 : IsUtf8 (utf8 ch)
+  pub char-utf8 : IsUtf8 (utf8 ch)
   char-utf8 = rw (utf8-is ch) (IsUtf8-encode ch scalar)
 
-  one : chars (utf8 ch) ≡ ch ∷ []
-  one = chars-bytes char-utf8 (sym (append-nil (utf8 ch)))
+  pub char-chars : chars (utf8 ch) ≡ ch ∷ []
+  char-chars = chars-bytes char-utf8 (sym (append-nil (utf8 ch)))
 
 -- len is the length of its UTF-8
 module _ {array_size : ℕ} {array : List ℕ} {p n : ℕ} (is : IsStored array_size array p n) {v : Stored} (e : stored array p n ≡ v)
     (ch : ℕ) (scalar : IsScalar ch) {len : ℕ} (wide : len ≡ width ch) where
-  pub char-appended : {after : List ℕ} → p + n + width ch ≤ cap array_size → after ≡ take (p + n) array ++ (utf8 ch ++ drop (p + n + width ch) array)
+  pub char-appended : {after : List ℕ} → p + n + width ch ≤ cap array_size
+      → after ≡ take (p + n) array ++ (utf8 ch ++ drop (p + n + width ch) array)
       → Lies array_size after p (n + len) (v.text ++ ch ∷ [])
-  char-appended room written =
-      rw (wide, ← length-utf8 ch, ← one ch scalar) (appended is e (char-utf8 ch scalar) (rw (length-utf8 ch) room) (rw (← length-utf8 ch) at written))
+  char-appended =
+      rw (wide, ← length-utf8 ch, ← char-chars ch scalar) (appended is e (char-utf8 ch scalar))
 
   -- the text was moved to offset 0 before
-  pub char-appended_at_start : {compact after : List ℕ} → n + width ch ≤ cap array_size → compact ≡ take 0 array ++ (take n (drop p array) ++ drop (0 + n) array)
+  pub char-appended_at_start : {compact after : List ℕ} → n + width ch ≤ cap array_size
+      → compact ≡ take 0 array ++ (take n (drop p array) ++ drop (0 + n) array)
       → after ≡ take n compact ++ (utf8 ch ++ drop (n + width ch) compact)
       → Lies array_size after 0 (n + len) (v.text ++ ch ∷ [])
-  char-appended_at_start room moved written =
-      rw (wide, ← length-utf8 ch, ← one ch scalar)
-      (appended_at_start is e (char-utf8 ch scalar) (rw (length-utf8 ch) room) moved (rw (← length-utf8 ch) at written))
-
-  fits : (m : ℕ) → size v.text + width ch ≤ cap array_size → size v.text - (m - m) + size (chars (utf8 ch)) ≤ cap array_size
-  fits m room = omega (arith, size-borrowed (char-utf8 ch scalar), length-utf8 ch)
+  char-appended_at_start room moved =
+      rw (wide, ← length-utf8 ch, ← char-chars ch scalar)
+      (appended_at_start is moved e (char-utf8 ch scalar) (rw (length-utf8 ch) room))
 
   -- the gap is at the boundary m; offset and count are the span of the text
-  module _ (m : ℕ) (b : boundary v.text m ≡ true) (room : size v.text + width ch ≤ cap array_size) {offset count : ℕ} (at : offset ≡ p) (many : count ≡ n)
-      (gapped : List ℕ) {after : List ℕ} (long : length gapped ≡ array_size) where
-    pub char-inserted : offset + (m + (len + (count - m))) ≤ cap array_size → take m (drop offset gapped) ≡ take m (drop offset array)
+  module _ (m : ℕ) (b : boundary v.text m ≡ true) (room : size v.text + width ch ≤ cap array_size)
+      {offset count : ℕ} (at : offset ≡ p) (many : count ≡ n) (gapped : List ℕ) (long : length gapped ≡ array_size) where
+    fits : size v.text - (m - m) + size (chars (utf8 ch)) ≤ cap array_size
+    fits = omega (arith, size-borrowed (char-utf8 ch scalar), length-utf8 ch)
+
+    pub char-inserted : {after : List ℕ} → offset + (m + (len + (count - m))) ≤ cap array_size
+        → take m (drop offset gapped) ≡ take m (drop offset array)
         → take (count - m) (drop (offset + (m + len)) gapped) ≡ take (count - m) (drop (offset + m) array)
         → after ≡ take (offset + m) gapped ++ (utf8 ch ++ drop (offset + m + width ch) gapped)
         → Lies array_size after p (m + (len + (count - m))) (front v.text m ++ (ch ∷ back v.text m))
-    char-inserted held moved tail written =
-        rw (one ch scalar) at
-        (filled is e (omega arith) b b (fits m room) (char-utf8 ch scalar) at many (wide ∙ sym (length-utf8 ch)) gapped long held moved tail (rw (← length-utf8 ch) at written))
+    char-inserted {after} =
+        rw (length-utf8 ch, char-chars ch scalar) at
+        (filled is e (omega arith) b b fits (char-utf8 ch scalar) at many (wide ∙ sym (length-utf8 ch)) gapped {after = after} long)
 
-    pub char-inserted_at_start : take m gapped ≡ take m (drop offset array)
+    pub char-inserted_at_start : {after : List ℕ} → take m gapped ≡ take m (drop offset array)
         → take (count - m) (drop (m + len) gapped) ≡ take (count - m) (drop (offset + m) array)
         → after ≡ take m gapped ++ (utf8 ch ++ drop (m + width ch) gapped)
         → Lies array_size after 0 (m + (len + (count - m))) (front v.text m ++ (ch ∷ back v.text m))
-    char-inserted_at_start moved tail written =
-        rw (one ch scalar) at
-        (moved_to_start is e (omega arith) b b (fits m room) (char-utf8 ch scalar) at many (wide ∙ sym (length-utf8 ch)) gapped long moved tail (rw (← length-utf8 ch) at written))
+    char-inserted_at_start {after} =
+        rw (length-utf8 ch, char-chars ch scalar) at
+        (moved_to_start is e (omega arith) b b fits (char-utf8 ch scalar) at many (wide ∙ sym (length-utf8 ch)) gapped {after = after} long)

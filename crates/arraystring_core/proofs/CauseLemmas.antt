@@ -1,16 +1,12 @@
 -- What is known where no test of a replacement holds.
-use Rattle.std.proofs.Common.{◌≡◌, ℕ, ◌+◌, ◌-◌, ◌≤◌, Option, Some, None, Ok, List, refl, arith, true}
+use Rattle.std.proofs.Common.{◌≡◌, ℕ, ◌+◌, ◌-◌, ◌≤◌, None, Ok, List, arith, true}
 use Rattle.std.proofs.lemmas.Bool.{ltb-false}
 use Rattle.arraystring_base.specs.Text.{size, boundary}
-use Rattle.arraystring_core.specs.Edits.{Cause, Test, first_cause, ok_unless, replacement}
+use Rattle.arraystring_core.specs.Edits.{Test, first_cause, ok_unless, replacement}
 use Rattle.arraystring_core.proofs.EditLaws.{none-holds, inside-failed}
 
 pub no_cause : (tests : List Test) → Ok (tt {0}) ≡ ok_unless (first_cause tests) (tt {0}) → first_cause tests ≡ None
-no_cause tests is = go (first_cause tests) is
-  where
-    go : (found : Option Cause) → Ok (tt {0}) ≡ ok_unless found (tt {0}) → found ≡ None
-    go None is = refl
-    go (Some cause) is = absurd (cc)
+no_cause tests is = grind arith
 
 -- what is known if a replacement has no cause
 pub record IsAllowed (t : List ℕ) (start end : ℕ) (given : List ℕ) (n : ℕ) : Type 0 where

@@ -1,9 +1,9 @@
 -- Laws of what a constructor makes.
-use Rattle.std.proofs.Common.{◌≡◌, ℕ, ◌-◌, ◌<◌, ◌≤◌, List, [], ◌++◌, ◌⊎◌, refl, ap, ◌∙◌, arith, inl, inr, Result, Ok, Err, subst}
+use Rattle.std.proofs.Common.{◌≡◌, ℕ, ◌-◌, ◌<◌, ◌≤◌, List, [], ◌++◌, ◌⊎◌, refl, sym, ap, ◌∙◌, arith, inl, inr, Result, Ok, Err, subst}
 use Rattle.std.specs.Result.{IsErr}
 use Rattle.arraystring_base.specs.Text.{size, cut}
 use Rattle.arraystring_base.proofs.TextLaws.{size-append}
-use Rattle.arraystring_base.proofs.CutLaws.{cut-all}
+use Rattle.arraystring_base.proofs.CutLaws.{cut-all, cut-past}
 use Rattle.arraystring_base.specs.declared.error.Error.{Error}
 use Rattle.arraystring_base.specs.declared.error.OutOfBounds.{OutOfBounds}
 use Rattle.arraystring_core.specs.Stored.{Stored}
@@ -15,8 +15,16 @@ pub refused-made : (result : Result Stored OutOfBounds) (t : List ℕ) (n : ℕ)
 refused-made (Ok s) t n err past = absurd (cc)
 refused-made (Err e) t n err past = (past, refl)
 
--- a text that is a larger one's prefix, or is larger than n, decides for the larger one
-pub made-more : (result : Result Stored Error) (t all : List ℕ) (n : ℕ) → ((t ≡ all) × (size t ≤ n)) ⊎ ((more : List ℕ) × (all ≡ t ++ more) × (n < size t))
+-- t fits and is all, or is larger than n and a prefix of all
+abbrev pub IsAllOrPast : List ℕ → List ℕ → ℕ → Type 0
+IsAllOrPast t all n = ((t ≡ all) × (size t ≤ n)) ⊎ ((more : List ℕ) × (all ≡ t ++ more) × (n < size t))
+
+-- so it decides for all
+pub settled-cut : (t all : List ℕ) (n : ℕ) → IsAllOrPast t all n → cut t n ≡ cut all n
+settled-cut t all n (inl ends) = ap (λ l. cut l n) ends.0
+settled-cut t all n (inr stops) = sym (ap (λ l. cut l n) stops.1 ∙ cut-past t stops.0 n stops.2)
+
+pub made-more : (result : Result Stored Error) (t all : List ℕ) (n : ℕ) → IsAllOrPast t all n
     → IsWholeOrRefused t n result → IsWholeOrRefused all n result
 made-more result t all n (inl ends) made = subst (λ l. IsWholeOrRefused l n result) ends.0 made
 made-more (Ok s) t all n (inr stops) made = absurd (omega arith)

@@ -1,17 +1,17 @@
 -- A character comes off the front, or off the back, of what is left.
-use Rattle.std.proofs.Common.{◌≡◌, ◌≢◌, ℕ, ◌+◌, ◌-◌, ◌<◌, ◌≤◌, List, [], ◌∷◌, ◌++◌, refl, sym, ap, ◌∙◌, arith, true, length, append_assoc, get_or, chars, take, drop, IsUtf8}
+use Rattle.std.proofs.Common.{◌≡◌, ℕ, ◌+◌, ◌-◌, ◌<◌, ◌≤◌, List, [], ◌∷◌, ◌++◌, refl, sym, ap, ◌∙◌, arith, true, length, append_assoc, get_or, chars, take, drop, IsUtf8, length-take-le, length-drop}
 use Rattle.std.proofs.lemmas.Str.{chars_past_char}
 use Rattle.std.specs.Char.{encode_utf8}
-use Rattle.std.proofs.lemmas.List.{get_or-take, get_or-drop}
+use Rattle.std.proofs.lemmas.List.{get_or-take, get_or-drop, drop_more}
 use Rattle.arraystring_base.specs.Text.{width, size, cap, bytes, front, back, boundary}
 use Rattle.arraystring_base.proofs.TextLaws.{size-append, size-borrowed, chars-bytes, empty-size}
 use Rattle.arraystring_base.proofs.BoundaryLaws.{front-back, front-is, back-is, front-size, back-size, boundary-is, bytes-back, next-char}
-use Rattle.arraystring_core.specs.Layout.{stored, IsStored, IsDrained}
+use Rattle.arraystring_core.specs.Layout.{stored, IsDrained}
 use Rattle.arraystring_core.specs.GhostProofs.{stored-utf8, stored-size, stored-bytes}
 use Rattle.arraystring_core.specs.Drained.{Drained, drained}
 use Rattle.arraystring_core.proofs.StoredLaws.{opened-within}
-use Rattle.arraystring_core.proofs.SpanLemmas.{dropped as dropped_part, kept as kept_part}
-use Rattle.arraystring_core.proofs.EndLemmas.{first-low}
+use Rattle.arraystring_core.proofs.SpanLemmas.{Lies, dropped, kept}
+use Rattle.arraystring_core.proofs.EndLemmas.{low-width, first-low}
 
 -- c came off the front, or off the back, of the text t, and the part from i on of the n bytes from the offset p on is left
 pub record GivesFirst (array_size : ℕ) (array : List ℕ) (p n i : ℕ) (t : List ℕ) (c : ℕ) : Type 0 where
@@ -29,8 +29,8 @@ module _ {array_size : ℕ} {array : List ℕ} {p n i : ℕ} (is : IsDrained arr
   pub given-within : i ≤ n
   given-within = opened-within is.held refl i is.at
 
-  borrowed-stored : IsStored array_size array (p + i) (n - i)
-  borrowed-stored = (dropped_part is.held refl i is.at).held
+  lies : Lies array_size array (p + i) (n - i) (back removed i)
+  lies = dropped is.held refl i is.at
 
   -- the bytes of what is left are those of the array from f to t
   module _ (f t : ℕ) (from : f ≡ p + i) (to : t ≡ p + n) where
@@ -38,12 +38,10 @@ module _ {array_size : ℕ} {array : List ℕ} {p n i : ℕ} (is : IsDrained arr
     long = omega (arith, given-within)
 
     pub borrowed-utf8 : IsUtf8 (take (t - f) (drop f array))
-    borrowed-utf8 = rw (long, from) (stored-utf8 borrowed-stored)
+    borrowed-utf8 = rw (long, from) (stored-utf8 lies.held)
 
     pub borrowed-bytes : {v : Drained} → drained (stored array p n) i ≡ v → take (t - f) (drop f array) ≡ bytes v.left
-    borrowed-bytes e =
-        ap (λ k. take k (drop f array)) long ∙ ap (λ k. take (n - i) (drop k array)) from ∙ sym (stored-bytes borrowed-stored)
-        ∙ ap bytes ((dropped_part is.held refl i is.at).shown ∙ ap (λ d. d.left) e)
+    borrowed-bytes e = rw (long, from) (sym (stored-bytes lies.held) ∙ ap bytes (lies.shown ∙ ap (λ d. d.left) e))
 
   -- the value that a contract sees
   module _ {v : Drained} (e : drained (stored array p n) i ≡ v) where
@@ -51,7 +49,7 @@ module _ {array_size : ℕ} {array : List ℕ} {p n i : ℕ} (is : IsDrained arr
     left-is = ap (λ d. d.left) e
 
     left-size : size v.left ≡ n - i
-    left-size = ap size (sym left-is) ∙ back-size removed i is.at ∙ ap (λ k. k - i) (stored-size is.held)
+    left-size = omega (arith, ap size left-is, back-size removed i is.at, stored-size is.held)
 
     left-bytes : bytes v.left ≡ drop i (take n (drop p array))
     left-bytes = ap bytes (sym left-is) ∙ sym (bytes-back removed i is.at) ∙ ap (drop i) (stored-bytes is.held)
@@ -62,47 +60,39 @@ module _ {array_size : ℕ} {array : List ℕ} {p n i : ℕ} (is : IsDrained arr
     pub none-left : n ≤ i → v.left ≡ []
     none-left past = empty-size (omega (arith, left-size))
 
-    some-left : i < n → v.left ≢ []
-    some-left some none = absurd (omega (arith, left-size, ap size none))
-
     -- the first character is given
     module _ (c : ℕ) (rest : List ℕ) (starts : v.left ≡ c ∷ rest) where
       front-given : GivesFirst array_size array p n (i + width c) v.left c
-      front-given = record {
-        held = record { held = is.held; at = (next-char removed i is.at c rest (left-is ∙ starts)).0 };
-        rest = starts ∙ ap (λ l. c ∷ l) (sym (next-char removed i is.at c rest (left-is ∙ starts)).1);
-      }
+      front-given =
+          let next = next-char removed i is.at c rest (left-is ∙ starts) in
+          record { held = record { held = is.held; at = next.0 }; rest = rw next.1 starts }
 
     -- if what is left is known by its bytes, and by those after its first character
-    module _ {bs : List ℕ} (u : IsUtf8 bs) (shown : bs ≡ bytes v.left) (c : ℕ) {rest : List ℕ} (w : IsUtf8 rest) (begins : bs ≡ encode_utf8 c ++ rest) where
+    module _ {bs : List ℕ} (u : IsUtf8 bs) (shown : bs ≡ bytes v.left) (c : ℕ) {rest : List ℕ} (w : IsUtf8 rest)
+        (begins : bs ≡ encode_utf8 c ++ rest) where
       begun : v.left ≡ c ∷ chars rest
       begun = sym (chars-bytes u shown) ∙ chars_past_char bs rest c u begins
 
       stepped : i + width c + length rest ≡ n
       stepped = omega (arith, given-within, left-size, ap size begun, size-borrowed w)
 
-      next : i + width c ≡ n - length rest
-      next = omega (arith, stepped)
-
       pub decoded-within : length rest ≤ n
       decoded-within = omega (arith, stepped)
 
       pub decoded : GivesFirst array_size array p n (n - length rest) v.left c
-      decoded = rw (← next) (front-given c (chars rest) begun)
+      decoded = let next : i + width c ≡ n - length rest = omega (arith, stepped) in rw next at (front-given c (chars rest) begun)
 
     -- if it is ASCII
     module _ (some : i < n) (low : get_or array (p + i) 0 < 128) where
-      first-byte : get_or (bytes v.left) 0 0 ≡ get_or array (p + i) 0
-      first-byte =
-          let same : i + 0 ≡ i = omega arith in
-          ap (λ l. get_or l 0 0) left-bytes ∙ get_or-drop i (take n (drop p array)) 0 0
-          ∙ ap (λ k. get_or (take n (drop p array)) k 0) same ∙ get_or-take n (drop p array) i 0 some ∙ get_or-drop p array i 0
-
-      abbrev first-is : (rest : List ℕ) × (v.left ≡ get_or array (p + i) 0 ∷ rest) × (width (get_or array (p + i) 0) ≡ 1)
-      first-is = first-low v.left (get_or array (p + i) 0) (some-left some) first-byte low
+      first-is : (rest : List ℕ) × (v.left ≡ get_or array (p + i) 0 ∷ rest)
+      first-is =
+          let bs = take n (drop p array) in
+          let long = length-take-le n (drop p array) (omega (arith, length-drop p array, is.held)) in
+          let more = rw (get_or-take n (drop p array) i 0 some, get_or-drop p array i 0) at (drop_more bs i 0 (omega arith)) in
+          first-low v.left (left-bytes ∙ more) low
 
       pub first-given : GivesFirst array_size array p n (i + 1) v.left (get_or array (p + i) 0)
-      first-given = rw (← first-is.2) (front-given (get_or array (p + i) 0) first-is.0 first-is.1)
+      first-given = rw (low-width _ low) at (front-given (get_or array (p + i) 0) first-is.0 first-is.1)
 
     -- the last character is given
     module _ (c : ℕ) (rest : List ℕ) (ends : v.left ≡ rest ++ c ∷ []) where
@@ -113,24 +103,23 @@ module _ {array_size : ℕ} {array : List ℕ} {p n i : ℕ} (is : IsDrained arr
       parts = sym (front-back removed i) ∙ ap (λ l. before ++ l) (left-is ∙ ends) ∙ sym (append_assoc before rest (c ∷ []))
 
       shorter : size (before ++ rest) ≡ i + size rest
-      shorter = size-append before rest ∙ ap (λ k. k + size rest) (front-size removed i is.at)
+      shorter = omega (arith, size-append before rest, front-size removed i is.at)
 
       last-starts : boundary removed (i + size rest) ≡ true
-      last-starts = ap (λ t. boundary t (i + size rest)) parts ∙ boundary-is (before ++ rest) (c ∷ []) (i + size rest) shorter
+      last-starts = rw parts (boundary-is (before ++ rest) (c ∷ []) (i + size rest) shorter)
+
+      kept_lies : Lies array_size array p (i + size rest) (front removed (i + size rest))
+      kept_lies = kept is.held refl (i + size rest) last-starts
 
       kept-text : (stored array p (i + size rest)).text ≡ before ++ rest
       kept-text =
-          (kept_part is.held refl (i + size rest) last-starts).shown
-          ∙ ap (λ t. front t (i + size rest)) parts ∙ front-is (before ++ rest) (c ∷ []) (i + size rest) shorter
+          kept_lies.shown ∙ ap (λ t. front t (i + size rest)) parts ∙ front-is (before ++ rest) (c ∷ []) (i + size rest) shorter
 
       pub back-within : i + size rest ≤ n
       back-within = opened-within is.held refl (i + size rest) last-starts
 
       pub back-given : GivesLast array_size array p (i + size rest) i v.left c
       back-given = record {
-        held = record {
-          held = (kept_part is.held refl (i + size rest) last-starts).held;
-          at = ap (λ t. boundary t i) kept-text ∙ boundary-is before rest i (front-size removed i is.at);
-        };
-        rest = ends ∙ ap (λ l. l ++ c ∷ []) (sym (ap (λ t. back t i) kept-text ∙ back-is before rest i (front-size removed i is.at)));
+        held = record { held = kept_lies.held; at = rw kept-text (boundary-is before rest i (front-size removed i is.at)) };
+        rest = rw (kept-text, back-is before rest i (front-size removed i is.at)) ends;
       }

@@ -1,10 +1,10 @@
 -- Laws of edits: when a cause holds, and what an edit then does.
-use Rattle.std.proofs.Common.{◌≡◌, ℕ, ◌+◌, ◌<◌, ◌≤◌, List, [], ◌∷◌, ◌++◌, ap, ◌∙◌, arith, suc, true, false, inl, inr, refl, sym, Some, None, Ok, Err}
-use Rattle.std.proofs.lemmas.Bool.{cases_lt, lt-ltb, le-ltb, and_right, both_ways}
+use Rattle.std.proofs.Common.{◌≡◌, ℕ, ◌+◌, ◌<◌, ◌≤◌, List, [], ◌∷◌, ◌++◌, ap, ◌∙◌, arith, suc, true, false, refl, sym, Some, None, Ok, Err}
+use Rattle.std.proofs.lemmas.Bool.{lt-ltb, le-ltb, and_right}
 use Rattle.std.proofs.Math.Bool.{or_assoc, or-false}
 use Rattle.std.proofs.lemmas.Bool.Decides.{nat_tests}
 use Rattle.std.specs.Char.{is_whitespace}
-use Rattle.std.specs.Prelude.{Bool, if◌then◌else◌, ◌&&◌, ◌||◌, ◌==◌, nat_le, nat_lt}
+use Rattle.std.specs.Prelude.{◌&&◌, ◌||◌, ◌==◌, nat_le, nat_lt}
 use Rattle.arraystring_base.specs.Text.{size, boundary}
 use Rattle.arraystring_base.proofs.BoundaryLaws.{boundary-end}
 use Rattle.arraystring_core.specs.Edits.{Cause, Room, Test, Edit, Makes, NoneHolds, first_cause, error_of, ok_unless, inside, addition, last_of, all_but_last, is_white_space}
@@ -14,21 +14,16 @@ use Rattle.arraystring_base.specs.declared.error.Error.TheVariants.{OutOfBounds}
 -- an edit with a cause, and one without
 module _ {A : Type 0} (edit : Edit A) (t : List ℕ) where
   pub refuses : (cause : Cause) → first_cause edit.tests ≡ Some cause → Makes edit t (Err (error_of cause)) t
-  refuses cause e = record { returns = ap (λ f. ok_unless f edit.result) (sym e); ok = tt; err = refl }
+  refuses cause e = record { returns = rw e refl; ok = tt; err = refl }
 
   pub makes : (value : A) (new : List ℕ) → first_cause edit.tests ≡ None → value ≡ edit.result → new ≡ edit.after
       → Makes edit t (Ok value) new
-  makes value new e a n = record { returns = ap Ok a ∙ ap (λ f. ok_unless f edit.result) (sym e); ok = n; err = tt }
+  makes value new e a n = record { returns = rw e (ap Ok a); ok = n; err = tt }
 
 -- if no cause is found, none of the tests holds
 pub none-holds : (tests : List Test) → first_cause tests ≡ None → NoneHolds tests
 none-holds [] e = tt
-none-holds (test ∷ rest) e = go test.holds e (none-holds rest)
-  where
-    go : (b : Bool) → (if b then Some test.cause else first_cause rest) ≡ None → (first_cause rest ≡ None → NoneHolds rest)
-        → (b ≡ false) × NoneHolds rest
-    go true e more = absurd (cc)
-    go false e more = (refl, more e)
+none-holds (test ∷ rest) e = grind (arith, none-holds rest)
 
 -- the last character of a text, and those before it
 pub last_of-push : (t : List ℕ) (c : ℕ) → last_of (t ++ c ∷ []) ≡ Some c
@@ -46,13 +41,7 @@ pub inside-not : (t : List ℕ) (i : ℕ) → boundary t i ≡ true → (inside 
 inside-not t i b = rw b (and_right _ false refl)
 
 pub inside-so : (t : List ℕ) (i : ℕ) → i ≤ size t → boundary t i ≡ false → (inside t i).holds ≡ true
-inside-so t i le b =
-    elim (cases_lt i (size t)) [
-      | inl lt ↦ rw (b, lt-ltb i (size t) lt)
-      | inr ge ↦
-          let end : i ≡ size t = omega arith in
-          absurd (both_ways (boundary t i) b (ap (boundary t) end ∙ boundary-end t))
-    ]
+inside-so t i le b = grind (arith, nat_tests, boundary-end t)
 
 -- nor is an index past the text
 pub inside-past : (t : List ℕ) (i : ℕ) → size t ≤ i → (inside t i).holds ≡ false
@@ -60,11 +49,7 @@ inside-past t i ge = rw (le-ltb i (size t) ge)
 
 -- an index in the text that is not inside a character is a boundary
 pub inside-failed : (t : List ℕ) (i : ℕ) → i ≤ size t → (inside t i).holds ≡ false → boundary t i ≡ true
-inside-failed t i within out = go (boundary t i) refl
-  where
-    go : (b : Bool) → boundary t i ≡ b → boundary t i ≡ true
-    go true e = e
-    go false e = absurd (both_ways (inside t i).holds out (inside-so t i within e))
+inside-failed t i within out = grind (arith, inside-so t i within)
 
 -- an addition has a cause exactly if it does not fit
 pub addition-no_cause : (t given : List ℕ) (n : ℕ) → size t + size given ≤ n → first_cause (addition t given n).tests ≡ None
@@ -76,21 +61,11 @@ addition-room t given n over = rw (lt-ltb n (size t + size given) over) refl
 -- what an addition did, by what it returned
 module _ {t : List ℕ} (given : List ℕ) (n : ℕ) {new : List ℕ} where
   pub addition-made : Makes (addition t given n) t (Ok tt) new → (size t + size given ≤ n) × (new ≡ t ++ given)
-  addition-made m =
-      elim (cases_lt n (size t + size given)) [
-        | inl over ↦ let is = m.returns ∙ ap (λ f. ok_unless f tt) (addition-room t given n over) in absurd (cc)
-        | inr fits ↦ (fits, m.ok)
-      ]
+  addition-made m = grind (arith, nat_tests)
 
   pub addition-refused : {error : Error} → Makes (addition t given n) t (Err error) new
       → (n < size t + size given) × (error ≡ OutOfBounds) × (new ≡ t)
-  addition-refused {error} m =
-      elim (cases_lt n (size t + size given)) [
-        | inl over ↦
-            let is : Err error ≡ Err OutOfBounds = m.returns ∙ ap (λ f. ok_unless f tt) (addition-room t given n over) in
-            (over, cc, m.err)
-        | inr fits ↦ let is = m.returns ∙ ap (λ f. ok_unless f tt) (addition-no_cause t given n fits) in absurd (cc)
-      ]
+  addition-refused {error} m = grind (arith, nat_tests)
 
 -- the ranges of white space are those of `char::is_whitespace`
 range-std : (a b c : ℕ) → (nat_le (suc a) c && nat_le c b) ≡ (nat_lt a c && nat_lt c (suc b))

@@ -17,8 +17,6 @@ mod EndLemmas
 mod CauseLemmas
 mod PartLemmas
 mod DrainLemmas
-mod BackLemmas
-mod WalkedLemmas
 mod EqualLemmas
 mod OrderLemmas
 mod WordLemmas

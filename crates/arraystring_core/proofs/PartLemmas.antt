@@ -9,24 +9,18 @@ use Rattle.arraystring_core.specs.Edits.{part, draining, first_cause, ok_unless,
 use Rattle.arraystring_core.proofs.StoredLaws.{opened-size}
 use Rattle.arraystring_core.proofs.EditLaws.{makes, none-holds, inside-failed}
 use Rattle.arraystring_core.proofs.CauseLemmas.{no_cause}
-use Rattle.arraystring_core.proofs.SpanLemmas.{dropped as dropped_part, kept as kept_part}
+use Rattle.arraystring_core.proofs.SpanLemmas.{Lies, dropped, kept}
 
 -- the part between two boundaries of a stored text, where it is in the array
 module _ {array_size : ℕ} {array : List ℕ} {p n : ℕ} (is : IsStored array_size array p n) {v : Stored} (e : stored array p n ≡ v)
     {start end : ℕ} (order : start ≤ end) (b : boundary v.text start ≡ true) (d : boundary v.text end ≡ true) where
-  kept : IsStored array_size array p end
-  kept = (kept_part is e end d).held
-
-  starts : boundary (stored array p end).text start ≡ true
-  starts = rw (kept_part is e end d).shown (boundary-in_front v.text start end order b)
-
-  part-held : IsStored array_size array (p + start) (end - start)
-  part-held = (dropped_part kept refl start starts).held
-
-  part-text : (stored array (p + start) (end - start)).text ≡ part v.text start end
-  part-text =
-      (dropped_part kept refl start starts).shown
-      ∙ ap (λ t. back t start) (kept_part is e end d).shown
+  pub part_lies : Lies array_size array (p + start) (end - start) (part v.text start end)
+  part_lies =
+      let front_is = kept is e end d in
+      let starts : boundary (stored array p end).text start ≡ true =
+      rw front_is.shown (boundary-in_front v.text start end order b) in
+      let there = dropped front_is.held refl start starts in
+      record { held = there.held; shown = there.shown ∙ ap (λ t. back t start) front_is.shown }
 
 -- the part was not refused, and where the array holds it
 pub record IsTakable (array_size : ℕ) (array : List ℕ) (p n : ℕ) (v : Stored) (start end : ℕ) : Type 0 where
@@ -53,6 +47,6 @@ takable is {v = v} e start end checked =
       within = omega (arith, opened-size is e);
       starts = starts;
       ends = ends;
-      held = part-held is e order starts ends;
-      made = λ left new same after. makes edit v.text left new none (same ∙ part-text is e order starts ends) after;
+      held = (part_lies is e order starts ends).held;
+      made = λ left new same after. makes edit v.text left new none (same ∙ (part_lies is e order starts ends).shown) after;
     }

@@ -1,11 +1,11 @@
 -- One turn of a loop that adds what an iterator gives.
-use Rattle.std.proofs.Common.{◌≡◌, ℕ, ◌+◌, ◌-◌, ◌<◌, ◌≤◌, List, [], ◌∷◌, ◌++◌, Option, refl, sym, ap, ◌∙◌, arith, map, append_assoc, inl, inr}
+use Rattle.std.proofs.Common.{◌≡◌, ℕ, ◌+◌, ◌-◌, ◌<◌, ◌≤◌, List, [], ◌∷◌, ◌++◌, Option, refl, ap, ◌∙◌, arith, map, append_assoc, inl, inr}
 use Rattle.std.proofs.lemmas.Bool.{lt-leb}
 use Rattle.std.proofs.lemmas.List.{append-nil, map-append}
 use Rattle.arraystring_base.specs.Text.{width, size, cut}
 use Rattle.arraystring_base.proofs.TextLaws.{size-append}
 use Rattle.arraystring_base.proofs.CutLaws.{cut-all, cut-past_part}
-use Rattle.arraystring_core.specs.Taken.{IsFirstPast, Takes, TakesAll, Fits, joined, joined_pieces, piece_text}
+use Rattle.arraystring_core.specs.Taken.{IsFirstPast, Takes, TakesAll, Fits, joined_pieces, piece_text}
 use Rattle.arraystring_core.proofs.TakenLaws.{joined-append}
 
 -- one more character, and one more piece
@@ -25,8 +25,8 @@ of_characters = record { more = λ cs c. refl }
 pub of_pieces : IsSpelling joined_pieces piece_text
 of_pieces = record {
   more = λ pieces piece.
-      ap joined (map-append piece_text pieces (piece ∷ [])) ∙ joined-append (map piece_text pieces) (piece_text piece ∷ [])
-      ∙ ap (λ l. joined_pieces pieces ++ l) (append-nil (piece_text piece));
+      rw (map-append piece_text pieces (piece ∷ []), joined-append (map piece_text pieces) (piece_text piece ∷ []))
+      (rw (append-nil (piece_text piece)) refl);
 }
 
 -- a character that does not fit has no cut
@@ -43,7 +43,7 @@ pub added-all : {A : Type 0} {spelled : List A → List ℕ} {old now : List ℕ
     → (size (spelled items) ≤ n - size old) × (now ≡ old ++ cut (spelled items) (n - size old))
 added-all {spelled = spelled} {old} {n = n} {items} is =
     let fits : size (spelled items) ≤ n - size old = omega arith in
-    (fits, is.text ∙ ap (λ l. old ++ l) (sym (cut-all fits)))
+    (fits, rw (cut-all fits) is.text)
 
 -- the item x comes
 module _ {A : Type 0} {spelled : List A → List ℕ} {one : A → List ℕ} (spelling : IsSpelling spelled one)
@@ -56,7 +56,7 @@ module _ {A : Type 0} {spelled : List A → List ℕ} {one : A → List ℕ} (sp
 
   pub added-more : {new : List ℕ} → (size now + size (one x) ≤ n) × (new ≡ now ++ one x) → IsAdded spelled old new n (items ++ x ∷ [])
   added-more done = record {
-    text = done.1 ∙ ap (λ l. l ++ one x) is.text ∙ append_assoc old (spelled items) (one x) ∙ ap (λ l. old ++ l) (sym (spelling.more items x));
+    text = rw (spelling.more items x, ← append_assoc old (spelled items) (one x), ← is.text) done.1;
     fits = omega (arith, sum, next-sum);
   }
 
@@ -70,18 +70,16 @@ module _ {A : Type 0} {spelled : List A → List ℕ} {one : A → List ℕ} (sp
   added-cut =
       let left : n - size now ≡ n - size old - size (spelled items) = omega (arith, sum) in
       let fits : size (spelled items) ≤ n - size old = omega arith in
-      ap (λ l. l ++ cut (one x) (n - size now)) is.text
-      ∙ append_assoc old (spelled items) (cut (one x) (n - size now))
-      ∙ ap (λ l. old ++ l) (ap (λ k. spelled items ++ cut (one x) k) left
-      ∙ sym (ap (λ l. cut l (n - size old)) (spelling.more items x) ∙ cut-past_part (spelled items) (one x) (n - size old) fits))
+      rw (left, is.text, append_assoc old (spelled items) _, spelling.more items x)
+      (rw (cut-past_part (spelled items) (one x) (n - size old) fits) refl)
 
   -- if a part of x was added, and if x has none
   pub added-part : {before new : List ℕ} → before ≡ now → new ≡ before ++ cut (one x) (n - size before)
       → new ≡ old ++ cut (spelled (items ++ x ∷ [])) (n - size old)
-  added-part e f = f ∙ ap (λ s. s ++ cut (one x) (n - size s)) e ∙ added-cut
+  added-part e f = rw e at f ∙ added-cut
 
   pub added-none : {new : List ℕ} → new ≡ now → cut (one x) (n - size now) ≡ [] → new ≡ old ++ cut (spelled (items ++ x ∷ [])) (n - size old)
-  added-none e none = e ∙ sym (ap (λ l. now ++ l) none ∙ append-nil now) ∙ added-cut
+  added-none e none = e ∙ rw (none, append-nil now) at added-cut
 
 -- the text `now` is the items, and with the item x they fit
 module _ {A : Type 0} {spelled : List A → List ℕ} {one : A → List ℕ} (spelling : IsSpelling spelled one)
@@ -90,7 +88,7 @@ module _ {A : Type 0} {spelled : List A → List ℕ} {one : A → List ℕ} (sp
   next-fits fits = omega (arith, ap size is, ap size (spelling.more items x), size-append (spelled items) (one x))
 
   pub next-text : {new : List ℕ} → new ≡ now ++ one x → new ≡ spelled (items ++ x ∷ [])
-  next-text e = e ∙ ap (λ l. l ++ one x) is ∙ sym (spelling.more items x)
+  next-text e = rw (spelling.more items x, ← is) e
 
 -- characters that were taken and all fit are all that come
 pub fitting-all : {U T : Type 0} (becomes : U → T → Type 0) (steps : T → Option ℕ → T → Type 0) (iter : U) (n : ℕ)

@@ -1,25 +1,18 @@
 -- The characters at the ends of a text that pass a test.
-use Rattle.std.proofs.Common.{◌≡◌, ℕ, ◌+◌, ◌<◌, ◌≤◌, List, [], ◌∷◌, ◌++◌, suc, zero, length, take, get_or, refl, sym, ap, subst, ◌∙◌, arith, Bool, true, false, inl, inr}
-use Rattle.std.proofs.lemmas.Bool.{cases_Bool, cases_lt}
-use Rattle.std.proofs.lemmas.List.{append_assoc, reverse-append, reverse-reverse, take_more}
+use Rattle.std.proofs.Common.{◌≡◌, ℕ, ◌<◌, ◌≤◌, List, [], ◌∷◌, ◌++◌, suc, zero, length, take, drop, get_or, refl, sym, ap, subst, ◌∙◌, arith, Bool, true, false, inl, inr, append_assoc, take-append-drop, length-take-le, chars}
+use Rattle.std.proofs.lemmas.Bool.{cases_Bool}
+use Rattle.std.proofs.lemmas.List.{reverse-append, reverse-reverse, drop_more}
 use Rattle.std.proofs.lemmas.List.Elements.{All-nil, All-cons, All-head, All-tail, All-append}
-use Rattle.std.proofs.lemmas.List.Sums.{take_while-cons}
-use Rattle.std.specs.Prelude.{All, IfSome, take_while, reverse}
-use Rattle.arraystring_base.specs.Text.{utf8, bytes, size, width, back, boundary}
-use Rattle.arraystring_base.proofs.TextLaws.{utf8-one, utf8-two, utf8-three, utf8-four, length-utf8}
-use Rattle.arraystring_base.proofs.BoundaryLaws.{boundary-is, back-is}
+use Rattle.std.proofs.lemmas.Str.{chars-append}
+use Rattle.std.specs.Prelude.{All, IfSome, reverse}
+use Rattle.arraystring_base.specs.Text.{IsText, bytes, size, back, boundary}
+use Rattle.arraystring_base.proofs.TextLaws.{size-borrowed}
+use Rattle.arraystring_base.proofs.BoundaryLaws.{boundary-is, back-is, bytes-back}
 use Rattle.arraystring_core.specs.Edits.{first_of, last_of, without_leading, without_trailing}
 use Rattle.arraystring_core.proofs.EditLaws.{last_of-push}
-use Rattle.arraystring_core.proofs.UnitLemmas.{AreAscii}
-
--- the characters that pass, and those from the first that does not
-split-leading : (p : ℕ → Bool) (t : List ℕ) → take_while p t ++ without_leading p t ≡ t
-split-leading p [] = refl
-split-leading p (c ∷ cs) =
-    elim (cases_Bool (p c)) [
-      | inl passes ↦ rw (take_while-cons p c cs, passes) (ap (λ l. c ∷ l) (split-leading p cs))
-      | inr stops ↦ rw (take_while-cons p c cs, stops) refl
-    ]
+use Rattle.arraystring_core.proofs.EndLemmas.{last-split, first-low}
+use Rattle.arraystring_core.proofs.StoredLaws.{text_spelled}
+use Rattle.arraystring_core.proofs.UnitLemmas.{AreAscii, run-utf8, run-chars}
 
 -- a first character that passes is dropped, and one that does not stays
 pub without_leading-passes : (p : ℕ → Bool) (c : ℕ) (cs : List ℕ) → p c ≡ true → without_leading p (c ∷ cs) ≡ without_leading p cs
@@ -27,7 +20,7 @@ without_leading-passes p c cs passes = rw passes refl
 
 pub without_leading-stops : (p : ℕ → Bool) (text : List ℕ) (c : ℕ) (cs : List ℕ) → text ≡ c ∷ cs → p c ≡ false
     → without_leading p text ≡ text
-without_leading-stops p text c cs parts stops = ap (without_leading p) parts ∙ rw stops (sym parts)
+without_leading-stops p text c cs parts stops = rw (parts, stops) refl
 
 -- a last character that passes is dropped, and one that does not stays
 pub without_trailing-passes : (p : ℕ → Bool) (t : List ℕ) (c : ℕ) → p c ≡ true
@@ -37,104 +30,59 @@ without_trailing-passes p t c passes = rw (reverse-append t (c ∷ []), passes) 
 pub without_trailing-stops : (p : ℕ → Bool) (text t : List ℕ) (c : ℕ) → text ≡ t ++ c ∷ [] → p c ≡ false
     → without_trailing p text ≡ text
 without_trailing-stops p text t c parts stops =
-    ap (without_trailing p) parts
-    ∙ rw (reverse-append t (c ∷ []), stops) (reverse-append (c ∷ []) (reverse t) ∙ ap (λ l. l ++ c ∷ []) (reverse-reverse t)) ∙ sym parts
+    rw (parts, reverse-append t (c ∷ []), stops, reverse-append (c ∷ []) (reverse t), reverse-reverse t) refl
 
--- what is dropped at the start passes, and what is left begins with no character that passes
-module _ (P : ℕ → Type 0) (p : ℕ → Bool) where
-  pub leading-pass : (of_true : (c : ℕ) → p c ≡ true → P c) (t : List ℕ) → All P (take_while p t)
-  leading-pass of_true [] = All-nil P
-  leading-pass of_true (c ∷ cs) =
-      elim (cases_Bool (p c)) [
-        | inl passes ↦ rw (take_while-cons p c cs, passes) (All-cons P c (take_while p cs) (of_true c passes) (leading-pass of_true cs))
-        | inr stops ↦ rw (take_while-cons p c cs, stops) (All-nil P)
-      ]
+-- characters that pass, and what begins with none
+pub record IsDropped (p : ℕ → Bool) (t left : List ℕ) : Type 0 where
+  pub dropped : List ℕ
+  pub parts : t ≡ dropped ++ left
+  pub pass : All (λ c. p c ≡ true) dropped
+  pub bare : IfSome (first_of left) (λ c. p c ≡ false)
 
-  pub leading-bare : (of_false : (c : ℕ) → p c ≡ false → P c) (t : List ℕ) → IfSome (first_of (without_leading p t)) P
-  leading-bare of_false [] = tt
-  leading-bare of_false (c ∷ cs) =
-      elim (cases_Bool (p c)) [
-        | inl passes ↦ rw passes (leading-bare of_false cs)
-        | inr stops ↦ rw stops (of_false c stops)
-      ]
+pub leading : (p : ℕ → Bool) (t : List ℕ) → IsDropped p t (without_leading p t)
+leading p [] = record { dropped = []; parts = refl; pass = All-nil _; bare = tt }
+leading p (c ∷ cs) =
+    elim (cases_Bool (p c)) [
+      | inl passes ↦
+          let rest = leading p cs in
+          rw passes
+          record {
+            dropped = c ∷ rest.dropped;
+            parts = ap (λ l. c ∷ l) rest.parts;
+            pass = All-cons (λ x. p x ≡ true) c rest.dropped passes rest.pass;
+            bare = rest.bare;
+          }
+      | inr stops ↦ rw stops record { dropped = []; parts = refl; pass = All-nil _; bare = stops }
+    ]
 
--- the last of a text is the first of its reverse, and the last of what follows another
-last_of-reverse : (t : List ℕ) → last_of (reverse t) ≡ first_of t
-last_of-reverse [] = refl
-last_of-reverse (c ∷ cs) = ap last_of (reverse-append (c ∷ []) cs) ∙ last_of-push (reverse cs) c
-
-last_of-behind : (xs : List ℕ) (c : ℕ) (cs : List ℕ) → last_of (xs ++ c ∷ cs) ≡ last_of (c ∷ cs)
-last_of-behind [] c cs = refl
-last_of-behind (x ∷ []) c cs = refl
-last_of-behind (x ∷ y ∷ ys) c cs = last_of-behind (y ∷ ys) c cs
-
-last-bare : (P : ℕ → Type 0) (xs ys : List ℕ) → IfSome (last_of (xs ++ ys)) P → IfSome (last_of ys) P
-last-bare P xs [] h = tt
-last-bare P xs (c ∷ cs) h = subst (λ o. IfSome o P) (last_of-behind xs c cs) h
-
-All-reverse : (P : ℕ → Type 0) (t : List ℕ) → All P t → All P (reverse t)
+-- the same at the end
+pub All-reverse : (P : ℕ → Type 0) (t : List ℕ) → All P t → All P (reverse t)
 All-reverse P [] h = All-nil P
 All-reverse P (c ∷ cs) h =
-    subst (All P) (sym (reverse-append (c ∷ []) cs))
+    rw (reverse-append (c ∷ []) cs)
     (All-append P (reverse cs) (c ∷ []) (All-reverse P cs (All-tail P c cs h)) (All-cons P c [] (All-head P c cs h) (All-nil P)))
 
--- a text between what is dropped at its ends
-module _ (p : ℕ → Bool) (t : List ℕ) where
-  abbrev kept : List ℕ
-  kept = without_trailing p t
+last-bare : (P : ℕ → Type 0) (xs ys : List ℕ) → IfSome (first_of (reverse (xs ++ ys))) P → IfSome (last_of ys) P
+last-bare P xs [] = λ h. tt
+last-bare P xs (c ∷ cs) =
+    let last = last-split c cs in
+    subst (λ l. IfSome (first_of (reverse (xs ++ l))) P → IfSome (last_of l) P) (sym last.2)
+    (λ h. rw (last_of-push last.0 last.1) (rw (reverse-append xs (last.0 ++ last.1 ∷ []), reverse-append last.0 (last.1 ∷ [])) at h))
 
-  trailing-parts : t ≡ kept ++ reverse (take_while p (reverse t))
-  trailing-parts =
-      sym (reverse-reverse t) ∙ ap reverse (sym (split-leading p (reverse t)))
-      ∙ reverse-append (take_while p (reverse t)) (without_leading p (reverse t))
+pub trailing-bare : (p : ℕ → Bool) (t : List ℕ) → IfSome (last_of (without_leading p (without_trailing p t))) (λ c. p c ≡ false)
+trailing-bare p t =
+    let is = leading p (without_trailing p t) in
+    last-bare (λ c. p c ≡ false) is.dropped (without_leading p (without_trailing p t))
+    (rw (← is.parts, reverse-reverse (without_leading p (reverse t))) (leading p (reverse t)).bare)
 
-  pub trimmed-parts : t ≡ take_while p kept ++ (without_leading p kept ++ reverse (take_while p (reverse t)))
-  trimmed-parts =
-      trailing-parts ∙ ap (λ l. l ++ reverse (take_while p (reverse t))) (sym (split-leading p kept))
-      ∙ append_assoc (take_while p kept) (without_leading p kept) (reverse (take_while p (reverse t)))
-
-  pub trailing-pass : (P : ℕ → Type 0) → ((c : ℕ) → p c ≡ true → P c) → All P (reverse (take_while p (reverse t)))
-  trailing-pass P of_true = All-reverse P (take_while p (reverse t)) (leading-pass P p of_true (reverse t))
-
-  pub trailing-bare : (P : ℕ → Type 0) → ((c : ℕ) → p c ≡ false → P c) → IfSome (last_of (without_leading p kept)) P
-  trailing-bare P of_false =
-      last-bare P (take_while p kept) (without_leading p kept)
-      (subst (λ l. IfSome (last_of l) P) (sym (split-leading p kept))
-      (subst (λ o. IfSome o P) (sym (last_of-reverse (without_leading p (reverse t)))) (leading-bare P p of_false (reverse t))))
-
--- a character whose first byte is of ASCII is that byte
-first-ascii : (c : ℕ) (rest : List ℕ) → get_or (utf8 c ++ rest) 0 0 < 0x80 → c < 0x80
-first-ascii c rest low = elim (cases_lt c 0x80) [
-  | inl lt ↦ lt
-  | inr one ↦ elim (cases_lt c 0x800) [
-    | inl lt ↦ let e = utf8-two c one lt in absurd (omega (arith, rw e at low))
-    | inr two ↦ elim (cases_lt c 0x1_0000) [
-      | inl lt ↦ let e = utf8-three c two lt in absurd (omega (arith, rw e at low))
-      | inr three ↦ let e = utf8-four c three in absurd (omega (arith, rw e at low))
-    ]
-  ]
-]
-
--- a text that begins with bytes of ASCII begins with these as characters
-pub record Begins (text run : List ℕ) (n : ℕ) : Type 0 where
-  pub rest : List ℕ
-  pub parts : text ≡ run ++ rest
-  pub long : size run ≡ n
-
-ascii-begins : (text : List ℕ) (n : ℕ) → n ≤ length (bytes text) → AreAscii (bytes text) n → Begins text (take n (bytes text)) n
-ascii-begins text zero within ascii = record { rest = text; parts = refl; long = refl }
-ascii-begins [] (suc n) within ascii = absurd (omega arith)
-ascii-begins (c ∷ cs) (suc n) within ascii =
-    let low : c < 0x80 = first-ascii c (bytes cs) (ascii 0 (omega arith)) in
-    let one : bytes (c ∷ cs) ≡ c ∷ bytes cs = ap (λ l. l ++ bytes cs) (utf8-one c low) in
-    let wide : width c ≡ 1 = sym (length-utf8 c) ∙ ap length (utf8-one c low) in
-    let less : n ≤ length (bytes cs) = omega (arith, ap length one) in
-    let next = ascii-begins cs n less (λ i lt. rw one at (ascii (suc i) (omega arith))) in
-    record {
-      rest = next.rest;
-      parts = ap (λ l. c ∷ l) next.parts ∙ ap (λ b. take (suc n) b ++ next.rest) (sym one);
-      long = ap (λ b. size (take (suc n) b)) one ∙ omega arith;
-    }
+pub trimmed-parts : (p : ℕ → Bool) (t : List ℕ)
+    → t ≡ (leading p (without_trailing p t)).dropped
+    ++ (without_leading p (without_trailing p t) ++ reverse (leading p (reverse t)).dropped)
+trimmed-parts p t =
+    let is = leading p (without_trailing p t) in
+    let end = leading p (reverse t) in
+    sym (reverse-reverse t) ∙ ap reverse end.parts ∙ reverse-append end.dropped (without_leading p (reverse t))
+    ∙ ap (λ l. l ++ reverse end.dropped) is.parts ∙ append_assoc is.dropped _ (reverse end.dropped)
 
 -- a run of which each passes is dropped
 run-dropped : (p : ℕ → Bool) (bs : List ℕ) (n : ℕ) (rest : List ℕ) → n ≤ length bs → ((i : ℕ) → i < n → p (get_or bs i 0) ≡ true)
@@ -146,32 +94,29 @@ run-dropped p (b ∷ bs) (suc n) rest within pass =
     ∙ run-dropped p bs n rest (omega arith) (λ i lt. pass (suc i) (omega arith))
 
 -- n bytes of ASCII at the start of a text, given as `bs`
-module _ (text : List ℕ) {bs : List ℕ} (is : bs ≡ bytes text) {n : ℕ} (within : n ≤ length bs) (ascii : AreAscii bs n) where
-  begins : Begins text (take n bs) n
-  begins = rw is (ascii-begins text n (rw is at within) (rw is at ascii))
+module _ (text : List ℕ) (of : IsText text) {bs : List ℕ} (is : bs ≡ bytes text) {n : ℕ} (within : n ≤ length bs)
+    (ascii : AreAscii bs n) where
+  parts : text ≡ take n bs ++ chars (drop n bs)
+  parts =
+      sym (ap chars is ∙ text_spelled text of) ∙ ap chars (sym (take-append-drop n bs))
+      ∙ chars-append (take n bs) (drop n bs) (run-utf8 n bs ascii) ∙ ap (λ l. l ++ chars (drop n bs)) (run-chars n bs ascii)
+
+  long : size (take n bs) ≡ n
+  long = ap size (sym (run-chars n bs ascii)) ∙ size-borrowed (run-utf8 n bs ascii) ∙ length-take-le n bs within
 
   pub run-boundary : boundary text n ≡ true
-  run-boundary = ap (λ t. boundary t n) begins.parts ∙ boundary-is (take n bs) begins.rest n begins.long
+  run-boundary = ap (λ t. boundary t n) parts ∙ boundary-is (take n bs) _ n long
 
-  run-back : back text n ≡ begins.rest
-  run-back = ap (λ t. back t n) begins.parts ∙ back-is (take n bs) begins.rest n begins.long
-
-  pub run-passes : (p : ℕ → Bool) → ((i : ℕ) → i < n → p (get_or bs i 0) ≡ true) → without_leading p (back text n) ≡ without_leading p text
+  pub run-passes : (p : ℕ → Bool) → ((i : ℕ) → i < n → p (get_or bs i 0) ≡ true)
+      → without_leading p (back text n) ≡ without_leading p text
   run-passes p pass =
-      ap (without_leading p) run-back ∙ sym (ap (without_leading p) begins.parts ∙ run-dropped p bs n begins.rest within pass)
+      ap (without_leading p) (ap (λ t. back t n) parts ∙ back-is (take n bs) _ n long)
+      ∙ sym (ap (without_leading p) parts ∙ run-dropped p bs n _ within pass)
 
--- and one more, which does not pass
-pub run-stops : (text : List ℕ) {bs : List ℕ} (is : bs ≡ bytes text) {n : ℕ} (within : n < length bs) (ascii : AreAscii bs n) (p : ℕ → Bool)
-    → get_or bs n 0 < 0x80 → p (get_or bs n 0) ≡ false → without_leading p (back text n) ≡ back text n
-run-stops text {bs} is {n} within ascii p low stops =
-    let b = get_or bs n 0 in
-    let more : AreAscii bs (n + 1) = λ i lt. elim (cases_lt i n) [
-      | inl less ↦ ascii i less
-      | inr past ↦ let same : n ≡ i = omega arith in subst (λ k. get_or bs k 0 < 0x80) same low
-    ] in
-    let first = begins text is {n = n} (omega arith) ascii in
-    let next = begins text is {n = n + 1} (omega arith) more in
-    let parts : text ≡ take n bs ++ (b ∷ next.rest) =
-    next.parts ∙ ap (λ l. l ++ next.rest) (take_more bs n 0 within) ∙ append_assoc (take n bs) (b ∷ []) next.rest in
-    let left : back text n ≡ b ∷ next.rest = ap (λ t. back t n) parts ∙ back-is (take n bs) (b ∷ next.rest) n first.long in
-    without_leading-stops p (back text n) b next.rest left stops
+  -- and one more, which does not pass
+  pub run-stops : (p : ℕ → Bool) → n < length bs → get_or bs n 0 < 0x80 → p (get_or bs n 0) ≡ false
+      → without_leading p (back text n) ≡ back text n
+  run-stops p more low stops =
+      let next =
+      first-low (back text n) (sym (bytes-back text n run-boundary) ∙ ap (drop n) (sym is) ∙ drop_more bs n 0 more) low in
+      without_leading-stops p (back text n) _ next.0 next.1 stops

@@ -1,16 +1,16 @@
 -- A run of ASCII in front of units of UTF-16: its bytes, and how it is read.
-use Rattle.std.proofs.Common.{◌≡◌, ℕ, ◌+◌, ◌<◌, ◌≤◌, List, [], ◌∷◌, ◌++◌, suc, zero, map, length, take, take_at, drop, get_or, slice_set, take_all, refl, sym, ap, ◌∙◌, arith, inl, append_assoc, length-append, length-take-le, length-drop, ◌-◌}
-use Rattle.std.proofs.Math.Seq.{set-append_seam}
+use Rattle.std.proofs.Common.{◌≡◌, ℕ, ◌+◌, ◌<◌, ◌≤◌, List, [], ◌∷◌, ◌++◌, suc, zero, map, length, take, take_at, drop, get_or, slice_set, refl, ap, ◌∙◌, arith, inl, append_assoc, length-append, length-take-le, length-take, length-drop, ◌-◌}
 use Rattle.std.proofs.lemmas.Bool.{lt-ltb}
-use Rattle.std.proofs.lemmas.List.{drop_more, take_more}
+use Rattle.std.proofs.lemmas.List.{drop_more, take_more, take_rest, set_at, get_or-take}
+use Rattle.std.proofs.lemmas.Str.Ascii.{IsAscii-from_reads}
 use Rattle.std.proofs.lemmas.List.Elements.{All-cons}
 use Rattle.std.proofs.lemmas.Str.{IsUtf8-from_ascii, chars-IsAscii}
 use Rattle.std.specs.Prelude.{IsUtf8, chars, IsAscii}
 use Rattle.arraystring_base.specs.Text.{cap}
 use Rattle.arraystring_base.specs.declared.utf16.Unit16.{Unit16}
 use Rattle.arraystring_base.specs.declared.utf16.Unit16.TheVariants.{Char, Lone}
-use Rattle.arraystring_base.specs.Utf16.{IsHigh, IsLow, utf16, joined_units, lossy_text, IsItem, NoPairApart, IsReading}
-use Rattle.arraystring_core.proofs.SpanLemmas.{Lies}
+use Rattle.arraystring_base.specs.Utf16.{IsHigh, IsLow, lossy_text, IsItem, NoPairApart, IsReading}
+use Rattle.arraystring_core.proofs.SpanLemmas.{Lies, laid}
 
 abbrev pub AreAscii : List ℕ → ℕ → Type 0
 AreAscii units n = (i : ℕ) → i < n → get_or units i 0 < 0x80
@@ -22,32 +22,25 @@ apart-behind u items apart (x ∷ before) after high low e up down =
     let rest : items ≡ before ++ Lone high ∷ Lone low ∷ after = cc in
     apart before after high low rest up down
 
-one-unit : (u : ℕ) → u < 0x80 → utf16 u ≡ u ∷ []
-one-unit u small = let low : u < 0x1_0000 = omega arith in rw (lt-ltb u 0x1_0000 low) refl
-
-unit-reads : (u : ℕ) (units : List ℕ) (items : List Unit16) → u < 0x80 → IsReading units items → IsReading (u ∷ units) (Char u ∷ items)
-unit-reads u units items small part = record {
-  each_unit = All-cons (λ unit. unit < 0x1_0000) u units (omega arith) part.each_unit;
-  each_item = All-cons IsItem (Char u) items (inl (omega arith)) part.each_item;
-  joined = ap (λ l. u ∷ l) part.joined ∙ ap (λ l. l ++ joined_units items) (sym (one-unit u small));
-  apart = λ before after high low e up down. apart-behind u items part.apart before after high low e up down;
-}
-
 -- what is read behind a run, and all of it
 run-reads : (n : ℕ) (units : List ℕ) (items : List Unit16) → AreAscii units n → IsReading (drop n units) items
     → IsReading units (map Char (take n units) ++ items)
 run-reads zero units items ascii part = part
 run-reads (suc n) [] items ascii part = part
 run-reads (suc n) (u ∷ units) items ascii part =
-    unit-reads u units (map Char (take n units) ++ items) (ascii 0 (omega arith))
-    (run-reads n units items (λ i lt. ascii (suc i) (omega arith)) part)
+    let small : u < 0x80 = ascii 0 (omega arith) in
+    let rest = run-reads n units items (λ i lt. ascii (suc i) (omega arith)) part in
+    record {
+      each_unit = All-cons (λ unit. unit < 0x1_0000) u units (omega arith) rest.each_unit;
+      each_item = All-cons IsItem (Char u) (map Char (take n units) ++ items) (inl (omega arith)) rest.each_item;
+      joined = rw (lt-ltb u 0x1_0000 (omega arith)) (ap (λ l. u ∷ l) rest.joined);
+      apart = apart-behind u (map Char (take n units) ++ items) rest.apart;
+    }
 
 -- the bytes of a run are a text
 ascii-run : (n : ℕ) (units : List ℕ) → AreAscii units n → IsAscii (take n units)
-ascii-run zero units ascii i = omega arith
-ascii-run (suc n) [] ascii i = omega arith
-ascii-run (suc n) (u ∷ units) ascii zero = ascii 0 (omega arith)
-ascii-run (suc n) (u ∷ units) ascii (suc i) = ascii-run n units (λ j lt. ascii (suc j) (omega arith)) i
+ascii-run n units ascii =
+    IsAscii-from_reads (take n units) n (omega (arith, length-take n units)) (λ k lt. rw (get_or-take n units k 0 lt) (ascii k lt))
 
 pub run-utf8 : (n : ℕ) (units : List ℕ) → AreAscii units n → IsUtf8 (take n units)
 run-utf8 n units ascii = IsUtf8-from_ascii (take n units) (ascii-run n units ascii)
@@ -59,39 +52,24 @@ run-chars n units ascii = chars-IsAscii (take n units) (ascii-run n units ascii)
 pub run-longer : (array units : List ℕ) (n : ℕ) (now : List ℕ) → n < length array → n < length units → now ≡ take n units ++ drop n array
     → slice_set now n (get_or units n 0) ≡ take (n + 1) units ++ drop (n + 1) array
 run-longer array units n now in_array in_units is =
-    let front = take n units in
-    let rest = drop (n + 1) array in
-    let x = get_or units n 0 in
-    let y = get_or array n 0 in
-    let long : n ≡ length front = omega (arith, length-take-le n units (omega arith)) in
-    let parts : now ≡ front ++ y ∷ rest = is ∙ ap (λ l. front ++ l) (drop_more array n 0 in_array) in
-    ap (λ l. slice_set l n x) parts ∙ ap (λ k. slice_set (front ++ y ∷ rest) k x) long ∙ set-append_seam front y rest x
-    ∙ sym (append_assoc front (x ∷ []) rest) ∙ ap (λ l. l ++ rest) (sym (take_more units n 0 in_units))
+    rw (is, drop_more array n 0 in_array, take_more units n 0 in_units)
+    (rw (append_assoc (take n units) (get_or units n 0 ∷ []) (drop (n + 1) array)) (set_at (take n units) _ _ _ n (length-take-le n units (omega arith))))
 
 -- a run at the start of an array is the text of its bytes
 pub run-lies : {array_size : ℕ} (array units : List ℕ) (n : ℕ) {after : List ℕ} → length array ≡ array_size → n ≤ cap array_size → n ≤ length units
     → AreAscii units n → after ≡ take n units ++ drop n array → Lies array_size after 0 n (take n units)
-run-lies {array_size} array units n {after} long room within ascii is =
+run-lies array units n {after} long room within ascii is =
     let run : length (take n units) ≡ n = length-take-le n units within in
-    let first : take n after ≡ take n units = ap (take n) is ∙ take_at (take n units) (drop n array) n run in
-    record {
-      held = record {
-        within = omega arith;
-        length = ap length is ∙ omega (arith, length-append (take n units) (drop n array), length-drop n array);
-        utf8 = ∣ rw first (run-utf8 n units ascii) ∣₁;
-      };
-      shown = ap chars first ∙ run-chars n units ascii;
-    }
-
-rest-whole : (n : ℕ) (units : List ℕ) → take (length units - n) (drop n units) ≡ drop n units
-rest-whole n units = take_all (length units - n) (drop n units) (omega (arith, length-drop n units))
+    let whole : length after ≡ length array = omega (arith, simp length-append at (ap length is), length-drop n array) in
+    laid after 0 n (run-utf8 n units ascii) (run-chars n units ascii) (whole ∙ long) (omega arith)
+    (ap (take n) is ∙ take_at (take n units) (drop n array) n run)
 
 -- so the only reading is that of the run, and then what the units behind it give
 pub whole-reading : (n : ℕ) (units : List ℕ) {items rest given : List Unit16} → AreAscii units n
     → IsReading (take (length units - n) (drop n units)) rest → given ≡ rest
     → ((a b : List Unit16) → IsReading units a → IsReading units b → a ≡ b) → IsReading units items → items ≡ map Char (take n units) ++ given
 whole-reading n units ascii reads gives only is =
-    only _ _ is (run-reads n units _ ascii (rw (rest-whole n units) at reads)) ∙ ap (λ l. map Char (take n units) ++ l) (sym gives)
+    rw gives (only _ _ is (run-reads n units _ ascii (rw (take_rest units n) at reads)))
 
 pub lossy-behind : (run : List ℕ) (items : List Unit16) → lossy_text (map Char run ++ items) ≡ run ++ lossy_text items
 lossy-behind [] items = refl

@@ -1,11 +1,9 @@
 -- Bytes that are UTF-8, by their first characters.
-use Rattle.std.proofs.Common.{◌≡◌, ℕ, ◌+◌, ◌-◌, ◌*◌, ◌<◌, ◌≤◌, ◌↔◌, ◌⊎◌, List, [], ◌∷◌, length, take, drop, get_or, sym, subst, arith, inl, inr, IsUtf8, length-take, take-append-drop}
-use Rattle.std.proofs.Math.Nat.{eq-or-lt_of_le}
-use Rattle.std.proofs.lemmas.Bool.{cases_lt}
-use Rattle.std.proofs.lemmas.List.{get_or-take, take_rest}
-use Rattle.std.proofs.lemmas.Str.{IsUtf8-append, IsUtf8-drop, IsUtf8-from_ascii, IsCharBoundary-from_take}
-use Rattle.std.proofs.lemmas.Str.Ascii.{IsAscii-from_reads}
+use Rattle.std.proofs.Common.{◌≡◌, ℕ, ◌+◌, ◌-◌, ◌<◌, ◌≤◌, ◌↔◌, List, [], ◌∷◌, length, take, drop, get_or, subst, arith, IsUtf8, take-append-drop}
+use Rattle.std.proofs.lemmas.List.{take_rest}
+use Rattle.std.proofs.lemmas.Str.{IsUtf8-append, IsUtf8-drop, IsCharBoundary-from_take}
 use Rattle.std.proofs.str.Valid.{of_one, of_two, of_three, of_four, longer}
+use Rattle.arraystring_core.proofs.UnitLemmas.{AreAscii, run-utf8}
 
 -- bytes are UTF-8 if what is behind their first characters is, and only then
 pub utf8-behind : (given rest : List ℕ) (n : ℕ) → n ≤ length rest → IsUtf8 (take n rest) → (IsUtf8 given ↔ IsUtf8 rest)
@@ -15,18 +13,14 @@ utf8-behind given rest n within front (to, from) = rw (take_rest rest n) (
   λ u. from (subst IsUtf8 (take-append-drop n rest) (IsUtf8-append (take n rest) (drop n rest) front u)),
 )
 
-utf8-ascii : (bs : List ℕ) (n : ℕ) → ((k : ℕ) → k < n → get_or bs k 0 < 128) → IsUtf8 (take n bs)
-utf8-ascii bs n ascii =
-    IsUtf8-from_ascii (take n bs) (IsAscii-from_reads (take n bs) n (omega (arith, length-take n bs)) (λ k lt. rw (get_or-take n bs k 0 lt) (ascii k lt)))
-
 -- four bytes of ASCII, and n behind them
 pub utf8-run : (bs : List ℕ) (n : ℕ) → 4 ≤ length bs
     → (get_or bs 0 0 < 128) × (get_or bs 1 0 < 128) × (get_or bs 2 0 < 128) × (get_or bs 3 0 < 128)
-    → ((k : ℕ) → k < n → get_or (take (length bs - 4) (drop 4 bs)) k 0 < 128) → IsUtf8 (take (4 + n) bs)
+    → AreAscii (take (length bs - 4) (drop 4 bs)) n → IsUtf8 (take (4 + n) bs)
 utf8-run bs n four (a, b, c, d) ascii =
     let two = longer bs 1 1 (of_one bs 0 (omega arith) a) (of_one bs 1 (omega arith) b) in
     let all = longer bs 3 1 (longer bs 2 1 two (of_one bs 2 (omega arith) c)) (of_one bs 3 (omega arith) d) in
-    longer bs 4 n all (utf8-ascii (drop 4 bs) n (subst (λ rest. (k : ℕ) → k < n → get_or rest k 0 < 128) (take_rest bs 4) ascii))
+    longer bs 4 n all (run-utf8 n (drop 4 bs) (rw (take_rest bs 4) at ascii))
 
 -- the rows of the table: what may be the second byte depends on the first
 pub one-byte : (a : ℕ) → a ≤ 0x7F → IsUtf8 (a ∷ [])
@@ -37,33 +31,10 @@ two-bytes a b least most second = of_two (a ∷ b ∷ []) 0 (omega arith) (omega
 
 pub three-bytes : (a b c : ℕ) → 0xE0 ≤ a → a ≤ 0xEF → (0x80 ≤ b) × (b ≤ 0xBF) → (a ≡ 0xE0 → 0xA0 ≤ b) → (a ≡ 0xED → b ≤ 0x9F)
     → (0x80 ≤ c) × (c ≤ 0xBF) → IsUtf8 (a ∷ b ∷ c ∷ [])
-three-bytes a b c least most second long low third = elim (eq-or-lt_of_le least) [
-  | inl e ↦ let more = long (sym e) in of (omega arith) (inl (omega arith))
-  | inr e ↦ elim (cases_lt a 0xED) [
-    | inl below ↦ of (omega arith) (inl (omega arith))
-    | inr from ↦ elim (eq-or-lt_of_le from) [
-      | inl f ↦ let less = low (sym f) in of (omega arith) (inl (omega arith))
-      | inr f ↦ of (omega arith) (inr (omega arith))
-    ]
-  ]
-] where
-  value : ℕ
-  value = (a - 0xE0) * 4096 + (b - 0x80) * 64 + (c - 0x80)
-
-  of : 0x800 ≤ value → (value < 0xD800) ⊎ (0xDFFF < value) → IsUtf8 (a ∷ b ∷ c ∷ [])
-  of long apart = of_three (a ∷ b ∷ c ∷ []) 0 (omega arith) (omega arith) (omega arith) (omega arith) long apart
+three-bytes a b c least most second long low third =
+    of_three (a ∷ b ∷ c ∷ []) 0 (omega arith) (omega arith) (omega arith) (omega arith) (grind arith) (grind arith)
 
 pub four-bytes : (a b c d : ℕ) → 0xF0 ≤ a → a ≤ 0xF4 → (0x80 ≤ b) × (b ≤ 0xBF) → (a ≡ 0xF0 → 0x90 ≤ b) → (a ≡ 0xF4 → b ≤ 0x8F)
     → (0x80 ≤ c) × (c ≤ 0xBF) → (0x80 ≤ d) × (d ≤ 0xBF) → IsUtf8 (a ∷ b ∷ c ∷ d ∷ [])
-four-bytes a b c d least most second long low third fourth = elim (eq-or-lt_of_le least) [
-  | inl e ↦ let more = long (sym e) in of (omega arith)
-  | inr e ↦ elim (eq-or-lt_of_le most) [
-    | inl f ↦ let less = low f in of (omega arith)
-    | inr f ↦ of (omega arith)
-  ]
-] where
-  top : ℕ
-  top = (a - 0xF0) * 64 + (b - 0x80)
-
-  of : (16 ≤ top) × (top < 272) → IsUtf8 (a ∷ b ∷ c ∷ d ∷ [])
-  of range = of_four (a ∷ b ∷ c ∷ d ∷ []) 0 (omega arith) (omega arith) (omega arith) (omega arith) (omega arith) range
+four-bytes a b c d least most second long low third fourth =
+    of_four (a ∷ b ∷ c ∷ d ∷ []) 0 (omega arith) (omega arith) (omega arith) (omega arith) (omega arith) (grind arith)

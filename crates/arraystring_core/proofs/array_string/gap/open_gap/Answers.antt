@@ -1,8 +1,8 @@
 use Rattle.std.proofs.Common.{◌+◌, ◌-◌, arith}
-use Rattle.arraystring_core.proofs.GapLemmas.{shift-before}
+use Rattle.arraystring_core.proofs.GapLemmas.{shifted}
 use Rattle.arraystring_core.proofs.array_string.gap.open_gap.Goals as goal
 
 pub returns-clause-front : goal.returns-clause-front
 returns-clause-front g c =
-    shift-before c.args.array.now _ (c.args.text.offset + c.args.end) (c.args.text.offset + (c.args.start + c.args.len)) (c.args.text.size - c.args.end)
-    (omega arith) (omega arith) c.shift.ensures.bytes c.args.text.offset c.args.start (omega arith)
+    (shifted c.args.array.now _ (c.args.text.offset + c.args.end) (c.args.text.offset + (c.args.start + c.args.len)) (c.args.text.size - c.args.end)
+    (omega arith) (omega arith) c.shift.ensures.bytes).before c.args.text.offset c.args.start (omega arith)

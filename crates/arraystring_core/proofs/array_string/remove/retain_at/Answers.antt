@@ -1,14 +1,25 @@
 use Rattle.std.proofs.Common.{◌≡◌, ◌+◌, ◌-◌, [], take, drop, chars, get_or, ap, ◌∙◌, arith, rules, refl}
 use Rattle.std.proofs.lemmas.List.{append-nil}
-use Rattle.std.proofs.lemmas.Str.{chars-nil}
+use Rattle.std.proofs.lemmas.Str.{IsUtf8-nil, chars-nil}
 use Rattle.arraystring_base.specs.Text.{width}
-use Rattle.arraystring_core.proofs.RetainLemmas.{char-begins, callable-next, retained-init, retained-moved, retained-left_out, unread, ascii-begins, ascii-width}
+use Rattle.arraystring_core.proofs.RetainLemmas.{char-begins, callable-next, retained-moved, retained-left_out, unread, ascii-begins}
+use Rattle.arraystring_core.proofs.EndLemmas.{low-width}
 use Rattle.arraystring_core.proofs.array_string.remove.retain_at.Goals as goal
 use Rattle.arraystring_core.proofs.array_string.remove.retain_at.Goals.{then-f, else-f, then-f-2, else-f-2}
 
 pub loop-read-init : goal.loop-read-init
 loop-read-init g c =
-    retained-init (goal.F-pre g) (goal.F-step g) c.args.array.now c.args.f c.args.offset c.args.size c.told-array c.requires.text c.requires.callable
+    let all : c.args.size - 0 ≡ c.args.size = omega arith in
+    let first : c.args.offset + 0 ≡ c.args.offset = omega arith in
+    record {
+      long = c.told-array;
+      kept_first = omega arith;
+      read_within = omega arith;
+      rest_text = rw (all, first) c.requires.text;
+      kept_text = IsUtf8-nil;
+      callable = rw (all, first) c.requires.callable;
+      filtered = λ more h. rw chars-nil (rw (all, first) at h);
+    }
 
 pub f-requires : goal.f-requires
 f-requires g c =
@@ -20,7 +31,7 @@ loop-read-preserved-then-first-lt128 g c =
     let l = c.loop-read in
     let begins = ascii-begins l.array c.args.offset l.read c.args.size c.loop-read-test.true (omega arith) c.if-first-lt128.true in
     let one : width (get_or l.array (c.args.offset + l.read) 0) ≡ 1 =
-    ascii-width l.array c.args.offset l.read c.args.size c.loop-read-test.true (omega arith) c.if-first-lt128.true in
+    low-width _ c.if-first-lt128.true in
     elim c.if-f.branch [
       | then-f w ↦
           rw (w.array-is, w.kept-is)
