@@ -1,11 +1,11 @@
 -- The last character of a text, by the bytes at its end.
-use Rattle.std.proofs.Common.{◌≡◌, ℕ, ◌+◌, ◌-◌, ◌*◌, ◌<◌, ◌≤◌, ◌⊎◌, List, [], ◌∷◌, ◌++◌, length, get_or, refl, sym, ap, ◌∙◌, subst, arith, IsUtf8, chars, inl, inr, length-append}
+use Rattle.std.proofs.Common.{◌≡◌, ℕ, ◌+◌, ◌-◌, ◌*◌, ◌<◌, ◌≤◌, ◌⊎◌, List, [], ◌∷◌, ◌++◌, length, get_or, refl, sym, ap, ◌∙◌, subst, arith, IsUtf8, chars, length-append}
 use Rattle.std.specs.Char.{IsScalar}
-use Rattle.std.proofs.lemmas.Bool.{cases_lt}
+use Rattle.std.proofs.lemmas.Bool.Decides.{nat_tests}
 use Rattle.std.proofs.lemmas.List.{append-nil, get_or-append-add, nil_from_length}
 use Rattle.std.proofs.lemmas.Str.{chars-nil}
 use Rattle.arraystring_base.specs.Text.{utf8, size, bytes}
-use Rattle.arraystring_base.proofs.TextLaws.{utf8-one, utf8-two, utf8-three, utf8-four, width-bounds, bytes-append, bytes-chars, size-is, text-chars, scalar-is}
+use Rattle.arraystring_base.proofs.TextLaws.{width-bounds, bytes-append, bytes-chars, size-is, text-chars, scalar-is}
 use Rattle.arraystring_base.proofs.BoundaryLaws.{trailing-text}
 
 -- no bytes are no characters
@@ -35,16 +35,8 @@ abbrev EndsWith : List ℕ → ℕ → ℕ → Type 0
 EndsWith bs m c = Spell (from_end bs 1) (from_end bs 2) (from_end bs 3) (from_end bs 4) (length bs) m c
 
 ends-with : (xs : List ℕ) (c : ℕ) → EndsWith (xs ++ utf8 c) (length xs) c
-ends-with xs c = elim (cases_lt c 0x80) [
-  | inl one ↦ rw (utf8-one c one) (inl (omega (arith, length-append {A = ℕ}, from_end-append)))
-  | inr past ↦ elim (cases_lt c 0x800) [
-    | inl two ↦ rw (utf8-two c past two) (inr (inl (omega (arith, length-append {A = ℕ}, from_end-append))))
-    | inr over ↦ elim (cases_lt c 0x1_0000) [
-      | inl three ↦ rw (utf8-three c over three) (inr (inr (inl (omega (arith, length-append {A = ℕ}, from_end-append)))))
-      | inr four ↦ rw (utf8-four c four) (inr (inr (inr (omega (arith, length-append {A = ℕ}, from_end-append)))))
-    ]
-  ]
-]
+unfolding utf8
+ends-with xs c = grind (arith, nat_tests, length-append {A = ℕ}, from_end-append)
 
 last-split : (t : List ℕ) → 0 < size t → (front : List ℕ) × (c : ℕ) × (t ≡ front ++ c ∷ [])
 last-split [] some = absurd (omega arith)
