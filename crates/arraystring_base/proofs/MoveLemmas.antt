@@ -3,6 +3,7 @@ use Rattle.std.proofs.Common.{◌≡◌, ℕ, ◌+◌, ◌-◌, ◌≤◌, ◌<�
 use Rattle.std.proofs.lemmas.Bool.{cases_lt}
 use Rattle.std.proofs.lemmas.Grind.{same_number_lists, elements}
 
+-- byte by byte: what the first part writes, what the second keeps of it, and what the second writes
 module _ (src old half first : List ℕ) (from to k len : ℕ) (source : from + len ≤ length src) (target : to + len ≤ length old)
     (least : k ≤ len) (is_first : first ≡ take k (drop from src)) (one : half ≡ take to old ++ (first ++ drop (to + k) old)) where
   early : (i : ℕ) → i < to + k → get_or half i 0 ≡ get_or (take to old ++ (take len (drop from src) ++ drop (to + len) old)) i 0
