@@ -1,17 +1,17 @@
 -- Laws of the rows that add: `addition`, `addition_of_cut`, `insertion` and `insertion_of_cut` (specs/Edits).
 -- Of each row: what holds after an `Ok` (`-made`) and after an `Err` (`-refused`), when the result is `Ok` (`-makes`), and
 -- when it is which `Err` (`-past`, `-over`, `-inside`). A law takes what its row takes after the text, and then facts.
-use Rattle.std.proofs.Common.{◌≡◌, ℕ, ◌+◌, ◌-◌, ◌<◌, ◌≤◌, ◌⊎◌, List, [], ◌++◌, ap, sym, ◌∙◌, arith, true, false, inl, inr, refl, Result, Ok, Err}
-use Rattle.std.proofs.lemmas.Bool.{lt-ltb, le-ltb, ltb-true, ltb-false, both_ways}
+use Rattle.std.proofs.Common.{◌≡◌, ℕ, ◌+◌, ◌-◌, ◌<◌, ◌≤◌, ◌⊎◌, List, [], ◌++◌, arith, true, false, refl, Result, Ok, Err}
+use Rattle.std.proofs.lemmas.Bool.Decides.{nat_tests}
 use Rattle.arraystring_base.specs.Text.{size, cut, front, back, boundary}
 use Rattle.arraystring_base.proofs.CutLaws.{cut-all, cut-past_part}
 use Rattle.arraystring_base.proofs.BoundaryLaws.{boundary-within, front-start, back-start, boundary-is}
 use Rattle.arraystring_base.specs.declared.error.Error.{Error}
 use Rattle.arraystring_base.specs.declared.error.Error.TheVariants.{Utf8, OutOfBounds}
-use Rattle.arraystring_core.specs.Edits.{Past, Room, Inside, Makes, error_of, past, addition, addition_of_cut, insertion, insertion_of_cut}
-use Rattle.arraystring_core.proofs.EditLaws.{addition-no_cause, addition-room, inside-not, inside-so}
+use Rattle.arraystring_core.specs.Edits.{Past, Room, Inside, Makes, addition, addition_of_cut, insertion, insertion_of_cut}
+use Rattle.arraystring_core.proofs.EditLaws.{addition-no_cause, addition-room, inside-so}
 pub use Rattle.arraystring_core.proofs.EditLaws.{addition-made, addition-refused}
-use Rattle.arraystring.proofs.TestLaws.{past-failed, past-held, inside-failed, inside-held, index-held}
+use Rattle.arraystring.proofs.TestLaws.{inside-failed, index-held}
 use Rattle.arraystring.proofs.EditLaws.{edit-makes, edit-refuses, edit-none_held, edit-first_held}
 
 -- `given` is added at the end
@@ -32,22 +32,18 @@ module _ {t : List ℕ} (given : List ℕ) (n : ℕ) {new : List ℕ} {result : 
 
   -- all of it, if it fits
   pub addition_of_cut-fits : size t + size given ≤ n → Makes (addition_of_cut t given n) t result new → new ≡ t ++ given
-  addition_of_cut-fits fits m =
-      (edit-makes refl m).1 ∙ ap (λ l. t ++ l) (cut-all {t = given} {n = n - size t} (omega arith))
+  addition_of_cut-fits fits m = rw (cut-all {t = given} {n = n - size t} (omega arith)) at (edit-makes refl m).1
 
   -- the text after is the cut of both, if the text before fits
   pub addition_of_cut-cuts : size t ≤ n → Makes (addition_of_cut t given n) t result new → new ≡ cut (t ++ given) n
-  addition_of_cut-cuts fits m = (edit-makes refl m).1 ∙ sym (cut-past_part t given n fits)
+  addition_of_cut-cuts fits m = rw (cut-past_part t given n fits) (edit-makes refl m).1
 
 -- `given` is put at `i`
 module _ {t : List ℕ} (i : ℕ) (given : List ℕ) (n : ℕ) {new : List ℕ} where
   -- an insertion that returned `Ok`: the index is a boundary of the text, all of it fitted, and is there
   pub insertion-made : Makes (insertion t i given n) t (Ok tt) new
       → (i ≤ size t) × (size t + size given ≤ n) × (boundary t i ≡ true) × (new ≡ front t i ++ (given ++ back t i))
-  insertion-made m =
-      let none = edit-none_held m in
-      let within = past-failed t i none.0 in
-      (within, ltb-false n (size t + size given) none.1.0, inside-failed t i within none.1.1.0, m.ok)
+  insertion-made m = grind (arith, nat_tests, edit-none_held m, inside-failed t i, m.ok)
 
   -- an insertion that returned `Err`: the index is past the text, or it did not fit, or the index is inside a character
   pub insertion-refused : {error : Error} → Makes (insertion t i given n) t (Err error) new
@@ -55,73 +51,50 @@ module _ {t : List ℕ} (i : ℕ) (given : List ℕ) (n : ℕ) {new : List ℕ} 
       ⊎ ((i ≤ size t) × (n < size t + size given) × (error ≡ OutOfBounds))
       ⊎ ((i < size t) × (size t + size given ≤ n) × (boundary t i ≡ false) × (error ≡ Utf8)))
       × (new ≡ t)
-  insertion-refused m =
-      let (cause, held, e, same) = edit-first_held m in (
-        elim held [
-          | inl (far, is) ↦ inl (past-held t i far, e ∙ ap error_of is)
-          | inr (near, inl (over, is)) ↦ inr (inl (past-failed t i near, ltb-true n (size t + size given) over, e ∙ ap error_of is))
-          | inr (near, inr (fits, inl (inner, is))) ↦
-              let at = inside-held t i inner in inr (inr (at.0, ltb-false n (size t + size given) fits, at.1, e ∙ ap error_of is))
-          | inr (near, inr (fits, inr (out, none))) ↦ absurd none
-        ],
-        same,
-      )
+  insertion-refused m = let (cause, held, e, same) = edit-first_held m in (grind (arith, nat_tests), same)
 
 module _ {t : List ℕ} (i : ℕ) (given : List ℕ) (n : ℕ) {new : List ℕ} {result : Result (Unit {0}) Error} where
   -- what fits is put at a boundary
   pub insertion-makes : size t + size given ≤ n → boundary t i ≡ true → Makes (insertion t i given n) t result new
       → (result ≡ Ok tt) × (new ≡ front t i ++ (given ++ back t i))
-  insertion-makes fits b m =
-      edit-makes (rw (le-ltb (size t) i (boundary-within t i b), le-ltb n (size t + size given) fits, inside-not t i b) refl) m
+  insertion-makes fits b m = edit-makes (grind (arith, nat_tests, boundary-within t i b)) m
 
   -- an index past the text is refused first
   pub insertion-past : size t < i → Makes (insertion t i given n) t result new → (result ≡ Err OutOfBounds) × (new ≡ t)
-  insertion-past far m = edit-refuses {cause = Past} (rw (lt-ltb (size t) i far) refl) m
+  insertion-past far m = edit-refuses {cause = Past} (grind (arith, nat_tests)) m
 
   -- then what does not fit
   pub insertion-over : i ≤ size t → n < size t + size given → Makes (insertion t i given n) t result new
       → (result ≡ Err OutOfBounds) × (new ≡ t)
-  insertion-over within over m =
-      edit-refuses {cause = Room} (rw (le-ltb (size t) i within, lt-ltb n (size t + size given) over) refl) m
+  insertion-over within over m = edit-refuses {cause = Room} (grind (arith, nat_tests)) m
 
   -- then an index inside a character
   pub insertion-inside : i ≤ size t → size t + size given ≤ n → boundary t i ≡ false → Makes (insertion t i given n) t result new
       → (result ≡ Err Utf8) × (new ≡ t)
-  insertion-inside within fits b m =
-      edit-refuses {cause = Inside} (rw (le-ltb (size t) i within, le-ltb n (size t + size given) fits, inside-so t i within b) refl) m
+  insertion-inside within fits b m = edit-refuses {cause = Inside} (grind (arith, nat_tests, inside-so t i within b)) m
 
 -- `given` is put at the start
 module _ {t : List ℕ} (given : List ℕ) (n : ℕ) {new : List ℕ} where
   -- one that returned `Ok`: all of it fitted, and is before the text
   pub insertion_at_start-made : Makes (insertion t 0 given n) t (Ok tt) new → (size t + size given ≤ n) × (new ≡ given ++ t)
-  insertion_at_start-made m = (
-    (insertion-made 0 given n m).1,
-    m.ok ∙ ap (λ l. l ++ (given ++ back t 0)) (front-start t) ∙ ap (λ l. given ++ l) (back-start t),
-  )
+  insertion_at_start-made m = ((insertion-made 0 given n m).1, rw (front-start, back-start) at m.ok)
 
   -- one that returned `Err`: it did not fit, and the text is the old one
   pub insertion_at_start-refused : {error : Error} → Makes (insertion t 0 given n) t (Err error) new
       → (n < size t + size given) × (error ≡ OutOfBounds) × (new ≡ t)
-  insertion_at_start-refused m =
-      elim (insertion-refused 0 given n m).0 [
-        | inl past ↦ absurd (omega (arith, past.0))
-        | inr (inl over) ↦ (over.1, over.2, m.err)
-        | inr (inr inner) ↦ absurd (both_ways (boundary t 0) inner.2 (boundary-is [] t 0 refl))
-      ]
+  insertion_at_start-refused m = grind (arith, insertion-refused 0 given n m, boundary-is [] t 0 refl)
 
 -- what fits of `given` is put at `i`
 module _ {t : List ℕ} (i : ℕ) (given : List ℕ) (n : ℕ) {new : List ℕ} where
   -- an insertion of a cut that returned `Ok`: the index is a boundary of the text, and the cut is there
   pub insertion_of_cut-made : Makes (insertion_of_cut t i given n) t (Ok tt) new
       → (i ≤ size t) × (boundary t i ≡ true) × (new ≡ front t i ++ (cut given (n - size t) ++ back t i))
-  insertion_of_cut-made m =
-      let none = edit-none_held m in
-      let within = past-failed t i none.0 in (within, inside-failed t i within none.1.0, m.ok)
+  insertion_of_cut-made m = grind (arith, nat_tests, edit-none_held m, inside-failed t i, m.ok)
 
   -- all of it, if it fits
   pub insertion_of_cut-fits : size t + size given ≤ n → Makes (insertion_of_cut t i given n) t (Ok tt) new
       → new ≡ front t i ++ (given ++ back t i)
-  insertion_of_cut-fits fits m = m.ok ∙ ap (λ l. front t i ++ (l ++ back t i)) (cut-all {t = given} {n = n - size t} (omega arith))
+  insertion_of_cut-fits fits m = rw (cut-all {t = given} {n = n - size t} (omega arith)) at m.ok
 
   -- one that returned `Err`: the index is past the text, or inside a character
   pub insertion_of_cut-refused : {error : Error} → Makes (insertion_of_cut t i given n) t (Err error) new
@@ -132,13 +105,13 @@ module _ {t : List ℕ} (i : ℕ) (given : List ℕ) (n : ℕ) {new : List ℕ} 
   -- at a boundary it returns `Ok`
   pub insertion_of_cut-makes : boundary t i ≡ true → Makes (insertion_of_cut t i given n) t result new
       → (result ≡ Ok tt) × (new ≡ front t i ++ (cut given (n - size t) ++ back t i))
-  insertion_of_cut-makes b m = edit-makes (rw (le-ltb (size t) i (boundary-within t i b), inside-not t i b) refl) m
+  insertion_of_cut-makes b m = edit-makes (grind (arith, nat_tests, boundary-within t i b)) m
 
   -- an index past the text is refused first
   pub insertion_of_cut-past : size t < i → Makes (insertion_of_cut t i given n) t result new → (result ≡ Err OutOfBounds) × (new ≡ t)
-  insertion_of_cut-past far m = edit-refuses {cause = Past} (rw (lt-ltb (size t) i far) refl) m
+  insertion_of_cut-past far m = edit-refuses {cause = Past} (grind (arith, nat_tests)) m
 
   -- then an index inside a character
   pub insertion_of_cut-inside : i ≤ size t → boundary t i ≡ false → Makes (insertion_of_cut t i given n) t result new
       → (result ≡ Err Utf8) × (new ≡ t)
-  insertion_of_cut-inside within b m = edit-refuses {cause = Inside} (rw (le-ltb (size t) i within, inside-so t i within b) refl) m
+  insertion_of_cut-inside within b m = edit-refuses {cause = Inside} (grind (arith, nat_tests, inside-so t i within b)) m

@@ -1,7 +1,6 @@
 -- Laws of boundaries, and of the parts of a text before one, from one on and between two.
-use Rattle.std.proofs.Common.{◌≡◌, ℕ, ◌≤◌, List, [], true, false, Bool, Some, None, arith, if◌then◌else◌, ap, ◌∙◌, refl}
-use Rattle.std.proofs.lemmas.Bool.{leb-true, and_parts}
-use Rattle.std.specs.Prelude.{nat_le, ◌&&◌}
+use Rattle.std.proofs.Common.{◌≡◌, ℕ, ◌≤◌, List, [], true, Some, arith, ap, refl}
+use Rattle.std.proofs.lemmas.Bool.Decides.{nat_tests}
 use Rattle.arraystring_base.specs.Text.{size, front, back, boundary}
 use Rattle.arraystring_base.proofs.TextLaws.{size-append}
 use Rattle.arraystring_core.specs.Edits.{part, part_in}
@@ -15,7 +14,7 @@ boundary-start t = boundary-is [] t 0 refl
 
 -- the part from the start to the end is the text
 pub part-all : (t : List ℕ) → part t 0 (size t) ≡ t
-part-all t = ap (λ l. back l 0) (front-end t) ∙ back-start t
+part-all t = rw front-end (back-start t)
 
 -- the part from the start to an index is what is before it
 pub part-start : (t : List ℕ) (i : ℕ) → part t 0 i ≡ front t i
@@ -23,20 +22,12 @@ part-start t i = back-start (front t i)
 
 -- and the part from an index to the end what is from it on
 pub part-end : (t : List ℕ) (i : ℕ) → part t i (size t) ≡ back t i
-part-end t i = ap (λ l. back l i) (front-end t)
+part-end t i = rw front-end refl
 
 -- a range that has a part is in order and lies between two boundaries
 pub part_in-found : (t : List ℕ) (start end : ℕ) {found : List ℕ} → part_in t start end ≡ Some found
     → (start ≤ end) × (boundary t start ≡ true) × (boundary t end ≡ true) × (found ≡ part t start end)
-part_in-found t start end {found} some =
-    let tests = go (nat_le start end && (boundary t start && boundary t end)) some in
-    let order = and_parts (nat_le start end) (boundary t start && boundary t end) tests.0 in
-    let ends = and_parts (boundary t start) (boundary t end) order.1 in
-    (leb-true start end order.0, ends.0, ends.1, tests.1)
-  where
-    go : (b : Bool) → (if b then Some (part t start end) else None) ≡ Some found → (b ≡ true) × (found ≡ part t start end)
-    go true is = (refl, cc)
-    go false is = absurd (cc)
+part_in-found t start end {found} some = grind (arith, nat_tests)
 
 -- a part is no larger than its text
 pub part-fits : (t : List ℕ) (start end : ℕ) → size (part t start end) ≤ size t

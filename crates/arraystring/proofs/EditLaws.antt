@@ -17,12 +17,12 @@ ok_unless-err {f = Some cause} value e = (cause, refl, cc)
 
 -- a call that has one error returns `Ok` if the row does
 pub out_of_bounds-ok : {A E : Type 0} {result : Result A E} {value : A} → from_out_of_bounds result ≡ Ok value → result ≡ Ok value
-out_of_bounds-ok {result = Ok given} e = ap Ok (cc)
+out_of_bounds-ok {result = Ok given} e = cc
 out_of_bounds-ok {result = Err error} e = absurd (cc)
 
--- the same of one whose error is `Utf8`
+-- one whose error is `Utf8`
 pub utf8_error-ok : {A E : Type 0} {result : Result A E} {value : A} → from_utf8_error result ≡ Ok value → result ≡ Ok value
-utf8_error-ok {result = Ok given} e = ap Ok (cc)
+utf8_error-ok {result = Ok given} e = cc
 utf8_error-ok {result = Err error} e = absurd (cc)
 
 -- what an edit leaves, if its first cause is known

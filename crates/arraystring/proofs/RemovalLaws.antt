@@ -1,8 +1,9 @@
 -- Laws of the rows that take out or change characters, but for those of ranges (specs/Edits).
 -- Of each row: what holds after an `Ok` (`-made`) and after an `Err` (`-refused`), when the result is `Ok` (`-makes`), and
 -- when it is which `Err` (`-past`, `-inside`). A law takes what its row takes after the text, and then facts.
-use Rattle.std.proofs.Common.{◌≡◌, ℕ, ◌<◌, ◌≤◌, ◌⊎◌, List, [], ◌∷◌, ◌++◌, ap, sym, ◌∙◌, arith, true, false, Bool, inl, inr, refl, Option, Some, None, Result, Ok, Err, map, drop}
-use Rattle.std.proofs.lemmas.Bool.{lt-ltb, le-ltb, lt-leb, le-leb, leb-false, leb-true}
+use Rattle.std.proofs.Common.{◌≡◌, ℕ, ◌<◌, ◌≤◌, ◌⊎◌, List, [], ◌∷◌, ◌++◌, ap, sym, ◌∙◌, arith, true, false, Bool, refl, Option, Some, None, Result, Ok, Err, map, drop}
+use Rattle.std.proofs.lemmas.Bool.{lt-leb, leb-false}
+use Rattle.std.proofs.lemmas.Bool.Decides.{nat_tests}
 use Rattle.std.specs.Prelude.{slice_index}
 use Rattle.std.specs.Char.{to_ascii_uppercase, to_ascii_lowercase}
 use Rattle.arraystring_base.specs.Text.{size, front, back, boundary}
@@ -10,24 +11,21 @@ use Rattle.arraystring_base.proofs.TextLaws.{width-bounds}
 use Rattle.arraystring_base.proofs.BoundaryLaws.{back-size, boundary-within}
 use Rattle.arraystring_base.specs.declared.error.Error.{Error}
 use Rattle.arraystring_base.specs.declared.error.Error.TheVariants.{Utf8, OutOfBounds}
-use Rattle.arraystring_core.specs.Edits.{Past, Inside, Makes, error_of, popping, truncation, trimming, removal, clearing, split, uppercase, lowercase, last_of, all_but_last, without_leading, without_trailing}
+use Rattle.arraystring_core.specs.Edits.{Past, Inside, Makes, popping, truncation, trimming, removal, clearing, split, uppercase, lowercase, last_of, all_but_last, without_leading, without_trailing}
 use Rattle.arraystring_core.proofs.EditLaws.{inside-not, inside-so}
-use Rattle.arraystring.proofs.TestLaws.{past-failed, inside-failed, inside-held, inside-fails, index-held}
+use Rattle.arraystring.proofs.TestLaws.{inside-failed, inside-fails, index-held}
 use Rattle.arraystring.proofs.EditLaws.{edit-made, edit-makes, edit-refuses, edit-none_held, edit-first_held}
 
 -- the last character of a text
 last-of : (t : List ℕ) (c : ℕ) → Some c ≡ last_of t → t ≡ all_but_last t ++ c ∷ []
 last-of [] c e = absurd (cc)
-last-of (a ∷ []) c e = let same : c ≡ a = cc in ap (λ x. x ∷ []) (sym same)
-last-of (a ∷ b ∷ t) c e = ap (λ l. a ∷ l) (last-of (b ∷ t) c e)
+last-of (a ∷ []) c e = cc
+last-of (a ∷ b ∷ t) c e = cc (last-of (b ∷ t) c e)
 
 none-of : (t : List ℕ) → None ≡ last_of t → t ≡ []
 none-of [] e = refl
 none-of (a ∷ []) e = absurd (cc)
-none-of (a ∷ b ∷ t) e = absurd (cons-not (none-of (b ∷ t) e))
-  where
-    cons-not : b ∷ t ≡ [] → ⊥
-    cons-not same = absurd (cc)
+none-of (a ∷ b ∷ t) e = absurd (cc (none-of (b ∷ t) e))
 
 -- the last character is taken
 module _ {t new : List ℕ} where
@@ -37,7 +35,7 @@ module _ {t new : List ℕ} where
 
   -- the text was what is left of it, and then the result
   pub popping-some : {c : ℕ} → Makes (popping t) t (Ok (Some c)) new → t ≡ new ++ c ∷ []
-  popping-some {c} m = last-of t c (edit-made m).1 ∙ ap (λ l. l ++ c ∷ []) (sym m.ok)
+  popping-some {c} m = rw m.ok (last-of t c (edit-made m).1)
 
   -- no result comes of the empty text alone
   pub popping-none : Makes (popping t) t (Ok None) new → (t ≡ []) × (new ≡ [])
@@ -52,12 +50,7 @@ module _ {t : List ℕ} (i : ℕ) {new : List ℕ} where
   -- one that returned `Err`: the index is inside a character
   pub truncation-refused : {error : Error} → Makes (truncation t i) t (Err error) new
       → (i < size t) × (boundary t i ≡ false) × (error ≡ Utf8) × (new ≡ t)
-  truncation-refused m =
-      let (cause, held, e, same) = edit-first_held m in
-      elim held [
-        | inl (inner, is) ↦ let at = inside-held t i inner in (at.0, at.1, e ∙ ap error_of is, same)
-        | inr (out, none) ↦ absurd none
-      ]
+  truncation-refused m = let (cause, held, e, same) = edit-first_held m in grind (arith, nat_tests)
 
 module _ {t : List ℕ} (i : ℕ) {new : List ℕ} {result : Result (Unit {0}) Error} where
   -- at a boundary, or past the text, it returns `Ok`
@@ -66,7 +59,7 @@ module _ {t : List ℕ} (i : ℕ) {new : List ℕ} {result : Result (Unit {0}) E
 
   -- an index inside a character is refused
   pub truncation-inside : i ≤ size t → boundary t i ≡ false → Makes (truncation t i) t result new → (result ≡ Err Utf8) × (new ≡ t)
-  truncation-inside within b m = edit-refuses {cause = Inside} (rw (inside-so t i within b) refl) m
+  truncation-inside within b m = edit-refuses {cause = Inside} (grind (arith, nat_tests, inside-so t i within b)) m
 
 -- the characters at both ends that pass are dropped
 pub trimming-makes : {t new : List ℕ} (passes : ℕ → Bool) {result : Result (Unit {0}) Error} → Makes (trimming passes t) t result new
@@ -107,15 +100,7 @@ module _ {t : List ℕ} (i : ℕ) {new : List ℕ} where
   -- one that returned `Err`: the index is not below the size of the text, or inside a character
   pub removal-refused : {error : Error} → Makes (removal t i) t (Err error) new
       → (((size t ≤ i) × (error ≡ OutOfBounds)) ⊎ ((i < size t) × (boundary t i ≡ false) × (error ≡ Utf8))) × (new ≡ t)
-  removal-refused m =
-      let (cause, held, e, same) = edit-first_held m in (
-        elim held [
-          | inl (far, is) ↦ inl (leb-true (size t) i far, e ∙ ap error_of is)
-          | inr (near, inl (inner, is)) ↦ let at = inside-held t i inner in inr (at.0, at.1, e ∙ ap error_of is)
-          | inr (near, inr (out, none)) ↦ absurd none
-        ],
-        same,
-      )
+  removal-refused m = let (cause, held, e, same) = edit-first_held m in (grind (arith, nat_tests), same)
 
 module _ {t : List ℕ} (i : ℕ) {new : List ℕ} {result : Result ℕ Error} where
   -- the character that begins at a boundary is removed
@@ -128,22 +113,18 @@ module _ {t : List ℕ} (i : ℕ) {new : List ℕ} {result : Result ℕ Error} w
 
   -- an index that is not below the size of the text is refused first
   pub removal-past : size t ≤ i → Makes (removal t i) t result new → (result ≡ Err OutOfBounds) × (new ≡ t)
-  removal-past far m = edit-refuses {cause = Past} (rw (le-leb (size t) i far) refl) m
+  removal-past far m = edit-refuses {cause = Past} (grind (arith, nat_tests)) m
 
   -- then an index inside a character
   pub removal-inside : i < size t → boundary t i ≡ false → Makes (removal t i) t result new → (result ≡ Err Utf8) × (new ≡ t)
-  removal-inside under b m =
-      edit-refuses {cause = Inside} (rw (lt-leb (size t) i under, inside-so t i (omega arith) b) refl) m
+  removal-inside under b m = edit-refuses {cause = Inside} (grind (arith, nat_tests)) m
 
 -- the part from `i` on is the result
 module _ {t : List ℕ} (i : ℕ) {new : List ℕ} where
   -- a split that returned `Ok`: the index is a boundary of the text, and the two parts are the result and the text
   pub split-made : {value : List ℕ} → Makes (split t i) t (Ok value) new
       → (i ≤ size t) × (boundary t i ≡ true) × (value ≡ back t i) × (new ≡ front t i)
-  split-made m =
-      let was = edit-made m in
-      let none = edit-none_held m in
-      let within = past-failed t i none.0 in (within, inside-failed t i within none.1.0, was.1, was.2)
+  split-made m = grind (arith, nat_tests, edit-none_held m, inside-failed t i, (edit-made m).1, m.ok)
 
   -- one that returned `Err`: the index is past the text, or inside a character
   pub split-refused : {error : Error} → Makes (split t i) t (Err error) new
@@ -153,12 +134,12 @@ module _ {t : List ℕ} (i : ℕ) {new : List ℕ} where
 module _ {t : List ℕ} (i : ℕ) {new : List ℕ} {result : Result (List ℕ) Error} where
   -- at a boundary it returns `Ok`
   pub split-makes : boundary t i ≡ true → Makes (split t i) t result new → (result ≡ Ok (back t i)) × (new ≡ front t i)
-  split-makes b m = edit-makes (rw (le-ltb (size t) i (boundary-within t i b), inside-not t i b) refl) m
+  split-makes b m = edit-makes (grind (arith, nat_tests, boundary-within t i b)) m
 
   -- an index past the text is refused first
   pub split-past : size t < i → Makes (split t i) t result new → (result ≡ Err OutOfBounds) × (new ≡ t)
-  split-past far m = edit-refuses {cause = Past} (rw (lt-ltb (size t) i far) refl) m
+  split-past far m = edit-refuses {cause = Past} (grind (arith, nat_tests)) m
 
   -- then an index inside a character
   pub split-inside : i ≤ size t → boundary t i ≡ false → Makes (split t i) t result new → (result ≡ Err Utf8) × (new ≡ t)
-  split-inside within b m = edit-refuses {cause = Inside} (rw (le-ltb (size t) i within, inside-so t i within b) refl) m
+  split-inside within b m = edit-refuses {cause = Inside} (grind (arith, nat_tests, inside-so t i within b)) m

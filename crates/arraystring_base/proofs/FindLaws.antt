@@ -8,9 +8,9 @@ use Rattle.std.specs.Str.Pattern.{FindsChar, MatchBeginsAt, SplitsAroundMatch}
 use Rattle.std.specs.Borrow.{Bor}
 use Rattle.std.proofs.lemmas.List.{drop_at}
 use Rattle.std.proofs.lemmas.Str.{encodes-chars, encodes_same, cons_from_encodes, length-encode, len_utf8_bounds}
-use Rattle.arraystring_base.specs.Text.{IsText, size, bytes, front, back, boundary}
+use Rattle.arraystring_base.specs.Text.{IsText, size, front, back, boundary}
 use Rattle.arraystring_base.proofs.TextLaws.{bytes-is, size-is, size-append, width-bounds, chars-bytes, bytes-utf8, text-chars}
-use Rattle.arraystring_base.proofs.BoundaryLaws.{boundary-is, front-is, back-is, front-text, back-text}
+use Rattle.arraystring_base.proofs.BoundaryLaws.{boundary-is, front-is, back-is, prefix-text, trailing-text}
 
 -- t is `before`, the character c and `after`, and c is not in `before`
 pub record IsSplitAtFirst (c : ℕ) (t before after : List ℕ) : Type 0 where
@@ -22,7 +22,8 @@ position-none : (p : ℕ → Bool) (xs : List ℕ) → NonePass p xs → positio
 position-none p [] none = refl
 position-none p (x ∷ xs) none = rw none.0 (omega (arith, position-none p xs none.1))
 
-position-seam : (p : ℕ → Bool) (xs : List ℕ) (c : ℕ) (ys : List ℕ) → NonePass p xs → p c ≡ true → position_or_len p (xs ++ c ∷ ys) ≡ length xs
+position-seam : (p : ℕ → Bool) (xs : List ℕ) (c : ℕ) (ys : List ℕ) → NonePass p xs → p c ≡ true
+    → position_or_len p (xs ++ c ∷ ys) ≡ length xs
 position-seam p [] c ys none is = rw is refl
 position-seam p (x ∷ xs) c ys none is = rw none.0 (omega (arith, position-seam p xs c ys none.1 is))
 
@@ -31,31 +32,44 @@ encodes-seam : (cs t rest : List ℕ) (c : ℕ) → encode_utf8_all t ≡ encode
     → (es : List ℕ) × (t ≡ cs ++ c ∷ es) × (encode_utf8_all es ≡ rest)
 encodes-seam [] t rest c e = cons_from_encodes t rest c e
 encodes-seam (d ∷ ds) t rest c e =
-    let more = encode_utf8_all ds ++ (encode_utf8 c ++ rest) in
-    let first = cons_from_encodes t more d (e ∙ append_assoc (encode_utf8 d) (encode_utf8_all ds) (encode_utf8 c ++ rest)) in
+    let first = cons_from_encodes t _ d (e ∙ append_assoc (encode_utf8 d) (encode_utf8_all ds) (encode_utf8 c ++ rest)) in
     let others = encodes-seam ds first.0 rest c first.2 in
     (others.0, first.1 ∙ ap (λ l. d ∷ l) others.1, others.2)
 
 -- what is split at the first c, in std's words
 module _ {c : ℕ} {t before after : List ℕ} (split : IsSplitAtFirst c t before after) where
   split-position : position_or_len (λ d. d == c) t ≡ length before
-  split-position = ap (position_or_len (λ d. d == c)) split.parts ∙ position-seam (λ d. d == c) before c after split.none_before (eq-eqb c c refl)
+  split-position = rw split.parts (position-seam (λ d. d == c) before c after split.none_before (eq-eqb c c refl))
 
   pub split-inside : position_or_len (λ d. d == c) t < length t
   split-inside = omega (arith, split-position, ap length split.parts, length-append before (c ∷ after))
 
   pub split-before : before ≡ before_first (λ d. d == c) t
-  split-before = sym ((λ k. take (split-position k) (split.parts k)) ∙ take_at before (c ∷ after) (length before) refl)
+  split-before = rw (split-position, split.parts, take_at before (c ∷ after) (length before) refl)
 
   pub split-after : after ≡ after_first (λ d. d == c) t
   split-after =
-      let one : length (before ++ c ∷ []) ≡ length before + 1 = length-append before (c ∷ []) in
-      sym ((λ k. drop (split-position k + 1) (split.parts k)) ∙ ap (drop (length before + 1)) (sym (append_assoc before (c ∷ []) after))
-      ∙ drop_at (before ++ c ∷ []) after (length before + 1) one)
+      rw (
+        split-position,
+        split.parts,
+        ← append_assoc before (c ∷ []) after,
+        drop_at (before ++ c ∷ []) after (length before + 1) (length-append before (c ∷ [])),
+      )
+
+  split-at : (i : ℕ) → size before ≡ i
+      → (i < size t) × (boundary t i ≡ true) × (front t i ≡ before_first (λ d. d == c) t)
+      × (back t i ≡ c ∷ after_first (λ d. d == c) t)
+  split-at i long =
+      rw (← split-before, ← split-after, split.parts) (
+        omega (arith, size-append before (c ∷ after), width-bounds c),
+        boundary-is before (c ∷ after) i long,
+        front-is before (c ∷ after) i long,
+        back-is before (c ∷ after) i long,
+      )
 
 -- the bytes of a text spell it
-spelled : (t part : List ℕ) → IsText t → bytes t ≡ part → chars part ≡ t
-spelled t part is e = chars-bytes (subst IsUtf8 e (bytes-utf8 t is)) (sym e)
+spelled : (t part : List ℕ) → IsText t → encode_utf8_all t ≡ part → chars part ≡ t
+spelled t part is e = rw (← e, ← bytes-is) (chars-bytes (bytes-utf8 t is) refl)
 
 module _ {bs : List ℕ} (u : IsUtf8 bs) (c : ℕ) where
   -- what has no c
@@ -66,91 +80,82 @@ module _ {bs : List ℕ} (u : IsUtf8 bs) (c : ℕ) where
 
   -- the text round the character that was found
   module _ {i j : ℕ} (found : FindsChar c bs (Some (i, j))) where
-    whole : encode_utf8_all (chars bs) ≡ encode_utf8_all found.0.0 ++ (encode_utf8 c ++ drop j bs)
-    whole = encodes-chars bs u ∙ sym (take-append-drop i bs) ∙ (λ k. sym found.0.1 k ++ found.1.split k)
-
     seam : (es : List ℕ) × (chars bs ≡ found.0.0 ++ c ∷ es) × (encode_utf8_all es ≡ drop j bs)
-    seam = encodes-seam found.0.0 (chars bs) (drop j bs) c whole
+    seam =
+        encodes-seam found.0.0 (chars bs) (drop j bs) c
+        (encodes-chars bs u ∙ sym (take-append-drop i bs) ∙ (λ k. sym found.0.1 k ++ found.1.split k))
 
-    within : i ≤ length bs
-    within = omega (arith, ap length found.1.split, length-drop i bs, length-append (encode_utf8 c) (drop j bs), length-encode c, (len_utf8_bounds c).0)
+    split : IsSplitAtFirst c (chars bs) found.0.0 seam.0
+    split = record { parts = seam.1; none_before = found.0.2 }
 
     -- as many bytes as are before it
     size-before : size found.0.0 ≡ i
-    size-before = size-is found.0.0 ∙ ap length (bytes-is found.0.0 ∙ found.0.1) ∙ length-take-le i bs within
+    size-before =
+        let within : i ≤ length bs =
+        omega (
+          arith,
+          ap length found.1.split,
+          length-drop i bs,
+          length-append (encode_utf8 c) (drop j bs),
+          length-encode c,
+          (len_utf8_bounds c).0,
+        ) in
+        rw (size-is, bytes-is, found.0.1) (length-take-le i bs within)
 
-    back-at : back (chars bs) i ≡ c ∷ seam.0
-    back-at = ap (λ l. back l i) seam.1 ∙ back-is found.0.0 (c ∷ seam.0) i size-before
-
-    front-at : front (chars bs) i ≡ found.0.0
-    front-at = ap (λ l. front l i) seam.1 ∙ front-is found.0.0 (c ∷ seam.0) i size-before
-
-    boundary-at : boundary (chars bs) i ≡ true
-    boundary-at = ap (λ l. boundary l i) seam.1 ∙ boundary-is found.0.0 (c ∷ seam.0) i size-before
-
-    inside-at : i < size (chars bs)
-    inside-at =
-        omega (arith, size-before, ap size seam.1, size-append found.0.0 (c ∷ seam.0), width-bounds c)
+    is-text : IsText (found.0.0 ++ c ∷ seam.0)
+    is-text = subst IsText seam.1 (text-chars u)
 
     chars-before : chars (take i bs) ≡ found.0.0
-    chars-before = spelled found.0.0 (take i bs) (subst IsText front-at (front-text (chars bs) i (text-chars u))) (bytes-is found.0.0 ∙ found.0.1)
+    chars-before = spelled found.0.0 (take i bs) (prefix-text found.0.0 (c ∷ seam.0) is-text) found.0.1
 
     chars-after : chars (drop j bs) ≡ seam.0
-    chars-after =
-        let is : IsText (c ∷ seam.0) = subst IsText back-at (back-text (chars bs) i (text-chars u)) in
-        spelled seam.0 (drop j bs) is.1 (bytes-is seam.0 ∙ seam.2)
+    chars-after = spelled seam.0 (drop j bs) (trailing-text found.0.0 (c ∷ seam.0) is-text).1 seam.2
 
-    split-at : (before after : List ℕ) → before ≡ take i bs → after ≡ drop j bs → IsSplitAtFirst c (chars bs) (chars before) (chars after)
-    split-at before after b a = record {
-      parts = seam.1 ∙ (λ k. sym (ap chars b ∙ chars-before) k ++ c ∷ sym (ap chars a ∙ chars-after) k);
-      none_before = subst (NonePass (λ d. d == c)) (sym (ap chars b ∙ chars-before)) found.0.2;
-    }
-
-  -- `find`, where it gives a place: this is a boundary, before it is what stands before the first c, and c begins there
-  module _ {r : Option ℕ} (found : MatchOption r (FindsChar c bs None) (MatchBeginsAt (FindsChar c) bs)) where
-    pub find-some : {i : ℕ} → r ≡ Some i
-        → (i < size (chars bs)) × (boundary (chars bs) i ≡ true) × (front (chars bs) i ≡ before_first (λ d. d == c) (chars bs)) × (back (chars bs) i ≡ c ∷ after_first (λ d. d == c) (chars bs))
-    find-some {i} is =
-        let at = subst (λ o. MatchOption o (FindsChar c bs None) (MatchBeginsAt (FindsChar c) bs)) is found in
-        let split = split-at at.1 (take i bs) (drop at.0 bs) refl refl in (
-          inside-at at.1,
-          boundary-at at.1,
-          front-at at.1 ∙ sym (chars-before at.1) ∙ split-before split,
-          back-at at.1 ∙ ap (λ l. c ∷ l) (sym (chars-after at.1) ∙ split-after split),
-        )
-
-    -- where it gives none, no c is in the text
-    pub find-none : r ≡ None → position_or_len (λ d. d == c) (chars bs) ≡ length (chars bs)
-    find-none is = none-position (subst (λ o. MatchOption o (FindsChar c bs None) (MatchBeginsAt (FindsChar c) bs)) is found)
-
-  -- both in one
+  -- `find`: where it gives a place, this is a boundary, before it is what stands before the first c, and c begins there;
+  -- where it gives none, no c is in the text
   pub find-first : (r : Option ℕ) → MatchOption r (FindsChar c bs None) (MatchBeginsAt (FindsChar c) bs)
       → MatchOption r (position_or_len (λ d. d == c) (chars bs) ≡ length (chars bs))
-      (λ i. (i < size (chars bs)) × (boundary (chars bs) i ≡ true) × (front (chars bs) i ≡ before_first (λ d. d == c) (chars bs)) × (back (chars bs) i ≡ c ∷ after_first (λ d. d == c) (chars bs)))
-  find-first None found = find-none {r = None} found refl
-  find-first (Some i) found = find-some {r = Some i} found refl
+      (λ i. (i < size (chars bs)) × (boundary (chars bs) i ≡ true) × (front (chars bs) i ≡ before_first (λ d. d == c) (chars bs))
+      × (back (chars bs) i ≡ c ∷ after_first (λ d. d == c) (chars bs)))
+  find-first None found = none-position found
+  find-first (Some i) found = split-at (split found.1) i (size-before found.1)
 
-  -- `split_once`, where it gives two parts: they stand before and after the first c
-  module _ {r : Option (Bor (List ℕ) × Bor (List ℕ))} (found : MatchOption r (FindsChar c bs None) (λ x. SplitsAroundMatch (FindsChar c) bs x.0.now x.1.now)) where
-    pub split_once-some : {x : Bor (List ℕ) × Bor (List ℕ)} → r ≡ Some x
-        → (position_or_len (λ d. d == c) (chars bs) < length (chars bs)) × (chars x.0.now ≡ before_first (λ d. d == c) (chars bs))
-        × (chars x.1.now ≡ after_first (λ d. d == c) (chars bs)) × (chars bs ≡ chars x.0.now ++ c ∷ chars x.1.now) × NonePass (λ d. d == c) (chars x.0.now)
-    split_once-some {x} is =
-        let at = subst (λ o. MatchOption o (FindsChar c bs None) (λ x. SplitsAroundMatch (FindsChar c) bs x.0.now x.1.now)) is found in
-        let split = split-at at.2 x.0.now x.1.now at.3 at.4 in
-        (split-inside split, split-before split, split-after split, split.parts, split.none_before)
+  -- each by itself
+  module _ {r : Option ℕ} (found : MatchOption r (FindsChar c bs None) (MatchBeginsAt (FindsChar c) bs)) where
+    pub find-some : {i : ℕ} → r ≡ Some i
+        → (i < size (chars bs)) × (boundary (chars bs) i ≡ true) × (front (chars bs) i ≡ before_first (λ d. d == c) (chars bs))
+        × (back (chars bs) i ≡ c ∷ after_first (λ d. d == c) (chars bs))
+    find-some is = rw is at (find-first r found)
 
-    -- where it gives none, no c is in the text
-    pub split_once-none : r ≡ None → position_or_len (λ d. d == c) (chars bs) ≡ length (chars bs)
-    split_once-none is = none-position (subst (λ o. MatchOption o (FindsChar c bs None) (λ x. SplitsAroundMatch (FindsChar c) bs x.0.now x.1.now)) is found)
+    pub find-none : r ≡ None → position_or_len (λ d. d == c) (chars bs) ≡ length (chars bs)
+    find-none is = rw is at (find-first r found)
 
-  -- both in one
-  pub split_once-first : (r : Option (Bor (List ℕ) × Bor (List ℕ))) → MatchOption r (FindsChar c bs None) (λ x. SplitsAroundMatch (FindsChar c) bs x.0.now x.1.now)
+  -- `split_once`: where it gives two parts, they stand before and after the first c; where it gives none, no c is in the text
+  pub split_once-first : (r : Option (Bor (List ℕ) × Bor (List ℕ)))
+      → MatchOption r (FindsChar c bs None) (λ x. SplitsAroundMatch (FindsChar c) bs x.0.now x.1.now)
       → MatchOption r (position_or_len (λ d. d == c) (chars bs) ≡ length (chars bs))
-      (λ x. (position_or_len (λ d. d == c) (chars bs) < length (chars bs)) × (chars x.0.now ≡ before_first (λ d. d == c) (chars bs))
-      × (chars x.1.now ≡ after_first (λ d. d == c) (chars bs)) × (chars bs ≡ chars x.0.now ++ c ∷ chars x.1.now) × NonePass (λ d. d == c) (chars x.0.now))
-  split_once-first None found = split_once-none {r = None} found refl
-  split_once-first (Some x) found = split_once-some {r = Some x} found {x = x} refl
+      (λ x. (position_or_len (λ d. d == c) (chars bs) < length (chars bs))
+      × (chars x.0.now ≡ before_first (λ d. d == c) (chars bs))
+      × (chars x.1.now ≡ after_first (λ d. d == c) (chars bs)) × (chars bs ≡ chars x.0.now ++ c ∷ chars x.1.now)
+      × NonePass (λ d. d == c) (chars x.0.now))
+  split_once-first None found = none-position found
+  split_once-first (Some x) found =
+      let is = split found.2 in
+      rw (found.3, found.4, chars-before found.2, chars-after found.2)
+      (split-inside is, split-before is, split-after is, is.parts, is.none_before)
+
+  -- each by itself
+  module _ {r : Option (Bor (List ℕ) × Bor (List ℕ))}
+      (found : MatchOption r (FindsChar c bs None) (λ x. SplitsAroundMatch (FindsChar c) bs x.0.now x.1.now)) where
+    pub split_once-some : {x : Bor (List ℕ) × Bor (List ℕ)} → r ≡ Some x
+        → (position_or_len (λ d. d == c) (chars bs) < length (chars bs))
+        × (chars x.0.now ≡ before_first (λ d. d == c) (chars bs))
+        × (chars x.1.now ≡ after_first (λ d. d == c) (chars bs)) × (chars bs ≡ chars x.0.now ++ c ∷ chars x.1.now)
+        × NonePass (λ d. d == c) (chars x.0.now)
+    split_once-some is = rw is at (split_once-first r found)
+
+    pub split_once-none : r ≡ None → position_or_len (λ d. d == c) (chars bs) ≡ length (chars bs)
+    split_once-none is = rw is at (split_once-first r found)
 
 -- what stands before the first character that passes has none that does
 pub before_first-none : (p : ℕ → Bool) (t : List ℕ) → NonePass p (before_first p t)

@@ -1,24 +1,25 @@
 -- The last character of a text, by the bytes at its end.
-use Rattle.std.proofs.Common.{◌≡◌, ℕ, ◌+◌, ◌-◌, ◌*◌, ◌<◌, ◌≤◌, ◌⊎◌, List, [], ◌∷◌, ◌++◌, length, get_or, refl, sym, ap, ◌∙◌, subst, arith, IsUtf8, chars, inl, inr, length-append}
+use Rattle.std.proofs.Common.{◌≡◌, ℕ, ◌+◌, ◌-◌, ◌*◌, ◌<◌, ◌≤◌, ◌⊎◌, List, [], ◌∷◌, ◌++◌, length, get_or, refl, sym, ap, ◌∙◌, subst, arith, IsUtf8, chars, length-append}
 use Rattle.std.specs.Char.{IsScalar}
-use Rattle.std.proofs.lemmas.Bool.{cases_lt}
+use Rattle.std.proofs.lemmas.Bool.Decides.{nat_tests}
 use Rattle.std.proofs.lemmas.List.{append-nil, get_or-append-add, nil_from_length}
 use Rattle.std.proofs.lemmas.Str.{chars-nil}
-use Rattle.arraystring_base.specs.Text.{IsScalarValue, IsText, utf8, size, bytes}
-use Rattle.arraystring_base.proofs.TextLaws.{utf8-one, utf8-two, utf8-three, utf8-four, width-bounds, bytes-append, bytes-chars, size-is, text-chars, scalar-is}
+use Rattle.arraystring_base.specs.Text.{utf8, size, bytes}
+use Rattle.arraystring_base.proofs.TextLaws.{width-bounds, bytes-append, bytes-chars, size-is, text-chars, scalar-is}
+use Rattle.arraystring_base.proofs.BoundaryLaws.{trailing-text}
 
 -- no bytes are no characters
 pub chars_empty : (bs : List ℕ) → length bs ≡ 0 → chars bs ≡ []
 chars_empty bs none = ap chars (nil_from_length bs none) ∙ chars-nil
 
 -- the k-th byte from the end
-abbrev pub from_end : List ℕ → ℕ → ℕ
+abbrev from_end : List ℕ → ℕ → ℕ
 from_end bs k = get_or bs (length bs - k) 0
 
 from_end-append : (xs ys : List ℕ) (k : ℕ) → k ≤ length ys → from_end (xs ++ ys) k ≡ from_end ys k
 from_end-append xs ys k le =
     let offset : length (xs ++ ys) - k ≡ length xs + (length ys - k) = omega (arith, length-append xs ys) in
-    ap (λ i. get_or (xs ++ ys) i 0) offset ∙ get_or-append-add xs ys (length ys - k) 0
+    rw offset (get_or-append-add xs ys (length ys - k) 0)
 
 -- the last of n bytes, counted from the end, are those of the character c, which begins at m
 abbrev Spell : ℕ → ℕ → ℕ → ℕ → ℕ → ℕ → ℕ → Type 0
@@ -34,16 +35,8 @@ abbrev EndsWith : List ℕ → ℕ → ℕ → Type 0
 EndsWith bs m c = Spell (from_end bs 1) (from_end bs 2) (from_end bs 3) (from_end bs 4) (length bs) m c
 
 ends-with : (xs : List ℕ) (c : ℕ) → EndsWith (xs ++ utf8 c) (length xs) c
-ends-with xs c = elim (cases_lt c 0x80) [
-  | inl one ↦ rw (utf8-one c one) (inl (omega (arith, length-append {A = ℕ}, from_end-append)))
-  | inr past ↦ elim (cases_lt c 0x800) [
-    | inl two ↦ rw (utf8-two c past two) (inr (inl (omega (arith, length-append {A = ℕ}, from_end-append))))
-    | inr over ↦ elim (cases_lt c 0x1_0000) [
-      | inl three ↦ rw (utf8-three c over three) (inr (inr (inl (omega (arith, length-append {A = ℕ}, from_end-append)))))
-      | inr four ↦ rw (utf8-four c four) (inr (inr (inr (omega (arith, length-append {A = ℕ}, from_end-append)))))
-    ]
-  ]
-]
+unfolding utf8
+ends-with xs c = grind (arith, nat_tests, length-append {A = ℕ}, from_end-append)
 
 last-split : (t : List ℕ) → 0 < size t → (front : List ℕ) × (c : ℕ) × (t ≡ front ++ c ∷ [])
 last-split [] some = absurd (omega arith)
@@ -51,61 +44,31 @@ last-split (c ∷ []) some = ([], c, refl)
 last-split (a ∷ b ∷ t) some =
     let rest = last-split (b ∷ t) (omega (arith, width-bounds b)) in (a ∷ rest.0, rest.1, ap (λ l. a ∷ l) rest.2)
 
-last-text : (front : List ℕ) (c : ℕ) → IsText (front ++ c ∷ []) → IsScalarValue c
-last-text [] c is = is.0
-last-text (a ∷ front) c is = last-text front c is.1
-
 -- the last character of bs, and what comes before it
 pub record Last (bs : List ℕ) : Type 0 where
-  front : List ℕ
-  c : ℕ
+  pub front : List ℕ
+  pub c : ℕ
   is : chars bs ≡ front ++ c ∷ []
-  scalar : IsScalarValue c
-  ends : EndsWith bs (size front) c
+  scalar : IsScalar c
+  pub ends : EndsWith bs (size front) c
 
 pub last_of : {all bs : List ℕ} → all ≡ bs → IsUtf8 bs → 0 < length bs → Last all
 last_of {bs = bs} same u some =
-    let whole = bytes-chars u in
-    let parts = last-split (chars bs) (omega (arith, size-is (chars bs), ap length whole)) in
-    let front = parts.0 in
-    let c = parts.1 in
-    let shown : bs ≡ bytes front ++ utf8 c =
-    sym whole ∙ ap bytes parts.2 ∙ bytes-append front (c ∷ []) ∙ ap (λ l. bytes front ++ l) (append-nil (utf8 c)) in
+    let (front, c, split) = last-split (chars bs) (omega (arith, size-is (chars bs), ap length (bytes-chars u))) in
+    let spelled : bs ≡ bytes front ++ utf8 c = rw (split, bytes-append, append-nil) at (sym (bytes-chars u)) in
     rw same (record {
       front = front;
       c = c;
-      is = parts.2;
-      scalar = last-text front c (subst IsText parts.2 (text-chars u));
-      ends = subst (λ l. EndsWith l (size front) c) (sym shown) (rw (size-is front) (ends-with (bytes front) c));
+      is = split;
+      scalar = scalar-is c (trailing-text front (c ∷ []) (rw split at (text-chars u))).0;
+      ends = subst (λ l. EndsWith l (size front) c) (sym spelled) (rw (size-is front) (ends-with (bytes front) c));
     })
 
--- what the bytes of the end tell, looked at one by one: the last character, or that it has more of them
-module _ {bs : List ℕ} (last : Last bs) {a : ℕ} (first : a ≡ from_end bs 1) where
-  abbrev IsLast : ℕ → ℕ → Type 0
-  IsLast code k = ((front : List ℕ) × (chars bs ≡ front ++ code ∷ []) × (size front ≡ length bs - k)) × IsScalar code
+-- a number that is that of the last character, which has k bytes
+module _ {bs : List ℕ} (last : Last bs) {code : ℕ} (same : last.c ≡ code) where
+  pub is-scalar : IsScalar code
+  is-scalar = rw (← same) last.scalar
 
-  is-last : {code : ℕ} (k : ℕ) → (last.c ≡ code) × (size last.front ≡ length bs - k) → IsLast code k
-  is-last k is = rw (← is.0) ((last.front, last.is, is.1), scalar-is last.c last.scalar)
-
-  pub one : a < 0x80 → IsLast a 1
-  one lt = is-last 1 (omega arith)
-
-  pub two-long : 0x80 ≤ a → 2 ≤ length bs
-  two-long more = omega arith
-
-  module _ (more : 0x80 ≤ a) {b : ℕ} (second : b ≡ from_end bs 2) where
-    pub two : 0xC0 ≤ b → IsLast ((b - 0xC0) * 64 + (a - 0x80)) 2
-    two lead = is-last 2 (omega arith)
-
-    pub three-long : b < 0xC0 → (3 ≤ length bs) × (0x80 ≤ b)
-    three-long back = omega arith
-
-    pub three : {d : ℕ} → b < 0xC0 → d ≡ from_end bs 3 → 0xC0 ≤ d → (0xE0 ≤ d) × IsLast ((d - 0xE0) * 4096 + (b - 0x80) * 64 + (a - 0x80)) 3
-    three back third lead = (omega arith, is-last 3 (omega arith))
-
-    pub four-long : {d : ℕ} → b < 0xC0 → d ≡ from_end bs 3 → d < 0xC0 → (4 ≤ length bs) × (0x80 ≤ d)
-    four-long back third far = omega arith
-
-    pub four : {d f : ℕ} → b < 0xC0 → d ≡ from_end bs 3 → d < 0xC0 → f ≡ from_end bs 4
-        → (0xF0 ≤ f) × IsLast ((f - 0xF0) * 262144 + (d - 0x80) * 4096 + (b - 0x80) * 64 + (a - 0x80)) 4
-    four back third far fourth = (omega arith, is-last 4 (omega arith))
+  pub is-last : (k : ℕ) → size last.front ≡ length bs - k
+      → (front : List ℕ) × (chars bs ≡ front ++ code ∷ []) × (size front ≡ length bs - k)
+  is-last k long = rw (← same) (last.front, last.is, long)

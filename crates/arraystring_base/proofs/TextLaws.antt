@@ -1,7 +1,7 @@
 -- Laws of texts and their bytes.
-use Rattle.std.proofs.Common.{◌≡◌, ℕ, ◌+◌, ◌/◌, ◌<◌, ◌≤◌, List, [], ◌∷◌, ◌++◌, length, drop, refl, sym, ap, ◌∙◌, arith, IsUtf8, IsCharBoundary, chars, nat_eq, encode_utf8_all, true, inl, inr, length-append, append_assoc}
-use Rattle.std.proofs.lemmas.Bool.{and_parts, lt-ltb, le-ltb, le-leb}
-use Rattle.std.proofs.lemmas.Bool.Decides.{same_from_decides}
+use Rattle.std.proofs.Common.{◌≡◌, ℕ, ◌+◌, ◌/◌, ◌<◌, ◌≤◌, List, [], ◌∷◌, ◌++◌, length, drop, refl, sym, ap, ◌∙◌, arith, IsUtf8, IsCharBoundary, chars, nat_eq, encode_utf8_all, true, length-append, append_assoc}
+use Rattle.std.proofs.lemmas.Bool.{and_parts}
+use Rattle.std.proofs.lemmas.Bool.Decides.{same_from_decides, nat_tests}
 use Rattle.std.proofs.lemmas.Str.{encodes-chars, encodes_same, length-encode, len_utf8_bounds, IsCharBoundary-past_char, scalars-chars}
 use Rattle.std.proofs.Math.Utf8.{scalars, scalar, scalar_cases}
 use Rattle.std.specs.Char.{len_utf8, encode_utf8}
@@ -19,10 +19,10 @@ utf8-is c = refl
 
 pub bytes-is : (t : List ℕ) → bytes t ≡ encode_utf8_all t
 bytes-is [] = refl
-bytes-is (c ∷ cs) = ap (λ l. l ++ bytes cs) (utf8-is c) ∙ ap (λ l. encode_utf8 c ++ l) (bytes-is cs)
+bytes-is (c ∷ cs) = cc (utf8-is c, bytes-is cs)
 
 pub length-utf8 : (c : ℕ) → length (utf8 c) ≡ width c
-length-utf8 c = ap length (utf8-is c) ∙ length-encode c ∙ sym (width-is c)
+length-utf8 c = rw (utf8-is, width-is) (length-encode c)
 
 pub width-bounds : (c : ℕ) → (1 ≤ width c) × (width c ≤ 4)
 width-bounds c = rw width-is (len_utf8_bounds c)
@@ -30,19 +30,19 @@ width-bounds c = rw width-is (len_utf8_bounds c)
 -- the bytes of a character, by its number
 pub utf8-one : (c : ℕ) → c < 0x80 → utf8 c ≡ c ∷ []
 unfolding utf8
-utf8-one c lt = rw (lt-ltb c 0x80 lt) refl
+utf8-one c lt = grind (arith, nat_tests)
 
 pub utf8-two : (c : ℕ) → 0x80 ≤ c → c < 0x800 → utf8 c ≡ (0xC0 + c / 64) ∷ continuation c ∷ []
 unfolding utf8
-utf8-two c le lt = rw (le-ltb c 0x80 le, lt-ltb c 0x800 lt) refl
+utf8-two c le lt = grind (arith, nat_tests)
 
 pub utf8-three : (c : ℕ) → 0x800 ≤ c → c < 0x1_0000 → utf8 c ≡ (0xE0 + c / 4096) ∷ continuation (c / 64) ∷ continuation c ∷ []
 unfolding utf8
-utf8-three c le lt = rw (le-ltb c 0x80 (omega arith), le-ltb c 0x800 le, lt-ltb c 0x1_0000 lt) refl
+utf8-three c le lt = grind (arith, nat_tests)
 
 pub utf8-four : (c : ℕ) → 0x1_0000 ≤ c → utf8 c ≡ (0xF0 + c / 262144) ∷ continuation (c / 4096) ∷ continuation (c / 64) ∷ continuation c ∷ []
 unfolding utf8
-utf8-four c le = rw (le-ltb c 0x80 (omega arith), le-ltb c 0x800 (omega arith), le-ltb c 0x1_0000 le) refl
+utf8-four c le = grind (arith, nat_tests)
 
 -- two texts, one after the other
 pub size-append : (a b : List ℕ) → size (a ++ b) ≡ size a + size b
@@ -51,7 +51,7 @@ size-append (c ∷ a) b = omega (arith, size-append a b)
 
 pub bytes-append : (a b : List ℕ) → bytes (a ++ b) ≡ bytes a ++ bytes b
 bytes-append [] b = refl
-bytes-append (c ∷ a) b = ap (λ l. utf8 c ++ l) (bytes-append a b) ∙ sym (append_assoc (utf8 c) (bytes a) (bytes b))
+bytes-append (c ∷ a) b = rw (bytes-append a b, append_assoc)
 
 -- a text takes as many bytes as it has
 pub size-is : (t : List ℕ) → size t ≡ length (bytes t)
@@ -65,7 +65,7 @@ empty-size {t = c ∷ cs} e = absurd (omega (arith, width-bounds c))
 
 -- bytes that are UTF-8 are those of their characters, and of no other text
 pub bytes-chars : {bs : List ℕ} → IsUtf8 bs → bytes (chars bs) ≡ bs
-bytes-chars {bs} u = bytes-is (chars bs) ∙ encodes-chars bs u
+bytes-chars {bs} u = rw bytes-is (encodes-chars bs u)
 
 pub bytes_same : {a b : List ℕ} → bytes a ≡ bytes b → a ≡ b
 bytes_same {a} {b} e = encodes_same a b (sym (bytes-is a) ∙ e ∙ bytes-is b)
@@ -74,13 +74,13 @@ pub chars-bytes : {bs t : List ℕ} → IsUtf8 bs → bs ≡ bytes t → chars b
 chars-bytes u e = bytes_same (bytes-chars u ∙ e)
 
 pub size-borrowed : {bs : List ℕ} → IsUtf8 bs → size (chars bs) ≡ length bs
-size-borrowed {bs} u = size-is (chars bs) ∙ ap length (bytes-chars u)
+size-borrowed {bs} u = rw (size-is, bytes-chars u)
 
 -- where a character ends, the next begins
 pub boundary-past_char : (bs rest : List ℕ) (i c : ℕ) → i ≤ length bs → IsUtf8 (drop i bs)
     → drop i bs ≡ utf8 c ++ rest → IsCharBoundary bs (i + width c)
 boundary-past_char bs rest i c le u e =
-    rw width-is (IsCharBoundary-past_char bs rest i c le u (e ∙ ap (λ l. l ++ rest) (utf8-is c)))
+    rw width-is (IsCharBoundary-past_char bs rest i c le u (rw utf8-is at e))
 
 -- texts are compared by their bytes
 pub pointwise-bytes : (a b : List ℕ) → pointwise nat_eq (bytes a) (bytes b) ≡ pointwise nat_eq a b
@@ -91,9 +91,7 @@ pointwise-bytes a b =
 
 -- std's tests of characters
 pub scalar-is : (c : ℕ) → IsScalarValue c → scalar c ≡ true
-scalar-is c (inl lt) = rw (lt-ltb c 55296 lt) refl
-scalar-is c (inr (le, lt)) =
-    let past : 55296 ≤ c = omega arith in rw (le-ltb c 55296 past, le-leb 57344 c le, lt-ltb c 1114112 lt) refl
+scalar-is c is = grind (arith, nat_tests)
 
 scalars-is : (t : List ℕ) → IsText t → scalars t ≡ true
 scalars-is [] is = refl

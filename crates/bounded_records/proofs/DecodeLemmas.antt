@@ -67,10 +67,12 @@ one_user bs u r v s is other = (
 )
 
 -- what `decode` says of its result
-pub record IsDecoded (bs : List ℕ) (result : Result User RecordFault) : Type 0 where
-  pub user : (username role : List ℕ) → IsOkAnd result (λ user. texts user ≡ (username, role)) ↔ IsRecord bs username role
-  pub only : (u r v s : List ℕ) → IsRecord bs u r → IsRecord bs v s → (u ≡ v) × (r ≡ s)
-  pub fault : (fault : RecordFault) → IsErrAnd result (λ e. e ≡ fault) ↔ IsFirstFault bs fault
+abbrev IsDecoded : List ℕ → Result User RecordFault → Type 0
+IsDecoded bs result = record {
+  user : (username role : List ℕ) → IsOkAnd result (λ user. texts user ≡ (username, role)) ↔ IsRecord bs username role;
+  only : (u r v s : List ℕ) → IsRecord bs u r → IsRecord bs v s → (u ≡ v) × (r ≡ s);
+  fault : (fault : RecordFault) → IsErrAnd result (λ e. e ≡ fault) ↔ IsFirstFault bs fault;
+}
 
 pub refused : (bs : List ℕ) (fault : RecordFault) → IsFirstFault bs fault → IsDecoded bs (Err fault)
 refused bs fault is = record {

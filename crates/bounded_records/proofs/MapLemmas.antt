@@ -8,7 +8,7 @@ use Rattle.std.specs.Cmp.Lexicographic.{slice_cmp, nat_list_cmp_total}
 use Rattle.std.specs.Map.{lookup, keys_of, values_of}
 use Rattle.std.specs.FinMap as finite
 use Rattle.std.specs.FinMap.{find, put}
-use Rattle.std.proofs.lemmas.Bool.{false_from_ne_true}
+use Rattle.std.proofs.lemmas.Bool.{false_from_ne_true, cond_both}
 use Rattle.std.proofs.lemmas.List.{nil_from_length, length-map}
 use Rattle.std.proofs.lemmas.Map.Lookups.{exact_bytes}
 use Rattle.std.proofs.lemmas.Map.Views.{tells_apart}
@@ -17,8 +17,11 @@ use Rattle.arraystring.proofs.MapLaws.{has_text, updated-text}
 use Rattle.bounded_records.specs.declared.user.User.{User}
 use Rattle.bounded_records.specs.Users.{by_text, texts}
 
+abbrev Users : Type 0
+Users = finite.FinMap (slice_cmp nat_cmp) (List ℕ × List ℕ)
+
 -- the map from the texts
-abbrev pub users_of : List (Stored × User) → finite.FinMap (slice_cmp nat_cmp) (List ℕ × List ℕ)
+abbrev pub users_of : List (Stored × User) → Users
 users_of es = finite.from_entries (by_text es)
 
 texts-cond : (b : Bool) (x y : Option User) → option_map texts (cond b x y) ≡ cond b (option_map texts x) (option_map texts y)
@@ -33,93 +36,81 @@ find-by_text (e ∷ es) q =
 pub get_users : (es : List (Stored × User)) (q : List ℕ) → finite.get (users_of es) q ≡ option_map texts (lookup (has_text q) es)
 get_users es q = finite.get-from_entries nat_list_cmp_total (by_text es) q ∙ find-by_text es q
 
+-- what is found under each text after a change to what is under one
+updated-users : (old new : List (Stored × User)) (t : List ℕ) (value : Option User)
+    → ((q : Stored) → lookup (has_text q.text) new ≡ cond (has_text t q) value (lookup (has_text q.text) old))
+    → (q : List ℕ) → finite.get (users_of new) q ≡ cond (eq_by_cmp (slice_cmp nat_cmp) q t) (option_map texts value) (finite.get (users_of old) q)
+updated-users old new t value is q = cc (
+  get_users new q,
+  updated-text old new t value is q,
+  texts-cond (eq_by_cmp (slice_cmp nat_cmp) t q) value (lookup (has_text q) old),
+  (eq_by_cmp_equiv nat_list_cmp_total).symm t q,
+  get_users old q,
+)
+
 -- one user more
 pub insert_users : (old new : List (Stored × User)) (k : Stored) (u : User)
     → ((q : Stored) → lookup (has_text q.text) new ≡ cond (has_text k.text q) (Some u) (lookup (has_text q.text) old))
     → users_of new ≡ finite.insert (users_of old) k.text (texts u)
 insert_users old new k u is =
-    finite.same_map nat_list_cmp_total exact_bytes (users_of new) (finite.insert (users_of old) k.text (texts u))
-    (λ q. cc (
-      get_users new q,
-      updated-text old new k.text (Some u) is q,
-      texts-cond (eq_by_cmp (slice_cmp nat_cmp) k.text q) (Some u) (lookup (has_text q) old),
-      (eq_by_cmp_equiv nat_list_cmp_total).symm k.text q,
-      get_users old q,
-      finite.get-insert nat_list_cmp_total (users_of old) k.text (texts u) q,
-    ))
-
-inserted : (m : finite.FinMap (slice_cmp nat_cmp) (List ℕ × List ℕ)) (t : List ℕ) (u : List ℕ × List ℕ)
-    → finite.get (finite.insert m t u) t ≡ Some u
-inserted m t u =
-    rw (finite.get-insert nat_list_cmp_total m t u t, (eq_by_cmp_equiv nat_list_cmp_total).refl t) refl
+    finite.same_map nat_list_cmp_total exact_bytes _ _
+    (λ q. updated-users old new k.text (Some u) is q ∙ sym (finite.get-insert nat_list_cmp_total (users_of old) k.text (texts u) q))
 
 -- one user less
 pub remove_users : (old new : List (Stored × User)) (t : List ℕ)
     → ((q : Stored) → lookup (has_text q.text) new ≡ cond (has_text t q) None (lookup (has_text q.text) old))
     → users_of new ≡ finite.remove (users_of old) t
 remove_users old new t is =
-    finite.same_map nat_list_cmp_total exact_bytes (users_of new) (finite.remove (users_of old) t)
-    (λ q. cc (
-      get_users new q,
-      updated-text old new t None is q,
-      texts-cond (eq_by_cmp (slice_cmp nat_cmp) t q) None (lookup (has_text q) old),
-      (eq_by_cmp_equiv nat_list_cmp_total).symm t q,
-      get_users old q,
-      finite.get-remove nat_list_cmp_total (users_of old) t q,
-    ))
+    finite.same_map nat_list_cmp_total exact_bytes _ _
+    (λ q. updated-users old new t None is q ∙ sym (finite.get-remove nat_list_cmp_total (users_of old) t q))
+
+-- what stands under a text afterwards
+module _ (m : Users) (t : List ℕ) (u : List ℕ × List ℕ) where
+  pub get_inserted : finite.get (finite.insert m t u) t ≡ Some u
+  get_inserted = rw (finite.get-insert nat_list_cmp_total m t u t, (eq_by_cmp_equiv nat_list_cmp_total).refl t) refl
+
+  pub get_others : (q : List ℕ) → q ≢ t → finite.get (finite.insert m t u) q ≡ finite.get m q
+  get_others q ne =
+      rw (finite.get-insert nat_list_cmp_total m t u q, false_from_ne_true _ (λ is. ne (tells_apart exact_bytes q t is))) refl
+
+  -- what is there already changes nothing
+  pub insert_same : finite.get m t ≡ Some u → finite.insert m t u ≡ m
+  insert_same is =
+      finite.same_map nat_list_cmp_total exact_bytes _ _
+      (λ q. rw (finite.get-insert nat_list_cmp_total m t u q)
+      (cond_both (eq_by_cmp (slice_cmp nat_cmp) q t) _ _ (λ o. o ≡ finite.get m q)
+      (λ same. rw (tells_apart exact_bytes q t same) (sym is)) (λ other. refl)))
 
 -- only the empty map has no user
 pub no_users : (es : List (Stored × User)) → users_of es ≡ finite.empty → es ≡ []
 no_users [] is = refl
 no_users (e ∷ es) is =
-    absurd (true≢false (ap is_some
-    (sym (inserted (users_of es) e.0.text (texts e.1)) ∙ ap (λ m. finite.get m e.0.text) is ∙ finite.get-empty _ e.0.text)))
+    absurd (cc (
+      get_inserted (users_of es) e.0.text (texts e.1),
+      is,
+      finite.get-empty {X = List ℕ × List ℕ} (slice_cmp nat_cmp) e.0.text,
+    ))
 
--- what stands under a text afterwards
-module _ (m : finite.FinMap (slice_cmp nat_cmp) (List ℕ × List ℕ)) (t : List ℕ) (u : List ℕ × List ℕ) where
-  pub get_inserted : finite.get (finite.insert m t u) t ≡ Some u
-  get_inserted = inserted m t u
-
-  pub get_others : (q : List ℕ) → q ≢ t → finite.get (finite.insert m t u) q ≡ finite.get m q
-  get_others q ne =
-      finite.get-insert nat_list_cmp_total m t u q
-      ∙ ap (λ b. cond b (Some u) (finite.get m q)) (false_from_ne_true _ (λ is. ne (tells_apart exact_bytes q t is)))
-
-  same-cond : (q : List ℕ) (b : Bool) → (b ≡ true → q ≡ t) → finite.get m t ≡ Some u → cond b (Some u) (finite.get m q) ≡ finite.get m q
-  same-cond q true same is = sym (ap (finite.get m) (same refl) ∙ is)
-  same-cond q false same is = refl
-
-  -- what is there already changes nothing
-  pub insert_same : finite.get m t ≡ Some u → finite.insert m t u ≡ m
-  insert_same is =
-      finite.same_map nat_list_cmp_total exact_bytes (finite.insert m t u) m
-      (λ q. finite.get-insert nat_list_cmp_total m t u q
-      ∙ same-cond q (eq_by_cmp (slice_cmp nat_cmp) q t) (λ e. tells_apart exact_bytes q t e) is)
-
-module _ (m : finite.FinMap (slice_cmp nat_cmp) (List ℕ × List ℕ)) (t : List ℕ) where
+module _ (m : Users) (t : List ℕ) where
   pub get_removed : finite.get (finite.remove m t) t ≡ None
-  get_removed =
-      rw (finite.get-remove nat_list_cmp_total m t t, (eq_by_cmp_equiv nat_list_cmp_total).refl t) refl
+  get_removed = rw (finite.get-remove nat_list_cmp_total m t t, (eq_by_cmp_equiv nat_list_cmp_total).refl t) refl
 
   pub get_kept : (q : List ℕ) → q ≢ t → finite.get (finite.remove m t) q ≡ finite.get m q
   get_kept q ne =
-      finite.get-remove nat_list_cmp_total m t q
-      ∙ ap (λ b. cond b None (finite.get m q)) (false_from_ne_true _ (λ is. ne (tells_apart exact_bytes q t is)))
+      rw (finite.get-remove nat_list_cmp_total m t q, false_from_ne_true _ (λ is. ne (tells_apart exact_bytes q t is))) refl
 
   has_one : (n : ℕ) → finite.len m ≡ n → finite.contains_key m t ≡ true → 0 < n
   has_one zero none is =
       absurd (true≢false (sym is ∙ ap (λ d. is_some (finite.get d t)) (finite.empty_of_len m none) ∙ ap is_some (finite.get-empty _ t)))
   has_one (suc n) some is = omega arith
 
-  one_less : (b : Bool) → finite.contains_key m t ≡ b → finite.len (finite.remove m t) + (if b then 1 else 0) ≡ finite.len m
-  one_less true is =
-      let left = rw is at (finite.len-remove nat_list_cmp_total m t) in omega (arith, has_one (finite.len m) refl is)
-  one_less false is = let left = rw is at (finite.len-remove nat_list_cmp_total m t) in omega arith
-
   -- a removal takes one if there is one
   pub len_removed : (o : Option User) → option_map texts o ≡ finite.get m t → finite.len (finite.remove m t) + (if is_some o then 1 else 0) ≡ finite.len m
-  len_removed None is = one_less false (ap is_some (sym is))
-  len_removed (Some u) is = one_less true (ap is_some (sym is))
+  len_removed None is =
+      let none : finite.contains_key m t ≡ false = ap is_some (sym is) in omega (arith, rw none at (finite.len-remove nat_list_cmp_total m t))
+  len_removed (Some u) is =
+      let some : finite.contains_key m t ≡ true = ap is_some (sym is) in
+      omega (arith, rw some at (finite.len-remove nat_list_cmp_total m t), has_one _ refl some)
 
 -- the texts of keys
 abbrev pub key_texts : List Stored → List (List ℕ)
@@ -152,7 +143,7 @@ pub len_users : (es : List (Stored × User)) → IsStrictlySortedBy (λ a b. sli
     → finite.len (users_of es) ≡ length es
 len_users es is = finite.len-entries (users_of es) ∙ ap length (entries-users es is) ∙ length-map es (λ e. (e.0.text, texts e.1))
 
-pub len_keys : (m : finite.FinMap (slice_cmp nat_cmp) (List ℕ × List ℕ)) → length (finite.keys m) ≡ finite.len m
+pub len_keys : (m : Users) → length (finite.keys m) ≡ finite.len m
 len_keys m = length-map (finite.entries m) (λ e. e.0) ∙ sym (finite.len-entries m)
 
 -- the users, in the order of their keys

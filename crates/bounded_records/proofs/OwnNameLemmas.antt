@@ -1,5 +1,5 @@
 -- Each user stands under its own username.
-use Rattle.std.proofs.Common.{◌≡◌, ℕ, List, [], ◌∷◌, map, Bool, true, false, cond, Bor, Option, Some, None, IsTrue, is_some, refl, sym, ap, ◌∙◌}
+use Rattle.std.proofs.Common.{◌≡◌, ℕ, List, [], ◌∷◌, map, Bor, Option, Some, None, IsTrue, is_some, refl, sym, ap, ◌∙◌}
 use Rattle.std.specs.Prelude.{IfSome}
 use Rattle.std.specs.BTreeMap.{BTreeMap, IsOrdered}
 use Rattle.std.specs.Cmp.{IsTotalOrder}
@@ -9,6 +9,7 @@ use Rattle.std.specs.List.{All}
 use Rattle.std.specs.Map.{keys_of, values_of, lookup}
 use Rattle.std.specs.Option.{option_map, option_copied}
 use Rattle.std.specs.Ordering.{nat_cmp, eq_by_cmp}
+use Rattle.std.proofs.lemmas.Bool.{cond_both}
 use Rattle.std.proofs.lemmas.List.Elements.{All-head, All-tail, All-map, All-weaker}
 use Rattle.std.proofs.lemmas.Map.Lookups.{exact_bytes}
 use Rattle.std.proofs.lemmas.Map.Views.{All-found, tells_apart}
@@ -27,36 +28,24 @@ pub own-new : (es : List (Stored × User)) → es ≡ [] → AreUnderTheirNames 
 own-new es is q = rw (is, finite.get-empty) tt
 
 -- after an insertion and a removal
-own-cond : (t r q : List ℕ) (old : Option (List ℕ × List ℕ)) (b : Bool) → (b ≡ true → q ≡ t) → IfSome old (λ u. u.0 ≡ q)
-    → IfSome (cond b (Some (t, r)) old) (λ u. u.0 ≡ q)
-own-cond t r q old true same is = sym (same refl)
-own-cond t r q old false same is = is
-
-none-cond : (q : List ℕ) (old : Option (List ℕ × List ℕ)) (b : Bool) → IfSome old (λ u. u.0 ≡ q) → IfSome (cond b None old) (λ u. u.0 ≡ q)
-none-cond q old true is = tt
-none-cond q old false is = is
-
 module _ (m : finite.FinMap (slice_cmp nat_cmp) (List ℕ × List ℕ)) (own : AreUnderTheirNames m) (t : List ℕ) where
   pub own-insert : (r : List ℕ) → AreUnderTheirNames (finite.insert m t (t, r))
   own-insert r q =
       rw (finite.get-insert nat_list_cmp_total m t (t, r) q)
-      (own-cond t r q (finite.get m q) (eq_by_cmp (slice_cmp nat_cmp) q t) (λ e. tells_apart exact_bytes q t e) (own q))
+      (cond_both (eq_by_cmp (slice_cmp nat_cmp) q t) _ _ (λ u. IfSome u (λ u. u.0 ≡ q)) (λ e. sym (tells_apart exact_bytes q t e)) (λ e. own q))
 
   pub own-remove : AreUnderTheirNames (finite.remove m t)
   own-remove q =
-      rw (finite.get-remove nat_list_cmp_total m t q) (none-cond q (finite.get m q) (eq_by_cmp (slice_cmp nat_cmp) q t) (own q))
+      rw (finite.get-remove nat_list_cmp_total m t q)
+      (cond_both (eq_by_cmp (slice_cmp nat_cmp) q t) _ _ (λ u. IfSome u (λ u. u.0 ≡ q)) (λ e. tt) (λ e. own q))
 
 -- a user that was found has the name that was given
-own-some : (o : Option User) (m : finite.FinMap (slice_cmp nat_cmp) (List ℕ × List ℕ)) (q : List ℕ) → AreUnderTheirNames m
-    → option_map texts o ≡ finite.get m q → IfSome o (λ u. u.username.text ≡ q)
-own-some None m q own is = tt
-own-some (Some u) m q own is = rw (← is) at (own q)
-
 module _ (es : List (Stored × User)) (own : AreUnderTheirNames (users_of es)) (q : List ℕ) where
   pub own-found : (o : Option User) → o ≡ lookup (has_text q) es → IfSome o (λ u. u.username.text ≡ q)
-  own-found o is = own-some o (users_of es) q own (ap (option_map texts) is ∙ sym (get_users es q))
+  own-found None is = tt
+  own-found (Some u) is = rw (get_users es q, ← is) at (own q)
 
--- the same of a borrowed one
+-- and so has a borrowed one
 pub own-got : (o : Option (Bor User)) (q : List ℕ) → IfSome (option_copied o) (λ u. u.username.text ≡ q) → IfSome o (λ u. u.now.username.text ≡ q)
 own-got None q own = tt
 own-got (Some u) q own = own

@@ -11,4 +11,4 @@ returns-clause-value c =
     let cut = c.last_boundary-end.ensures in
     let end = c.last_boundary-end.result in
     let front : slice_range c.args.text.now 0 end ≡ take end c.args.text.now = grind arith in
-    c.range.ensures.value ∙ front ∙ cut-at c.args.text.now c.args.size end c.utf8.text cut.boundary cut.at_most (omega arith) cut.nearest
+    c.range.ensures.value ∙ front ∙ cut-at c.args.text.now c.args.size end c.utf8.text cut.boundary cut.at_most cut.nearest

@@ -7,42 +7,38 @@ use Rattle.bounded_records.proofs.record.decode.Goals as goal
 
 pub returns-then-not-has_length : goal.returns-then-not-has_length
 returns-then-not-has_length c =
-    let is = refused c.args.given.now Length (λ long. true≢false (sym (c.has_length.ensures.1 long) ∙ c.if-not-has_length.true)) in
-    record { user = is.user; only = is.only; fault = is.fault }
+    refused c.args.given.now Length (λ long. true≢false (sym (c.has_length.ensures.1 long) ∙ c.if-not-has_length.true))
 
 pub returns-then-not-counts_fit : goal.returns-then-not-counts_fit
 returns-then-not-counts_fit c =
-    let is = refused_count _ _ _ (c.has_length.ensures.0 c.if-not-has_length.false) c.split_at.ensures.front c.split_at.ensures.back
-    (λ fit. true≢false (sym (c.counts_fit.ensures.1 fit) ∙ c.if-not-counts_fit.true)) in
-    record { user = is.user; only = is.only; fault = is.fault }
+    refused_count _ _ _ (c.has_length.ensures.0 c.if-not-has_length.false) c.split_at.ensures.front c.split_at.ensures.back
+    (λ fit. true≢false (sym (c.counts_fit.ensures.1 fit) ∙ c.if-not-counts_fit.true))
 
 pub returns-in_err-text_of : goal.returns-in_err-text_of
 returns-in_err-text_of c =
     let p = err_from_is_err_and c.from_residual.result c.from_residual.ensures.1 in
-    let is = refused_text _ _ _ (c.has_length.ensures.0 c.if-not-has_length.false) c.split_at.ensures.front c.split_at.ensures.back
-    (c.counts_fit.ensures.0 c.if-not-counts_fit.false) (λ well. c.in_err-text_of.ensures.malformed well.0) in
-    rw (p.1, p.2, c.in_err-text_of.ensures.fault) (record { user = is.user; only = is.only; fault = is.fault })
+    rw (p.1, p.2, c.in_err-text_of.ensures.fault)
+    (refused_text _ _ _ (c.has_length.ensures.0 c.if-not-has_length.false) c.split_at.ensures.front c.split_at.ensures.back
+    (c.counts_fit.ensures.0 c.if-not-counts_fit.false) (λ well. c.in_err-text_of.ensures.malformed well.0))
 
 pub returns-in_err-text_of-2 : goal.returns-in_err-text_of-2
 returns-in_err-text_of-2 c =
     let p = err_from_is_err_and c.from_residual-in_err-text_of-2.result c.from_residual-in_err-text_of-2.ensures.1 in
-    let is = refused_text _ _ _ (c.has_length.ensures.0 c.if-not-has_length.false) c.split_at.ensures.front c.split_at.ensures.back
-    (c.counts_fit.ensures.0 c.if-not-counts_fit.false) (λ well. c.in_err-text_of-2.ensures.malformed well.1) in
-    rw (p.1, p.2, c.in_err-text_of-2.ensures.fault) (record { user = is.user; only = is.only; fault = is.fault })
+    rw (p.1, p.2, c.in_err-text_of-2.ensures.fault)
+    (refused_text _ _ _ (c.has_length.ensures.0 c.if-not-has_length.false) c.split_at.ensures.front c.split_at.ensures.back
+    (c.counts_fit.ensures.0 c.if-not-counts_fit.false) (λ well. c.in_err-text_of-2.ensures.malformed well.1))
 
 pub returns-then-not-are_padded : goal.returns-then-not-are_padded
 returns-then-not-are_padded c =
-    let is = refused_padding _ _ _ (c.has_length.ensures.0 c.if-not-has_length.false) c.split_at.ensures.front c.split_at.ensures.back
+    refused_padding _ _ _ (c.has_length.ensures.0 c.if-not-has_length.false) c.split_at.ensures.front c.split_at.ensures.back
     (c.counts_fit.ensures.0 c.if-not-counts_fit.false)
     (record { username = c.in_ok-text_of.field-0; role = c.in_ok-text_of-2.field-0 }) c.in_ok-text_of.ensures.ok c.in_ok-text_of-2.ensures.ok
-    (λ padded. true≢false (sym (c.are_padded.ensures.1 padded) ∙ c.if-not-are_padded.true)) in
-    record { user = is.user; only = is.only; fault = is.fault }
+    (λ padded. true≢false (sym (c.are_padded.ensures.1 padded) ∙ c.if-not-are_padded.true))
 
 pub returns : goal.returns
 returns c =
     let padded = c.are_padded.ensures.0 c.if-not-are_padded.false in
-    let is = accepted _ _ _ (c.has_length.ensures.0 c.if-not-has_length.false) c.split_at.ensures.front c.split_at.ensures.back
+    accepted _ _ _ (c.has_length.ensures.0 c.if-not-has_length.false) c.split_at.ensures.front c.split_at.ensures.back
     (c.counts_fit.ensures.0 c.if-not-counts_fit.false)
     (record { username = c.in_ok-text_of.field-0; role = c.in_ok-text_of-2.field-0 }) c.in_ok-text_of.ensures.ok c.in_ok-text_of-2.ensures.ok
-    padded.0 padded.1 in
-    record { user = is.user; only = is.only; fault = is.fault }
+    padded.0 padded.1

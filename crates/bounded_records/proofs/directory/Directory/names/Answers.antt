@@ -16,7 +16,7 @@ returns-clause-found c = rw (c.keys.ensures.rest, ← c.self.view_is) (names-fou
 
 pub returns-clause-len : goal.returns-clause-len
 returns-clause-len c =
-    length-map c.keys.result (λ name. name.text) ∙ c.keys.ensures.len ∙ sym (len_users c.self.inside.users.entries c.keys.ensures.ordered)
+    length-map c.keys.result (λ name. name.text) ∙ c.keys.ensures.len ∙ sym (len_users _ c.keys.ensures.ordered)
     ∙ ap finite.len c.self.view_is
 
 pub returns-clause-runs : goal.returns-clause-runs

@@ -10,7 +10,7 @@ use Rattle.bounded_records.proofs.directory.Directory.set_role.Goals as goal
 pub returns-in_err-user-clause-old : goal.returns-in_err-user-clause-old
 returns-in_err-user-clause-old c =
     ap (option_map (λ old. (c.args.username.now.text, old.text))) c.from_residual.ensures
-    ∙ ap (option_map texts) c.in_err-user.ensures.value ∙ sym (get_users c.self.inside.users.entries c.args.username.now.text)
+    ∙ ap (option_map texts) c.in_err-user.ensures.value ∙ sym (get_users _ c.args.username.now.text)
     ∙ ap (λ d. finite.get d c.args.username.now.text) c.self.view_is
 
 -- the map once the role is written: the user stands under the name that was given
@@ -20,22 +20,22 @@ written c =
     let name = c.args.username.now.text in
     let user : User = record { username = c.in_ok-user.user.now.username; role = c.replace.new.dest } in
     let own : c.in_ok-user.user.now.username.text ≡ name =
-    own-found c.self.inside.users.entries c.self.invariant name (Some c.in_ok-user.user.now) c.in_ok-user.ensures.value in
-    insert_users c.self.inside.users.entries (c.get_mut.follows.lender user).entries c.args.username.now user
+    own-found _ c.self.invariant _ (Some c.in_ok-user.user.now) c.in_ok-user.ensures.value in
+    insert_users _ _ c.args.username.now user
     ((c.get_mut.follows.holds user).3 (subst IsSome c.in_ok-user.ensures.value refl)).0
     ∙ (λ i. finite.insert (users_of c.self.inside.users.entries) name (own i, (c.replace.ensures.after i).text))
 
 pub invariant_of-self-2 : goal.invariant_of-self-2
 invariant_of-self-2 c =
-    own-map _ _ (written c) (own-insert (users_of c.self.inside.users.entries) c.self.invariant c.args.username.now.text c.args.role.text)
+    own-map _ _ (written c) (own-insert _ c.self.invariant _ _)
 
 pub returns-clause-old : goal.returns-clause-old
 returns-clause-old c =
     let name = c.args.username.now.text in
     let own : c.in_ok-user.user.now.username.text ≡ name =
-    own-found c.self.inside.users.entries c.self.invariant name (Some c.in_ok-user.user.now) c.in_ok-user.ensures.value in
+    own-found _ c.self.invariant _ (Some c.in_ok-user.user.now) c.in_ok-user.ensures.value in
     (λ i. Some (sym own i, (c.replace.ensures.value i).text))
-    ∙ ap (option_map texts) c.in_ok-user.ensures.value ∙ sym (get_users c.self.inside.users.entries name)
+    ∙ ap (option_map texts) c.in_ok-user.ensures.value ∙ sym (get_users _ name)
     ∙ ap (λ d. finite.get d name) c.self.view_is
 
 pub returns-clause-after : goal.returns-clause-after
@@ -46,17 +46,16 @@ returns-clause-after c =
 pub returns-clause-found : goal.returns-clause-found
 returns-clause-found c =
     let name = c.args.username.now.text in
-    ap (λ d. finite.get d name) (written c) ∙ get_inserted (users_of c.self.inside.users.entries) name (name, c.args.role.text)
+    ap (λ d. finite.get d name) (written c) ∙ get_inserted _ _ _
 
 pub returns-clause-others : goal.returns-clause-others
 returns-clause-others c other ne =
-    let name = c.args.username.now.text in
-    ap (λ d. finite.get d other) (written c) ∙ get_others (users_of c.self.inside.users.entries) name (name, c.args.role.text) other ne
+    ap (λ d. finite.get d other) (written c) ∙ get_others _ _ _ other ne
     ∙ ap (λ d. finite.get d other) c.self.view_is
 
 pub returns-clause-names : goal.returns-clause-names
 returns-clause-names c =
     let user : User = record { username = c.in_ok-user.user.now.username; role = c.replace.new.dest } in
     let holds = c.get_mut.follows.holds user in
-    keys_users (c.get_mut.follows.lender user).entries holds.4 ∙ ap key_texts holds.1
-    ∙ sym (keys_users c.self.inside.users.entries c.get_mut.ensures.ordered) ∙ ap finite.keys c.self.view_is
+    keys_users _ holds.4 ∙ ap key_texts holds.1
+    ∙ sym (keys_users _ c.get_mut.ensures.ordered) ∙ ap finite.keys c.self.view_is

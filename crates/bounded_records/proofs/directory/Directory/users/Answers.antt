@@ -10,13 +10,13 @@ use Rattle.bounded_records.proofs.directory.Directory.users.Goals as goal
 
 pub returns-clause-users : goal.returns-clause-users
 returns-clause-users c =
-    ap (map texts) c.values.ensures.rest ∙ sym (values_users c.self.inside.users.entries c.values.ensures.ordered)
+    ap (map texts) c.values.ensures.rest ∙ sym (values_users _ c.values.ensures.ordered)
     ∙ ap finite.values c.self.view_is
 
 pub returns-clause-names : goal.returns-clause-names
 returns-clause-names c =
     ap (λ users. names_of (map texts users)) c.values.ensures.rest ∙ names-users c.self.inside.users c.values.ensures.ordered c.self.invariant
-    ∙ sym (keys_users c.self.inside.users.entries c.values.ensures.ordered) ∙ ap finite.keys c.self.view_is
+    ∙ sym (keys_users _ c.values.ensures.ordered) ∙ ap finite.keys c.self.view_is
 
 pub returns-clause-found : goal.returns-clause-found
 returns-clause-found c =
@@ -24,7 +24,7 @@ returns-clause-found c =
 
 pub returns-clause-len : goal.returns-clause-len
 returns-clause-len c =
-    length-map c.values.result texts ∙ c.values.ensures.len ∙ sym (len_users c.self.inside.users.entries c.values.ensures.ordered)
+    length-map c.values.result texts ∙ c.values.ensures.len ∙ sym (len_users _ c.values.ensures.ordered)
     ∙ ap finite.len c.self.view_is
 
 pub returns-clause-runs : goal.returns-clause-runs
