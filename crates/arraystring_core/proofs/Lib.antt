@@ -14,6 +14,7 @@ mod AsciiLemmas
 mod TrimLemmas
 mod RetainLemmas
 mod EndLemmas
+mod LastLemmas
 mod CauseLemmas
 mod PartLemmas
 mod DrainLemmas

@@ -1,4 +1,4 @@
-use Rattle.std.proofs.Common.{◌≡◌, ◌+◌, ◌-◌, ◌<◌, ◌≤◌, refl, arith, rules}
+use Rattle.std.proofs.Common.{◌≡◌, ◌+◌, ◌-◌, ◌≤◌, refl, arith, rules}
 use Rattle.std.proofs.Math.Nat.{lt_of_not-le}
 use Rattle.std.proofs.lemmas.Bool.{iff_false}
 use Rattle.arraystring_base.specs.Text.{cap, width}
@@ -8,8 +8,7 @@ use Rattle.arraystring_core.proofs.array_string.ArrayString.append_char.Goals as
 
 pub returns-then-not-has_room-2-clause-text : goal.returns-then-not-has_room-2-clause-text
 returns-then-not-has_room-2-clause-text g c =
-    let over : cap g.row.N < c.args.end - c.args.start.now + width c.args.ch = lt_of_not-le (iff_false c.has_room-then-not-has_room.ensures c.if-not-has_room-2.true) in
-    (omega (arith, stored-size c.requires.held), refl)
+    (omega (arith, stored-size c.requires.held, lt_of_not-le (iff_false c.has_room-then-not-has_room.ensures c.if-not-has_room-2.true)), refl)
 
 pub compact_and_append-held-requires : goal.compact_and_append-held-requires
 compact_and_append-held-requires g c =
@@ -18,21 +17,13 @@ compact_and_append-held-requires g c =
 
 pub returns-then-not-has_room-clause-text : goal.returns-then-not-has_room-clause-text
 returns-then-not-has_room-clause-text g c =
-    let long = stored-size c.requires.held in
     let same : c.args.end - c.args.start.now ≡ c.args.len.now = omega arith in
-    (omega (arith, c.if-not-has_room-2.ensures.0 refl), rw same at c.compact_and_append-held.ensures.text)
+    (omega (arith, stored-size c.requires.held, c.if-not-has_room-2.ensures.0 refl), rw same at c.compact_and_append-held.ensures.text)
 
-pub returns-clause-held : goal.returns-clause-held
-returns-clause-held g c =
-    let room : c.args.start.now + c.args.len.now + width c.args.ch ≤ cap g.row.N = omega (arith, c.if-not-has_room.ensures.0 refl) in
-    let lies = char-appended c.requires.held refl c.args.ch (search rules) c.encode.ensures.width room (rw c.requires.end at c.encode.ensures.bytes) in
-    let same : c.args.len.now + c.encode.result ≡ c.args.end + c.encode.result - c.args.start.now = omega arith in
-    (rw same at lies).held
-
-pub returns-clause-text : goal.returns-clause-text
-returns-clause-text g c =
+pub returns : goal.returns
+returns g c =
     let long = stored-size c.requires.held in
     let room : c.args.start.now + c.args.len.now + width c.args.ch ≤ cap g.row.N = omega (arith, c.if-not-has_room.ensures.0 refl) in
-    let lies = char-appended c.requires.held refl c.args.ch (search rules) c.encode.ensures.width room (rw c.requires.end at c.encode.ensures.bytes) in
     let same : c.args.len.now + c.encode.result ≡ c.args.end + c.encode.result - c.args.start.now = omega arith in
-    (omega arith, (rw same at lies).shown)
+    let lies = rw same at (char-appended c.requires.held refl c.args.ch (search rules) c.encode.ensures.width room (rw c.requires.end at c.encode.ensures.bytes)) in
+    record { held = lies.held; end = omega arith; text = (omega arith, lies.shown) }
