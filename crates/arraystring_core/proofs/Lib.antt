@@ -8,6 +8,7 @@ mod StoredLaws
 mod GapLemmas
 mod SpanLemmas
 mod AppendLemmas
+mod InsertLemmas
 mod PieceLemmas
 mod TakenLemmas
 mod AsciiLemmas
