@@ -30,9 +30,7 @@ gives g c =
 pub invariant_of-self : goal.invariant_of-self
 invariant_of-self g c = (gives g c).held
 
-pub returns-clause-steps : goal.returns-clause-steps
-returns-clause-steps g c = (gives g c).rest
-
-pub returns-clause-goes : goal.returns-clause-goes
-returns-clause-goes g c =
-    record { on = λ _. (tt, tt, omega (arith, pushed-length _ _ _ (returns-clause-steps g c))); keeps = tt; rests = λ _. tt }
+pub returns : goal.returns
+returns g c =
+    let rest = (gives g c).rest in
+    record { steps = rest; goes = record { on = λ _. (tt, tt, omega (arith, pushed-length _ _ _ rest)); keeps = tt; rests = λ _. tt } }
