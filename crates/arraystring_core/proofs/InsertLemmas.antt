@@ -22,5 +22,6 @@ module _ {t : List ℕ} (given : List ℕ) {n : ℕ} where
       pub refuses-inside : boundary t i ≡ false → Makes (insertion t i given n) t (Err Utf8) t
       refuses-inside within = refuses _ t Inside (rw (le-ltb _ _ reached, le-ltb _ _ fits, inside-so t i reached within))
 
-      pub makes-insertion : {new : List ℕ} → boundary t i ≡ true → new ≡ front t i ++ (given ++ back t i) → Makes (insertion t i given n) t (Ok tt) new
+      pub makes-insertion : {new : List ℕ} → boundary t i ≡ true → new ≡ front t i ++ (given ++ back t i)
+          → Makes (insertion t i given n) t (Ok tt) new
       makes-insertion at is = makes _ t tt _ (rw (le-ltb _ _ reached, le-ltb _ _ fits, inside-not t i at)) refl is

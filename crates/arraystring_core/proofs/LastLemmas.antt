@@ -4,7 +4,8 @@ use Rattle.arraystring_base.specs.Text.{size, width, front, boundary}
 use Rattle.arraystring_base.proofs.TextLaws.{size-append}
 use Rattle.arraystring_base.proofs.BoundaryLaws.{boundary-is, front-is}
 
-module _ {text seen : List ℕ} {ch start : ℕ} (same : seen ≡ text) (found : (before : List ℕ) × (seen ≡ before ++ ch ∷ []) × (size before ≡ start)) where
+module _ {text seen : List ℕ} {ch start : ℕ} (same : seen ≡ text)
+    (found : (before : List ℕ) × (seen ≡ before ++ ch ∷ []) × (size before ≡ start)) where
   pub last-parts : text ≡ found.0 ++ ch ∷ []
   last-parts = sym same ∙ found.1
 

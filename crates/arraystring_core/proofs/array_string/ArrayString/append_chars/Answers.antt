@@ -1,6 +1,5 @@
-use Rattle.std.proofs.Common.{◌≡◌, ◌++◌, ◌∷◌, [], refl, sym, arith, inl, inr, append-nil}
+use Rattle.std.proofs.Common.{◌++◌, ◌∷◌, [], refl, sym, arith, inl, inr, append-nil}
 use Rattle.std.proofs.iter.Next.{Yields-more}
-use Rattle.arraystring_base.specs.Text.{size}
 use Rattle.arraystring_base.proofs.TextLaws.{width-bounds}
 use Rattle.arraystring_core.specs.Layout.{stored}
 use Rattle.arraystring_core.specs.GhostProofs.{stored-size}
@@ -10,7 +9,7 @@ use Rattle.arraystring_core.proofs.array_string.ArrayString.append_chars.Goals a
 pub loop-ch-init : goal.loop-ch-init
 loop-ch-init g c =
     let old = (stored c.args.array.now c.args.start.now c.args.len.now).text in
-    let long : size old ≡ c.args.len.now = stored-size c.requires.held in
+    let long = stored-size c.requires.held in
     let on = c.requires.ends c.into_iter-ch-iterator.result c.into_iter-ch-iterator.ensures.into_iter_gives in
     record {
       can = on.0;

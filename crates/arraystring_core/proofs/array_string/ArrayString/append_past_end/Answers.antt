@@ -14,7 +14,8 @@ returns-then-part-string g c =
     let w = c.truncate_str-part.utf8 in
     let fits = rw c.capacity.ensures at c.truncate_str-part.ensures in
     let room = c.make_room.ensures in
-    let lies = part-appended c.requires u w fits room.held room.text room.room (rw c.as_bytes.ensures.value at c.write_over.ensures) in
+    let written = rw c.as_bytes.ensures.value at c.write_over.ensures in
+    let lies = part-appended c.requires u w fits room.held room.text room.room written in
     let t = (stored c.args.array.now c.args.start.now c.args.len.now).text in
     record {
       held = lies.held;
@@ -28,7 +29,8 @@ returns g c =
     let w = c.truncate_str-part.utf8 in
     let fits = rw c.capacity.ensures at c.truncate_str-part.ensures in
     let room = c.make_room.ensures in
-    let lies = part-appended c.requires u w fits room.held room.text room.room (rw c.as_bytes.ensures.value at c.write_over.ensures) in
+    let written = rw c.as_bytes.ensures.value at c.write_over.ensures in
+    let lies = part-appended c.requires u w fits room.held room.text room.room written in
     let t = (stored c.args.array.now c.args.start.now c.args.len.now).text in
     let all = c.if-part-string.false in
     record {

@@ -1,6 +1,5 @@
-use Rattle.std.proofs.Common.{◌≡◌, ◌++◌, ◌∷◌, [], refl, sym, arith, inl, inr, append-nil, IsUtf8}
+use Rattle.std.proofs.Common.{◌++◌, ◌∷◌, [], refl, sym, arith, inl, inr, append-nil, IsUtf8}
 use Rattle.std.proofs.iter.Next.{Yields-more}
-use Rattle.arraystring_base.specs.Text.{size}
 use Rattle.arraystring_core.specs.Layout.{stored}
 use Rattle.arraystring_core.specs.GhostProofs.{stored-size}
 use Rattle.arraystring_base.proofs.TextLaws.{size-borrowed}
@@ -11,7 +10,7 @@ use Rattle.arraystring_core.proofs.array_string.ArrayString.append_strs.Goals as
 pub loop-piece-init : goal.loop-piece-init
 loop-piece-init g c =
     let old = (stored c.args.array.now c.args.start.now c.args.len.now).text in
-    let long : size old ≡ c.args.len.now = stored-size c.requires.held in
+    let long = stored-size c.requires.held in
     let on = c.requires.ends c.into_iter-piece-iterator.result c.into_iter-piece-iterator.ensures.into_iter_gives in
     record {
       can = on.0;

@@ -19,11 +19,13 @@ overflow_sub-self g c = omega (arith, opened-within c.self.invariant c.self.view
 
 pub overflow_add-self-2 : goal.overflow_add-self-2
 overflow_add-self-2 g c =
-    omega (arith, opened-size c.self.invariant c.self.view_is, boundary-within c.args.self.now.text c.args.at c.requires.boundary, width-is c.args.ch)
+    let within = boundary-within c.args.self.now.text c.args.at c.requires.boundary in
+    omega (arith, opened-size c.self.invariant c.self.view_is, width-is c.args.ch)
 
 pub overflow_cast-self : goal.overflow_cast-self
 overflow_cast-self g c =
-    omega (arith, opened-size c.self.invariant c.self.view_is, boundary-within c.args.self.now.text c.args.at c.requires.boundary, width-is c.args.ch)
+    let within = boundary-within c.args.self.now.text c.args.at c.requires.boundary in
+    omega (arith, opened-size c.self.invariant c.self.view_is, width-is c.args.ch)
 
 pub encode-requires : goal.encode-requires
 encode-requires g c =

@@ -7,7 +7,8 @@ pub overflow_add-self-inside : goal.overflow_add-self-inside
 overflow_add-self-inside g c = omega (arith, takable c.self.invariant c.self.view_is _ _ c.in_ok-check_part.ensures)
 
 pub new-removed-requires : goal.new-removed-requires
-new-removed-requires g c = (search rules, (search rules, (takable c.self.invariant c.self.view_is _ _ c.in_ok-check_part.ensures).held))
+new-removed-requires g c =
+    (search rules, (search rules, (takable c.self.invariant c.self.view_is _ _ c.in_ok-check_part.ensures).held))
 
 pub take_out-requires : goal.take_out-requires
 take_out-requires g c =

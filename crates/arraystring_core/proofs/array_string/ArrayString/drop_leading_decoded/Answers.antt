@@ -10,7 +10,8 @@ use Rattle.arraystring_core.proofs.array_string.ArrayString.drop_leading_decoded
 use Rattle.arraystring_core.proofs.array_string.ArrayString.drop_leading_decoded.Goals.{in-Some+then-not-drops, in_default}
 
 -- a text that begins with the bytes of a character
-module _ (text : List ℕ) {borrowed : List ℕ} (rest : List ℕ) (ch : ℕ) (u : IsUtf8 borrowed) (is : borrowed ≡ bytes text) (begins : borrowed ≡ encode_utf8 ch ++ rest) where
+module _ (text : List ℕ) {borrowed : List ℕ} (rest : List ℕ) (ch : ℕ) (u : IsUtf8 borrowed)
+    (is : borrowed ≡ bytes text) (begins : borrowed ≡ encode_utf8 ch ++ rest) where
   first : text ≡ ch ∷ chars rest
   first = sym (chars-bytes u is) ∙ chars_past_char borrowed rest ch u begins
 
@@ -59,9 +60,11 @@ returns g c = λ passes tells.
     let begun : without_leading passes text ≡ text = elim c.match-next.branch [
       | in-Some+then-not-drops w ↦
           let starts = first _ _ _ c.as_str.utf8 borrowed (sym c.chars.ensures.rest ∙ w.in-Some.ensures.steps.0) in
-          without_leading-stops passes text _ _ starts (sym (tells.at w.in-Some.ch w.drops.result w.drops.ensures) ∙ w.if-not-drops.true)
+          without_leading-stops passes text _ _ starts
+          (sym (tells.at w.in-Some.ch w.drops.result w.drops.ensures) ∙ w.if-not-drops.true)
       | in_default w ↦
-          let none : text ≡ [] = empty-size (size-is text ∙ ap length (sym borrowed ∙ sym c.chars.ensures.rest) ∙ w.in_default.ensures.steps.0.0) in
+          let over = ap length (sym borrowed ∙ sym c.chars.ensures.rest) ∙ w.in_default.ensures.steps.0.0 in
+          let none = empty-size (size-is text ∙ over) in
           ap (without_leading passes) none ∙ sym none
     ] in
     sym begun ∙ c.loop-ch.invariant passes tells

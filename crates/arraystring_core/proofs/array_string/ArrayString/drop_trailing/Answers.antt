@@ -9,8 +9,8 @@ use Rattle.arraystring_core.proofs.array_string.ArrayString.drop_trailing.Goals 
 use Rattle.arraystring_core.proofs.array_string.ArrayString.drop_trailing.Goals.{in-Some+then-not-drops, in_default}
 
 -- what is left of a text once the last character that was found in it is dropped
-module _ {text seen left : List ℕ} {ch start : ℕ} (same : seen ≡ text) (found : (before : List ℕ) × (seen ≡ before ++ ch ∷ []) × (size before ≡ start))
-    (kept : left ≡ front text start) where
+module _ {text seen left : List ℕ} {ch start : ℕ} (same : seen ≡ text)
+    (found : (before : List ℕ) × (seen ≡ before ++ ch ∷ []) × (size before ≡ start)) (kept : left ≡ front text start) where
   left-size : size text ≡ size left + width ch
   left-size = omega (arith, found.2, ap size (last-front same found kept), last-size same found)
 
@@ -38,7 +38,8 @@ keep-requires g c = (search rules, last-boundary (chars-bytes c.as_str.utf8 c.as
 
 pub loop-start-smaller : goal.loop-start-smaller
 loop-start-smaller g c =
-    omega (arith, left-size (chars-bytes c.as_str.utf8 c.as_str.ensures.bytes) c.in-Some.ensures.some c.keep.ensures, width-bounds c.in-Some.ch)
+    let sizes = left-size (chars-bytes c.as_str.utf8 c.as_str.ensures.bytes) c.in-Some.ensures.some c.keep.ensures in
+    omega (arith, width-bounds c.in-Some.ch)
 
 pub loop-start-preserved : goal.loop-start-preserved
 loop-start-preserved g c =
@@ -70,7 +71,7 @@ returns-clause-text g c = λ passes tells.
           without_trailing-stops passes text _ w.in-Some.ch (last-parts borrowed w.in-Some.ensures.some)
           (sym (tells.at w.in-Some.ch w.drops.result w.drops.ensures) ∙ w.if-not-drops.true)
       | in_default w ↦
-          let none : text ≡ [] = sym borrowed ∙ (rw w.in_default.is at c.last_char.ensures.none) in
+          let none = sym borrowed ∙ (rw w.in_default.is at c.last_char.ensures.none) in
           ap (without_trailing passes) none ∙ sym none
     ] in
     sym ended ∙ c.loop-start.invariant.same passes tells
@@ -80,7 +81,7 @@ returns-clause-least g c =
     elim c.match-last_char.branch [
       | in-Some+then-not-drops w ↦ omega (arith, w.in-Some.ensures.least)
       | in_default w ↦
-          let none : c.loop-start.self.text ≡ [] = sym (chars-bytes c.as_str.utf8 c.as_str.ensures.bytes) ∙ (rw w.in_default.is at c.last_char.ensures.none) in
+          let none = sym (chars-bytes c.as_str.utf8 c.as_str.ensures.bytes) ∙ (rw w.in_default.is at c.last_char.ensures.none) in
           omega (arith, ap length none)
     ]
 

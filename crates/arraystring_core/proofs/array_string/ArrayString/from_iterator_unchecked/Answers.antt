@@ -45,8 +45,8 @@ loop-piece-preserved g c =
     let inv = c.loop-piece.invariant in
     let before = (goal.at.loop-piece-preserved g c).After-as_bytes in
     let x = c.in-Some.piece in
-    let written = written-from-zero c.loop-piece.array _ x.now c.loop-piece.end (rw c.as_bytes.ensures.value at c.write_over.ensures) in
-    let lies = appended inv.held refl (piece g before) (room g before) written in
+    let written = rw c.as_bytes.ensures.value at c.write_over.ensures in
+    let lies = appended inv.held refl (piece g before) (room g before) (written-from-zero c.loop-piece.array _ x.now c.loop-piece.end written) in
     let on = c.in-Some.ensures.goes.on inv.ends in
     record {
       can = on.0;

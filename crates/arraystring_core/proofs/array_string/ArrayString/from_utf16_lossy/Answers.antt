@@ -16,8 +16,8 @@ loop-item-init g c =
     record {
       held = run.ensures.held;
       read = λ items is.
-          ap lossy_text (whole-reading run.result units run.ensures.ascii c.new-item-items.ensures c.into_iter-item-iterator.ensures.into_iter_gives
-          c.only_reading.ensures.only is)
+          ap lossy_text (whole-reading run.result units run.ensures.ascii c.new-item-items.ensures
+          c.into_iter-item-iterator.ensures.into_iter_gives c.only_reading.ensures.only is)
           ∙ lossy-behind (take run.result units) left ∙ ap (λ t. t ++ lossy_text left) (sym run.ensures.text);
     }
 

@@ -11,7 +11,8 @@ pub returns-then-not-is_boundary : goal.returns-then-not-is_boundary
 returns-then-not-is_boundary g c =
     let t = c.args.self.now.text in
     let reached : c.args.index ≤ size t = omega arith in
-    refuses _ _ Inside (rw (le-ltb _ _ reached, inside-so t c.args.index reached (sym c.is_boundary.ensures ∙ c.if-not-is_boundary.true)))
+    let within = inside-so t c.args.index reached (sym c.is_boundary.ensures ∙ c.if-not-is_boundary.true) in
+    refuses _ _ Inside (rw (le-ltb _ _ reached, within))
 
 pub insert_str_unchecked-requires : goal.insert_str_unchecked-requires
 insert_str_unchecked-requires g c =

@@ -1,4 +1,4 @@
-use Rattle.std.proofs.Common.{◌≡◌, [], ◌∙◌, sym, ap, refl, arith, rules}
+use Rattle.std.proofs.Common.{◌∙◌, sym, ap, refl, arith, rules}
 use Rattle.arraystring_base.proofs.TextLaws.{chars-bytes}
 use Rattle.arraystring_core.specs.Edits.{popping, last_of, all_but_last}
 use Rattle.arraystring_core.proofs.EditLaws.{makes, last_of-push, all_but_last-push}
@@ -8,7 +8,7 @@ use Rattle.arraystring_core.proofs.array_string.ArrayString.pop_counted.Goals as
 pub returns-in_err-start-clause-edit : goal.returns-in_err-start-clause-edit
 returns-in_err-start-clause-edit g c =
     let text = c.args.self.now.text in
-    let none : text ≡ [] = sym (chars-bytes c.as_str.utf8 c.as_str.ensures.bytes) ∙ c.in_err-start.ensures.none in
+    let none = sym (chars-bytes c.as_str.utf8 c.as_str.ensures.bytes) ∙ c.in_err-start.ensures.none in
     makes (popping text) text _ text refl (c.from_residual.ensures ∙ sym (ap last_of none)) (none ∙ sym (ap all_but_last none))
 
 pub overflow_cast-start : goal.overflow_cast-start

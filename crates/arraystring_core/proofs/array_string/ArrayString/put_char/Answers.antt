@@ -36,7 +36,8 @@ written g c =
     let gap = c.open_gap in let text = c.new-text.ensures in
     let within = opened-within c.self.invariant c.self.view_is _ c.requires.boundary in
     char-inserted c.self.invariant c.self.view_is c.args.ch (search rules) (c.len_utf8-len.ensures.value ∙ sym (width-is c.args.ch))
-    _ c.requires.boundary c.requires.room text.offset text.size gap.new.array gap.ensures.len (omega arith) gap.ensures.front gap.ensures.tail c.encode.ensures.bytes
+    _ c.requires.boundary c.requires.room text.offset text.size gap.new.array gap.ensures.len (omega arith) gap.ensures.front
+    gap.ensures.tail c.encode.ensures.bytes
 
 pub invariant_of-self : goal.invariant_of-self
 invariant_of-self g c = (written g c).held

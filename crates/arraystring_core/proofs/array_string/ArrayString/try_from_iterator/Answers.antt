@@ -14,7 +14,8 @@ returns-in_err-append_strs g c =
     let n = cap g.row.N in
     let room = fresh-room _ n chars-nil in
     let takes = rw room at ensured.1 in
-    let made = refused-made c.from_residual.result (joined_pieces ensured.0) n c.from_residual.ensures.0 (omega (arith, ensured.2)) in
+    let made = refused-made c.from_residual.result (joined_pieces ensured.0) n c.from_residual.ensures.0
+    (omega (arith, ensured.2)) in
     record {
       taken = (ensured.0, takes, made);
       whole = λ all gives.
@@ -30,5 +31,6 @@ returns g c =
     record {
       taken = (ensured.0, takes, made);
       whole = λ all gives.
-          pieces-made g.I.IntoIterator.into_iter_gives g.I.IntoIter.Iterator.next_gives c.args.pieces all gives ensured.0 n takes (Ok (stored c.append_strs.new.array c.append_strs.new.start c.append_strs.new.len)) made;
+          pieces-made g.I.IntoIterator.into_iter_gives g.I.IntoIter.Iterator.next_gives c.args.pieces all gives ensured.0 n takes
+          (Ok (stored c.append_strs.new.array c.append_strs.new.start c.append_strs.new.len)) made;
     }

@@ -8,7 +8,8 @@ returns-then-len-len_utf8 g c = refuses-insertion (c.args.ch ∷ []) (omega arit
 
 pub returns-then-not-is_boundary : goal.returns-then-not-is_boundary
 returns-then-not-is_boundary g c =
-    refuses-inside (c.args.ch ∷ []) (omega arith) (omega (arith, width-is c.args.ch)) (sym c.is_boundary.ensures ∙ c.if-not-is_boundary.true)
+    refuses-inside (c.args.ch ∷ []) (omega arith) (omega (arith, width-is c.args.ch))
+    (sym c.is_boundary.ensures ∙ c.if-not-is_boundary.true)
 
 pub insert_unchecked-requires : goal.insert_unchecked-requires
 insert_unchecked-requires g c =

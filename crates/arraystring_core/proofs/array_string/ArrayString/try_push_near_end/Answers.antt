@@ -16,4 +16,5 @@ compact_and_push-requires g c =
 
 pub returns : goal.returns
 returns g c =
-    makes-addition _ (omega (arith, opened-size c.self.invariant c.self.view_is, c.if-not-has_room.ensures.0 refl)) c.compact_and_push.ensures
+    makes-addition _ (omega (arith, opened-size c.self.invariant c.self.view_is, c.if-not-has_room.ensures.0 refl))
+    c.compact_and_push.ensures

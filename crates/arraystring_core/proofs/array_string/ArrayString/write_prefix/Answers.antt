@@ -16,8 +16,8 @@ loop-item-init g c =
     record {
       held = run.ensures.held;
       read = λ items is.
-          whole-reading run.result c.args.units.now run.ensures.ascii c.new-item-items.ensures c.into_iter-item-iterator.ensures.into_iter_gives
-          c.only_reading.ensures.only is
+          whole-reading run.result c.args.units.now run.ensures.ascii c.new-item-items.ensures
+          c.into_iter-item-iterator.ensures.into_iter_gives c.only_reading.ensures.only is
           ∙ ap (λ t. map Char t ++ c.into_iter-item-iterator.result) (sym run.ensures.text);
     }
 
@@ -31,8 +31,8 @@ loop-item-preserved g c =
     record {
       held = added.0;
       read = λ items is.
-          c.loop-item.invariant.read items is ∙ ap (λ l. map Char prefix ++ l) first ∙ sym (append_assoc (map Char prefix) (Char ch ∷ []) left)
-          ∙ ap (λ l. l ++ left) (sym (map-append Char prefix (ch ∷ []))) ∙ ap (λ l. map Char l ++ left) (sym added.1);
+          c.loop-item.invariant.read items is ∙ ap (λ l. map Char prefix ++ l) first
+          ∙ sym (append_assoc (map Char prefix) (Char ch ∷ []) left) ∙ ap (λ l. l ++ left) (sym (map-append Char prefix (ch ∷ []))) ∙ ap (λ l. map Char l ++ left) (sym added.1);
     }
 
 pub returns-in-None-write_char-clause-held : goal.returns-in-None-write_char-clause-held
@@ -48,7 +48,8 @@ returns-in-None-write_char-clause-stop g c = λ items is.
     let long = stored-size inv.held in
     let past : cap g.row.N < size prefix + width ch = omega (arith, refused.0) in
     let first = c.in-Some.ensures.steps ∙ ap (λ item. item ∷ left) c.in-Char.is in
-    stop-is items (cap g.row.N) (Full prefix) (ch, left, inv.read items is ∙ ap (λ l. map Char prefix ++ l) first, omega arith, past)
+    stop-is items (cap g.row.N) (Full prefix)
+    (ch, left, inv.read items is ∙ ap (λ l. map Char prefix ++ l) first, omega arith, past)
     ∙ ap (λ a. Full (stored a 0 c.loop-item.end).text) (sym refused.1)
 
 pub returns-in-Lone-clause-stop : goal.returns-in-Lone-clause-stop
@@ -58,7 +59,8 @@ returns-in-Lone-clause-stop g c = λ items is.
     let left = c.next.new.self in
     let long = stored-size inv.held in
     let first = c.in-Some.ensures.steps ∙ ap (λ item. item ∷ left) c.in-Lone.is in
-    stop-is items (cap g.row.N) (Fault prefix) (c.in-Lone.field-0, left, inv.read items is ∙ ap (λ l. map Char prefix ++ l) first, omega arith)
+    stop-is items (cap g.row.N) (Fault prefix)
+    (c.in-Lone.field-0, left, inv.read items is ∙ ap (λ l. map Char prefix ++ l) first, omega arith)
     ∙ ap (λ item. stop_at (Some item) prefix) (sym c.in-Lone.is)
 
 pub returns-clause-stop : goal.returns-clause-stop

@@ -1,8 +1,7 @@
-use Rattle.std.proofs.Common.{◌≡◌, ◌+◌, ◌-◌, [], take, drop, chars, get_or, ap, ◌∙◌, arith, rules, refl}
+use Rattle.std.proofs.Common.{◌≡◌, ◌+◌, ◌-◌, [], take, drop, chars, ap, ◌∙◌, arith, rules, refl}
 use Rattle.std.proofs.lemmas.List.{append-nil}
 use Rattle.std.proofs.lemmas.Str.{chars-nil}
-use Rattle.arraystring_base.specs.Text.{width}
-use Rattle.arraystring_core.proofs.RetainLemmas.{char-begins, callable-next, retained-init, retained-moved, retained-left_out, unread, ascii-begins, ascii-width}
+use Rattle.arraystring_core.proofs.RetainLemmas.{char-begins, callable-next, retained-init, retained-moved, retained-left_out, ascii-begins, ascii-width}
 use Rattle.arraystring_core.proofs.array_string.remove.retain_at.Goals as goal
 use Rattle.arraystring_core.proofs.array_string.remove.retain_at.Goals.{then-f, else-f, then-f-2, else-f-2}
 
@@ -19,8 +18,7 @@ pub loop-read-preserved-then-first-lt128 : goal.loop-read-preserved-then-first-l
 loop-read-preserved-then-first-lt128 g c =
     let l = c.loop-read in
     let begins = ascii-begins l.array c.args.offset l.read c.args.size c.loop-read-test.true (omega arith) c.if-first-lt128.true in
-    let one : width (get_or l.array (c.args.offset + l.read) 0) ≡ 1 =
-    ascii-width l.array c.args.offset l.read c.args.size c.loop-read-test.true (omega arith) c.if-first-lt128.true in
+    let one = ascii-width l.array c.args.offset l.read c.args.size c.loop-read-test.true (omega arith) c.if-first-lt128.true in
     elim c.if-f.branch [
       | then-f w ↦
           rw (w.array-is, w.kept-is)
@@ -39,7 +37,7 @@ pub loop-read-preserved : goal.loop-read-preserved
 loop-read-preserved g c =
     let l = c.loop-read in
     let begins = char-begins l.array c.args.offset l.read c.args.size c.first_char-ch.result.0 c.first_char-ch.ensures.first.0 c.from_utf8_unchecked-text.ensures (search rules) c.first_char-ch.ensures.first.1 in
-    let next : c.first_char-ch.result.1 ≡ width c.first_char-ch.result.0 = c.first_char-ch.ensures.width in
+    let next = c.first_char-ch.ensures.width in
     elim c.if-f-2.branch [
       | then-f-2 w ↦
           rw (w.array-is, w.kept-is, next)
@@ -52,7 +50,6 @@ pub returns-clause-filtered : goal.returns-clause-filtered
 returns-clause-filtered g c =
     let l = c.loop-read in
     let ended : c.args.size - l.read ≡ 0 = omega arith in
-    let over : chars (unread l.array c.args.offset l.read c.args.size) ≡ [] =
-    ap (λ k. chars (take k (drop (c.args.offset + l.read) l.array))) ended ∙ chars-nil in
+    let over = ap (λ k. chars (take k (drop (c.args.offset + l.read) l.array))) ended ∙ chars-nil in
     let filtered = rw over at l.invariant.filtered in
     rw (← append-nil (chars (take l.kept (drop c.args.offset l.array)))) (filtered [] ([], l.f, refl, refl, refl))

@@ -1,4 +1,4 @@
-use Rattle.std.proofs.Common.{◌≤◌, ◌≡◌, ◌-◌, ◌++◌, [], length, sym, ap, ◌∙◌, arith, chars}
+use Rattle.std.proofs.Common.{◌≤◌, ◌-◌, ◌++◌, length, sym, ap, ◌∙◌, arith, chars}
 use Rattle.std.proofs.lemmas.List.{nil_from_length}
 use Rattle.std.proofs.lemmas.Str.{chars-nil}
 use Rattle.std.specs.Char.{encode_utf8}
@@ -31,7 +31,7 @@ returns-in_err-ch-clause-steps g c =
     let left = c.args.self.now.left in
     let borrowed = chars-bytes c.as_str.utf8 c.as_str.ensures.bytes in
     let over = nil_from_length c.chars-left.result.rest.now c.in_err-ch.ensures.steps.0.0 in
-    let none : left ≡ [] = sym borrowed ∙ ap chars (sym c.chars-left.ensures.rest ∙ over) ∙ chars-nil in
+    let none = sym borrowed ∙ ap chars (sym c.chars-left.ensures.rest ∙ over) ∙ chars-nil in
     rw c.from_residual.ensures (none, none)
 
 within : (g : given.Over) (c : goal.After-as_str-2 g) → length c.as_str-2.result.now ≤ c.self.inside.size
