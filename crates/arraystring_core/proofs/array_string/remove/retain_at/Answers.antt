@@ -12,7 +12,8 @@ loop-read-init g c =
 pub f-requires : goal.f-requires
 f-requires g c =
     let l = c.loop-read in
-    callable-next l.invariant (omega arith) (ascii-begins l.array c.args.offset l.read c.args.size c.loop-read-test.true (omega arith) c.if-first-lt128.true)
+    let begins = ascii-begins l.array c.args.offset l.read c.args.size c.loop-read-test.true (omega arith) c.if-first-lt128.true in
+    callable-next l.invariant (omega arith) begins
 
 pub loop-read-preserved-then-first-lt128 : goal.loop-read-preserved-then-first-lt128
 loop-read-preserved-then-first-lt128 g c =
@@ -30,18 +31,21 @@ loop-read-preserved-then-first-lt128 g c =
 pub f-requires-else-first-lt128 : goal.f-requires-else-first-lt128
 f-requires-else-first-lt128 g c =
     let l = c.loop-read in
-    let begins = char-begins l.array c.args.offset l.read c.args.size c.first_char-ch.result.0 c.first_char-ch.ensures.first.0 c.from_utf8_unchecked-text.ensures (search rules) c.first_char-ch.ensures.first.1 in
+    let begins = char-begins l.array c.args.offset l.read c.args.size c.first_char-ch.result.0 c.first_char-ch.ensures.first.0
+    c.from_utf8_unchecked-text.ensures (search rules) c.first_char-ch.ensures.first.1 in
     callable-next l.invariant (omega arith) begins
 
 pub loop-read-preserved : goal.loop-read-preserved
 loop-read-preserved g c =
     let l = c.loop-read in
-    let begins = char-begins l.array c.args.offset l.read c.args.size c.first_char-ch.result.0 c.first_char-ch.ensures.first.0 c.from_utf8_unchecked-text.ensures (search rules) c.first_char-ch.ensures.first.1 in
+    let begins = char-begins l.array c.args.offset l.read c.args.size c.first_char-ch.result.0 c.first_char-ch.ensures.first.0
+    c.from_utf8_unchecked-text.ensures (search rules) c.first_char-ch.ensures.first.1 in
     let next = c.first_char-ch.ensures.width in
     elim c.if-f-2.branch [
       | then-f-2 w ↦
           rw (w.array-is, w.kept-is, next)
-          (retained-moved l.invariant (omega arith) begins w.shift-then-f-2.new.array (rw next at w.shift-then-f-2.ensures.bytes) c.f-else-first-lt128.new.self w.if-f-2.ensures)
+          (retained-moved l.invariant (omega arith) begins w.shift-then-f-2.new.array
+          (rw next at w.shift-then-f-2.ensures.bytes) c.f-else-first-lt128.new.self w.if-f-2.ensures)
       | else-f-2 w ↦
           rw (w.array-is, w.kept-is, next) (retained-left_out l.invariant (omega arith) begins c.f-else-first-lt128.new.self w.if-f-2.ensures)
     ]
