@@ -38,7 +38,7 @@ pub(super) fn try_fill<const N: usize>(array: &mut [u8; N], given: &[u8]) -> (bo
     (refused, size as u8)
 }
 
-/// `try_fill` of an array of at most 64 bytes.
+/// `try_fill` for an array of at most 64 bytes.
 #[inline(never)]
 fn try_fill_small<const N: usize>(array: &mut [u8; N], given: &[u8]) -> (bool, u8)
     requires { N ≤ 64 }

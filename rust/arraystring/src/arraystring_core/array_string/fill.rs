@@ -67,7 +67,7 @@ pub(super) fn try_fill<const N: usize>(array: &mut [u8; N], given: &[u8]) -> (bo
     (refused, size as u8)
 }
 
-/// `try_fill` of an array of at most 64 bytes.
+/// `try_fill` for an array of at most 64 bytes.
 ///
 /// # Safety
 ///
