@@ -56,7 +56,7 @@ pub fn move_run<const N: usize>(array: &mut [u8; N], from: usize, to: usize, len
     }
 }
 
-/// The same for fewer than 16 bytes.
+/// Moves fewer than 16 bytes.
 #[inline(always)]
 fn move_short_run<const N: usize>(array: &mut [u8; N], from: usize, to: usize, len: usize)
     requires source { from + len ≤ N }
@@ -77,7 +77,7 @@ fn move_short_run<const N: usize>(array: &mut [u8; N], from: usize, to: usize, l
     }
 }
 
-/// The same for 16 to 64 bytes. What an array of `N` bytes can't have is not tested.
+/// Moves 16 to 64 bytes. What an array of `N` bytes can't have is not tested.
 #[inline(always)]
 fn move_long_run<const N: usize>(array: &mut [u8; N], from: usize, to: usize, len: usize)
     requires source { from + len ≤ N }
@@ -93,7 +93,7 @@ fn move_long_run<const N: usize>(array: &mut [u8; N], from: usize, to: usize, le
     }
 }
 
-/// The same for more than 64 bytes.
+/// Moves more than 64 bytes.
 #[inline(always)]
 fn move_much<const N: usize>(array: &mut [u8; N], from: usize, to: usize, len: usize)
     requires source { from + len ≤ N }
@@ -110,7 +110,7 @@ fn move_much<const N: usize>(array: &mut [u8; N], from: usize, to: usize, len: u
     }
 }
 
-/// The same for more bytes than a string has.
+/// Moves more than 128 bytes of an array of more than 256.
 #[cold]
 #[inline(never)]
 fn move_any_run<const N: usize>(array: &mut [u8; N], from: usize, to: usize, len: usize)
@@ -122,7 +122,7 @@ fn move_any_run<const N: usize>(array: &mut [u8; N], from: usize, to: usize, len
     all.copy_within(from..from + len, to);
 }
 
-/// The same for `K` to `2 * K` bytes.
+/// Moves `K` to `2 * K` bytes.
 #[inline(always)]
 fn move_ends<const N: usize, const K: usize>(
     array: &mut [u8; N],
@@ -144,7 +144,7 @@ fn move_ends<const N: usize, const K: usize>(
     put_bytes(array, to + rest, last);
 }
 
-/// The same for `2 * K` to `4 * K` bytes.
+/// Moves `2 * K` to `4 * K` bytes.
 #[inline(always)]
 fn move_pairs<const N: usize, const K: usize>(
     array: &mut [u8; N],
@@ -186,7 +186,7 @@ pub fn write_over<const N: usize>(array: &mut [u8; N], at: usize, given: &[u8])
     }
 }
 
-/// The same for fewer than 16 bytes.
+/// Writes fewer than 16 bytes.
 #[inline(always)]
 fn write_short_run<const N: usize>(array: &mut [u8; N], at: usize, given: &[u8])
     requires room { at + length given.now ≤ N }
@@ -207,7 +207,7 @@ fn write_short_run<const N: usize>(array: &mut [u8; N], at: usize, given: &[u8])
     }
 }
 
-/// The same for at least 16 bytes. What an array of `N` bytes can't have is not tested.
+/// Writes at least 16 bytes. What an array of `N` bytes can't have is not tested.
 #[inline(always)]
 fn write_long_run<const N: usize>(array: &mut [u8; N], at: usize, given: &[u8])
     requires room { at + length given.now ≤ N }
@@ -224,7 +224,7 @@ fn write_long_run<const N: usize>(array: &mut [u8; N], at: usize, given: &[u8])
     }
 }
 
-/// The same for any number of bytes.
+/// Writes any number of bytes by one call.
 #[inline(always)]
 fn write_any_run<const N: usize>(array: &mut [u8; N], at: usize, given: &[u8])
     requires { at + length given.now ≤ N }
@@ -234,7 +234,7 @@ fn write_any_run<const N: usize>(array: &mut [u8; N], at: usize, given: &[u8])
     all[at..at + given.len()].copy_from_slice(given);
 }
 
-/// The same for `K` to `2 * K` bytes.
+/// Writes `K` to `2 * K` bytes.
 #[inline(always)]
 fn copy_ends<const N: usize, const K: usize>(array: &mut [u8; N], at: usize, given: &[u8])
     requires room { at + length given.now ≤ N }

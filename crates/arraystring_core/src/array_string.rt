@@ -1,6 +1,6 @@
 //! `ArrayString`: the type, and the calls that read all of it. The modules below have its other calls,
-//! `traits` its impls of traits, and `in_place` the private calls that put bytes into its array or take
-//! them out.
+//! `traits` its impls of traits. `append` and `in_place` have the private calls that put bytes into its
+//! array or take them out.
 ghost use Rattle.std.specs.Prelude.{◌≡◌, ◌+◌, ◌≤◌, ◌↔◌, [], IsTrue, length};
 ghost use Rattle.arraystring_base.specs.Text.{size, bytes, cap, boundary, IsText};
 ghost use Rattle.arraystring_core.specs.Layout.{start_of};
@@ -8,6 +8,7 @@ ghost use Rattle.arraystring_core.specs.Layout.{start_of};
 use std::marker::Model;
 use std::str;
 
+mod append;
 mod ascii;
 mod construct;
 mod fill;

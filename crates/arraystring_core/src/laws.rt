@@ -137,6 +137,7 @@ pub fn equal_texts()
 {}
 
 /// The JSON text of a text of at most `n` bytes, cut to `n` bytes, is the text.
+#[tactic(auto, using(crate::proofs::JsonLaws::reads_back))]
 pub fn json_reads_back()
     ensures { (t : List ℕ) (n : ℕ) → IsText t → size t ≤ n → text_within (json_text t) n ≡ Some t }
 {}

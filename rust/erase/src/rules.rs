@@ -384,6 +384,7 @@ pub const ORDER: &[Order] = &[Order {
         Module("trim"),
         Module("ascii"),
         Module("traits"),
+        Module("append"),
         Module("in_place"),
         Module("fill"),
         Module("gap"),

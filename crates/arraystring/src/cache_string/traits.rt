@@ -100,7 +100,7 @@ impl From<ArrayString<63>> for CacheString {
     }
 }
 
-/// The same as `try_from_str`.
+/// Makes a string as `try_from_str` does.
 ///
 /// # Examples
 ///

@@ -59,7 +59,8 @@ pub(super) fn open_gap<const N: usize>(
     );
 }
 
-/// The same for a text that moves to the start of the array. Each byte moves at most once.
+/// Opens a gap as `open_gap` does, in a text that moves to the start of the array. Each byte moves at
+/// most once.
 #[inline(always)]
 pub(super) fn compact_and_open_gap<const N: usize>(
     array: &mut [u8; N],

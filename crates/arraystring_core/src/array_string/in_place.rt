@@ -34,7 +34,8 @@ impl<const N: usize> ArrayString<N> {
         write_over(&mut self.array, text.offset + start, given.as_bytes());
     }
 
-    /// The same for a text that has to move to the start of the array for it.
+    /// Replaces the part between two boundaries of a text that has to move to the start of the array
+    /// for it.
     #[cold]
     #[inline(never)]
     pub(super) fn compact_and_splice(
@@ -81,7 +82,7 @@ impl<const N: usize> ArrayString<N> {
         encode(ch, &mut self.array, text.offset + at);
     }
 
-    /// The same for a text that has to move to the start of the array for it.
+    /// Puts `ch` at a boundary of a text that has to move to the start of the array for it.
     #[cold]
     #[inline(never)]
     pub(super) fn compact_and_insert(&mut self, at: usize, ch: char)

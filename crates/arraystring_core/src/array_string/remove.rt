@@ -57,7 +57,7 @@ impl<const N: usize> ArrayString<N> {
         self.pop_counted(&mut Steps::new())
     }
 
-    /// The same as `pop`, counted in `steps`: at most four looks, at least one if there is a
+    /// Pops as `pop` does, counted in `steps`: at most four looks, at least one if there is a
     /// character, and no moves.
     ///
     /// # Precondition
@@ -112,7 +112,7 @@ impl<const N: usize> ArrayString<N> {
         self.remove_counted(index, &mut Steps::new())
     }
 
-    /// The same as `remove`, with the bytes that it moves counted in `steps`. They are no more
+    /// Removes as `remove` does, with the bytes that it moves counted in `steps`. They are no more
     /// than the part after the character has, and at least as many as the shorter of the parts
     /// before and after it has. It moves none at index 0, and none if it is refused.
     ///

@@ -28,7 +28,7 @@ fn of_text_that_fits(text: &str) -> Option<[CacheString; 3]> {
     }
 }
 
-/// The same of pieces.
+/// What the unchecked call makes of pieces that fit together.
 fn of_pieces_that_fit(pieces: &[&str]) -> Option<CacheString> {
     match CacheString::try_from_iterator(pieces.iter().copied()) {
         Ok(_) => Some(CacheString::from_iterator_unchecked(pieces.iter().copied())),

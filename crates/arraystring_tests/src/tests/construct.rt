@@ -85,7 +85,7 @@ fn of_text<const N: usize>(text: &str) -> (ArrayString<N>, [Option<ArrayString<N
     }
 }
 
-/// The same of the pieces of a slice.
+/// What a caller knows of the pieces of a slice, and what the unchecked constructor makes of them if they fit.
 fn of_pieces<const N: usize>(pieces: &[&str]) -> (ArrayString<N>, Option<ArrayString<N>>)
     ensures cut { result.0.text ≡ cut (joined_pieces pieces.now) (cap N) }
     ensures unchecked { IfSome result.1 (λ made. made.text ≡ joined_pieces pieces.now) }
@@ -233,7 +233,8 @@ fn takes_chars<const N: usize>(
     agree(rt, wanted, added.as_str(), left);
 }
 
-/// The same of pieces, 14 of which come behind `before`.
+/// Asserts how many pieces are taken from iterators that are borrowed, if not all of 14 fit behind `before`:
+/// one more than fit, and then none.
 fn takes_pieces<'a, const N: usize>(
     rt: &impl Abort,
     before: &'a str,

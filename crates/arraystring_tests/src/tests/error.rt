@@ -50,7 +50,7 @@ fn read(bytes: &[u8]) -> Result<&str, Error> {
     Ok(str::from_utf8(bytes)?)
 }
 
-/// The same with the other refusal.
+/// The text of bytes, or `Utf8`, which `?` makes of the refusal of std too.
 fn read_or_utf8(bytes: &[u8]) -> Result<&str, Utf8> {
     Ok(str::from_utf8(bytes)?)
 }

@@ -34,7 +34,8 @@ fn whole_or_refused<const N: usize>(
     agree(rt, text, ArrayString::try_from_value(&value), Ok(string));
 }
 
-/// The same of the string of 63 bytes.
+/// Asserts that a `CacheString` reads a JSON text whole and is then written as it, or refuses it if it
+/// is larger.
 fn cached_or_refused(rt: &(impl Abort + AllocGlobal), given: &Value, text: &str) {
     let read = CacheString::try_from_value(given);
     if text.len() > 63 {

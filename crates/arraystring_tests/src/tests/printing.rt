@@ -115,7 +115,7 @@ fn shows<const N: usize>(rt: &(impl Abort + AllocGlobal), text: &str)
     debugs_as(rt, &drained, &derived::Drain(text));
 }
 
-/// The same of a string of 63 bytes.
+/// Asserts how a `CacheString` of a text that fits is printed.
 fn shows_cached(rt: &(impl Abort + AllocGlobal), text: &str) {
     let string = CacheString::from_str_truncate(text);
     displays(rt, &string, text);

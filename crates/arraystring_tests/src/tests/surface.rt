@@ -141,7 +141,7 @@ fn the_laws_are_at_hand(_rt: HostRuntime) {
     laws::white_space();
 }
 
-/// Each call that is `const`: a constant function can make no other.
+/// Each call that is `const` and reads a value: a constant function can make no other.
 const fn in_a_constant(text: &ArrayString<5>, steps: &Steps) -> ([u8; 4], bool, [u64; 2]) {
     let numbers = [
         text.len(),
@@ -152,7 +152,7 @@ const fn in_a_constant(text: &ArrayString<5>, steps: &Steps) -> ([u8; 4], bool, 
     (numbers, text.is_empty(), [steps.looked(), steps.moved()])
 }
 
-/// The same of what takes nothing.
+/// Each call that is `const` and takes nothing.
 const fn made_in_a_constant() -> (ArrayString<5>, CacheString, Steps) {
     (ArrayString::new(), CacheString::new(), Steps::new())
 }

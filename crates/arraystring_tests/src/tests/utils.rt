@@ -41,7 +41,7 @@ fn each_index_of_each_size(rt: HostRuntime) {
     }
 }
 
-/// The same of characters of two bytes: each second index is inside one.
+/// Each index to past 256 of characters of two bytes: each second index is inside one.
 #[test]
 fn each_index_of_wide_characters(rt: HostRuntime) {
     let text = "é".repeat(rt.alloc(), 130).expect(&rt, "memory");

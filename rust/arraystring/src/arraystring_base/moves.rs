@@ -86,7 +86,7 @@ pub unsafe fn move_run<const N: usize>(array: &mut [u8; N], from: usize, to: usi
     }
 }
 
-/// The same for fewer than 16 bytes.
+/// Moves fewer than 16 bytes.
 ///
 /// # Safety
 ///
@@ -132,7 +132,7 @@ unsafe fn move_short_run<const N: usize>(array: &mut [u8; N], from: usize, to: u
     }
 }
 
-/// The same for 16 to 64 bytes. What an array of `N` bytes can't have is not tested.
+/// Moves 16 to 64 bytes. What an array of `N` bytes can't have is not tested.
 ///
 /// # Safety
 ///
@@ -168,7 +168,7 @@ unsafe fn move_long_run<const N: usize>(array: &mut [u8; N], from: usize, to: us
     }
 }
 
-/// The same for more than 64 bytes.
+/// Moves more than 64 bytes.
 ///
 /// # Safety
 ///
@@ -206,7 +206,7 @@ unsafe fn move_much<const N: usize>(array: &mut [u8; N], from: usize, to: usize,
     }
 }
 
-/// The same for more bytes than a string has.
+/// Moves more than 128 bytes of an array of more than 256.
 ///
 /// # Safety
 ///
@@ -233,7 +233,7 @@ unsafe fn move_any_run<const N: usize>(array: &mut [u8; N], from: usize, to: usi
     copy_within_unchecked!(all, from..from + len, to);
 }
 
-/// The same for `K` to `2 * K` bytes.
+/// Moves `K` to `2 * K` bytes.
 ///
 /// # Safety
 ///
@@ -276,7 +276,7 @@ unsafe fn move_ends<const N: usize, const K: usize>(array: &mut [u8; N], from: u
     unsafe { put_bytes(array, to + rest, last) };
 }
 
-/// The same for `2 * K` to `4 * K` bytes.
+/// Moves `2 * K` to `4 * K` bytes.
 ///
 /// # Safety
 ///
@@ -355,7 +355,7 @@ pub unsafe fn write_over<const N: usize>(array: &mut [u8; N], at: usize, given: 
     }
 }
 
-/// The same for fewer than 16 bytes.
+/// Writes fewer than 16 bytes.
 ///
 /// # Safety
 ///
@@ -400,7 +400,7 @@ unsafe fn write_short_run<const N: usize>(array: &mut [u8; N], at: usize, given:
     }
 }
 
-/// The same for at least 16 bytes. What an array of `N` bytes can't have is not tested.
+/// Writes at least 16 bytes. What an array of `N` bytes can't have is not tested.
 ///
 /// # Safety
 ///
@@ -437,7 +437,7 @@ unsafe fn write_long_run<const N: usize>(array: &mut [u8; N], at: usize, given: 
     }
 }
 
-/// The same for any number of bytes.
+/// Writes any number of bytes by one call.
 ///
 /// # Safety
 ///
@@ -460,7 +460,7 @@ unsafe fn write_any_run<const N: usize>(array: &mut [u8; N], at: usize, given: &
     copy_from_slice_unchecked!(all, at..at + given.len(), given);
 }
 
-/// The same for `K` to `2 * K` bytes.
+/// Writes `K` to `2 * K` bytes.
 ///
 /// # Safety
 ///

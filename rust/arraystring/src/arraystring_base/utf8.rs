@@ -60,8 +60,8 @@ pub fn truncate_str(text: &str, size: u8) -> &str {
     truncate_str_counted(text, size, &mut Steps::new())
 }
 
-/// The same as [`truncate_str`](crate::utils::truncate_str). It looks at no more than four bytes, and at one at least if `size`
-/// is not 0 and is below the length. It moves none.
+/// Cuts as [`truncate_str`](crate::utils::truncate_str) does, with its looks counted in `steps`. It looks at no more than four
+/// bytes, and at one at least if `size` is not 0 and is below the length. It moves none.
 ///
 /// # In Rust
 ///

@@ -1,7 +1,7 @@
 // Made from crates/arraystring_core/src/array_string.rt by rust/erase. A change goes there.
 //! `ArrayString`: the type, and the calls that read all of it. The modules below have its other calls,
-//! `traits` its impls of traits, and `in_place` the private calls that put bytes into its array or take
-//! them out.
+//! `traits` its impls of traits. `append` and `in_place` have the private calls that put bytes into its
+//! array or take them out.
 
 use crate::by_hand::str;
 
@@ -239,6 +239,7 @@ mod remove;
 mod trim;
 mod ascii;
 mod traits;
+mod append;
 mod in_place;
 mod fill;
 mod gap;

@@ -102,6 +102,7 @@ const FILE: &str = "\
 /// The type.
 pub struct ArrayString<const N: usize>;
 
+mod append;
 mod ascii;
 mod construct;
 mod fill;

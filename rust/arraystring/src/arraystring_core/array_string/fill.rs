@@ -34,9 +34,9 @@ pub(super) unsafe fn fill<const N: usize>(array: &mut [u8; N], given: &[u8]) {
     }
 }
 
-/// The same if `given` is not larger than the capacity, and else nothing. Returns whether it is
-/// refused, and how many bytes were written. It has no branch of its own: where branches join, the
-/// compiler copies the array once more.
+/// Writes `given` at the start of a new array, or nothing if it is larger than the capacity. Returns
+/// whether it is refused, and how many bytes were written. It has no branch of its own: where branches
+/// join, the compiler copies the array once more.
 ///
 /// <details><summary>Contract</summary>
 ///
@@ -67,7 +67,7 @@ pub(super) fn try_fill<const N: usize>(array: &mut [u8; N], given: &[u8]) -> (bo
     (refused, size as u8)
 }
 
-/// The same for an array of at most 64 bytes.
+/// `try_fill` for an array of at most 64 bytes.
 ///
 /// # Safety
 ///

@@ -75,7 +75,8 @@ pub(super) unsafe fn open_gap<const N: usize>(
     unsafe { shift(array, text.offset + end, text.offset + (start + len), tail, steps) };
 }
 
-/// The same for a text that moves to the start of the array. Each byte moves at most once.
+/// Opens a gap as `open_gap` does, in a text that moves to the start of the array. Each byte moves at
+/// most once.
 ///
 /// # Safety
 ///

@@ -59,7 +59,8 @@ impl<const N: usize> ArrayString<N> {
         unsafe { write_over(&mut self.array, text.offset + start, given.as_bytes()) };
     }
 
-    /// The same for a text that has to move to the start of the array for it.
+    /// Replaces the part between two boundaries of a text that has to move to the start of the array
+    /// for it.
     ///
     /// # Safety
     ///
@@ -144,7 +145,7 @@ impl<const N: usize> ArrayString<N> {
         unsafe { encode(ch, &mut self.array, text.offset + at) };
     }
 
-    /// The same for a text that has to move to the start of the array for it.
+    /// Puts `ch` at a boundary of a text that has to move to the start of the array for it.
     ///
     /// # Safety
     ///

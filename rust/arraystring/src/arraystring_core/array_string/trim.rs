@@ -33,7 +33,7 @@ impl<const N: usize> ArrayString<N> {
         self.trim_counted(&mut Steps::new());
     }
 
-    /// The same as [`trim`](crate::ArrayString::trim), with its looks counted in `steps`. It looks at each character that it
+    /// Trims as [`trim`](crate::ArrayString::trim) does, with its looks counted in `steps`. It looks at each character that it
     /// removes at the end and at the one before them: at each at least once, and at most four
     /// times. It moves no byte.
     ///

@@ -1,4 +1,4 @@
-use Rattle.std.proofs.Common.{◌≡◌, ◌+◌, ◌-◌, ◌<◌, ◌≤◌, refl, arith, rules}
+use Rattle.std.proofs.Common.{◌≡◌, ◌+◌, ◌-◌, ◌≤◌, refl, arith, rules}
 use Rattle.std.proofs.Math.Nat.{lt_of_not-le}
 use Rattle.std.proofs.lemmas.Bool.{iff_false}
 use Rattle.arraystring_base.specs.Text.{cap, width}
@@ -8,7 +8,7 @@ use Rattle.arraystring_core.proofs.array_string.ArrayString.append_char.Goals as
 
 pub returns-then-not-has_room-2-clause-text : goal.returns-then-not-has_room-2-clause-text
 returns-then-not-has_room-2-clause-text g c =
-    let over : cap g.row.N < c.args.end - c.args.start.now + width c.args.ch = lt_of_not-le (iff_false c.has_room-then-not-has_room.ensures c.if-not-has_room-2.true) in
+    let over = lt_of_not-le (iff_false c.has_room-then-not-has_room.ensures c.if-not-has_room-2.true) in
     (omega (arith, stored-size c.requires.held), refl)
 
 pub compact_and_append-held-requires : goal.compact_and_append-held-requires
@@ -18,21 +18,15 @@ compact_and_append-held-requires g c =
 
 pub returns-then-not-has_room-clause-text : goal.returns-then-not-has_room-clause-text
 returns-then-not-has_room-clause-text g c =
-    let long = stored-size c.requires.held in
     let same : c.args.end - c.args.start.now ≡ c.args.len.now = omega arith in
+    let long = stored-size c.requires.held in
     (omega (arith, c.if-not-has_room-2.ensures.0 refl), rw same at c.compact_and_append-held.ensures.text)
 
-pub returns-clause-held : goal.returns-clause-held
-returns-clause-held g c =
-    let room : c.args.start.now + c.args.len.now + width c.args.ch ≤ cap g.row.N = omega (arith, c.if-not-has_room.ensures.0 refl) in
-    let lies = char-appended c.requires.held refl c.args.ch (search rules) c.encode.ensures.width room (rw c.requires.end at c.encode.ensures.bytes) in
-    let same : c.args.len.now + c.encode.result ≡ c.args.end + c.encode.result - c.args.start.now = omega arith in
-    (rw same at lies).held
-
-pub returns-clause-text : goal.returns-clause-text
-returns-clause-text g c =
+pub returns : goal.returns
+returns g c =
     let long = stored-size c.requires.held in
     let room : c.args.start.now + c.args.len.now + width c.args.ch ≤ cap g.row.N = omega (arith, c.if-not-has_room.ensures.0 refl) in
-    let lies = char-appended c.requires.held refl c.args.ch (search rules) c.encode.ensures.width room (rw c.requires.end at c.encode.ensures.bytes) in
     let same : c.args.len.now + c.encode.result ≡ c.args.end + c.encode.result - c.args.start.now = omega arith in
-    (omega arith, (rw same at lies).shown)
+    let written = rw c.requires.end at c.encode.ensures.bytes in
+    let lies = rw same at (char-appended c.requires.held refl c.args.ch (search rules) c.encode.ensures.width room written) in
+    record { held = lies.held; end = omega arith; text = (omega arith, lies.shown) }

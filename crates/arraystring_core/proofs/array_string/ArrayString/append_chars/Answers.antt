@@ -1,6 +1,5 @@
-use Rattle.std.proofs.Common.{◌≡◌, ◌-◌, ◌++◌, ◌∷◌, [], refl, sym, arith, inl, inr, append-nil}
+use Rattle.std.proofs.Common.{◌++◌, ◌∷◌, [], refl, sym, arith, inl, inr, append-nil}
 use Rattle.std.proofs.iter.Next.{Yields-more}
-use Rattle.arraystring_base.specs.Text.{size, cap, cut}
 use Rattle.arraystring_base.proofs.TextLaws.{width-bounds}
 use Rattle.arraystring_core.specs.Layout.{stored}
 use Rattle.arraystring_core.specs.GhostProofs.{stored-size}
@@ -10,7 +9,7 @@ use Rattle.arraystring_core.proofs.array_string.ArrayString.append_chars.Goals a
 pub loop-ch-init : goal.loop-ch-init
 loop-ch-init g c =
     let old = (stored c.args.array.now c.args.start.now c.args.len.now).text in
-    let long : size old ≡ c.args.len.now = stored-size c.requires.held in
+    let long = stored-size c.requires.held in
     let on = c.requires.ends c.into_iter-ch-iterator.result c.into_iter-ch-iterator.ensures.into_iter_gives in
     record {
       can = on.0;
@@ -37,10 +36,8 @@ returns-in-None-append_char-clause-taken g c =
     let inv = c.loop-ch.invariant in
     let x = c.in-Some.ch in
     let xs = c.loop-ch.yielded in
-    let room = cap g.row.N - size (stored c.loop-ch.array c.loop-ch.start c.loop-ch.len).text in
     let refused = c.in-None-append_char.ensures.text in
-    let past = added-past of_characters inv.added x refused.0 in
-    let none : cut (x ∷ []) room ≡ [] = cut-none x room (omega (arith, refused.0, width-bounds x)) in (
+    let past = added-past of_characters inv.added x refused.0 in (
       xs ++ x ∷ [],
       (
         c.into_iter-ch-iterator.result,
@@ -48,7 +45,7 @@ returns-in-None-append_char-clause-taken g c =
         inr (c.next.new.self, Yields-more g.I.IntoIter.Iterator.next_gives _ xs _ x _ c.loop-ch.yielded_by c.in-Some.ensures.steps, past),
       ),
       past.4,
-      added-none of_characters inv.added x refused.1 none,
+      added-none of_characters inv.added x refused.1 (cut-none x _ (omega (arith, refused.0, width-bounds x))),
     )
 
 pub returns-clause-taken : goal.returns-clause-taken

@@ -1,8 +1,6 @@
-use Rattle.std.proofs.Common.{◌≡◌, ◌+◌, ◌≤◌, ◌++◌, ◌∷◌, [], refl, sym, arith, inl, inr, append-nil, length, IsUtf8}
+use Rattle.std.proofs.Common.{◌++◌, ◌∷◌, [], refl, sym, arith, inl, inr, append-nil, IsUtf8}
 use Rattle.std.proofs.iter.Next.{Yields-more}
-use Rattle.arraystring_base.specs.Text.{size, cap}
 use Rattle.arraystring_core.specs.Layout.{stored}
-use Rattle.arraystring_core.specs.Taken.{piece_text}
 use Rattle.arraystring_core.specs.GhostProofs.{stored-size}
 use Rattle.arraystring_base.proofs.TextLaws.{size-borrowed}
 use Rattle.arraystring_core.proofs.SpanLemmas.{appended}
@@ -12,7 +10,7 @@ use Rattle.arraystring_core.proofs.array_string.ArrayString.append_strs.Goals as
 pub loop-piece-init : goal.loop-piece-init
 loop-piece-init g c =
     let old = (stored c.args.array.now c.args.start.now c.args.len.now).text in
-    let long : size old ≡ c.args.len.now = stored-size c.requires.held in
+    let long = stored-size c.requires.held in
     let on = c.requires.ends c.into_iter-piece-iterator.result c.into_iter-piece-iterator.ensures.into_iter_gives in
     record {
       can = on.0;
@@ -39,20 +37,17 @@ pub loop-piece-preserved : goal.loop-piece-preserved
 loop-piece-preserved g c =
     let inv = c.loop-piece.invariant in
     let x = c.in-Some.piece in
-    let now = (stored c.loop-piece.array c.loop-piece.start c.loop-piece.len).text in
     let on = c.in-Some.ensures.goes.on inv.ends in
     let utf8 : IsUtf8 x.now = rw (← c.as_bytes.ensures.value) c.as_bytes.ensures.utf8 in
     let wide = size-borrowed utf8 in
     let long = stored-size inv.held in
-    let room : c.loop-piece.start + c.loop-piece.len + length x.now ≤ cap g.row.N = omega arith in
-    let fits : size now + size (piece_text x) ≤ cap g.row.N = omega arith in
-    let lies = appended inv.held refl utf8 room (rw (inv.end, c.as_bytes.ensures.value) at c.write_over.ensures) in
+    let lies = appended inv.held refl utf8 (omega arith) (rw (inv.end, c.as_bytes.ensures.value) at c.write_over.ensures) in
     record {
       can = on.0;
       ends = on.1;
       held = lies.held;
       end = omega arith;
-      added = added-more of_pieces inv.added x (fits, lies.shown);
+      added = added-more of_pieces inv.added x (omega arith, lies.shown);
     }
 
 pub returns-in_default-clause-taken : goal.returns-in_default-clause-taken

@@ -1,6 +1,6 @@
-use Rattle.std.proofs.Common.{◌≡◌, ℕ, List, ◌∷◌, ◌++◌, length, drop, arith, sym, ap, ◌∙◌}
+use Rattle.std.proofs.Common.{◌≡◌, ℕ, List, ◌∷◌, length, drop, arith, sym, ap, ◌∙◌}
 use Rattle.std.specs.Prelude.{slice_index}
-use Rattle.arraystring_base.specs.Text.{utf8, bytes, back}
+use Rattle.arraystring_base.specs.Text.{back}
 use Rattle.arraystring_base.proofs.TextLaws.{size-is}
 use Rattle.arraystring_base.proofs.BoundaryLaws.{boundary-to_bytes, first-char, next-char}
 use Rattle.arraystring_core.proofs.array_string.ArrayString.char_at.Given as given
@@ -18,8 +18,7 @@ first_char-requires g c =
 goes_on : (g : given.Over) (c : goal.After-first_char g)
     → (rest : List ℕ) × (back c.args.self.now.text c.args.at ≡ c.first_char.result.0 ∷ rest)
 goes_on g c =
-    let shown : drop c.args.at (bytes c.args.self.now.text) ≡ utf8 c.first_char.result.0 ++ c.first_char.ensures.first.0 =
-    ap (drop c.args.at) (sym c.as_str.ensures.bytes) ∙ sym c.range_from.ensures.value ∙ c.first_char.ensures.first.1 in
+    let shown = ap (drop c.args.at) (sym c.as_str.ensures.bytes) ∙ sym c.range_from.ensures.value ∙ c.first_char.ensures.first.1 in
     first-char c.args.self.now.text c.args.at c.requires.boundary c.first_char.result.0 c.first_char.ensures.first.0 shown
 
 pub returns-clause-first : goal.returns-clause-first

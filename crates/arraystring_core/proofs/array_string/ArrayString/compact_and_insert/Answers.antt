@@ -1,5 +1,5 @@
-use Rattle.std.proofs.Common.{◌+◌, ◌-◌, ◌≤◌, ◌++◌, ◌∷◌, sym, ◌∙◌, arith, rules}
-use Rattle.arraystring_base.specs.Text.{width, cap, front, back}
+use Rattle.std.proofs.Common.{◌+◌, ◌-◌, ◌++◌, ◌∷◌, sym, ◌∙◌, arith, rules}
+use Rattle.arraystring_base.specs.Text.{front, back}
 use Rattle.arraystring_base.proofs.TextLaws.{width-is, width-bounds}
 use Rattle.arraystring_base.proofs.BoundaryLaws.{boundary-within}
 use Rattle.arraystring_core.proofs.StoredLaws.{opened-size, opened-within}
@@ -11,25 +11,25 @@ use Rattle.arraystring_core.proofs.array_string.ArrayString.compact_and_insert.G
 pub compact_and_open_gap-requires : goal.compact_and_open_gap-requires
 compact_and_open_gap-requires g c =
     let within = opened-within c.self.invariant c.self.view_is _ c.requires.boundary in
-    let room : c.args.at + (c.len_utf8-len.result + (c.self.inside.size - c.args.at)) ≤ cap g.row.N =
-    omega (arith, opened-size c.self.invariant c.self.view_is, width-is c.args.ch) in
-    rw (c.new-text.ensures.offset, c.new-text.ensures.size) (search rules, (omega arith, (within, (c.self.invariant.within, (room, omega arith)))))
+    let long = opened-size c.self.invariant c.self.view_is in
+    (search rules, (omega arith, (omega arith, (omega arith, (omega (arith, width-is c.args.ch), omega arith)))))
 
 pub overflow_sub-self : goal.overflow_sub-self
 overflow_sub-self g c = omega (arith, opened-within c.self.invariant c.self.view_is _ c.requires.boundary)
 
 pub overflow_add-self-2 : goal.overflow_add-self-2
 overflow_add-self-2 g c =
-    omega (arith, opened-size c.self.invariant c.self.view_is, opened-within c.self.invariant c.self.view_is _ c.requires.boundary, width-is c.args.ch)
+    let within = boundary-within c.args.self.now.text c.args.at c.requires.boundary in
+    omega (arith, opened-size c.self.invariant c.self.view_is, width-is c.args.ch)
 
 pub overflow_cast-self : goal.overflow_cast-self
 overflow_cast-self g c =
-    omega (arith, opened-size c.self.invariant c.self.view_is, opened-within c.self.invariant c.self.view_is _ c.requires.boundary, width-is c.args.ch)
+    let within = boundary-within c.args.self.now.text c.args.at c.requires.boundary in
+    omega (arith, opened-size c.self.invariant c.self.view_is, width-is c.args.ch)
 
 pub encode-requires : goal.encode-requires
 encode-requires g c =
-    let within : c.args.at + width c.args.ch ≤ g.row.N = omega (arith, opened-size c.self.invariant c.self.view_is, opened-within c.self.invariant c.self.view_is _ c.requires.boundary) in
-    (search rules, within)
+    (search rules, omega (arith, boundary-within c.args.self.now.text c.args.at c.requires.boundary))
 
 -- what is then in the array
 written : (g : given.Over) (c : goal.After-encode g)

@@ -1,5 +1,4 @@
-use Rattle.std.proofs.Common.{◌+◌, ◌≤◌, ◌++◌, ◌∷◌, [], arith, rules}
-use Rattle.arraystring_base.specs.Text.{width}
+use Rattle.std.proofs.Common.{◌+◌, ◌++◌, ◌∷◌, [], arith, rules}
 use Rattle.arraystring_base.proofs.TextLaws.{width-bounds}
 use Rattle.arraystring_core.proofs.StoredLaws.{opened-size}
 use Rattle.arraystring_core.proofs.SpanLemmas.{Lies}
@@ -8,9 +7,7 @@ use Rattle.arraystring_core.proofs.array_string.ArrayString.compact_and_push.Giv
 use Rattle.arraystring_core.proofs.array_string.ArrayString.compact_and_push.Goals as goal
 
 pub encode-len-requires : goal.encode-len-requires
-encode-len-requires g c =
-    let within : c.self.inside.size + width c.args.ch ≤ g.row.N = omega (arith, opened-size c.self.invariant c.self.view_is) in
-    (search rules, within)
+encode-len-requires g c = (search rules, omega (arith, opened-size c.self.invariant c.self.view_is))
 
 pub overflow_cast-self : goal.overflow_cast-self
 overflow_cast-self g c =

@@ -1,4 +1,4 @@
-use Rattle.std.proofs.Common.{◌≡◌, ◌+◌, ◌-◌, ◌≤◌, ◌++◌, chars, ap, ◌∙◌, arith, rules, true}
+use Rattle.std.proofs.Common.{◌+◌, ◌-◌, ◌≤◌, ◌++◌, chars, ap, ◌∙◌, arith, rules}
 use Rattle.std.proofs.lemmas.List.{append-nil}
 use Rattle.arraystring_base.specs.Text.{size, cap, boundary, front, back}
 use Rattle.arraystring_base.proofs.BoundaryLaws.{boundary-end, front-end, back-end}
@@ -8,7 +8,7 @@ pub compact_and_splice-requires : goal.compact_and_splice-requires
 compact_and_splice-requires g c =
     let t = c.args.self.now.text in
     let n = c.len-len.result in
-    let end : boundary t n ≡ true = ap (boundary t) c.len-len.ensures.value ∙ boundary-end t in
+    let end = ap (boundary t) c.len-len.ensures.value ∙ boundary-end t in
     let fits : size t - (n - n) + size (chars c.args.string.now) ≤ cap g.row.N = omega arith in
     (search rules, (omega arith, (end, (end, (fits, omega arith)))))
 

@@ -1,5 +1,5 @@
-use Rattle.std.proofs.Common.{◌+◌, ◌-◌, ◌≤◌, ◌++◌, chars, length, refl, arith, rules}
-use Rattle.arraystring_base.specs.Text.{cap, front, back}
+use Rattle.std.proofs.Common.{◌+◌, ◌-◌, ◌++◌, chars, length, refl, arith, rules}
+use Rattle.arraystring_base.specs.Text.{front, back}
 use Rattle.arraystring_base.proofs.TextLaws.{size-borrowed}
 use Rattle.arraystring_core.proofs.StoredLaws.{opened-size, opened-within}
 use Rattle.arraystring_core.proofs.SpanLemmas.{Lies, spliced, moved_to_start}
@@ -8,10 +8,8 @@ use Rattle.arraystring_core.proofs.array_string.ArrayString.compact_and_splice.G
 
 pub compact_and_open_gap-requires : goal.compact_and_open_gap-requires
 compact_and_open_gap-requires g c =
-    let within = opened-within c.self.invariant c.self.view_is _ c.requires.end in
-    let room : c.args.start + (length c.args.given.now + (c.self.inside.size - c.args.end)) ≤ cap g.row.N =
-    omega (arith, spliced c.self.invariant c.self.view_is c.requires.end c.utf8.given) in
-    rw (c.new-text.ensures.offset, c.new-text.ensures.size) (search rules, (c.requires.order, (within, (c.self.invariant.within, (room, c.requires.countable)))))
+    let sizes = spliced c.self.invariant c.self.view_is c.requires.end c.utf8.given in
+    (search rules, (c.requires.order, (omega arith, (omega arith, (omega arith, c.requires.countable)))))
 
 pub overflow_sub-self : goal.overflow_sub-self
 overflow_sub-self g c = rw c.new-text.ensures.size (opened-within c.self.invariant c.self.view_is _ c.requires.end)

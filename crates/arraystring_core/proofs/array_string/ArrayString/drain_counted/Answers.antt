@@ -4,22 +4,21 @@ use Rattle.arraystring_core.proofs.PartLemmas.{takable}
 use Rattle.arraystring_core.proofs.array_string.ArrayString.drain_counted.Goals as goal
 
 pub overflow_add-self-inside : goal.overflow_add-self-inside
-overflow_add-self-inside g c =
-    omega (arith, takable c.self.invariant c.self.view_is c.saturating_ends-from.result.0 c.saturating_ends-from.result.1 c.in_ok-check_part.ensures)
+overflow_add-self-inside g c = omega (arith, takable c.self.invariant c.self.view_is _ _ c.in_ok-check_part.ensures)
 
 pub new-removed-requires : goal.new-removed-requires
 new-removed-requires g c =
-    let part = takable c.self.invariant c.self.view_is c.saturating_ends-from.result.0 c.saturating_ends-from.result.1 c.in_ok-check_part.ensures in (search rules, (search rules, part.held))
+    (search rules, (search rules, (takable c.self.invariant c.self.view_is _ _ c.in_ok-check_part.ensures).held))
 
 pub take_out-requires : goal.take_out-requires
 take_out-requires g c =
-    let part = takable c.self.invariant c.self.view_is c.saturating_ends-from.result.0 c.saturating_ends-from.result.1 c.in_ok-check_part.ensures in
+    let part = takable c.self.invariant c.self.view_is _ _ c.in_ok-check_part.ensures in
     (search rules, (part.order, (part.starts, (part.ends, c.requires.moves))))
 
 pub returns-clause-edit : goal.returns-clause-edit
 returns-clause-edit g c =
     let ends = c.saturating_ends-from.ensures in
-    let part = takable c.self.invariant c.self.view_is c.saturating_ends-from.result.0 c.saturating_ends-from.result.1 c.in_ok-check_part.ensures in
+    let part = takable c.self.invariant c.self.view_is _ _ c.in_ok-check_part.ensures in
     let made = part.made _ _ c.new-removed.ensures c.take_out.ensures.text in
     let high = ends.holds.1 ∙ ap (saturated_end ends.end) c.len.ensures.value in
     let moved = c.take_out.ensures in

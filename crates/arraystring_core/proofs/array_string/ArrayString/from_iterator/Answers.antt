@@ -1,7 +1,7 @@
-use Rattle.std.proofs.Common.{◌∙◌, subst}
+use Rattle.std.proofs.Common.{◌∙◌}
 use Rattle.std.proofs.lemmas.Str.{chars-nil}
 use Rattle.arraystring_base.specs.Text.{cap}
-use Rattle.arraystring_core.specs.Taken.{joined_pieces, Takes}
+use Rattle.arraystring_core.specs.Taken.{joined_pieces}
 use Rattle.arraystring_core.proofs.TakenLaws.{pieces-cut}
 use Rattle.arraystring_core.proofs.ConstructLaws.{fresh-room, fresh-cut}
 use Rattle.arraystring_core.proofs.array_string.ArrayString.from_iterator.Goals as goal
@@ -9,17 +9,13 @@ use Rattle.arraystring_core.proofs.array_string.ArrayString.from_iterator.Goals 
 pub returns-clause-taken : goal.returns-clause-taken
 returns-clause-taken g c =
     let ensured = c.append_strs.ensures.taken in
-    let becomes = g.I.IntoIterator.into_iter_gives in
-    let steps = g.I.IntoIter.Iterator.next_gives in
     let n = cap g.row.N in
-    let takes = subst (λ k. Takes becomes steps joined_pieces c.args.pieces k ensured.0) (fresh-room _ n chars-nil) ensured.1 in
-    (ensured.0, takes, fresh-cut _ (joined_pieces ensured.0) n chars-nil _ ensured.3)
+    (ensured.0, rw (fresh-room _ n chars-nil) at ensured.1, fresh-cut _ (joined_pieces ensured.0) n chars-nil _ ensured.3)
 
 pub returns-clause-whole : goal.returns-clause-whole
 returns-clause-whole g c = λ all gives.
     let ensured = c.append_strs.ensures.taken in
-    let becomes = g.I.IntoIterator.into_iter_gives in
-    let steps = g.I.IntoIter.Iterator.next_gives in
     let n = cap g.row.N in
-    let takes = subst (λ k. Takes becomes steps joined_pieces c.args.pieces k ensured.0) (fresh-room _ n chars-nil) ensured.1 in
-    fresh-cut _ (joined_pieces ensured.0) n chars-nil _ ensured.3 ∙ pieces-cut becomes steps c.args.pieces all gives ensured.0 n takes
+    fresh-cut _ (joined_pieces ensured.0) n chars-nil _ ensured.3
+    ∙ pieces-cut g.I.IntoIterator.into_iter_gives g.I.IntoIter.Iterator.next_gives c.args.pieces all gives ensured.0 n
+    (rw (fresh-room _ n chars-nil) at ensured.1)

@@ -2,16 +2,16 @@ use Rattle.std.proofs.Common.{◌+◌, ◌≤◌, length, refl, ap, ◌∙◌, a
 use Rattle.std.proofs.iter.Next.{Yields-more}
 use Rattle.std.proofs.lemmas.List.{length-replicate}
 use Rattle.std.proofs.lemmas.Str.{IsUtf8-nil, chars-nil}
-use Rattle.arraystring_base.specs.Text.{size, cap}
+use Rattle.arraystring_base.specs.Text.{cap}
 use Rattle.arraystring_base.proofs.TextLaws.{size-borrowed}
 use Rattle.arraystring_core.specs.GhostProofs.{stored-size}
-use Rattle.arraystring_core.specs.Layout.{stored}
-use Rattle.arraystring_core.specs.Taken.{piece_text}
 use Rattle.arraystring_core.proofs.GapLemmas.{written-from-zero}
 use Rattle.arraystring_core.proofs.SpanLemmas.{appended}
 use Rattle.arraystring_core.proofs.TakenLaws.{pieces-all}
 use Rattle.arraystring_core.proofs.TakenLemmas.{of_pieces, next-fits, next-text}
+use Rattle.arraystring_core.proofs.array_string.ArrayString.from_iterator_unchecked.Given as given
 use Rattle.arraystring_core.proofs.array_string.ArrayString.from_iterator_unchecked.Goals as goal
+use Rattle.arraystring_core.proofs.array_string.ArrayString.from_iterator_unchecked.Goals.{After-as_bytes}
 
 pub loop-piece-init : goal.loop-piece-init
 loop-piece-init g c =
@@ -23,42 +23,36 @@ loop-piece-init g c =
       text = chars-nil;
     }
 
-pub write_over-requires : goal.write_over-requires
-write_over-requires g c =
+-- there is room for the piece
+piece : (g : given.Over) (c : After-as_bytes g) → IsUtf8 c.in-Some.piece.now
+piece g c = rw (← c.as_bytes.ensures.value) c.as_bytes.ensures.utf8
+
+room : (g : given.Over) (c : After-as_bytes g) → 0 + c.loop-piece.end + length c.in-Some.piece.now ≤ cap g.row.N
+room g c =
     let inv = c.loop-piece.invariant in
     let x = c.in-Some.piece in
     let xs = c.loop-piece.yielded in
-    let text = (stored c.loop-piece.array 0 c.loop-piece.end).text in
-    let n = cap g.row.N in
     let yields = Yields-more g.I.IntoIter.Iterator.next_gives _ xs _ x _ c.loop-piece.yielded_by c.in-Some.ensures.steps in
     let fits = c.requires.fits c.into_iter-piece-iterator.result c.into_iter-piece-iterator.ensures.into_iter_gives _ c.next.new.self yields in
-    let within : size text + size (piece_text x) ≤ n = next-fits of_pieces xs inv.text x fits in
-    let utf8 : IsUtf8 x.now = rw (← c.as_bytes.ensures.value) c.as_bytes.ensures.utf8 in
-    let long = stored-size inv.held in
-    let wide = size-borrowed utf8 in
-    (search rules, omega (arith, ap length c.as_bytes.ensures.value))
+    omega (arith, next-fits of_pieces xs inv.text x fits, stored-size inv.held, size-borrowed (piece g c))
+
+pub write_over-requires : goal.write_over-requires
+write_over-requires g c =
+    (search rules, omega (arith, room g (goal.at.write_over-requires g c).After-as_bytes, ap length c.as_bytes.ensures.value))
 
 pub loop-piece-preserved : goal.loop-piece-preserved
 loop-piece-preserved g c =
     let inv = c.loop-piece.invariant in
+    let before = (goal.at.loop-piece-preserved g c).After-as_bytes in
     let x = c.in-Some.piece in
-    let xs = c.loop-piece.yielded in
-    let text = (stored c.loop-piece.array 0 c.loop-piece.end).text in
-    let n = cap g.row.N in
-    let yields = Yields-more g.I.IntoIter.Iterator.next_gives _ xs _ x _ c.loop-piece.yielded_by c.in-Some.ensures.steps in
-    let fits = c.requires.fits c.into_iter-piece-iterator.result c.into_iter-piece-iterator.ensures.into_iter_gives _ c.next.new.self yields in
-    let within : size text + size (piece_text x) ≤ n = next-fits of_pieces xs inv.text x fits in
-    let utf8 : IsUtf8 x.now = rw (← c.as_bytes.ensures.value) c.as_bytes.ensures.utf8 in
-    let long = stored-size inv.held in
-    let wide = size-borrowed utf8 in
-    let room : 0 + c.loop-piece.end + length x.now ≤ n = omega arith in
-    let lies = appended inv.held refl utf8 room (written-from-zero c.loop-piece.array _ x.now c.loop-piece.end (rw c.as_bytes.ensures.value at c.write_over.ensures)) in
+    let written = rw c.as_bytes.ensures.value at c.write_over.ensures in
+    let lies = appended inv.held refl (piece g before) (room g before) (written-from-zero c.loop-piece.array _ x.now c.loop-piece.end written) in
     let on = c.in-Some.ensures.goes.on inv.ends in
     record {
       can = on.0;
       ends = on.1;
       held = lies.held;
-      text = next-text of_pieces xs inv.text x lies.shown;
+      text = next-text of_pieces c.loop-piece.yielded inv.text x lies.shown;
     }
 
 pub returns-clause-whole : goal.returns-clause-whole

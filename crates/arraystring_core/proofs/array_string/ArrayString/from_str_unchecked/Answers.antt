@@ -1,7 +1,6 @@
-use Rattle.std.proofs.Common.{◌≡◌, ◌+◌, ◌≤◌, refl, length, take, ap, ◌∙◌, arith, rules, chars, take_at}
+use Rattle.std.proofs.Common.{◌≡◌, ℕ, refl, length, take, ap, ◌∙◌, arith, rules, chars, take_at}
 use Rattle.std.proofs.lemmas.List.{length-replicate}
 use Rattle.std.proofs.Math.ListN.{replicate}
-use Rattle.arraystring_base.specs.Text.{cap}
 use Rattle.arraystring_base.proofs.TextLaws.{size-borrowed}
 use Rattle.arraystring_core.proofs.GapLemmas.{written-length}
 use Rattle.arraystring_core.proofs.array_string.ArrayString.from_str_unchecked.Goals as goal
@@ -17,12 +16,11 @@ pub invariant_of-result : goal.invariant_of-result
 invariant_of-result g c =
     let given = c.args.string.now in
     let copied = rw c.as_bytes.ensures.value at c.fill.ensures in
-    let fits : 0 + length given ≤ cap g.row.N = omega (arith, size-borrowed c.utf8.string) in
-    let zeros : length (replicate g.row.N 0) ≡ g.row.N = length-replicate g.row.N 0 in
-    let long = written-length (replicate g.row.N 0) c.fill.new.array given 0 (omega (arith, fits, zeros)) copied ∙ zeros in
+    let wide = size-borrowed c.utf8.string in
+    let zeros : length {A = ℕ} (replicate g.row.N 0) ≡ g.row.N = length-replicate g.row.N 0 in
     record {
-      within = fits;
-      length = long;
+      within = omega arith;
+      length = written-length (replicate g.row.N 0) c.fill.new.array given 0 (omega (arith, zeros)) copied ∙ zeros;
       utf8 = rw (ap (take (length given)) copied ∙ take_at given _ (length given) refl) (∣ c.utf8.string ∣₁);
     }
 

@@ -10,16 +10,19 @@ use Rattle.arraystring_core.proofs.array_string.ArrayString.from_utf16_lossy.Goa
 
 pub loop-item-init : goal.loop-item-init
 loop-item-init g c =
-    let run = take c.write_ascii-run.result c.args.units.now in
-    let left = lossy_text c.into_iter-item-iterator.result in
+    let run = c.write_ascii-run in
+    let units = c.args.units.now in
+    let left = c.into_iter-item-iterator.result in
     record {
-      held = c.write_ascii-run.ensures.held;
-      read = lossy-behind run c.into_iter-item-iterator.result ∙ ap (λ t. t ++ left) (sym c.write_ascii-run.ensures.text);
+      held = run.ensures.held;
+      read = λ items is.
+          ap lossy_text (whole-reading run.result units run.ensures.ascii c.new-item-items.ensures
+          c.into_iter-item-iterator.ensures.into_iter_gives c.only_reading.ensures.only is)
+          ∙ lossy-behind (take run.result units) left ∙ ap (λ t. t ++ lossy_text left) (sym run.ensures.text);
     }
 
 pub loop-item-preserved : goal.loop-item-preserved
 loop-item-preserved g c =
-    let inv = c.loop-item.invariant in
     let text = (stored c.loop-item.array 0 c.loop-item.end).text in
     let ch = c.shown.result in
     let left = lossy_text c.next.new.self in
@@ -27,7 +30,9 @@ loop-item-preserved g c =
     let first = ap lossy_text c.in-Some.ensures.steps ∙ ap (λ d. d ∷ left) (sym c.shown.ensures) in
     record {
       held = added.0;
-      read = inv.read ∙ ap (λ l. text ++ l) first ∙ sym (append_assoc text (ch ∷ []) left) ∙ ap (λ l. l ++ left) (sym added.1);
+      read = λ items is.
+          c.loop-item.invariant.read items is ∙ ap (λ l. text ++ l) first ∙ sym (append_assoc text (ch ∷ []) left)
+          ∙ ap (λ l. l ++ left) (sym added.1);
     }
 
 pub invariant_of-result : goal.invariant_of-result
@@ -43,12 +48,9 @@ returns g c = λ items is.
     let inv = c.loop-item.invariant in
     let n = cap g.row.N in
     let text = (stored c.loop-item.array 0 c.loop-item.end).text in
-    let run = c.write_ascii-run.result in
-    let units = c.args.units.now in
     let long = stored-size inv.held in
     let room : size text ≤ n = omega arith in
-    let same = ap lossy_text (whole-reading run units c.write_ascii-run.ensures.ascii c.new-item-items.ensures c.into_iter-item-iterator.ensures.into_iter_gives
-    c.only_reading.ensures.only is) ∙ inv.read in
+    let same = inv.read items is in
     elim c.match-next.branch [
       | in-None w ↦
           let whole = ap (λ l. text ++ lossy_text l) w.in-None.ensures.steps.0 ∙ append-nil text in

@@ -1,5 +1,5 @@
-use Rattle.std.proofs.Common.{◌≤◌, ◌∙◌, ap, arith, rules, chars, length}
-use Rattle.arraystring_base.specs.Text.{size, bytes, cap}
+use Rattle.std.proofs.Common.{◌∙◌, ap, arith, rules, length}
+use Rattle.arraystring_base.specs.Text.{bytes}
 use Rattle.arraystring_base.proofs.TextLaws.{well_formed-utf8, size-borrowed, bytes-chars, text-chars}
 use Rattle.arraystring_core.proofs.array_string.ArrayString.from_utf8_unchecked.Goals as goal
 
@@ -8,10 +8,7 @@ from_utf8_unchecked-requires g c = well_formed-utf8 c.requires.well_formed
 
 pub from_str_unchecked-requires : goal.from_str_unchecked-requires
 from_str_unchecked-requires g c =
-    let borrowed = c.from_utf8_unchecked.result.now in
-    let fits : size (chars borrowed) ≤ cap g.row.N =
-    omega (arith, size-borrowed c.from_utf8_unchecked.utf8, ap length c.from_utf8_unchecked.ensures) in
-    (search rules, fits)
+    (search rules, omega (arith, size-borrowed c.from_utf8_unchecked.utf8, ap length c.from_utf8_unchecked.ensures))
 
 pub returns-clause-bytes : goal.returns-clause-bytes
 returns-clause-bytes g c =

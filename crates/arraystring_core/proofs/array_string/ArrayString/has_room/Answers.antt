@@ -1,12 +1,11 @@
-use Rattle.std.proofs.Common.{◌≡◌, ◌∙◌, sym, ap, arith, length}
+use Rattle.std.proofs.Common.{◌∙◌, sym, ap, arith, length}
 use Rattle.std.proofs.lemmas.Bool.{le-leb, leb-true, lt-ltb, ltb-true}
-use Rattle.arraystring_base.specs.Text.{width}
 use Rattle.arraystring_base.proofs.TextLaws.{width-is, width-bounds, utf8-one, length-utf8}
 use Rattle.arraystring_core.proofs.array_string.ArrayString.has_room.Goals as goal
 
 pub returns-then-ch-lt128 : goal.returns-then-ch-lt128
 returns-then-ch-lt128 g c =
-    let narrow : width c.args.ch ≡ 1 = sym (length-utf8 c.args.ch) ∙ ap length (utf8-one c.args.ch c.if-ch-lt128.true) in
+    let narrow = sym (length-utf8 c.args.ch) ∙ ap length (utf8-one c.args.ch c.if-ch-lt128.true) in
     (λ is. let below = ltb-true _ _ is in omega arith, λ fits. lt-ltb _ _ (omega arith))
 
 pub returns-then-len-capacity : goal.returns-then-len-capacity
@@ -15,5 +14,5 @@ returns-then-len-capacity g c =
 
 pub returns-else-len-capacity : goal.returns-else-len-capacity
 returns-else-len-capacity g c =
-    let wide : c.len_utf8.result ≡ width c.args.ch = c.len_utf8.ensures.value ∙ sym (width-is c.args.ch) in
+    let wide = width-is c.args.ch in
     (λ is. let within = leb-true _ _ is in omega arith, λ fits. le-leb _ _ (omega arith))

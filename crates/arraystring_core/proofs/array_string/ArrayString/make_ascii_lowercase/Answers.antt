@@ -1,4 +1,4 @@
-use Rattle.std.proofs.Common.{[], ◌≡◌, ap, ◌∙◌, refl, arith, rules, true}
+use Rattle.std.proofs.Common.{[], ap, ◌∙◌, refl, arith, rules}
 use Rattle.std.specs.Char.{to_ascii_lowercase}
 use Rattle.arraystring_base.specs.Text.{boundary}
 use Rattle.arraystring_base.proofs.BoundaryLaws.{boundary-is, boundary-end}
@@ -10,7 +10,7 @@ use Rattle.arraystring_core.proofs.array_string.ArrayString.make_ascii_lowercase
 pub lowercase_between-requires : goal.lowercase_between-requires
 lowercase_between-requires g c =
     let t = c.args.self.now.text in
-    let end : boundary t c.len.result ≡ true = ap (boundary t) c.len.ensures.value ∙ boundary-end t in
+    let end = ap (boundary t) c.len.ensures.value ∙ boundary-end t in
     (search rules, (omega arith, (boundary-is [] t 0 refl, end)))
 
 pub returns : goal.returns

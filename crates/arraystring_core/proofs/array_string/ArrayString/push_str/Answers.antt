@@ -1,25 +1,18 @@
-use Rattle.std.proofs.Common.{◌≡◌, ◌-◌, ◌≤◌, ◌++◌, chars, arith, ap, refl, ◌∙◌}
-use Rattle.arraystring_base.specs.Text.{size, cut, cap}
+use Rattle.std.proofs.Common.{◌≡◌, ◌-◌, ◌++◌, chars, arith, ap, refl, ◌∙◌}
+use Rattle.arraystring_base.specs.Text.{size, cap}
 use Rattle.arraystring_base.proofs.TextLaws.{chars-bytes}
 use Rattle.arraystring_base.proofs.CutLaws.{cut-fits}
-use Rattle.arraystring_core.specs.Edits.{addition_of_cut}
 use Rattle.arraystring_core.proofs.EditLaws.{makes}
 use Rattle.arraystring_core.proofs.array_string.ArrayString.push_str.Goals as goal
 
 pub push_str_unchecked-requires : goal.push_str_unchecked-requires
 push_str_unchecked-requires g c =
-    let room = c.capacity.result - c.len.result in
-    let added : chars c.truncate_str.result.now ≡ cut (chars c.args.string.now) room =
-    chars-bytes c.truncate_str.utf8 c.truncate_str.ensures in
-    let within : size (chars c.truncate_str.result.now) ≤ room = rw added (cut-fits (chars c.args.string.now) room) in
-    let filled : size c.args.self.now.text ≤ cap g.row.N = rw (← c.len.ensures.value) c.len.ensures.fits in
-    omega arith
+    let added = chars-bytes c.truncate_str.utf8 c.truncate_str.ensures in
+    omega (arith, ap size added, cut-fits (chars c.args.string.now) (c.capacity.result - c.len.result))
 
 pub returns : goal.returns
 returns g c =
-    let room = c.capacity.result - c.len.result in
-    let added : chars c.truncate_str.result.now ≡ cut (chars c.args.string.now) room =
-    chars-bytes c.truncate_str.utf8 c.truncate_str.ensures in
-    let left : room ≡ cap g.row.N - size c.args.self.now.text = omega arith in
-    makes (addition_of_cut c.args.self.now.text (chars c.args.string.now) (cap g.row.N)) c.args.self.now.text tt c.push_str_unchecked.new.self.text
-    refl refl (c.push_str_unchecked.ensures ∙ ap (λ l. c.args.self.now.text ++ l) (added ∙ ap (cut (chars c.args.string.now)) left))
+    let t = c.args.self.now.text in
+    let added = chars-bytes c.truncate_str.utf8 c.truncate_str.ensures in
+    let left : c.capacity.result - c.len.result ≡ cap g.row.N - size t = omega arith in
+    makes _ t _ _ refl refl (c.push_str_unchecked.ensures ∙ ap (λ l. t ++ l) (rw left at added))

@@ -1,5 +1,4 @@
-use Rattle.std.proofs.Common.{◌+◌, ◌≤◌, ◌++◌, ◌∷◌, [], refl, ◌∙◌, arith, rules}
-use Rattle.arraystring_base.specs.Text.{width, cap}
+use Rattle.std.proofs.Common.{◌+◌, ◌++◌, ◌∷◌, [], refl, ◌∙◌, arith, rules}
 use Rattle.arraystring_core.proofs.StoredLaws.{opened-end}
 use Rattle.arraystring_core.proofs.SpanLemmas.{Lies}
 use Rattle.arraystring_core.proofs.AppendLemmas.{char-appended}
@@ -7,10 +6,7 @@ use Rattle.arraystring_core.proofs.array_string.ArrayString.push_unchecked.Given
 use Rattle.arraystring_core.proofs.array_string.ArrayString.push_unchecked.Goals as goal
 
 pub encode-len-requires : goal.encode-len-requires
-encode-len-requires g c =
-    let end = c.end-end.ensures.value ∙ opened-end c.self.invariant c.self.view_is in
-    let within : c.self.inside.start + c.self.inside.size + width c.args.ch ≤ g.row.N = omega (arith, c.if-not-has_room.ensures.0 refl) in
-    rw end (search rules, within)
+encode-len-requires g c = (search rules, omega (arith, c.if-not-has_room.ensures.0 refl))
 
 pub overflow_cast-self-2 : goal.overflow_cast-self-2
 overflow_cast-self-2 g c = omega (arith, opened-end c.self.invariant c.self.view_is, c.if-not-has_room.ensures.0 refl)
@@ -20,7 +16,7 @@ written : (g : given.Over) (c : goal.After-self-1 g)
     → Lies g.row.N c.encode-len.new.array c.self.inside.start (c.self.inside.size + c.encode-len.result) (c.args.self.now.text ++ c.args.ch ∷ [])
 written g c =
     let end = c.end-end.ensures.value ∙ opened-end c.self.invariant c.self.view_is in
-    let room : c.self.inside.start + c.self.inside.size + width c.args.ch ≤ cap g.row.N = rw (← end) (c.if-not-has_room.ensures.0 refl) in
+    let room = rw end at (c.if-not-has_room.ensures.0 refl) in
     char-appended c.self.invariant c.self.view_is c.args.ch (search rules) c.encode-len.ensures.width room (rw end at c.encode-len.ensures.bytes)
 
 pub invariant_of-self : goal.invariant_of-self

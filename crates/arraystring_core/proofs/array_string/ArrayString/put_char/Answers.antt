@@ -1,5 +1,5 @@
-use Rattle.std.proofs.Common.{◌+◌, ◌-◌, ◌≤◌, ◌++◌, ◌∷◌, sym, ◌∙◌, arith, rules}
-use Rattle.arraystring_base.specs.Text.{width, cap, front, back}
+use Rattle.std.proofs.Common.{◌+◌, ◌-◌, ◌++◌, ◌∷◌, sym, ◌∙◌, arith, rules}
+use Rattle.arraystring_base.specs.Text.{front, back}
 use Rattle.arraystring_base.proofs.TextLaws.{width-is}
 use Rattle.arraystring_core.proofs.StoredLaws.{opened-within}
 use Rattle.arraystring_core.proofs.SpanLemmas.{Lies}
@@ -10,9 +10,7 @@ use Rattle.arraystring_core.proofs.array_string.ArrayString.put_char.Goals as go
 pub open_gap-requires : goal.open_gap-requires
 open_gap-requires g c =
     let within = opened-within c.self.invariant c.self.view_is _ c.requires.boundary in
-    let room : c.self.inside.start + (c.args.at + (c.len_utf8-len.result + (c.self.inside.size - c.args.at))) ≤ cap g.row.N =
-    omega arith in
-    rw (c.new-text.ensures.offset, c.new-text.ensures.size) (search rules, (omega arith, (within, (c.self.invariant.within, (room, omega arith)))))
+    (search rules, (omega arith, (omega arith, (omega arith, (omega arith, omega arith)))))
 
 pub overflow_sub-self : goal.overflow_sub-self
 overflow_sub-self g c = omega (arith, opened-within c.self.invariant c.self.view_is _ c.requires.boundary)
@@ -28,9 +26,7 @@ overflow_add-text-3 g c = omega (arith, opened-within c.self.invariant c.self.vi
 
 pub encode-requires : goal.encode-requires
 encode-requires g c =
-    let within : c.self.inside.start + c.args.at + width c.args.ch ≤ g.row.N =
-    omega (arith, opened-within c.self.invariant c.self.view_is _ c.requires.boundary, width-is c.args.ch) in
-    rw c.new-text.ensures.offset (search rules, within)
+    (search rules, omega (arith, opened-within c.self.invariant c.self.view_is _ c.requires.boundary, width-is c.args.ch))
 
 -- what is then in the array
 written : (g : given.Over) (c : goal.After-encode g)
@@ -38,10 +34,10 @@ written : (g : given.Over) (c : goal.After-encode g)
     (front c.args.self.now.text c.args.at ++ (c.args.ch ∷ back c.args.self.now.text c.args.at))
 written g c =
     let gap = c.open_gap in let text = c.new-text.ensures in
-    let held : c.new-text.result.offset + (c.args.at + (c.len_utf8-len.result + (c.new-text.result.size - c.args.at))) ≤ cap g.row.N =
-    omega (arith, opened-within c.self.invariant c.self.view_is _ c.requires.boundary) in
+    let within = opened-within c.self.invariant c.self.view_is _ c.requires.boundary in
     char-inserted c.self.invariant c.self.view_is c.args.ch (search rules) (c.len_utf8-len.ensures.value ∙ sym (width-is c.args.ch))
-    _ c.requires.boundary c.requires.room text.offset text.size gap.new.array gap.ensures.len held gap.ensures.front gap.ensures.tail c.encode.ensures.bytes
+    _ c.requires.boundary c.requires.room text.offset text.size gap.new.array gap.ensures.len (omega arith) gap.ensures.front
+    gap.ensures.tail c.encode.ensures.bytes
 
 pub invariant_of-self : goal.invariant_of-self
 invariant_of-self g c = (written g c).held

@@ -1,6 +1,6 @@
-use Rattle.std.proofs.Common.{◌≡◌, ◌≤◌, length, drop, sym, arith, ◌∙◌, ap, rules}
+use Rattle.std.proofs.Common.{◌≤◌, length, drop, sym, arith, ◌∙◌, ap, rules}
 use Rattle.std.proofs.lemmas.Bool.{le-ltb}
-use Rattle.arraystring_base.specs.Text.{cap, size, bytes, back}
+use Rattle.arraystring_base.specs.Text.{cap, size}
 use Rattle.arraystring_core.specs.Edits.{Inside}
 use Rattle.arraystring_base.proofs.TextLaws.{size-is, size-borrowed, chars-bytes}
 use Rattle.arraystring_base.proofs.BoundaryLaws.{boundary-to_bytes, bytes-back}
@@ -28,8 +28,7 @@ returns g c =
     let t = c.args.self.now.text in
     let reached : c.args.at ≤ size t = omega arith in
     let at = sym c.is_boundary.ensures ∙ c.if-not-is_boundary.false in
-    let spelled : c.range_from.result.now ≡ bytes (back t c.args.at) =
-    c.range_from.ensures.value ∙ ap (drop c.args.at) c.as_str.ensures.bytes ∙ bytes-back t c.args.at at in
+    let spelled = c.range_from.ensures.value ∙ ap (drop c.args.at) c.as_str.ensures.bytes ∙ bytes-back t c.args.at at in
     let rest = chars-bytes c.range_from.utf8 spelled in
     makes _ _ _ _ (rw (le-ltb _ _ reached, inside-not t c.args.at at))
     (c.from_str_unchecked-rest.ensures ∙ rest) c.keep.ensures

@@ -1,5 +1,5 @@
-use Rattle.std.proofs.Common.{◌≡◌, ◌<◌, ◌≤◌, ◌∙◌, sym, ap, arith, rules, chars, length, refl}
-use Rattle.arraystring_base.specs.Text.{size, bytes, cap}
+use Rattle.std.proofs.Common.{◌∙◌, sym, ap, arith, rules, chars, length, refl}
+use Rattle.arraystring_base.specs.Text.{size, bytes}
 use Rattle.arraystring_base.proofs.TextLaws.{well_formed-utf8, utf8-well_formed, chars-bytes, bytes-chars, text-chars, size-borrowed}
 use Rattle.arraystring_core.proofs.array_string.ArrayString.try_from_utf8.Goals as goal
 
@@ -13,30 +13,24 @@ pub returns-then-text-capacity-clause-whole : goal.returns-then-text-capacity-cl
 returns-then-text-capacity-clause-whole g c = λ t is e.
     let given = c.args.given.now in
     let read = c.in-Ok.ensures in
-    let same : chars given ≡ t = chars-bytes read.1 (sym e) in
-    let past : cap g.row.N < size t =
-    omega (arith, size-borrowed read.1, ap length read.0, ap size same) in
-    (past, refl)
+    let same = chars-bytes read.1 (sym e) in
+    (omega (arith, size-borrowed read.1, ap length read.0, ap size same), refl)
 
 pub from_str_unchecked-requires : goal.from_str_unchecked-requires
 from_str_unchecked-requires g c =
     let read = c.in-Ok.ensures in
-    let fits : size (chars c.in-Ok.text.now) ≤ cap g.row.N =
-    omega (arith, size-borrowed read.1, ap length read.0, ap (λ l. size (chars l)) read.0) in
-    (search rules, fits)
+    (search rules, omega (arith, size-borrowed read.1, ap length read.0, ap (λ l. size (chars l)) read.0))
 
 pub returns : goal.returns
 returns g c =
     let given = c.args.given.now in
     let read = c.in-Ok.ensures in
-    let text : c.from_str_unchecked.result.text ≡ chars given = c.from_str_unchecked.ensures ∙ ap chars read.0 in
+    let text = c.from_str_unchecked.ensures ∙ ap chars read.0 in
     record {
       malformed = λ bad. absurd (bad (utf8-well_formed read.1));
       whole = λ t is e.
-          let same : chars given ≡ t = chars-bytes read.1 (sym e) in
-          let fits : size t ≤ cap g.row.N =
-          omega (arith, size-borrowed read.1, ap length read.0, ap size same) in
-          (fits, text ∙ same);
+          let same = chars-bytes read.1 (sym e) in
+          (omega (arith, size-borrowed read.1, ap length read.0, ap size same), text ∙ same);
       bytes = ap bytes text ∙ bytes-chars read.1;
       text = rw text (text-chars read.1);
     }

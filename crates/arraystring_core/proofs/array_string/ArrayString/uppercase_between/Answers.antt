@@ -1,4 +1,4 @@
-use Rattle.std.proofs.Common.{◌+◌, ◌≤◌, arith, rules}
+use Rattle.std.proofs.Common.{arith, rules}
 use Rattle.arraystring_core.proofs.StoredLaws.{opened-within}
 use Rattle.arraystring_core.proofs.AsciiLemmas.{uppercase-change, changed}
 use Rattle.arraystring_core.proofs.array_string.ArrayString.uppercase_between.Goals as goal
@@ -11,10 +11,7 @@ overflow_add-offset-2 g c = omega (arith, opened-within c.self.invariant c.self.
 
 pub uppercase_bytes-requires : goal.uppercase_bytes-requires
 uppercase_bytes-requires g c =
-    let order : c.self.inside.start + c.args.start ≤ c.self.inside.start + c.args.end = omega arith in
-    let within : c.self.inside.start + c.args.end ≤ g.row.N =
-    omega (arith, opened-within c.self.invariant c.self.view_is _ c.requires.end) in
-    (search rules, (order, within))
+    (search rules, (omega arith, omega (arith, opened-within c.self.invariant c.self.view_is _ c.requires.end)))
 
 pub invariant_of-self : goal.invariant_of-self
 invariant_of-self g c = (changed uppercase-change c.self.invariant c.self.view_is c.requires.order c.requires.start c.requires.end c.uppercase_bytes.ensures).held

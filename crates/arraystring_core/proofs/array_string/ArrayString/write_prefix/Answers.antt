@@ -1,4 +1,4 @@
-use Rattle.std.proofs.Common.{◌+◌, ◌≤◌, ◌<◌, [], ◌∷◌, ◌++◌, map, sym, ap, ◌∙◌, arith, append-nil, append_assoc, Some}
+use Rattle.std.proofs.Common.{◌+◌, ◌<◌, [], ◌∷◌, ◌++◌, map, sym, ap, ◌∙◌, arith, append-nil, append_assoc, Some}
 use Rattle.std.proofs.lemmas.List.{map-append}
 use Rattle.arraystring_base.specs.declared.utf16.Unit16.TheVariants.{Char}
 use Rattle.arraystring_base.specs.Text.{cap, size, width}
@@ -11,25 +11,28 @@ use Rattle.arraystring_core.proofs.UnitLemmas.{whole-reading}
 use Rattle.arraystring_core.proofs.array_string.ArrayString.write_prefix.Goals as goal
 
 pub loop-item-init : goal.loop-item-init
-loop-item-init g c = record {
-  held = c.write_ascii-run.ensures.held;
-  read = ap (λ t. map Char t ++ c.into_iter-item-iterator.result) (sym c.write_ascii-run.ensures.text);
-}
+loop-item-init g c =
+    let run = c.write_ascii-run in
+    record {
+      held = run.ensures.held;
+      read = λ items is.
+          whole-reading run.result c.args.units.now run.ensures.ascii c.new-item-items.ensures
+          c.into_iter-item-iterator.ensures.into_iter_gives c.only_reading.ensures.only is
+          ∙ ap (λ t. map Char t ++ c.into_iter-item-iterator.result) (sym run.ensures.text);
+    }
 
 pub loop-item-preserved : goal.loop-item-preserved
 loop-item-preserved g c =
-    let inv = c.loop-item.invariant in
     let prefix = (stored c.loop-item.array 0 c.loop-item.end).text in
     let ch = c.in-Char.ch in
     let left = c.next.new.self in
     let added = c.in-Some-write_char.ensures in
     let first = c.in-Some.ensures.steps ∙ ap (λ item. item ∷ left) c.in-Char.is in
-    let longer = map-append Char prefix (ch ∷ []) in
     record {
       held = added.0;
-      read =
-          inv.read ∙ ap (λ l. map Char prefix ++ l) first ∙ sym (append_assoc (map Char prefix) (Char ch ∷ []) left)
-          ∙ ap (λ l. l ++ left) (sym longer) ∙ ap (λ l. map Char l ++ left) (sym added.1);
+      read = λ items is.
+          c.loop-item.invariant.read items is ∙ ap (λ l. map Char prefix ++ l) first
+          ∙ sym (append_assoc (map Char prefix) (Char ch ∷ []) left) ∙ ap (λ l. l ++ left) (sym (map-append Char prefix (ch ∷ []))) ∙ ap (λ l. map Char l ++ left) (sym added.1);
     }
 
 pub returns-in-None-write_char-clause-held : goal.returns-in-None-write_char-clause-held
@@ -43,26 +46,21 @@ returns-in-None-write_char-clause-stop g c = λ items is.
     let left = c.next.new.self in
     let refused = c.in-None-write_char.ensures in
     let long = stored-size inv.held in
-    let room : size prefix ≤ cap g.row.N = omega arith in
     let past : cap g.row.N < size prefix + width ch = omega (arith, refused.0) in
-    let same = whole-reading c.write_ascii-run.result c.args.units.now c.write_ascii-run.ensures.ascii c.new-item-items.ensures c.into_iter-item-iterator.ensures.into_iter_gives
-    c.only_reading.ensures.only is ∙ inv.read in
     let first = c.in-Some.ensures.steps ∙ ap (λ item. item ∷ left) c.in-Char.is in
-    stop-is items (cap g.row.N) (Full prefix) (ch, left, same ∙ ap (λ l. map Char prefix ++ l) first, room, past)
+    stop-is items (cap g.row.N) (Full prefix)
+    (ch, left, inv.read items is ∙ ap (λ l. map Char prefix ++ l) first, omega arith, past)
     ∙ ap (λ a. Full (stored a 0 c.loop-item.end).text) (sym refused.1)
 
 pub returns-in-Lone-clause-stop : goal.returns-in-Lone-clause-stop
 returns-in-Lone-clause-stop g c = λ items is.
     let inv = c.loop-item.invariant in
     let prefix = (stored c.loop-item.array 0 c.loop-item.end).text in
-    let unit = c.in-Lone.field-0 in
     let left = c.next.new.self in
     let long = stored-size inv.held in
-    let room : size prefix ≤ cap g.row.N = omega arith in
-    let same = whole-reading c.write_ascii-run.result c.args.units.now c.write_ascii-run.ensures.ascii c.new-item-items.ensures c.into_iter-item-iterator.ensures.into_iter_gives
-    c.only_reading.ensures.only is ∙ inv.read in
     let first = c.in-Some.ensures.steps ∙ ap (λ item. item ∷ left) c.in-Lone.is in
-    stop-is items (cap g.row.N) (Fault prefix) (unit, left, same ∙ ap (λ l. map Char prefix ++ l) first, room)
+    stop-is items (cap g.row.N) (Fault prefix)
+    (c.in-Lone.field-0, left, inv.read items is ∙ ap (λ l. map Char prefix ++ l) first, omega arith)
     ∙ ap (λ item. stop_at (Some item) prefix) (sym c.in-Lone.is)
 
 pub returns-clause-stop : goal.returns-clause-stop
@@ -70,8 +68,5 @@ returns-clause-stop g c = λ items is.
     let inv = c.loop-item.invariant in
     let prefix = (stored c.loop-item.array 0 c.loop-item.end).text in
     let long = stored-size inv.held in
-    let room : size prefix ≤ cap g.row.N = omega arith in
-    let same = whole-reading c.write_ascii-run.result c.args.units.now c.write_ascii-run.ensures.ascii c.new-item-items.ensures c.into_iter-item-iterator.ensures.into_iter_gives
-    c.only_reading.ensures.only is ∙ inv.read in
     let whole = ap (λ l. map Char prefix ++ l) c.in-None.ensures.steps.0 ∙ append-nil (map Char prefix) in
-    stop-is items (cap g.row.N) (End prefix) (same ∙ whole, room)
+    stop-is items (cap g.row.N) (End prefix) (inv.read items is ∙ whole, omega arith)

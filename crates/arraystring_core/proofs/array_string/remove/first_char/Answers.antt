@@ -1,4 +1,4 @@
-use Rattle.std.proofs.Common.{◌≡◌, ◌++◌, length, sym, ap, ◌∙◌, arith, length-append}
+use Rattle.std.proofs.Common.{◌++◌, length, sym, ap, ◌∙◌, arith, length-append}
 use Rattle.arraystring_base.specs.Text.{utf8}
 use Rattle.arraystring_base.proofs.TextLaws.{utf8-is, length-utf8, width-bounds}
 use Rattle.arraystring_core.proofs.array_string.remove.first_char.Goals as goal
@@ -7,8 +7,7 @@ pub returns : goal.returns
 returns c =
     let rest = c.next.new.self.rest.now in
     let ch = c.in-Some.ch in
-    let parts : c.args.text.now ≡ utf8 ch ++ rest =
-    sym c.chars-rest.ensures.rest ∙ c.in-Some.ensures.steps.0 ∙ ap (λ l. l ++ rest) (sym (utf8-is ch)) in
+    let parts = sym c.chars-rest.ensures.rest ∙ c.in-Some.ensures.steps.0 ∙ ap (λ l. l ++ rest) (sym (utf8-is ch)) in
     let wide = length-append (utf8 ch) rest in
     let left = ap length c.as_str.ensures in
     record {

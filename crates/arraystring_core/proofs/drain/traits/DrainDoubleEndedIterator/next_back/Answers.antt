@@ -1,4 +1,4 @@
-use Rattle.std.proofs.Common.{◌≤◌, ◌≡◌, [], ◌+◌, sym, ◌∙◌, arith}
+use Rattle.std.proofs.Common.{◌≤◌, ◌+◌, sym, ◌∙◌, arith}
 use Rattle.arraystring_base.proofs.TextLaws.{chars-bytes}
 use Rattle.arraystring_core.proofs.DrainLemmas.{GivesLast, back-within, back-given}
 use Rattle.arraystring_core.proofs.EndLemmas.{pushed-length}
@@ -8,7 +8,7 @@ use Rattle.arraystring_core.proofs.drain.traits.DrainDoubleEndedIterator.next_ba
 pub returns-in_err-kept-clause-steps : goal.returns-in_err-kept-clause-steps
 returns-in_err-kept-clause-steps g c =
     let left = c.args.self.now.left in
-    let none : left ≡ [] = sym (chars-bytes c.as_str.utf8 c.as_str.ensures.bytes) ∙ c.in_err-kept.ensures.none in
+    let none = sym (chars-bytes c.as_str.utf8 c.as_str.ensures.bytes) ∙ c.in_err-kept.ensures.none in
     rw c.from_residual.ensures (none, none)
 
 within : (g : given.Over) (c : goal.In_ok-kept g) → c.self.inside.front + c.in_ok-kept.kept ≤ c.self.inside.size
@@ -30,9 +30,7 @@ gives g c =
 pub invariant_of-self : goal.invariant_of-self
 invariant_of-self g c = (gives g c).held
 
-pub returns-clause-steps : goal.returns-clause-steps
-returns-clause-steps g c = (gives g c).rest
-
-pub returns-clause-goes : goal.returns-clause-goes
-returns-clause-goes g c =
-    record { on = λ _. (tt, tt, omega (arith, pushed-length _ _ _ (returns-clause-steps g c))); keeps = tt; rests = λ _. tt }
+pub returns : goal.returns
+returns g c =
+    let rest = (gives g c).rest in
+    record { steps = rest; goes = record { on = λ _. (tt, tt, omega (arith, pushed-length _ _ _ rest)); keeps = tt; rests = λ _. tt } }

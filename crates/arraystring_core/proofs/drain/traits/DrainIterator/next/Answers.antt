@@ -1,4 +1,4 @@
-use Rattle.std.proofs.Common.{◌≤◌, ◌≡◌, ◌-◌, ◌++◌, [], length, sym, ap, ◌∙◌, arith, chars}
+use Rattle.std.proofs.Common.{◌≤◌, ◌-◌, ◌++◌, length, sym, ap, ◌∙◌, arith, chars}
 use Rattle.std.proofs.lemmas.List.{nil_from_length}
 use Rattle.std.proofs.lemmas.Str.{chars-nil}
 use Rattle.std.specs.Char.{encode_utf8}
@@ -21,20 +21,17 @@ overflow_add-self g c = omega (arith, given-within c.self.invariant)
 pub invariant_of-self : goal.invariant_of-self
 invariant_of-self g c = (first-given c.self.invariant c.self.view_is (omega (arith, given-within c.self.invariant)) c.if-first-lt128.true).held
 
-pub returns-then-first-lt128-clause-steps : goal.returns-then-first-lt128-clause-steps
-returns-then-first-lt128-clause-steps g c = (first-given c.self.invariant c.self.view_is (omega (arith, given-within c.self.invariant)) c.if-first-lt128.true).rest
-
-pub returns-then-first-lt128-clause-goes : goal.returns-then-first-lt128-clause-goes
-returns-then-first-lt128-clause-goes g c =
-    let shorter = returns-then-first-lt128-clause-steps g c in
-    record { on = λ _. (tt, tt, omega (arith, ap length shorter)); keeps = tt; rests = λ _. tt }
+pub returns-then-first-lt128 : goal.returns-then-first-lt128
+returns-then-first-lt128 g c =
+    let given = first-given c.self.invariant c.self.view_is (omega (arith, given-within c.self.invariant)) c.if-first-lt128.true in
+    record { steps = given.rest; goes = record { on = λ _. (tt, tt, omega (arith, ap length given.rest)); keeps = tt; rests = λ _. tt } }
 
 pub returns-in_err-ch-clause-steps : goal.returns-in_err-ch-clause-steps
 returns-in_err-ch-clause-steps g c =
     let left = c.args.self.now.left in
     let borrowed = chars-bytes c.as_str.utf8 c.as_str.ensures.bytes in
     let over = nil_from_length c.chars-left.result.rest.now c.in_err-ch.ensures.steps.0.0 in
-    let none : left ≡ [] = sym borrowed ∙ ap chars (sym c.chars-left.ensures.rest ∙ over) ∙ chars-nil in
+    let none = sym borrowed ∙ ap chars (sym c.chars-left.ensures.rest ∙ over) ∙ chars-nil in
     rw c.from_residual.ensures (none, none)
 
 within : (g : given.Over) (c : goal.After-as_str-2 g) → length c.as_str-2.result.now ≤ c.self.inside.size
@@ -58,13 +55,10 @@ gives g c =
 pub invariant_of-self-2 : goal.invariant_of-self-2
 invariant_of-self-2 g c = (gives g c).held
 
-pub returns-clause-steps : goal.returns-clause-steps
-returns-clause-steps g c = (gives g c).rest
-
-pub returns-clause-goes : goal.returns-clause-goes
-returns-clause-goes g c =
-    let shorter = returns-clause-steps g c in
-    record { on = λ _. (tt, tt, omega (arith, ap length shorter)); keeps = tt; rests = λ _. tt }
+pub returns : goal.returns
+returns g c =
+    let rest = (gives g c).rest in
+    record { steps = rest; goes = record { on = λ _. (tt, tt, omega (arith, ap length rest)); keeps = tt; rests = λ _. tt } }
 
 pub prove-unreachable-requires : goal.prove-unreachable-requires
 prove-unreachable-requires g c = omega (arith, given-within c.self.invariant)

@@ -1,7 +1,7 @@
 use Rattle.std.proofs.Common.{refl, rules, arith}
 use Rattle.arraystring_base.proofs.TextLaws.{width-bounds}
 use Rattle.arraystring_core.proofs.AppendLemmas.{char-appended_at_start}
-use Rattle.arraystring_core.proofs.array_string.push.compact_and_append.Goals as goal
+use Rattle.arraystring_core.proofs.array_string.append.compact_and_append.Goals as goal
 
 pub prove-unreachable-requires : goal.prove-unreachable-requires
 prove-unreachable-requires g c =
