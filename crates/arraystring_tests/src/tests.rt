@@ -3,29 +3,24 @@
 //! the calls of a table, whose columns `table` reads.
 
 mod array_string;
-mod ascii;
 mod cache_string;
 mod calls;
 mod capacities;
-mod compare;
 mod construct;
 mod drain;
 mod error;
 mod examples;
-mod extend;
 mod find;
 mod insert;
 mod json;
-mod json_whole;
-mod order;
 mod printing;
 mod range;
-mod readme;
 mod remove;
 mod start_offset;
 mod surface;
 mod table;
 mod texts;
+mod traits;
 mod trim;
 mod utf16;
 mod utils;

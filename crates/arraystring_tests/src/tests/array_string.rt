@@ -1,6 +1,6 @@
 //! Each call once, on values worked out by hand. A character that is not printable is written in a
 //! result as Rust's `{:?}` escapes it.
-use super::calls::check_table;
+use super::calls::{check_rows, check_table};
 use super::table::agree;
 use arraystring::error::OutOfBounds;
 use arraystring::prelude::{MaxString, SmallString};
@@ -90,6 +90,28 @@ fn texts_and_capacities(rt: HostRuntime) {
               | cmp   | | abc | Less  | ab
         # 8 | bytes of characters
         \u{1D11E}\u{FFFD} | as_bytes | | | [240, 157, 132, 158, 239, 191, 189] | \u{1D11E}\u{FFFD}
+        ",
+    );
+}
+
+/// ASCII letters, with their neighbours in the table of ASCII.
+#[test]
+fn letters_change_case(rt: HostRuntime) {
+    check_rows::<23>(
+        &rt,
+        "
+        aBé                     | make_ascii_uppercase | | | ok | ABé
+        aBé                     | make_ascii_lowercase | | | ok | abé
+        `az{@AZ[                | make_ascii_uppercase | | | ok | `AZ{@AZ[
+        `az{@AZ[                | make_ascii_lowercase | | | ok | `az{@az[
+        ß\u{17F}\u{212A}🤔z     | make_ascii_uppercase | | | ok | ß\u{17F}\u{212A}🤔Z
+        ß\u{17F}\u{212A}🤔z     | make_ascii_lowercase | | | ok | ß\u{17F}\u{212A}🤔z
+        ÉÿaĀ                    | make_ascii_uppercase | | | ok | ÉÿAĀ
+        ÉÿaĀ                    | make_ascii_lowercase | | | ok | ÉÿaĀ
+        new                     | make_ascii_uppercase | | | ok |
+        new                     | make_ascii_lowercase | | | ok |
+        mnopqrstuvwxyzABCDEFGHI | make_ascii_uppercase | | | ok | MNOPQRSTUVWXYZABCDEFGHI
+        mnopqrstuvwxyzABCDEFGHI | make_ascii_lowercase | | | ok | mnopqrstuvwxyzabcdefghi
         ",
     );
 }
