@@ -9,7 +9,6 @@ mod drains;
 mod literals;
 mod named;
 mod rows;
-mod units;
 
 use std::collections::BTreeMap;
 
@@ -79,7 +78,7 @@ fn each_table_holds_here_too() {
             "calls" => calls::at(capacity, text),
             "anywhere" => calls::anywhere(text),
             "drains" => drains::at(capacity, text),
-            "units" => units::at(capacity, text),
+            "units" => constructors::made_of_units_at(capacity, text),
             "extended" => constructors::extended_at(capacity, text),
             _ => constructors::made_at(capacity, text),
         };
