@@ -145,7 +145,7 @@ rust: cargo test --quiet --offline --manifest-path erase/Cargo.toml
 rust: cargo test --quiet --offline --manifest-path arraystring/Cargo.toml
 rust: cargo test --quiet --offline --manifest-path arraystring/Cargo.toml --release
 rust: cargo test --quiet --offline --manifest-path arraystring/Cargo.toml --release --features checked,alloc
-rust: cargo test --quiet --offline --manifest-path arraystring/Cargo.toml --features alloc --test owned
+rust: cargo test --quiet --offline --manifest-path arraystring/Cargo.toml --features alloc --test traits
 rust: cargo doc --quiet --offline --no-deps --all-features --manifest-path arraystring/Cargo.toml
 rust: cargo run --quiet --offline --manifest-path arraystring/Cargo.toml --example bookings
 rust: cargo run --quiet --offline --manifest-path arraystring/Cargo.toml --example calls

@@ -6,14 +6,12 @@
 mod calls;
 mod constructors;
 mod drains;
-mod literals;
 mod named;
 mod rows;
 
 use std::collections::BTreeMap;
 
-use literals::{Table, tables};
-use rows::{column, rows};
+use rows::{Table, column, rows, tables};
 
 /// Where the tables are.
 const FOLDER: &str = "../../crates/arraystring_tests/src/tests";
