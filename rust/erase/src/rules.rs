@@ -26,7 +26,10 @@ pub const BY_HAND: &[(&str, &str)] = &[
     ("by_hand/constant.rs", "`arraystring!`, and what it is made of. A fault in it could break UTF-8"),
     ("by_hand/read.rs", "`Debug` and `Default` of `Steps`, and `Hash` of the errors of one case"),
     ("by_hand/simd.rs", "the vectors of the sources, as arrays or words. A fault in it could break UTF-8"),
-    ("by_hand/access.rs", "what is read and written without a test, and what is told to rustc. A fault in it could break UTF-8"),
+    (
+        "by_hand/access.rs",
+        "what is read and written without a test, and what is told to rustc. A fault in it could break UTF-8",
+    ),
     ("by_hand/unchecked.rs", "`from_utf8_unchecked` and `from_u32_unchecked`, which `checked` tests"),
     ("by_hand/contracts.rs", "the page on contracts"),
     ("by_hand/count_tests.rs", "tests"),
