@@ -1,11 +1,10 @@
 //! What no contract says, on values worked out by hand. A module is named as the module that it tests, or
-//! else for what varies in it: `capacities`, `texts` and `start_offset` go through all calls. `calls` makes
-//! the calls of a table, whose columns `table` reads.
+//! else for what varies in it: `texts` and `start_offset` go through all calls. `calls` makes the calls of a
+//! table, whose columns `table` reads.
 
 mod array_string;
 mod cache_string;
 mod calls;
-mod capacities;
 mod construct;
 mod drain;
 mod error;
