@@ -8,9 +8,8 @@ use std::hint::black_box;
 use std::time::Instant;
 
 use crate::cases::Case;
-use crate::edges::EDGES;
+use crate::edges::{EDGES, short_cases};
 use crate::peers::{self, Peer};
-use crate::short;
 use crate::string::Limited;
 
 const STRINGS: usize = 64;
@@ -34,7 +33,7 @@ fn operations(capacity: usize) -> Vec<(&'static str, u8, Case)> {
 fn waiting_operations(capacity: usize) -> Vec<(String, u8, Case)> {
     let usual = operations(capacity).into_iter().map(|(title, call, case)| (title.to_string(), call, case));
     let is_timed = |title: &str| ["1", "4", "12"].iter().any(|size| title.ends_with(&format!(" of {size}|last")));
-    let short = short::cases(capacity).into_iter().filter(|(title, ..)| is_timed(title));
+    let short = short_cases(capacity).into_iter().filter(|(title, ..)| is_timed(title));
     let short = short.map(|(title, call, case)| (title.replace("|last", ", the last differs"), call, case));
     usual.chain(short).collect()
 }

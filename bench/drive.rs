@@ -19,14 +19,13 @@ mod peers;
 #[cfg_attr(erased, path = "../rust/bench/erased.rs")]
 #[cfg_attr(not(erased), path = "linked.rs")]
 mod port;
-mod short;
 mod string;
 
 use std::arch::global_asm;
 use std::hint::black_box;
 
 use cases::{CALLS, Case};
-use edges::EDGES;
+use edges::{EDGES, short_cases};
 #[cfg(has_arrayvec)]
 use peers::Peer;
 
@@ -123,7 +122,7 @@ fn main() {
     let times: u32 = words[3].parse().expect("a number");
     match place {
         "edges" => return make_edges(capacity, times),
-        "short" => return make_titled(capacity, short::cases(capacity), times),
+        "short" => return make_titled(capacity, short_cases(capacity), times),
         "curves" => return make_titled(capacity, curves::cases(capacity, &words[4..]), times),
         "lookup" => return make_lookups(capacity),
         "in_turn" | "waiting" => return tell_clock(capacity, place, times),

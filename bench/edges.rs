@@ -1,5 +1,6 @@
-//! Cases that bench/run counts in a table of their own: strings that are full or nearly so, ranges that are empty or
-//! short, texts of 1, 5 and 63 bytes. They are of ASCII where the title says nothing else.
+//! Cases that bench/run counts in tables of their own. The edges are strings that are full or nearly so, ranges that are empty or
+//! short, texts of 1, 5 and 63 bytes; they are of ASCII where the title says nothing else. Then there are short texts, as keys and
+//! names are: each size, equal or different in one byte, and behind an offset of the array.
 
 use crate::cases::{Case, filled};
 
@@ -137,3 +138,31 @@ pub const EDGES: &[Edge] = &[
     edge("`replace_range` by 5", 25, |kind| kind.given(5)),
     edge("`replace_range` by 63", 25, |kind| kind.given(63)),
 ];
+
+/// The calls on short texts: one that begins at offset 0, and the same of strings that begin where their text ends with the
+/// array.
+const SHORT_CALLS: [(&str, u8, u8); 3] = [("`cmp`", 13, 17), ("`<`", 14, 18), ("`==`", 15, 19)];
+const SHORT_SIZES: [usize; 8] = [0, 1, 3, 4, 7, 8, 12, 15];
+const LETTERS: &str = "abcdefghijklmno";
+
+/// Of each short text the title of a row and of a column, the call, and its case.
+pub fn short_cases(capacity: usize) -> Vec<(String, u8, Case)> {
+    let mut cases = Vec::new();
+    for (call, front, behind) in SHORT_CALLS {
+        for size in SHORT_SIZES.into_iter().filter(|size| *size <= capacity) {
+            let text = &LETTERS[..size];
+            let mut add = |column: &str, call_number, given: String| {
+                let start = (capacity - size) as u8;
+                let case = Case { units: Vec::new(), held: text.to_string(), given, ch: 'c', start, end: start };
+                cases.push((format!("{call} of {size}|{column}"), call_number, case));
+            };
+            add("equal", front, text.to_string());
+            if size > 0 {
+                add("first", front, format!("z{}", &text[1..]));
+                add("last", front, format!("{}z", &text[..size - 1]));
+                add("behind", behind, format!("{}z", &text[..size - 1]));
+            }
+        }
+    }
+    cases
+}

@@ -130,14 +130,10 @@ rust: cargo fmt --version
 rust: cargo fmt --check --manifest-path arraystring/Cargo.toml
 rust: cargo fmt --check --manifest-path arraystring_serde/Cargo.toml
 rust: cargo fmt --check --manifest-path erase/Cargo.toml
-rust: cargo fmt --check --manifest-path example_names/Cargo.toml
 rust: cargo fmt --check --manifest-path no_panic/Cargo.toml
-rust: cargo fmt --check --manifest-path static_library/Cargo.toml
 rust: cargo clippy --version
-rust: cargo clippy --quiet --offline --release --manifest-path arraystring/Cargo.toml -- -D warnings
-rust: cargo clippy --quiet --offline --release --manifest-path example_names/Cargo.toml -- -D warnings
-rust: cargo clippy --quiet --offline --release --manifest-path no_panic/Cargo.toml -- -D warnings
-rust: cargo clippy --quiet --offline --release --manifest-path static_library/Cargo.toml -- -D warnings
+rust: cargo clippy --quiet --offline --release --manifest-path arraystring/Cargo.toml --lib --examples -- -D warnings
+rust: cargo clippy --quiet --offline --release --manifest-path no_panic/Cargo.toml --bins --examples -- -D warnings
 rust: cargo clippy --quiet --offline --manifest-path arraystring/Cargo.toml --features alloc -- -D warnings
 rust: cargo clippy --quiet --offline --manifest-path erase/Cargo.toml --all-targets -- -D warnings
 rust: cargo clippy --quiet --offline --manifest-path arraystring/Cargo.toml --features alloc --tests -- -D warnings \
@@ -149,12 +145,14 @@ rust: cargo test --quiet --offline --manifest-path erase/Cargo.toml
 rust: cargo test --quiet --offline --manifest-path arraystring/Cargo.toml
 rust: cargo test --quiet --offline --manifest-path arraystring/Cargo.toml --release
 rust: cargo test --quiet --offline --manifest-path arraystring/Cargo.toml --release --features checked,alloc
-rust: cargo test --quiet --offline --manifest-path arraystring/Cargo.toml --features alloc --test owned
+rust: cargo test --quiet --offline --manifest-path arraystring/Cargo.toml --features alloc --test traits
 rust: cargo doc --quiet --offline --no-deps --all-features --manifest-path arraystring/Cargo.toml
-rust: cargo run --quiet --offline --manifest-path example_names/Cargo.toml
+rust: cargo run --quiet --offline --manifest-path arraystring/Cargo.toml --example bookings
+rust: cargo run --quiet --offline --manifest-path arraystring/Cargo.toml --example calls
+rust: cargo run --quiet --offline --manifest-path arraystring/Cargo.toml --example editor
 rust: links
-rust: cargo build --quiet --offline --manifest-path static_library/Cargo.toml
-rust: cargo build --quiet --offline --manifest-path static_library/Cargo.toml --release
+rust: cargo build --quiet --offline --manifest-path no_panic/Cargo.toml --example static_library
+rust: cargo build --quiet --offline --manifest-path no_panic/Cargo.toml --example static_library --release
 rust: time 1
 rust: cargo package --quiet --offline --allow-dirty --manifest-path arraystring/Cargo.toml
 rust: cargo pkgid --offline --manifest-path arraystring/Cargo.toml
@@ -172,7 +170,7 @@ class RustCheck(ScriptTest):
     PASSED = "rust/check: 11 passed, 0 skipped\n"
     FOLDER = "${PWD##*/}: "
     FLAGS = "${RUSTFLAGS:+ with$RUSTFLAGS}${RUSTDOCFLAGS:+ and$RUSTDOCFLAGS}"
-    CRATES = ["arraystring", "arraystring_serde", "erase", "example_names", "no_panic", "static_library"]
+    CRATES = ["arraystring", "arraystring_serde", "erase", "no_panic"]
     REFERENCE = "$CARGO_TARGET_DIR/doc/arraystring"
     # (what `cargo doc` makes, and the number that `cargo pkgid` tells)
     CARGO = """\

@@ -1,31 +1,25 @@
 //! What no contract says, on values worked out by hand. A module is named as the module that it tests, or
-//! else for what varies in it: `capacities`, `texts` and `start_offset` go through all calls. `calls` makes
-//! the calls of a table, whose columns `table` reads.
+//! else for what varies in it: `texts` and `start_offset` go through all calls. `calls` makes the calls of a
+//! table, whose columns `table` reads.
 
 mod array_string;
-mod ascii;
 mod cache_string;
 mod calls;
-mod capacities;
-mod compare;
 mod construct;
 mod drain;
 mod error;
 mod examples;
-mod extend;
 mod find;
 mod insert;
 mod json;
-mod json_whole;
-mod order;
 mod printing;
 mod range;
-mod readme;
 mod remove;
 mod start_offset;
 mod surface;
 mod table;
 mod texts;
+mod traits;
 mod trim;
 mod utf16;
 mod utils;

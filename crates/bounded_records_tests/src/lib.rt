@@ -1,14 +1,12 @@
 //! Tests of `bounded_records`: what no contract says, on values worked out by hand. `changes` takes users
-//! out and gives them other roles, `many` keeps thousands of users, `walks` goes through names and users, and
-//! `printing` prints them for who writes code; the other modules are named as what they test.
+//! out and gives them other roles, `walks` goes through names and users, and `printing` prints them for who
+//! writes code; the other modules are named as what they test.
 #![tactic(auto)]
 
 #[cfg(test)]
 mod changes;
 #[cfg(test)]
 mod directory;
-#[cfg(test)]
-mod many;
 #[cfg(test)]
 mod printing;
 #[cfg(test)]

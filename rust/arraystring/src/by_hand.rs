@@ -3,13 +3,13 @@
 //! the calls of `char` and `str` are `unsafe`, as those of std are. The rest has none; but `simd` and `constant` could break UTF-8
 //! all the same.
 //!
-//! - `char` and `str`: what is made there without a test, which the feature `checked` makes.
+//! - `unchecked`: what is made of `char` and `str` without a test, which the feature `checked` makes.
 //! - `constant`, a module of the string: `arraystring!`, and what it is made of.
 //! - `compare`: `==`, `<` and `+=` with a `str`, and `owned`, behind the feature `alloc`, the traits that name `String`.
 //! - `convert`: the traits of the Rust crate that the language of the sources can't have.
 //! - `contracts`: a page on how to read one.
-//! - `access`: what a proved body reads and writes, without a test that it is there.
-//! - `known!`: tells rustc a clause that is proved.
+//! - `access`: what a proved body reads and writes, without a test that it is there, and `known!`, which tells rustc a clause
+//!   that is proved.
 //! - `read`: what Rust prints, hashes and makes by default of small values.
 //! - `room`, a module of the string: the room that is left.
 //! - `simd`: the vectors of the sources, as arrays or words.
@@ -21,7 +21,6 @@
 // A length that is cast to a byte makes a text of 256 bytes more the same.
 #![cfg_attr(not(test), deny(clippy::cast_possible_truncation))]
 
-pub(crate) mod char;
 mod compare;
 pub mod contracts;
 mod convert;
@@ -29,5 +28,9 @@ mod convert;
 mod owned;
 mod read;
 pub(crate) mod simd;
-pub(crate) mod str;
-pub mod trust;
+mod unchecked;
+
+pub(crate) use unchecked::{char, str};
+
+#[doc = include_str!("../TRUST.md")]
+pub mod trust {}

@@ -15,9 +15,6 @@ compile_error!("the crate was tried where a `usize` has 32 or 64 bits, and nowhe
 #[macro_use]
 #[path = "by_hand/access.rs"]
 mod access;
-#[macro_use]
-#[path = "by_hand/known.rs"]
-mod known;
 
 mod arraystring_base;
 mod arraystring_core;

@@ -1,5 +1,5 @@
 //! Comparisons beside those of std, which take the place of the sources' own here: each length, and each place where texts
-//! differ, of bytes below and above 80.
+//! differ, of bytes below and above 80. Short texts: each size with each, at each offset in the array.
 
 use std::cmp::Ordering;
 use std::collections::hash_map::DefaultHasher;
@@ -242,4 +242,81 @@ fn drains_and_cache_strings_are_ordered_alike() {
     }
     // The lengths to 63, those to 62 and so on are these sums, for the pairs of one to four bytes.
     assert_eq!(count, 3 * 2016 + 3 * 1953 + 3 * 1891 + 2 * 1830);
+}
+
+/// The texts of a size that differ from the first in one place, by a character of one to four bytes.
+fn short_texts(size: usize) -> Vec<String> {
+    let mut texts = vec!["m".repeat(size)];
+    for place in 0..size {
+        for ch in ['\0', 'l', 'n', '\u{7F}', '\u{80}', 'é', '€', '🤔'] {
+            if place + ch.len_utf8() <= size {
+                texts.push("m".repeat(place) + ch.encode_utf8(&mut [0; 4]) + &"m".repeat(size - place - ch.len_utf8()));
+            }
+        }
+    }
+    // Four of the characters have one byte, two have two, one has three, and one four.
+    let places = |width: usize| (size + 1).saturating_sub(width);
+    assert_eq!(texts.len(), 1 + 4 * places(1) + 2 * places(2) + places(3) + places(4));
+    texts
+}
+
+fn compare<const N: usize>(one: &ArrayString<N>, other: &ArrayString<N>) {
+    are_ordered(one, other, (one.as_str(), other.as_str()));
+}
+
+/// Each text of each size with one of each size, at the front of the array and as far behind as it may be.
+fn compare_short<const N: usize>() {
+    let most = N.min(18);
+    for size in 0..=most {
+        for text in short_texts(size) {
+            for other_size in 0..=most {
+                let other = "m".repeat(other_size);
+                for (offset, other_offset) in [(0, 0), (N - size, 0), (0, N - other_size), (N - size, N - other_size)] {
+                    compare(&behind::<N>(offset, &text), &behind::<N>(other_offset, &other));
+                }
+            }
+        }
+    }
+}
+
+#[test]
+fn short_texts_are_ordered_as_str_is() {
+    compare_short::<1>();
+    compare_short::<2>();
+    compare_short::<3>();
+    compare_short::<4>();
+    compare_short::<7>();
+    compare_short::<8>();
+    compare_short::<9>();
+    compare_short::<15>();
+    compare_short::<16>();
+    compare_short::<17>();
+    compare_short::<23>();
+}
+
+#[test]
+fn a_short_text_is_compared_at_each_offset() {
+    for size in 0..=18 {
+        let text = "m".repeat(size);
+        let mut other = text.clone();
+        if other.pop().is_some() {
+            other.push('n');
+        }
+        for offset in 0..=63 - size {
+            compare(&behind::<63>(offset, &text), &behind::<63>(0, &other));
+            compare(&behind::<63>(offset, &text), &behind::<63>(63 - size, &other));
+            compare(&behind::<63>(offset, &text), &behind::<63>(63 - size, &text));
+        }
+    }
+}
+
+#[test]
+fn bytes_behind_a_text_are_not_compared() {
+    for size in 0..=18 {
+        let text = "m".repeat(size);
+        let mut one = ArrayString::<40>::from_str_truncate(&(text.clone() + &"a".repeat(20)));
+        let mut other = ArrayString::<40>::from_str_truncate(&(text + &"z".repeat(20)));
+        assert!(one.truncate(size as u8).is_ok() && other.truncate(size as u8).is_ok());
+        compare(&one, &other);
+    }
 }

@@ -1,4 +1,4 @@
-//! The traits that are written by hand.
+//! The traits that are written by hand, and those among them that name `String`, which are there with the feature `alloc`.
 
 use std::borrow::Borrow;
 use std::collections::hash_map::DefaultHasher;
@@ -199,4 +199,84 @@ fn texts_of_other_types_are_taken() {
         arraystring::utils::is_inside_boundary(3u8, 4u16).is_ok()
             && arraystring::utils::is_inside_boundary(5usize, 4u8).is_err()
     );
+}
+
+#[cfg(feature = "alloc")]
+mod owned {
+    use arraystring::{ArrayString, CacheString};
+
+    /// The longest prefix of whole characters that takes at most so many bytes.
+    fn cut(text: &str, size: usize) -> &str {
+        let end = text.char_indices().map(|(at, ch)| at + ch.len_utf8()).take_while(|end| *end <= size).last();
+        &text[..end.unwrap_or(0)]
+    }
+
+    /// What a text is compared with: each prefix, texts that are longer, also by as many bytes as a byte counts, and those of its
+    /// length that have another character of the same width at a place.
+    fn others(text: &str) -> Vec<String> {
+        let ends = text.char_indices().map(|(at, _)| at);
+        let mut others: Vec<String> = ends.map(|end| text[..end].to_string()).collect();
+        others.extend([0, 1, 255, 256, 257, 512].map(|more| text.to_string() + &"m".repeat(more)));
+        others.extend([format!("m{text}"), text.chars().skip(1).collect()]);
+        for (at, ch) in text.char_indices() {
+            let other = ["a", "è", "₭", "🤕"][ch.len_utf8() - 1];
+            others.push(format!("{}{other}{}", &text[..at], &text[at + ch.len_utf8()..]));
+        }
+        assert_eq!(others.len(), 2 * text.chars().count() + 8);
+        others
+    }
+
+    /// Asserts each trait of a kind of string, of so many bytes, with a `String`.
+    macro_rules! is_owned {
+        ($type:ty, $size:expr, $text:expr) => {{
+            let (size, text): (usize, String) = ($size, $text);
+            let kept = cut(&text, size).to_string();
+            let string = <$type>::from(kept.as_str());
+            assert!(string == kept && kept == string && !(string != kept) && !(kept != string));
+            for other in others(&kept) {
+                assert_eq!((string == other, other == string), (kept == other, kept == other), "{kept} {other}");
+                assert_eq!((string != other, other != string), (kept != other, kept != other), "{kept} {other}");
+            }
+            assert_eq!(String::from(string), kept);
+            let pieces: Vec<String> = text.split_inclusive(|_| true).map(String::from).collect();
+            assert_eq!(pieces.iter().cloned().collect::<$type>(), kept);
+            let fitting = kept.chars().count();
+            for half in [0, fitting / 2, fitting.min(pieces.len() / 2), fitting] {
+                let front: String = pieces[..half].concat();
+                let mut extended = <$type>::from(front.as_str());
+                Extend::extend(&mut extended, pieces[half..].iter().cloned());
+                assert_eq!(extended, kept);
+            }
+        }};
+    }
+
+    #[test]
+    fn strings_beside_owned_ones() {
+        fn at<const N: usize>() {
+            for len in 0..=N.min(255) + 2 {
+                for ch in ["", "\0", "é", "€", "🤔", "🤔🤔"] {
+                    is_owned!(ArrayString<N>, N.min(255), "m".repeat(len) + ch);
+                    is_owned!(ArrayString<N>, N.min(255), format!("{ch}{}", "m".repeat(len)));
+                }
+            }
+        }
+        at::<0>();
+        at::<1>();
+        at::<4>();
+        at::<8>();
+        at::<23>();
+        at::<64>();
+        at::<255>();
+        at::<300>();
+    }
+
+    #[test]
+    fn cache_strings_beside_owned_ones() {
+        for len in 0..=65 {
+            for ch in ["", "é", "€", "🤔"] {
+                is_owned!(CacheString, 63, "m".repeat(len) + ch);
+                is_owned!(CacheString, 63, format!("{ch}{}", "m".repeat(len)));
+            }
+        }
+    }
 }

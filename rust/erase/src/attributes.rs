@@ -37,5 +37,72 @@ fn only_returns(signature: &str) -> bool {
 }
 
 #[cfg(test)]
-#[path = "tests/attributes.rs"]
-mod tests;
+mod tests {
+    //! Samples of signatures, and the attributes of their calls.
+
+    use super::*;
+    use crate::cursor::Fault;
+    use crate::erase::{Source, Tally, erase};
+
+    /// What comes of a file of strings.
+    fn made(text: &str) -> Result<String, Fault> {
+        let source = Source { krate: "arraystring_core", path: "arraystring_core/src/array_string/range.rt", text };
+        let mut tally = Tally::default();
+        let _ = erase(&source, &mut tally);
+        erase(&source, &mut tally).map(|erased| erased.text)
+    }
+
+    #[test]
+    fn what_only_returns_is_to_be_used() {
+        for signature in [
+            "fn len(&self) -> u8",
+            "fn new() -> Self",
+            "fn first(text: &str) -> Option<char>",
+            "unsafe fn from_str_unchecked(string: &str) -> Self",
+        ] {
+            assert!(only_returns(signature), "{signature}");
+        }
+        for signature in [
+            "fn clear(&mut self)",
+            "fn print(&self)",
+            "fn pop(&mut self) -> Option<char>",
+            "fn look(bytes: &[u8], at: usize, steps: &mut Steps) -> u8",
+            "fn try_from_str(string: &str) -> Result<Self, OutOfBounds>",
+            "fn from_chars<I: IntoIterator<Item = char>>(characters: I) -> Self",
+            "fn get<R: RangeBounds<u8>>(&self, range: R) -> Option<&str>",
+        ] {
+            assert!(!only_returns(signature), "{signature}");
+        }
+    }
+
+    #[test]
+    fn a_call_that_panics_names_its_caller() {
+        let source = "\
+impl<const N: usize> ArrayString<N> {
+    /// Gives a part.
+    #[inline(always)]
+    pub fn slice<R: RangeBounds<u8>>(&self, range: R) -> &str
+        requires known { R.has_bounds range }
+        requires start { IsTrue (boundary self.now.text 0) }
+    {
+        let (start, end) = plain_ends(range, self.len());
+        self.between(start, end)
+    }
+
+    /// The length.
+    pub fn len(&self) -> u8 {
+        self.size
+    }
+
+    fn private(&self) -> u8 {
+        self.size
+    }
+}
+";
+        let made = made(source).unwrap_or_else(|fault| panic!("{} {}", fault.at, fault.why));
+        assert!(made.contains("\n    #[track_caller]\n    #[inline(always)]\n    pub fn slice<"), "{made}");
+        assert!(made.contains("    /// The length.\n    #[must_use]\n    #[inline]\n    pub fn len("), "{made}");
+        assert!(made.contains("\n    #[inline]\n    fn private("), "{made}");
+        assert_eq!((made.matches("#[must_use]").count(), made.matches("#[track_caller]").count()), (1, 1), "{made}");
+    }
+}

@@ -9,7 +9,7 @@ pub const CRATES: &[&str] = &["arraystring_base", "arraystring_core", "arraystri
 
 /// Files of the Rust crate's `src` that are written by hand, and what is in each. Nothing else may lie beside what is made.
 pub const BY_HAND: &[(&str, &str)] = &[
-    ("by_hand.rs", "the module of what follows"),
+    ("by_hand.rs", "the module of what follows, and this page"),
     (
         "by_hand/convert.rs",
         "`Deref`, `AsRef`, `Borrow`, `FromIterator`, `Extend`, `Index` and some `From`, each one call of the string. Nothing lends \
@@ -26,12 +26,12 @@ pub const BY_HAND: &[(&str, &str)] = &[
     ("by_hand/constant.rs", "`arraystring!`, and what it is made of. A fault in it could break UTF-8"),
     ("by_hand/read.rs", "`Debug` and `Default` of `Steps`, and `Hash` of the errors of one case"),
     ("by_hand/simd.rs", "the vectors of the sources, as arrays or words. A fault in it could break UTF-8"),
-    ("by_hand/access.rs", "what is read and written without a test. A fault in it could break UTF-8"),
-    ("by_hand/known.rs", "what is told to rustc. A fault in it could break UTF-8"),
-    ("by_hand/str.rs", "`from_utf8_unchecked`, which `checked` tests"),
-    ("by_hand/char.rs", "`from_u32_unchecked`, which `checked` tests"),
+    (
+        "by_hand/access.rs",
+        "what is read and written without a test, and what is told to rustc. A fault in it could break UTF-8",
+    ),
+    ("by_hand/unchecked.rs", "`from_utf8_unchecked` and `from_u32_unchecked`, which `checked` tests"),
     ("by_hand/contracts.rs", "the page on contracts"),
-    ("by_hand/trust.rs", "this page"),
     ("by_hand/count_tests.rs", "tests"),
 ];
 
@@ -51,9 +51,6 @@ compile_error!(\"the crate was tried where a `usize` has 32 or 64 bits, and nowh
 #[macro_use]
 #[path = \"by_hand/access.rs\"]
 mod access;
-#[macro_use]
-#[path = \"by_hand/known.rs\"]
-mod known;
 
 mod arraystring_base;
 mod arraystring_core;

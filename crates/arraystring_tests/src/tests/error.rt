@@ -1,8 +1,8 @@
-//! Refusals: how they are printed and hashed, and how they become an `Error`.
+//! Refusals: how they are printed and hashed, and how they become an `Error` or a `ValueError`.
 use super::printing::{Alone, debugs_as, displays};
 use super::table::{agree, hash_of};
 use arraystring::error::{Error, OutOfBounds, Utf8, Utf16};
-use arraystring::integration::NotText;
+use arraystring::integration::{NotText, ValueError};
 use std::fmt::{Debug, Display};
 use std::process::Abort;
 use std::str;
@@ -43,6 +43,17 @@ fn each_refusal_has_its_name(rt: HostRuntime) {
     let error = Error::OutOfBounds;
     becomes(&rt, OutOfBounds, error, "OutOfBounds", "Error::OutOfBounds");
     prints(&rt, &NotText, "NotText", "NotText");
+}
+
+#[test]
+fn each_refusal_of_a_value_has_its_name(rt: HostRuntime) {
+    prints(&rt, &ValueError::NotText, "NotText", "NotText");
+    let (refusal, name) = (ValueError::OutOfBounds, "OutOfBounds");
+    prints(&rt, &refusal, name, name);
+    let no_text = ValueError::from(NotText);
+    agree(&rt, "no text", no_text, ValueError::NotText);
+    let large = ValueError::from(OutOfBounds);
+    agree(&rt, "too large", large, ValueError::OutOfBounds);
 }
 
 /// The text of bytes, or the refusal that `?` makes of that of std.

@@ -1,4 +1,4 @@
-//! What is read and written without a test that it is there.
+//! What is read and written without a test that it is there, and what is proved and told to rustc.
 //!
 //! A function of the sources is accepted only if it is proved never to panic. So each index and each part in it is within, each
 //! copy is between parts of one length, and no `unreachable!()` is reached. rustc can't see that proof, and would test all
@@ -89,6 +89,20 @@ macro_rules! unreachable_unchecked {
         } else {
             // SAFETY: this stands for what a proved body does not reach, as the body says or its `# Safety`.
             unsafe { core::hint::unreachable_unchecked() }
+        }
+    };
+}
+
+/// Tells rustc a clause that is proved of each call, as `known!(source: from + len <= N)`: also that the sum does not wrap. With
+/// debug assertions, or with the feature `checked`, it is tested instead.
+macro_rules! known {
+    ($clause:ident: $part:ident + $more:ident <= $most:expr) => {
+        let is_so = $part.checked_add($more).is_some_and(|sum| sum <= $most);
+        if cfg!(any(debug_assertions, feature = "checked")) {
+            assert!(is_so, concat!("the clause `", stringify!($clause), "` does not hold"));
+        } else {
+            // SAFETY: the fact is one of the `# Safety` of the function in which this stands.
+            unsafe { core::hint::assert_unchecked(is_so) };
         }
     };
 }

@@ -1,4 +1,4 @@
-//! Tables of what constructors make and of what iterators add.
+//! Tables of what constructors make, of text and of units, and of what iterators add.
 
 use arraystring::error::OutOfBounds;
 use arraystring::{ArrayString, Error};
@@ -16,7 +16,7 @@ fn next(row: &str, ch: Option<char>, piece: Option<&str>) {
     assert_eq!((ch, piece.unwrap_or("None")), (column(row, 4).chars().next(), column(row, 5)), "{row}");
 }
 
-/// Asserts what each constructor makes. The columns are
+/// Asserts what each constructor makes of a text. The columns are
 ///
 ///     text | the same in pieces | made whole | cut | next character | next piece
 pub fn made_at(capacity: usize, table: &str) -> usize {
@@ -58,6 +58,32 @@ fn made<const N: usize>(table: &str) -> usize {
                 };
                 assert_eq!(unchecked, [cut; 4], "{row}");
             }
+        })
+        .count()
+}
+
+/// Asserts what is made of units. The columns are
+///
+///     units in hexadecimal | `try_from_utf16` | `from_utf16` | `from_utf16_lossy`
+///
+/// where the last three are texts, or the names of refusals.
+pub fn made_of_units_at(capacity: usize, table: &str) -> usize {
+    at_capacity!(capacity, made_of_units, table)
+}
+
+fn made_of_units<const N: usize>(table: &str) -> usize {
+    rows(table)
+        .inspect(|row| {
+            let units: Vec<u16> = column(row, 0)
+                .split_whitespace()
+                .map(|digits| u16::from_str_radix(digits, 16).expect("a unit"))
+                .collect();
+            let made = [
+                told(ArrayString::<N>::try_from_utf16(&units)),
+                told(ArrayString::<N>::from_utf16(&units).map_err(Error::from)),
+                ArrayString::<N>::from_utf16_lossy(&units).to_string(),
+            ];
+            assert_eq!(made, [1, 2, 3].map(|at| column(row, at)), "{row}");
         })
         .count()
 }

@@ -6,15 +6,12 @@
 mod calls;
 mod constructors;
 mod drains;
-mod literals;
 mod named;
 mod rows;
-mod units;
 
 use std::collections::BTreeMap;
 
-use literals::{Table, tables};
-use rows::{column, rows};
+use rows::{Table, column, rows, tables};
 
 /// Where the tables are.
 const FOLDER: &str = "../../crates/arraystring_tests/src/tests";
@@ -79,7 +76,7 @@ fn each_table_holds_here_too() {
             "calls" => calls::at(capacity, text),
             "anywhere" => calls::anywhere(text),
             "drains" => drains::at(capacity, text),
-            "units" => units::at(capacity, text),
+            "units" => constructors::made_of_units_at(capacity, text),
             "extended" => constructors::extended_at(capacity, text),
             _ => constructors::made_at(capacity, text),
         };

@@ -8,8 +8,7 @@ use arraystring::utils::{Steps, is_boundary, truncate_str, truncate_str_counted}
 use arraystring::{ArrayString, CacheString, Drain, MaxString, SmallString};
 
 use crate::at_capacity;
-use crate::literals::Table;
-use crate::rows::{column, hash_of, parsed, returned, rows};
+use crate::rows::{Table, column, hash_of, parsed, returned, rows};
 
 /// The players, and how many rows they play at least.
 pub const PLAYERS: &[(&str, usize)] = &[

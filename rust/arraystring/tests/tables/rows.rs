@@ -1,7 +1,9 @@
-//! Rows of tables: a line is a row, and `|` is between its columns.
+//! The tables in the files of the tests. A line of a table is a row, and `|` is between its columns.
 
 use std::fmt::Debug;
+use std::fs;
 use std::hash::{DefaultHasher, Hash, Hasher};
+use std::path::Path;
 
 /// The rows of a table.
 pub fn rows(table: &str) -> impl Iterator<Item = &str> {
@@ -41,4 +43,134 @@ pub fn hash_of<T: Hash + ?Sized>(value: &T) -> u64 {
     let mut state = DefaultHasher::new();
     value.hash(&mut state);
     state.finish()
+}
+
+/// A text that a call is given alone.
+pub struct Table {
+    pub file: String,
+    /// The function that is called.
+    pub player: String,
+    /// The capacity that it is called at, as in `::<23>`.
+    pub capacity: Option<usize>,
+    pub text: String,
+}
+
+/// All tables of a folder, by file.
+pub fn tables(folder: &Path) -> Vec<Table> {
+    let mut files = Vec::new();
+    let mut waiting = vec![folder.to_path_buf()];
+    while let Some(path) = waiting.pop() {
+        for entry in fs::read_dir(&path).expect("a folder") {
+            let path = entry.expect("an entry").path();
+            if path.is_dir() {
+                waiting.push(path);
+            } else if path.extension().is_some_and(|end| end == "rt") {
+                files.push(path);
+            }
+        }
+    }
+    files.sort();
+    files
+        .iter()
+        .flat_map(|path| of_file(&path.display().to_string(), &fs::read_to_string(path).expect("a text")))
+        .collect()
+}
+
+/// The tables of a file.
+fn of_file(file: &str, source: &str) -> Vec<Table> {
+    let mut found = Vec::new();
+    let mut at = 0;
+    while let Some(start) = next_quote(source, at) {
+        let end = start + 1 + length(&source[start + 1..]);
+        at = end + 1;
+        let text = unescaped(&source[start + 1..end]);
+        if let (true, Some((player, capacity))) = (text.contains('|'), caller(&source[..start])) {
+            found.push(Table { file: file.to_string(), player, capacity, text });
+        }
+    }
+    found
+}
+
+/// Where the next text begins: comments and characters are passed over.
+fn next_quote(source: &str, from: usize) -> Option<usize> {
+    let mut at = from;
+    loop {
+        let rest = &source[at..];
+        let found = rest.find(['"', '/', '\''])?;
+        at += found;
+        let rest = &source[at..];
+        at += match rest.as_bytes() {
+            [b'"', ..] => return Some(at),
+            [b'/', b'/', ..] => rest.find('\n')?,
+            [b'\'', b'\\', ..] => 2 + rest[2..].find('\'').filter(|end| *end > 0).unwrap_or(1) + 1,
+            [b'\'', ..] => rest.char_indices().nth(2).filter(|(_, ch)| *ch == '\'').map_or(1, |(end, _)| end + 1),
+            _ => 1,
+        };
+    }
+}
+
+/// How many bytes a text has before the quote that ends it.
+fn length(rest: &str) -> usize {
+    let mut is_escaped = false;
+    let end = rest.find(|ch| {
+        let is_end = ch == '"' && !is_escaped;
+        is_escaped = ch == '\\' && !is_escaped;
+        is_end
+    });
+    end.expect("the end of a text")
+}
+
+/// The text as the language reads it.
+fn unescaped(written: &str) -> String {
+    let mut text = String::new();
+    let mut rest = written.chars();
+    while let Some(ch) = rest.next() {
+        if ch != '\\' {
+            text.push(ch);
+            continue;
+        }
+        match rest.next().expect("what is escaped") {
+            'n' => text.push('\n'),
+            't' => text.push('\t'),
+            'r' => text.push('\r'),
+            '0' => text.push('\0'),
+            'u' => {
+                let digits: String = rest.by_ref().skip(1).take_while(|ch| *ch != '}').collect();
+                let code = u32::from_str_radix(&digits, 16).expect("a number");
+                text.push(char::from_u32(code).expect("a character"));
+            }
+            'x' => {
+                let digits: String = rest.by_ref().take(2).collect();
+                text.push(u8::from_str_radix(&digits, 16).expect("a number") as char);
+            }
+            '\n' => rest = rest.as_str().trim_start().chars(),
+            same => text.push(same),
+        }
+    }
+    text
+}
+
+/// The call whose last argument comes next, if it has at most the runtime before it.
+fn caller(before: &str) -> Option<(String, Option<usize>)> {
+    let before = before.trim_end();
+    let before = before.strip_suffix("rt,").map_or(before, |before| before.trim_end_matches('&').trim_end());
+    let mut before = before.strip_suffix('(')?;
+    let mut capacity = None;
+    if let Some(generic) = before.strip_suffix('>') {
+        let (name, number) = generic.rsplit_once("::<")?;
+        capacity = Some(number.parse().ok()?);
+        before = name;
+    }
+    let start = before.rfind(|ch: char| !ch.is_alphanumeric() && ch != '_').map_or(0, |end| end + 1);
+    (start < before.len()).then(|| (before[start..].to_string(), capacity))
+}
+
+#[test]
+fn texts_are_found_with_their_calls() {
+    let source = "// \"no | text\"\nhold::<23>(&rt, \"a | \\\"b\\u{e9}\");\nhold_each(\n    rt,\n    \"\\\n        c | d\",\n);\nf(&rt, 'x', \"e | f\"); let t = \"g | h\"; ('\\'', '\"');";
+    let found: Vec<_> =
+        of_file("", source).into_iter().map(|table| (table.player, table.capacity, table.text)).collect();
+    let wanted =
+        [("hold".to_string(), Some(23), "a | \"bé".to_string()), ("hold_each".to_string(), None, "c | d".to_string())];
+    assert_eq!(found, wanted);
 }

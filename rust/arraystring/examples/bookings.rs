@@ -1,17 +1,76 @@
-//! A guest list: bookings that are read, tables by name, a line that is edited, and rows that are written. All texts lie
-//! in the values themselves. Each result was worked out by hand. The other calls are in `calls`.
-
-mod booking;
-mod calls;
-mod line;
+//! A guest list: bookings that are read from lines `name = seats`, tables by name, and rows that are written. All texts lie in
+//! the values themselves. Each result was worked out by hand.
 
 use std::collections::{BTreeMap, HashMap};
 use std::error::Error as StdError;
 use std::fmt::{self, Write};
+use std::num::ParseIntError;
+use std::str::FromStr;
 
+use arraystring::error::OutOfBounds;
 use arraystring::{ArrayString, Error};
-use booking::{Booking, Name, Refused};
-use line::{Key, Line};
+
+/// The name of a guest, of at most 8 bytes.
+type Name = ArrayString<8>;
+
+#[derive(Clone, Copy, Debug, PartialEq)]
+struct Booking {
+    name: Name,
+    seats: u32,
+}
+
+/// Why a line is no booking.
+#[derive(Clone, Copy, Debug, PartialEq)]
+enum Refused {
+    NoText,
+    LongName,
+    NoSeats,
+}
+
+impl Booking {
+    /// A booking from bytes that came from elsewhere.
+    fn from_bytes(bytes: &[u8]) -> Result<Self, Refused> {
+        let line = ArrayString::<24>::try_from_utf8(bytes).map_err(|refused| match refused {
+            Error::OutOfBounds => Refused::LongName,
+            Error::Utf8 | Error::Utf16 => Refused::NoText,
+        })?;
+        line.parse()
+    }
+}
+
+impl FromStr for Booking {
+    type Err = Refused;
+
+    fn from_str(line: &str) -> Result<Self, Refused> {
+        let (name, seats) = line.split_once('=').ok_or(Refused::NoSeats)?;
+        Ok(Booking { name: name.trim().parse()?, seats: seats.trim().parse()? })
+    }
+}
+
+/// A name is parsed whole or refused; `Name::from` would cut it.
+impl From<OutOfBounds> for Refused {
+    fn from(_: OutOfBounds) -> Self {
+        Refused::LongName
+    }
+}
+
+impl From<ParseIntError> for Refused {
+    fn from(_: ParseIntError) -> Self {
+        Refused::NoSeats
+    }
+}
+
+impl fmt::Display for Refused {
+    fn fmt(&self, f: &mut fmt::Formatter<'_>) -> fmt::Result {
+        f.write_str(match self {
+            Refused::NoText => "not UTF-8",
+            Refused::LongName => "the name is too long",
+            Refused::NoSeats => "there is no number of seats",
+        })
+    }
+}
+
+impl StdError for Refused {}
 
 /// Bookings are read from texts and from bytes, and what is no booking is refused with its reason.
 fn bookings() -> Result<Vec<Booking>, Refused> {
@@ -52,34 +111,12 @@ fn row(name: &Name, seats: u32) -> Result<ArrayString<12>, fmt::Error> {
     Ok(row)
 }
 
-/// A name is typed, with its mistakes. What does not fit, or is not there to be taken out, is refused.
-fn type_a_name() -> Result<Name, Error> {
-    let mut line = Line::default();
-    line.type_text("jörk")?;
-    assert_eq!(line.to_string(), "jörk|");
-    line.press(Key::Backspace)?;
-    line.press(Key::Char('g'))?;
-    line.press(Key::Home)?;
-    assert_eq!(line.press(Key::Backspace), Err(Error::OutOfBounds));
-    line.type_text("an ")?;
-    // `an jörg` has 8 bytes, since `ö` has two, and so it is full.
-    assert_eq!(line.press(Key::Char('x')), Err(Error::OutOfBounds));
-    assert_eq!(line.to_string(), "an |jörg");
-    line.press(Key::Left)?;
-    line.press(Key::KillToEnd)?;
-    assert_eq!(line.to_string(), "an|");
-    line.type_text("n")?;
-    Ok(line.text())
-}
-
 fn main() -> Result<(), Box<dyn StdError>> {
     let sorted = in_order(count(&bookings()?));
     let rows = sorted.iter().map(|(name, seats)| row(name, *seats)).collect::<Result<Vec<_>, _>>()?;
     assert_eq!(rows, ["ann      2", "jörg     4", "zoé      4"]);
     assert_eq!(row(&Name::from("ann"), 12_345), Err(fmt::Error));
-
-    assert_eq!(sorted.get(&type_a_name()?), Some(&2));
-    calls::make_each()?;
+    assert_eq!(sorted.get(&Name::from("ann")), Some(&2));
     println!("all as it was worked out");
     Ok(())
 }
