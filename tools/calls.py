@@ -1,5 +1,5 @@
-"""Fails where no page names a public call of the string, or a trait by which it is called, and where a list that stands in two
-places differs.
+"""Fails where no page names a public call of the string, or a trait by which it is called, where a list that stands in two places
+differs, and where a file above arraystring_base names `move_run`, the move without a count: every move goes through `shift`.
 
 The calls are each `pub fn` of crates/arraystring, and of the `impl ArrayString` blocks in crates/arraystring_core. Names are the
 words in inline code of LIST, the section of README.md, and of PAGES. A call whose name ends in one of the SUFFIXES is named by the
@@ -16,11 +16,13 @@ In two places stand:
 - the laws, in PROMISES, and those of the string in SURFACE, which calls each;
 - the words of commands, which LINES reads, in SCRIPTS;
 - the crates but for those of tests, in DRAWING, a section of README.md.
+
+Tests may call `move_run`. The crate that has it has to name it, so that a new name does not pass unseen.
 """
 import re
 
 import pages
-from repository import crates, read
+from repository import crates, read, sources
 
 LIST = ("README.md", "The calls")
 BODIES = ("README.md", "What a reader checks in the counted calls")
@@ -129,6 +131,15 @@ def faults_of_lists(here, these, there, those):
         yield f"{here} and {there} have nothing in common"
 
 
+def faults_of_moves(root):
+    """The files outside of tests that name `move_run` and are not in its crate."""
+    naming = [it for crate in crates(root) for it in sources(root / "crates" / crate) if re.search(r"\bmove_run\b", source(it))]
+    above = [it for it in naming if root / "crates" / STRING_CRATES[0] not in it.parents]
+    yield from (f"{it.relative_to(root)} names move_run: move by shift" for it in above)
+    if naming == above:
+        yield f"{STRING_CRATES[0]} has no move_run"
+
+
 def main(arguments, root):
     listed = pages.inline_code(section(root, LIST))
     code = [*listed, *(it for page in PAGES for it in pages.inline_code(read(root / page)))]
@@ -139,7 +150,7 @@ def main(arguments, root):
     rust_calls = string_calls(root / "rust/arraystring")
     faults += [f"{RUST_LISTS[0][0]} does not name {call}" for call in sorted(rust_calls) if not is_named(call, in_rust)]
     faults += [f"{LIST[0]} does not name {trait}" for trait in sorted(called_by) if trait not in listed]
-    faults += [fault for places in twice for fault in faults_of_lists(*places)]
+    faults += [fault for places in twice for fault in faults_of_lists(*places)] + list(faults_of_moves(root))
     counts = f"the pages name {len(calls)} public calls and {len(called_by)} traits"
     print("\n".join(faults) or f"{counts}, and {sum(len(it[1]) for it in twice)} names stand in two places")
     return bool(faults) or not calls or not called_by

@@ -20,7 +20,6 @@ import calls
 import controls
 import dead
 import evidence
-import moves
 import proved
 import quotes
 import repository
@@ -28,7 +27,7 @@ import trusted
 
 # The parts, each with the words of its call.
 PARTS = [
-    (trusted, []), (dead, []), (quotes, []), (calls, []), (moves, []), (evidence, []), (controls, ["--check"]), (proved, ["--check"]),
+    (trusted, []), (dead, []), (quotes, []), (calls, []), (evidence, []), (controls, ["--check"]), (proved, ["--check"]),
 ]
 # What the parts say that they looked at, and how much that is at least: a search that finds less than there is fails at nothing.
 LEAST = {
@@ -40,7 +39,6 @@ LEAST = {
     "the pages name {} public calls": 58,
     "public calls and {} traits": 18,
     "{} names stand in two places": 190,
-    "{} files move by shift alone": 80,
     "wrong bodies try {} functions": 189,
     "{} controls are as they were": 115,
     "{} sources of the Rust crate are as they were proved": 250,

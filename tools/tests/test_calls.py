@@ -50,6 +50,7 @@ const IN_RANGE: &str =
 
     match call { "clear" => text.clear() }
 """
+MOVES, TEXTS = "crates/arraystring_base/src/moves.rt", "crates/arraystring_uses/src/texts.rt"
 CORE, LAWS = "crates/arraystring_core/src/array_string.rt", "crates/arraystring_core/src/laws.rt"
 MAIN, RUST_PAGE, CALLING = "rust/arraystring/src/array_string.rs", calls.RUST_LISTS[0][0], "crates/arraystring/CALLING.md"
 
@@ -58,12 +59,14 @@ class Calls(TreeTest):
     COMMAND = calls
     FILES = {
         "README.md": "## The calls\n`pop`, `.._counted`, `Clone`, `Copy`, `From<&str>`\n\n"
-        f"## {calls.DRAWING[1]}\n```text\narraystring_uses ── arraystring\n```\n\n"
+        f"## {calls.DRAWING[1]}\n```text\narraystring_uses ── arraystring ── arraystring_base\n```\n\n"
         f"## {calls.BODIES[1]}\n|Body|\n|`pop_counted`|`look`|\n",
-        "crates.txt": "arraystring:\narraystring_tests:\narraystring_uses:\n",
+        "crates.txt": "arraystring_base:\narraystring:\narraystring_tests:\narraystring_uses:\n",
         calls.LINES: 'match word {\n"pop" => {}\n"push" => {}\n',
         calls.SCRIPTS: "|`pop`, `push C`|says `no char`|\n",
         "crates/arraystring/src/lib.rt": "pub fn capacity() {}\n",
+        MOVES: "pub(crate) fn move_run() {}\n",
+        "crates/arraystring_uses/src/tests/moves.rt": "use crate::move_run;\n",
         CORE: STRING,
         "crates/arraystring_core/src/other.rt": "pub fn no_call_of_the_string() {}\n",
         LAWS: "pub fn parts() {}\n",
@@ -83,7 +86,7 @@ class Calls(TreeTest):
     }
 
     def test_each_call_and_trait_is_named(self):
-        counts = "the pages name 3 public calls and 3 traits, and 12 names stand in two places\n"
+        counts = "the pages name 3 public calls and 3 traits, and 13 names stand in two places\n"
         self.assertEqual(self.assert_passes(), counts)
 
     def test_what_no_page_names_is_told(self):
@@ -118,6 +121,13 @@ class Calls(TreeTest):
             ("crates.txt lacks uses, which the drawing in README.md has", "README.md", "arraystring_uses", "uses"),
             (f"{calls.SURFACE} lacks parts, which src/laws.rt of the string has", calls.SURFACE, "parts", "replies"),
         )))
+
+    def test_every_move_outside_of_tests_goes_through_shift(self):
+        self.assert_plants(
+            ("", (TEXTS, "shift(); // and not by move_run\n")),
+            *((f"{TEXTS} names move_run: move by shift\n", (TEXTS, it)) for it in ("move_run();\n", "use utils::{move_run, shift};\n")),
+            ("arraystring_base has no move_run", (MOVES, "move_run", "move_all")),
+        )
 
     def test_no_call_no_trait_and_no_list_are_faults(self):
         private = (CORE, STRING.replace("    pub fn", "    fn"))
