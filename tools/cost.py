@@ -71,13 +71,14 @@ def modules(folder):
 def first_check(folder):
     """Prints the tables of a first check; whether it does not prove."""
     forget(folder)
-    stages = folder / "stages.txt"
+    stages, start = folder / "stages.txt", time.monotonic()
     lines, status = timed_lines(["rt", "check", "--jobs", "1", "--stage-times", str(stages)], folder)
     if status:
         print(f"{folder.name} was not proved: {lines[-1][1] if lines else 'nothing was said'}")
         return True
-    told = [(at, re.match(r"so far: 0 of()|checked \w+::(\S+), \d+ of \d+", line)) for at, line in lines]
-    functions, shares = gaps([(at, found[2]) for at, found in told if found]), Counter()
+    told = [(at, re.match(r"so far: 0 of|checked \w+::(\S+), \d+ of \d+", line)) for at, line in lines]
+    times, shares = [(start, None), *((at, found[1]) for at, found in told if found)], Counter()
+    functions = [(seconds, name) for seconds, name in gaps(times) if name]
     for name, seconds in re.findall(r"(?m)^stage (\S+) (\S+)", read(stages)):
         shares[STAGES.get(name, "making and the rest")] += float(seconds)
     whole = shares.total()
