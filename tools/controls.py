@@ -50,7 +50,7 @@ def record(root, control, checksum):
 def stored_proofs(folder, places):
     """The files of proofs/ for the functions that an edit changes, and for those that call them."""
     functions = sources.functions(folder)
-    changed = [it for file, line in places for it in functions.get(file, []) if line in it.place]
+    changed = sources.standing_at(places, functions)
     callers = [it for of_file in functions.values() for it in of_file if any(it.mentions(other) for other in changed)]
     names = {it.name for it in changed + callers}
     return [it for it in sorted(folder.glob("proofs/**/*.antt")) if it.parent.name in names]

@@ -23,6 +23,11 @@ def sources(folder):
     return [it for it in files if "tests" not in it.relative_to(folder).with_suffix("").parts]
 
 
+def public_types(files):
+    """The names of the public types in some source files."""
+    return {name for it in files for name in re.findall(r"(?m)^pub (?:struct|enum) (\w+)", read(it))}
+
+
 @contextmanager
 def copied(root):
     """A copy of the repository among the temporary files, for as long as it is needed."""
