@@ -47,14 +47,19 @@ IMPL = re.compile(rf"(?m)^impl(?:<[^>]*>)? (?:\w+::)*(\S.*) for (?:{TYPES})\b")
 DERIVE = re.compile(rf"(?m)^#\[derive\((.*)\)\]\n(?:#.*\n)*pub struct (?:{TYPES})\b")
 
 
-def texts_of(folder):
-    """The texts of the files of a crate's src/."""
-    return [read(it) for it in sorted(folder.glob("src/**/*.r[st]"))]
+def source(file):
+    """A source file without comments."""
+    return re.sub(r"//.*", "", read(file))
 
 
 def calls_of(texts):
     """The names of the public functions in some texts."""
     return {name for text in texts for name in FUNCTION.findall(HIDDEN.sub("", text))}
+
+
+def texts_of(folder):
+    """The texts of the files of a crate's src/."""
+    return [read(it) for it in sorted(folder.glob("src/**/*.r[st]"))]
 
 
 def string_calls(folder):
@@ -66,8 +71,7 @@ def traits(root):
     """The traits of the string types, without lifetimes."""
     texts = [text for crate in STRING_CRATES[1:] for text in texts_of(root / "crates" / crate)]
     found = {re.sub(r"'\w+ ", "", name) for text in texts for name in IMPL.findall(text)}
-    found |= {name for text in texts for names in DERIVE.findall(text) for name in names.split(", ")}
-    return found - UNCALLED
+    return found.union(*(names.split(", ") for text in texts for names in DERIVE.findall(text))) - UNCALLED
 
 
 def is_named(call, code):
@@ -84,11 +88,6 @@ def section(root, place):
 def first_words(text):
     """The first words of the inline code that begins a row of a table."""
     return {name for cell in re.findall(r"(?m)^\|(`[^|]*)\|", text) for name in re.findall(r"`(\w+)[^`]*`", cell)}
-
-
-def source(file):
-    """A source file without comments."""
-    return re.sub(r"//.*", "", read(file))
 
 
 def arms(text):
