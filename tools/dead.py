@@ -74,17 +74,12 @@ def cited_by_pages(tree, crate):
 
 def cited(tree):
     """The items that something cites, directly or by others."""
-    known, rest = set(), [it for it in tree.items if not is_lemma(it)]
+    first = [it for it in tree.items if not is_lemma(it)]
     for crate in repository.crates(tree.root):
-        rest += cited_by_pages(tree, crate)
+        first += cited_by_pages(tree, crate)
         for file in (tree.root / "crates" / crate).glob("src/**/*.rt"):
-            rest += filter(None, cited_by_source(tree, crate, read(file)))
-    while rest:
-        item = rest.pop()
-        if item not in known:
-            known.add(item)
-            rest += tree.words(item)
-    return known
+            first += filter(None, cited_by_source(tree, crate, read(file)))
+    return repository.closed(first, tree.words)
 
 
 def dead_helpers(item):

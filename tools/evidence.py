@@ -113,16 +113,19 @@ def refusal_fault(crate, name, said):
 def refusals(crates, log):
     """What is wrong with the refusals that a log tells."""
     told = VERDICT.findall(repository.read(Path(log)))
-    yield from (f"{crate} {name}: {fault}" for crate, name, said in told if (fault := refusal_fault(crates[crate], name, said)))
+    found = [(f"{crate} {name}", refusal_fault(crates[crate], name, said)) for crate, name, said in told]
+    yield from (f"{name}: {fault}" for name, fault in found if fault)
     wanted = {(crate, it.stem) for crate in crates for it in crates[crate].folder.glob("must-fail/*.edit")}
-    yield from (f"{crate} {name}: the log does not say that it is refused" for crate, name in sorted(wanted - {it[:2] for it in told}))
+    untold = sorted(wanted - {it[:2] for it in told})
+    yield from (f"{crate} {name}: the log does not say that it is refused" for crate, name in untold)
 
 
 def main(arguments, root):
     crates, found, faults = {it: read_crate(root / "crates" / it) for it in repository.crates(root)}, {}, []
     for name in [it for it in crates if it not in FOR_TESTS]:
         found |= {f"{name} {it}": count for it, count in lacking(crates[name], faults).items()}
-    faults += [f"no wrong body of {name}" if count == 1 else f"no {count} wrong bodies of {name}" for name, count in found.items() if count]
+    plural = {1: "no wrong body", 2: "no 2 wrong bodies"}
+    faults += [f"{plural[count]} of {name}" for name, count in found.items() if count]
     if arguments[:1] == ["--refused"]:
         faults += refusals(crates, arguments[1])
     print("\n".join(faults) or f"wrong bodies try {len(found)} functions")

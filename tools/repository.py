@@ -36,6 +36,17 @@ def copied(root):
         yield Path(shutil.copytree(root, Path(room, "copy"), ignore=ignored, symlinks=True))
 
 
+def closed(items, following):
+    """Some items and what follows from them, directly or by others."""
+    found, rest = set(), list(items)
+    while rest:
+        item = rest.pop()
+        if item not in found:
+            found.add(item)
+            rest += following(item)
+    return found
+
+
 def unknown_crate(root, names):
     """What is wrong with the names of crates that a call gives; None where nothing is."""
     unknown = sorted(set(names) - set(crates(root)))

@@ -3,7 +3,7 @@ import re
 from collections import Counter
 from dataclasses import dataclass
 
-from repository import public_types, read, sources
+from repository import closed, public_types, read, sources
 
 ITEM = re.compile(r"( *)(pub |pub\(\w+\) )?(?:const |unsafe )*(?:fn (\w+)|(impl|trait)\b(.*) \{$)")
 BRANCH = re.compile(r"\b(if|match|while|for|loop)\b|\?[;)]")
@@ -101,10 +101,4 @@ def named(functions):
 
 def reached(function, everything):
     """The function and what it names, directly or by others."""
-    found, rest = [], [function]
-    while rest:
-        one = rest.pop()
-        if one not in found:
-            found.append(one)
-            rest += [it for it in everything if it is not one and one.mentions(it)]
-    return found
+    return closed([function], lambda one: [it for it in everything if it is not one and one.mentions(it)])

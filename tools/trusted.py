@@ -22,7 +22,7 @@ import sys
 from collections import namedtuple
 
 from modules import NAME, Modules, imports
-from repository import crates, public_types, read, sources
+from repository import closed, crates, public_types, read, sources
 
 LIBRARIES = ["arraystring_base", "arraystring_core", "arraystring", "arraystring_run", "bounded_records"]
 PAGE = "docs/definitions.md"
@@ -61,13 +61,8 @@ def contracts(tree, source, of_library):
 
 def closure(tree, found):
     """The definitions among some items, and those that they are made of, in order."""
-    reached, rest = set(), list(found)
-    while rest:
-        item = rest.pop()
-        if item.is_definition and item not in reached:
-            reached.add(item)
-            rest += tree.words(item)
-    return [it for it in tree.items if it in reached]
+    reached = closed(found, lambda it: tree.words(it) if it.is_definition else [])
+    return [it for it in tree.items if it.is_definition and it in reached]
 
 
 def reached(tree, public, name):
