@@ -2,15 +2,15 @@
 differs, and where a file above arraystring_base names `move_run`, the move without a count: every move goes through `shift`.
 
 The calls are each `pub fn` of crates/arraystring, and of the `impl ArrayString` blocks in crates/arraystring_core. Names are the
-words in inline code of LIST, the section of README.md, and of PAGES. A call whose name ends in one of the SUFFIXES is named by the
-suffix rule, inline code such as `.._counted`, too. RUST_LISTS alone name each call of such a block in the Rust crate.
+words in inline code of LIST, the section of README.md, and of PAGES. A call whose name ends in one of the SUFFIXES is named by
+the suffix rule, inline code such as `.._counted`, too. RUST_LISTS alone name each call of such a block in the Rust crate.
 
-The traits are those that TYPES have by an impl or a derive, in the same crates, but for UNCALLED. LIST alone has to name each, and
-one with arguments whole, such as `From<&str>`.
+The traits are those that TYPES have by an impl or a derive, in the same crates, but for UNCALLED. LIST alone has to name each,
+and one with arguments whole, such as `From<&str>`.
 
 In two places stand:
-- the calls of `ArrayString` that are safe in Rust, but for those of which PANICS says that they panic as `str` does: PROGRAM makes
-  each, and links only if none can panic;
+- the calls of `ArrayString` that are safe in Rust, but for those of which PANICS says that they panic as `str` does: PROGRAM
+  makes each, and links only if none can panic;
 - the calls that tables test: the arms in the first of PLAYERS, and the lists in the second, which is that of the Rust crate;
 - the counted calls, in BODIES, a table of README.md;
 - the laws, in PROMISES, and those of the string in SURFACE, which calls each;

@@ -49,7 +49,8 @@ def gaps(times):
 
 def timed_lines(command, folder):
     """The lines that a command prints, each with the second at which it came, and its status."""
-    run = subprocess.Popen(command, cwd=folder, stdin=subprocess.DEVNULL, stdout=subprocess.PIPE, stderr=subprocess.STDOUT, text=True)
+    run = subprocess.Popen(command, cwd=folder, stdin=subprocess.DEVNULL, stdout=subprocess.PIPE, stderr=subprocess.STDOUT,
+                           encoding="utf-8")
     return [(time.monotonic(), line.rstrip("\n")) for line in run.stdout], run.wait()
 
 
@@ -136,7 +137,7 @@ def grinds(folder):
 
 @contextmanager
 def set_back(out):
-    """What checks keep in a folder out/ is set back to what it was. A check replaces the modules there, so a second name keeps one."""
+    """What checks keep in a folder out/ is set back. A check replaces the modules there, so a second name keeps one."""
     def keep(one, other):
         os.link(one, other) if one.endswith(".oantt") else shutil.copy2(one, other)
 
@@ -156,7 +157,7 @@ def seconds_spent():
 
 
 def timed_check(folder):
-    """The processor seconds of a check, whether it proved, and its first message about a goal of src/, or else its first message."""
+    """The processor seconds of a check, whether it proved, and its first message about a goal of src/, or else its first."""
     before = seconds_spent()
     is_proved, said = rt.check(folder, "--jobs", "1")
     found = re.search(r"(?m)^(?:note: )?(?:\./)?src/\S+:\d+:\d+: .*", said)

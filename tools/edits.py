@@ -14,7 +14,7 @@ class BadEdit(ValueError):
 
 
 def replacements(edit):
-    """The replacements of an edit in order: the path of the file in the crate's folder, the old text, the new one and the right one."""
+    """The replacements of an edit in order: the path of a file in the crate's folder, the old text, the new and the right one."""
     path, old, found, before = None, None, [], ""
     for line in read(edit).splitlines():
         key, _, value = line.partition(":")

@@ -38,8 +38,8 @@ def pages_of(root):
 def with_printed(root, text):
     """The text of a page with what commands print."""
     def block(found):
-        printed = subprocess.run(found[2].split(), cwd=root, stdout=subprocess.PIPE, stderr=subprocess.DEVNULL, encoding="utf-8").stdout
-        return f"{found[1]}{printed}```"
+        run = subprocess.run(found[2].split(), cwd=root, stdout=subprocess.PIPE, stderr=subprocess.DEVNULL, encoding="utf-8")
+        return f"{found[1]}{run.stdout}```"
     return PRINTED.sub(block, text)
 
 

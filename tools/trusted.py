@@ -41,7 +41,7 @@ def modules(root):
 
 
 def contracts(tree, source, of_library):
-    """The contracts of a file of src/, laid out as `rt fmt` does; `of_library` are the public types of its library, if it is one."""
+    """The contracts of a file of src/, laid out as `rt fmt` does; `of_library` are the public types of a library, else None."""
     source, is_library = re.sub(r'//.*|"[^"\n]*"', "", source), of_library is not None
     for block in re.split(rf"(?m)^(?={FUNCTION}|impl\b)", source)[1:]:
         trait, kind = re.match(r"(?:impl(?:<(?:[^<>]|<[^<>]*>)*>)? (?:(.*) for )?(\w+))?", block).groups("")

@@ -110,7 +110,7 @@ class Calls(TreeTest):
             (f"{rust} lacks len, which {proved} has", proved, '"pop" =>', '"len" =>'),
             (f"{rust} lacks drain, which {proved} has", rust, "drain \\\n", "\\\n"),
             (f"{rust} lacks pop, which {proved} has", rust, "const AT", "// const AT"),
-            (f"{bodies} lacks pop_counted, which src/ of the string has", "README.md", "|`pop_counted`|", "|`pop`|`pop_counted`|"),
+            (f"{bodies} lacks pop_counted, which src/ of the string has", "README.md", "|`pop_counted`|", "|`pop`|"),
             (f"src/ of the string lacks pop_counted, which {bodies} has", CORE, "fn pop_counted", "fn popped"),
             (f"{calls.PROMISES} lacks sums, which crates/*/src/laws.rt has", LAWS, "parts", "sums"),
             (f"{calls.SURFACE} lacks sums, which src/laws.rt of the string has", LAWS, "parts", "sums"),
@@ -125,7 +125,7 @@ class Calls(TreeTest):
     def test_every_move_outside_of_tests_goes_through_shift(self):
         self.assert_plants(
             ("", (TEXTS, "shift(); // and not by move_run\n")),
-            *((f"{TEXTS} names move_run: move by shift\n", (TEXTS, it)) for it in ("move_run();\n", "use utils::{move_run, shift};\n")),
+            *((f"{TEXTS} names move_run: move by shift\n", (TEXTS, it)) for it in ("move_run();\n", "use utils::{move_run};\n")),
             ("arraystring_base has no move_run", (MOVES, "move_run", "move_all")),
         )
 

@@ -21,7 +21,8 @@ class Check(TreeTest):
         with ExitStack() as stack:
             stack.enter_context(mock.patch.object(check, "tests_fail", lambda: failing == "tests"))
             stack.enter_context(mock.patch.dict(check.LEAST, clear=True))
-            asked = [stack.enter_context(mock.patch.object(it, "main", return_value=failing == it.__name__)) for it, _ in check.PARTS]
+            patches = [mock.patch.object(it, "main", return_value=failing == it.__name__) for it, _ in check.PARTS]
+            asked = [stack.enter_context(it) for it in patches]
             failed = self.told(*words)[0]
         self.assertTrue(all(it.called for it in asked))
         return failed
@@ -67,8 +68,8 @@ class Check(TreeTest):
         for file in (ROOT / "tools").glob("*.py"):
             shutil.copy(file, self.root)
         self.write("tests/__init__.py", "")
-        code = "import sys; sys.dont_write_bytecode = True; import check; sys.exit(check.tests_fail())"
+        words = [sys.executable, "-c", "import sys; sys.dont_write_bytecode = True; import check; sys.exit(check.tests_fail())"]
         for text, failed in ((None, True), (TEST.format(2), False), (TEST.format(3), True)):
             self.write("tests/test_sums.py", text)
-            run = subprocess.run([sys.executable, "-c", code], cwd=self.root, stdout=subprocess.DEVNULL, stderr=subprocess.DEVNULL)
+            run = subprocess.run(words, cwd=self.root, stdout=subprocess.DEVNULL, stderr=subprocess.DEVNULL)
             self.assertEqual(run.returncode != 0, failed)

@@ -21,7 +21,8 @@ fn other() -> u8 {
 EDIT = "file: src/lib.rt\nold:     value + value\nnew:     value + 0\n"
 RIGHT = "# right:     value + { value }\n"
 FOLDER = "crates/numbers"
-FILE, CONTROLLED, OTHER = (f"{FOLDER}/{it}" for it in ("src/lib.rt", "must-fail/twice_is_once.edit", "must-fail/twice_is_none.edit"))
+FILE, CONTROLLED = f"{FOLDER}/src/lib.rt", f"{FOLDER}/must-fail/twice_is_once.edit"
+OTHER = f"{FOLDER}/must-fail/twice_is_none.edit"
 
 
 class Controls(TreeTest):
@@ -65,7 +66,7 @@ class Controls(TreeTest):
             *((stale, (proof.format(it), "a")) for it in ("twice", "quadrupled")),
             ("", (proof.format("other"), "a")),
             ("", (OTHER, "+ 0", "- value")),
-            *(("", (path, f"{sign} What no proof reads.\n{self.FILES[path]}")) for path, sign in ((FILE, "//"), (proof.format("twice"), "--"))),
+            ("", (FILE, f"// What no proof reads.\n{SOURCE}"), (proof.format("twice"), "-- of twice, and what no proof reads\n")),
             ("numbers/twice_is_once: there is no such control", (CONTROLLED, EDIT)),
             words=["--check"],
         )
@@ -81,7 +82,7 @@ class Controls(TreeTest):
     def test_a_control_that_cannot_be_read_or_applied_is_named(self):
         no_line = "BAD CONTROL: no line of an edit: # right:     value + { value }"
         self.assert_plants(
-            *(("BAD CONTROL: src/lib.rt does not have this once", (CONTROLLED, "    value + value", it)) for it in ("three", "}")),
+            *((f"BAD CONTROL: src/lib.rt does not have this once: {it}", (CONTROLLED, "    value + value", it)) for it in "3}"),
             ("BAD CONTROL: there is no file src/other.rt", (CONTROLLED, "src/lib.rt", "src/other.rt")),
             *((no_line, (CONTROLLED, it)) for it in (RIGHT + EDIT, EDIT + RIGHT + RIGHT, EDIT.replace("new:", RIGHT + "new:"))),
         )

@@ -25,7 +25,7 @@ class WrongBodies(TreeTest):
         self.checks = {
             "value + value\n": (2.0, True, "logic=proved\n"),
             "value + 0\n": (5.5, False, "note: ./proofs/twice/Answers.antt:3:1: no\nsrc/lib.rt:1:1: error: open\n"),
-            "value + value + value\n": (31.25, False, f"read\n{ADVICE}note: ./proofs/twice/Answers.antt:3:1: no\nlogic=not-proved\n"),
+            "value + value + value\n": (31.25, False, f"read\n{ADVICE}note: ./proofs/twice/Answers.antt:3:1: no\nlogic=no\n"),
         }
         self.put(rt, "check", self.check)
         self.put(cost, "seconds_spent", lambda: self.spent)

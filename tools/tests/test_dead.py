@@ -58,16 +58,19 @@ class Dead(TreeTest):
         self.assert_plants(("", (FILE, LEMMAS + DEAD.replace("half-odd", "half_odd")), (SOURCE, using)))
 
     def test_what_nothing_cites_is_told(self):
+        def dead_as(name):
+            return DEAD.replace("half-odd", name)
+
         chain = DEAD.replace("= half-odd n", "= under n") + "\nunder : (n : ℕ) → half n ≡ n\nunder n = half-odd n\n"
         comment = "// by crate::proofs::HalfLemmas::half_odd\n"
         odd, under = f"{FILE}:11: half-odd is cited by nothing", f"{FILE}:14: under is cited by nothing"
         self.assert_plants(
-            # (by itself alone, by lemmas that nothing cites, by a comment, by a name that begins so, by a field, by an import alone)
+            # (by itself alone, by lemmas that nothing cites, a comment, a name that begins so, a field, an import alone)
             (odd, (FILE, LEMMAS + DEAD)),
             (f"{odd}\n{under}", (FILE, LEMMAS + chain)),
-            ("half_odd is cited by", (FILE, LEMMAS + "\n-- as half_odd\n" + DEAD.replace("half-odd", "half_odd")), (SOURCE, comment)),
-            *((f"{it} is cited by nothing", (FILE, LEMMAS + DEAD.replace("half-odd", it))) for it in ("half-ev", "half-even-too")),
-            ("11: odd is cited by nothing", (FILE, LEMMAS.replace("= refl", "= record { odd = n.odd }") + DEAD.replace("half-odd", "odd"))),
+            ("13: half_odd is cited by nothing", (FILE, LEMMAS + "\n-- as half_odd\n" + dead_as("half_odd")), (SOURCE, comment)),
+            *((f"{it} is cited by nothing", (FILE, LEMMAS + dead_as(it))) for it in ("half-ev", "half-even-too")),
+            ("11: odd is cited by nothing", (FILE, LEMMAS + dead_as("odd")), (FILE, "= refl", "= record { odd = n.odd }")),
             (odd, (FILE, LEMMAS + DEAD), (ANSWERING, "{half-even}", "{half-even, half-odd}")),
             # (beside an answer)
             ("small is cited by nothing", (ANSWERING, "pub returns :", "small : 1 ≤ 2\nsmall = omega arith\n\npub returns :")),

@@ -63,7 +63,8 @@ class Evidence(TreeTest):
 
     def test_a_door_to_what_is_touched_needs_none(self):
         door = "pub fn doubled_again(value: u8) -> u8 {{\n    {}\n}}\n\nfn twice"
-        self.assert_plants(("no wrong body of numbers doubled_again", (FILE, "fn twice", door.format("if true { twice(value) } else { 0 }"))))
+        branch = (FILE, "fn twice", door.format("if true { twice(value) } else { 0 }"))
+        self.assert_plants(("no wrong body of numbers doubled_again", branch))
         self.change(FILE, "fn twice", door.format("twice(value)"))
         self.assertIn("try 3 functions", self.assert_passes())
 
@@ -141,13 +142,13 @@ class Refusals(TreeTest):
         of_counts = GOAL.format(13, "returns-then-zero-clause-moved")
         over_values = "`omega`: the goal does not follow from what it read. All of that holds, a"
         plain, other = REFUSED["plain.is_one"], REFUSED["other.is_zero"]
-        fits_not, edit = STORED.format("move_all", "`returns-clause-text`: expected another"), "crates/moves/must-fail/plain.is_one.edit"
+        fits_not, edit = STORED.format("move_all", "`returns-clause-text`: no"), "crates/moves/must-fail/plain.is_one.edit"
         self.assert_plants(
             ("", (MOVES, COUNTED)),
             ("moves other.is_zero: the log does not say that it is refused", ("log", "other.is_zero", "another.is_zero")),
             ("moves other.is_zero: refused at src/lib.rt:13", ("log", other, GOAL.format(13, "returns-clause-text"))),
             ("moves plain.is_one: refused by the counts of move_all", ("log", plain, of_counts)),
-            ("moves plain.is_one: refused neither by a goal", ("log", plain, STORED.format("other", "`returns`: expected another"))),
+            ("moves plain.is_one: refused neither by a goal", ("log", plain, STORED.format("other", "`returns`: no"))),
             # (a stored proof refuses where there is a control, or values are shown)
             ("moves plain.is_one: refused over a stored proof, and has no control", ("log", plain, fits_not)),
             ("", ("log", plain, fits_not), (edit, self.FILES[edit] + "# right:     { 0 }\n")),

@@ -64,7 +64,8 @@ class Proved(TreeTest):
         self.stand_in()
 
     def stand_in(self, fault="", status=0, more=""):
-        self.write("bin/rt", STAND_IN.replace("FAULT", fault).replace("STATUS", str(status)).replace("MORE", more), is_program=True)
+        script = STAND_IN.replace("FAULT", fault).replace("STATUS", str(status)).replace("MORE", more)
+        self.write("bin/rt", script, is_program=True)
 
     def test_what_three_green_checks_have_proved_is_recorded(self):
         self.assertIn("5 sources written to rust/proved.txt", self.assert_passes())

@@ -24,6 +24,7 @@ fn greet() {
     hello()
 }
 """
+OTHERS = "crates/base/specs/Others.antt"
 IN_WORDS, SECOND = "crates/base/specs/Words.antt", "pub record Word : Type 0 where\n  pub text : Text\n"
 WORDS = "-- words\n\n-- a text is short\nabbrev pub IsShort : Text → Type 0\nIsShort t = length t < 3\n"
 
@@ -45,9 +46,9 @@ class Quotes(TreeTest):
         self.assert_plants(
             ("page.md: src/greet.rt does not have these lines: fn greet() {", ("src/greet.rt", "    hello()", "    good_day()")),
             ("would write: |`IsShort t`|4|short|", ("page.md", "|4|", "|5|")),
-            ("does not define IsShort; these do: crates/base/specs/Others.antt", (IN_WORDS, ""), ("crates/base/specs/Others.antt", WORDS)),
+            (f"does not define IsShort; these do: {OTHERS}", (IN_WORDS, ""), (OTHERS, WORDS)),
             (f"{differ} Word\n", (IN_WORDS, WORDS + SECOND)),
-            (f"{differ} text\n", (IN_WORDS, WORDS + SECOND), ("page.md", ": `IsShort`, which", ": `IsShort`,\n  `Word` and `text`, which")),
+            (f"{differ} text\n", (IN_WORDS, WORDS + SECOND), ("page.md", ": `IsShort`", ": `IsShort`,\n  `Word` and `text`")),
             ("0 blocks", ("page.md", "nothing\n")),
         )
 

@@ -8,7 +8,7 @@ from repository import ROOT
 
 class Door(unittest.TestCase):
     def called(self, *words):
-        run = subprocess.run([str(ROOT / "tools" / "run"), *words], stdout=subprocess.PIPE, stderr=subprocess.STDOUT, encoding="utf-8")
+        run = subprocess.run([ROOT / "tools" / "run", *words], stdout=subprocess.PIPE, stderr=subprocess.STDOUT, encoding="utf-8")
         return run.returncode, run.stdout
 
     def test_each_command_says_what_it_does_and_another_word_is_refused_with_them(self):

@@ -115,8 +115,8 @@ class RustCheck(ScriptTest):
     PASSED = "rust/check: 11 passed, 0 skipped\n"
     FLAGS = "${RUSTFLAGS:+ with$RUSTFLAGS}${RUSTDOCFLAGS:+ and$RUSTDOCFLAGS}"
     # How often each is called where all is there. All but the first two and `run --check` make a warning an error.
-    CALLS = {"cargo fmt": 7, "cargo clippy": 9, "cargo test": 7, "cargo doc": 2, "cargo run": 2, "cargo build": 2, "cargo package": 1,
-             "cargo pkgid": 1, "run --check": 1, "time 1": 1, "links": 1}
+    CALLS = {"cargo fmt": 7, "cargo clippy": 9, "cargo test": 7, "cargo doc": 2, "cargo run": 2, "cargo build": 2,
+             "cargo package": 1, "cargo pkgid": 1, "run --check": 1, "time 1": 1, "links": 1}
     # (what `cargo doc` makes, and the number that `cargo pkgid` tells)
     CARGO = """\
 case $1 in

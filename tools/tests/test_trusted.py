@@ -102,10 +102,11 @@ class Trusted(TreeTest):
         self.assertIn("all public contracts: 0 definitions", self.assert_passes())
 
     def test_specs_have_definitions_alone(self):
-        proof, long = "use Rattle.base.proofs.Order.{total}\n", "\nabbrev pub IsLong : Text → Type 0\nIsLong t = limit < length t\n"
+        proof = "use Rattle.base.proofs.Order.{total}\n"
+        long = "\nabbrev pub IsLong : Text → Type 0\nIsLong t = limit < length t\n"
         self.assert_plants(
             ("Words.antt:7: limit calls a tactic: search", (IN_WORDS, "limit = 3", "limit = search rules")),
-            ("Words.antt:10: empty is a proof: it belongs in proofs/", (IN_WORDS, WORDS + "\nempty : IsShort []\nempty = refl\n")),
+            ("Words.antt:10: empty is a proof: it belongs in", (IN_WORDS, WORDS + "\nempty : IsShort []\nempty = refl\n")),
             ("empty is a proof", (IN_WORDS, WORDS + "\nabbrev pub empty : limit ≡ 3\nempty = refl\n")),
             ("Rattle.base.specs.Words imports from proofs: Rattle.base.proofs.Order", (IN_WORDS, proof + WORDS)),
             ("", ("crates/base/specs/GhostProofs.antt", f"{proof}\npub mine : total\nmine = omega arith\n")),
