@@ -1,7 +1,7 @@
 """Prints what proofs of crates cost.
 
-tools/run cost CRATE..                     where a first check spends its time: by stage, by function, by module of specs/ and
-                                           proofs/, and what it makes for functions, by kind; the dearest of each
+tools/run cost CRATE..                     where a first check spends its time: by stage, by function and by module of specs/ and
+                                           proofs/; the dearest of each
 tools/run cost CRATE.. --grinds            the goals without an answer that `search` does not find, by function. `grind` takes up
                                            to some seconds for each; an answer that names the facts takes next to none
 tools/run cost CRATE.. --edits [FUNCTION]  the processor seconds that the check of each wrong body takes, or of each of FUNCTION,
@@ -63,10 +63,11 @@ def forget(folder):
 
 
 def modules(folder):
-    """The seconds of each module that the check kept, by its path below the crate's folder."""
+    """The seconds of each module of specs/ and proofs/, by its path below the crate's folder, as the check kept it."""
     files = [it for it in folder.glob("out/incremental/**/Rattle-*.oantt") if "records" not in it.parts]
     kept = sorted((it.stat().st_mtime_ns / 1e9, it.stem) for it in files)
-    return [(seconds, name.removeprefix(f"Rattle-{folder.name}-").replace(".", "/")) for seconds, name in gaps(kept)]
+    paths = [(seconds, name.removeprefix(f"Rattle-{folder.name}-").replace(".", "/")) for seconds, name in gaps(kept)]
+    return [(seconds, path) for seconds, path in paths if (folder / f"{path}.antt").exists()]
 
 
 def first_check(folder):
@@ -86,14 +87,7 @@ def first_check(folder):
     print(f"{folder.name}: {whole:.0f} s, of which before the first function ends {functions[0][0]:.0f} s")
     print("\n".join(f"{100 * seconds / whole:5.1f} %  {name}" for name, seconds in shares.items()))
     print_dearest("functions:", functions[1:])
-    own, made = [], Counter()
-    for seconds, name in modules(folder):
-        if (folder / f"{name}.antt").exists():
-            own.append((seconds, name))
-        else:
-            made[name.rpartition("/")[2]] += seconds
-    print_dearest("modules of specs/ and proofs/:", own)
-    print_dearest("what is made for functions, by kind:", [(seconds, kind) for kind, seconds in made.items()])
+    print_dearest("modules of specs/ and proofs/:", modules(folder))
     return False
 
 

@@ -80,11 +80,13 @@ class Controls(TreeTest):
         self.assertEqual(self.text(controls.RECORD), "")
 
     def test_a_control_that_cannot_be_read_or_applied_is_named(self):
-        no_line = "BAD CONTROL: no line of an edit: # right:     value + { value }"
+        no_line = "BAD CONTROL: no line of an edit: "
         self.assert_plants(
             *((f"BAD CONTROL: src/lib.rt does not have this once: {it}", (CONTROLLED, "    value + value", it)) for it in "3}"),
             ("BAD CONTROL: there is no file src/other.rt", (CONTROLLED, "src/lib.rt", "src/other.rt")),
-            *((no_line, (CONTROLLED, it)) for it in (RIGHT + EDIT, EDIT + RIGHT + RIGHT, EDIT.replace("new:", RIGHT + "new:"))),
+            *((no_line + RIGHT, (CONTROLLED, it)) for it in (RIGHT + EDIT, EDIT + RIGHT + RIGHT)),
+            (f"{no_line}old:     value + value\n", (CONTROLLED, EDIT.replace("new:", RIGHT + "new:"))),
+            (f"{no_line}old:     value + value\n", (CONTROLLED, EDIT.partition("\n")[2] + RIGHT)),
         )
 
     def test_each_replacement_is_made_on_what_the_ones_before_made(self):
