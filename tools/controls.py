@@ -110,4 +110,6 @@ def main(arguments, root):
     # (lines that have no control go, also where nothing is tried)
     record(root, {})
     tried = list(controls) if "--all" in arguments else stale
-    return attempt(root, tried, logic) if tried else print("there is nothing to try")
+    if not tried:
+        print("there is nothing to try")
+    return tried and attempt(root, tried, logic)

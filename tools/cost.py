@@ -133,7 +133,8 @@ def grinds(folder):
 def set_back(out):
     """What checks keep in a folder out/ is set back. A check replaces the modules there, so a second name keeps one."""
     def keep(one, other):
-        os.link(one, other) if one.endswith(".oantt") else shutil.copy2(one, other)
+        make = os.link if one.endswith(".oantt") else shutil.copy2
+        make(one, other)
 
     aside = out.with_name("out-before")
     shutil.copytree(out, aside, symlinks=True, copy_function=keep)

@@ -32,11 +32,13 @@ class TreeTest(unittest.TestCase):
     def write(self, path, text, is_program=False):
         """Writes a file, or removes it where the text is None."""
         file = self.root / path
-        if text is None:
-            return file.unlink(missing_ok=True)
         file.parent.mkdir(parents=True, exist_ok=True)
-        file.write_text(text, encoding="utf-8")
-        return file.chmod(0o755) if is_program else None
+        if text is None:
+            file.unlink(missing_ok=True)
+        else:
+            file.write_text(text, encoding="utf-8")
+        if is_program:
+            file.chmod(0o755)
 
     def change(self, path, *texts):
         """Writes the one text, or puts the second in the place of the first."""
@@ -70,6 +72,9 @@ class TreeTest(unittest.TestCase):
             with self.subTest(wanted, changes=changes):
                 for change in changes:
                     self.change(*change)
-                self.assert_fails(wanted, *words) if wanted else self.assert_passes(*words)
+                if wanted:
+                    self.assert_fails(wanted, *words)
+                else:
+                    self.assert_passes(*words)
             for path, text in reversed(before):
                 self.write(path, text)
