@@ -341,13 +341,11 @@ extern "C" fn main() -> i32 {
 """
 
 
-def links(call, words, folder):
-    """Whether the program with a call links. What stops it otherwise than a panic is a fault of the bench."""
-    source = folder / "call.rs"
-    source.write_text(PROGRAM.replace("CALL", call))
-    told = subprocess.run(["rustc", *words, "-o", folder / "call", source], capture_output=True, text=True)
+def links(source, words, out):
+    """Whether a program links. What stops it otherwise than a panic is a fault of the bench."""
+    told = subprocess.run(["rustc", *words, "-o", out, source], capture_output=True, text=True)
     if told.returncode and "a_panic_is_left" not in told.stderr:
-        raise ValueError(f"{call}: {told.stderr}")
+        raise ValueError(f"{source}: {told.stderr}")
     return told.returncode == 0
 
 
@@ -372,9 +370,9 @@ def faults(calls, words, folder):
 def unlinked(calls, words, folder):
     """The names of the calls whose program does not link, in order. Two programs are built at a time."""
     def is_unlinked(number, call):
-        own = folder / f"call-{number}"
-        own.mkdir(exist_ok=True)
-        return not links(call, words, own)
+        source = folder / f"call-{number}.rs"
+        source.write_text(PROGRAM.replace("CALL", call))
+        return not links(source, words, source.with_suffix(""))
 
     with ThreadPoolExecutor(2) as pool:
         told = list(pool.map(is_unlinked, range(len(calls)), calls.values()))
