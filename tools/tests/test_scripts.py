@@ -96,6 +96,12 @@ class Gate(ScriptTest):
             self.stand_in("crates/arraystring_cli/try", line)
             self.assert_refused(f"run: {count} cases of the program were tried, and {CASES} are due")
 
+    def test_what_fails_before_a_pipe_is_refused(self):
+        for ending, status in (('[ "$1" != ci ]', 0), ("", 1)):
+            self.proves(self.RAN, self.RAN, ending)
+            self.stand_in("crates/arraystring_cli/try", self.TRIED, f"exit {status}")
+            self.assertTrue(self.called()[0])
+
     def test_a_program_is_the_one_that_ran(self):
         self.stand_in("crates/arraystring_cli/try", f"echo more >> {self.PROGRAM}", self.TRIED)
         self.assert_refused(f"{self.PROGRAM} is no longer the one that rt ci ran")
