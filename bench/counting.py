@@ -117,14 +117,26 @@ def least(counts):
 
 
 def is_more(counted, best):
+    """Whether a count is more than another, a tenth and three instructions."""
     return counted > best * 1.1 + 3
 
 
-def table(title, columns, rows):
-    print(f"\n|{title}|" + "|".join(columns) + "|")
+def cell(counts):
+    """Counts side by side, the first bold where it is more than the least of the others. None is no count."""
+    first, *others = ["–" if it is None else str(it) for it in counts]
+    is_behind = counts[0] is not None and is_more(counts[0], min(it for it in counts[1:] if it is not None))
+    return "/".join([f"**{first}**" if is_behind else first, *others])
+
+
+def table(title, columns, rows, behind=""):
+    """Prints a table, and in how many cells the first side is behind, as they say by bold type, if it is said behind what."""
+    print(f"\n|{title}|" + "|".join(map(str, columns)) + "|")
     print("|---|" + "---|" * len(columns))
     for name, cells in rows:
         print(f"|{name}|" + "|".join(cells) + "|")
+    made = [it for _, cells in rows for it in cells if it != "–"]
+    if behind:
+        print(f"\nBehind {behind}: {sum(it.startswith('**') for it in made)} of {len(made)} cells.")
 
 
 class Sides:
@@ -184,15 +196,7 @@ class Sides:
             if name != "remove" or mode != "short"
         }
 
-    def is_behind(self, counted, name):
-        """Whether the first side takes more than the best of the others, a tenth and three instructions."""
-        first, *others = self.names
-        peers = [counted[side, name] for side in others if (side, name) in counted]
-        return (first, name) in counted and is_more(counted[first, name], min(peers))
-
     def cell(self, counted, name):
-        """The counts of all sides, that of the first marked where it is behind."""
-        if (self.names[0], name) not in counted:
-            return "–"
-        first, *others = [str(counted.get((side, name), "–")) for side in self.names]
-        return "/".join([f"**{first}**" if self.is_behind(counted, name) else first, *others])
+        """The counts of all sides; – where the first has none."""
+        counts = [counted.get((side, name)) for side in self.names]
+        return "–" if counts[0] is None else cell(counts)

@@ -58,7 +58,7 @@ def cell(sides, curve):
 
 
 def tell_curves(sides, found):
-    table("Mean: " + "/".join(sides.names) + " worst@length (behind)", list(map(str, CAPACITIES)), [
+    table("Mean: " + "/".join(sides.names) + " worst@length (behind)", CAPACITIES, [
         (call, [cell(sides, by_capacity[capacity]) for capacity in CAPACITIES]) for call, by_capacity in found.items()
     ])
     late = sum(behind(sides, curve) for *_, curve in each(found))

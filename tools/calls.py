@@ -1,26 +1,28 @@
-"""Fails where no page names a public call of the string, or a trait by which it is called, and where a list that stands in two
-places differs.
+"""Fails where no page names a public call of the string, or a trait by which it is called, where a list that stands in two places
+differs, and where a file above arraystring_base names `move_run`, the move without a count: every move goes through `shift`.
 
 The calls are each `pub fn` of crates/arraystring, and of the `impl ArrayString` blocks in crates/arraystring_core. Names are the
-words in inline code of LIST, the section of README.md, and of PAGES. A call whose name ends in one of the SUFFIXES is named by the
-suffix rule, inline code such as `.._counted`, too. RUST_LISTS alone name each call of such a block in the Rust crate.
+words in inline code of LIST, the section of README.md, and of PAGES. A call whose name ends in one of the SUFFIXES is named by
+the suffix rule, inline code such as `.._counted`, too. RUST_LISTS alone name each call of such a block in the Rust crate.
 
-The traits are those that TYPES have by an impl or a derive, in the same crates, but for UNCALLED. LIST alone has to name each, and
-one with arguments whole, such as `From<&str>`.
+The traits are those that TYPES have by an impl or a derive, in the same crates, but for UNCALLED. LIST alone has to name each,
+and one with arguments whole, such as `From<&str>`.
 
 In two places stand:
-- the calls of `ArrayString` that are safe in Rust, but for those of which PANICS says that they panic as `str` does: PROGRAM makes
-  each, and links only if none can panic;
+- the calls of `ArrayString` that are safe in Rust, but for those of which PANICS says that they panic as `str` does: PROGRAM
+  makes each, and links only if none can panic;
 - the calls that tables test: the arms in the first of PLAYERS, and the lists in the second, which is that of the Rust crate;
 - the counted calls, in BODIES, a table of README.md;
 - the laws, in PROMISES, and those of the string in SURFACE, which calls each;
 - the words of commands, which LINES reads, in SCRIPTS;
 - the crates but for those of tests, in DRAWING, a section of README.md.
+
+Tests may call `move_run`. The crate that has it has to name it, so that a new name does not pass unseen.
 """
 import re
 
 import pages
-from repository import crates, read
+from repository import crates, read, sources
 
 LIST = ("README.md", "The calls")
 BODIES = ("README.md", "What a reader checks in the counted calls")
@@ -45,14 +47,19 @@ IMPL = re.compile(rf"(?m)^impl(?:<[^>]*>)? (?:\w+::)*(\S.*) for (?:{TYPES})\b")
 DERIVE = re.compile(rf"(?m)^#\[derive\((.*)\)\]\n(?:#.*\n)*pub struct (?:{TYPES})\b")
 
 
-def texts_of(folder):
-    """The texts of the files of a crate's src/."""
-    return [read(it) for it in sorted(folder.glob("src/**/*.r[st]"))]
+def source(file):
+    """A source file without comments."""
+    return re.sub(r"//.*", "", read(file))
 
 
 def calls_of(texts):
     """The names of the public functions in some texts."""
     return {name for text in texts for name in FUNCTION.findall(HIDDEN.sub("", text))}
+
+
+def texts_of(folder):
+    """The texts of the files of a crate's src/."""
+    return [read(it) for it in sorted(folder.glob("src/**/*.r[st]"))]
 
 
 def string_calls(folder):
@@ -64,8 +71,7 @@ def traits(root):
     """The traits of the string types, without lifetimes."""
     texts = [text for crate in STRING_CRATES[1:] for text in texts_of(root / "crates" / crate)]
     found = {re.sub(r"'\w+ ", "", name) for text in texts for name in IMPL.findall(text)}
-    found |= {name for text in texts for names in DERIVE.findall(text) for name in names.split(", ")}
-    return found - UNCALLED
+    return found.union(*(names.split(", ") for text in texts for names in DERIVE.findall(text))) - UNCALLED
 
 
 def is_named(call, code):
@@ -82,11 +88,6 @@ def section(root, place):
 def first_words(text):
     """The first words of the inline code that begins a row of a table."""
     return {name for cell in re.findall(r"(?m)^\|(`[^|]*)\|", text) for name in re.findall(r"`(\w+)[^`]*`", cell)}
-
-
-def source(file):
-    """A source file without comments."""
-    return re.sub(r"//.*", "", read(file))
 
 
 def arms(text):
@@ -129,6 +130,15 @@ def faults_of_lists(here, these, there, those):
         yield f"{here} and {there} have nothing in common"
 
 
+def faults_of_moves(root):
+    """The files outside of tests that name `move_run` and are not in its crate."""
+    naming = [it for crate in crates(root) for it in sources(root / "crates" / crate) if re.search(r"\bmove_run\b", source(it))]
+    above = [it for it in naming if root / "crates" / STRING_CRATES[0] not in it.parents]
+    yield from (f"{it.relative_to(root)} names move_run: move by shift" for it in above)
+    if naming == above:
+        yield f"{STRING_CRATES[0]} has no move_run"
+
+
 def main(arguments, root):
     listed = pages.inline_code(section(root, LIST))
     code = [*listed, *(it for page in PAGES for it in pages.inline_code(read(root / page)))]
@@ -139,7 +149,7 @@ def main(arguments, root):
     rust_calls = string_calls(root / "rust/arraystring")
     faults += [f"{RUST_LISTS[0][0]} does not name {call}" for call in sorted(rust_calls) if not is_named(call, in_rust)]
     faults += [f"{LIST[0]} does not name {trait}" for trait in sorted(called_by) if trait not in listed]
-    faults += [fault for places in twice for fault in faults_of_lists(*places)]
+    faults += [fault for places in twice for fault in faults_of_lists(*places)] + list(faults_of_moves(root))
     counts = f"the pages name {len(calls)} public calls and {len(called_by)} traits"
     print("\n".join(faults) or f"{counts}, and {sum(len(it[1]) for it in twice)} names stand in two places")
     return bool(faults) or not calls or not called_by

@@ -1,7 +1,7 @@
 """Prints what proofs of crates cost.
 
-tools/run cost CRATE..                     where a first check spends its time: by stage, by function, by module of specs/ and
-                                           proofs/, and what it makes for functions, by kind; the dearest of each
+tools/run cost CRATE..                     where a first check spends its time: by stage, by function and by module of specs/ and
+                                           proofs/; the dearest of each
 tools/run cost CRATE.. --grinds            the goals without an answer that `search` does not find, by function. `grind` takes up
                                            to some seconds for each; an answer that names the facts takes next to none
 tools/run cost CRATE.. --edits [FUNCTION]  the processor seconds that the check of each wrong body takes, or of each of FUNCTION,
@@ -31,9 +31,9 @@ import rt
 from repository import read
 
 STAGES = {"front-end": "reading the sources", "session": "checking and searching"}
-REST = "making and the rest"
 # A goal that is tried by one tactic after the other, as `--generated` writes it: in a module if the function is generic.
 TRIED = re.compile(r"^( *)(\S+)((?: \S+)*) =\s(?:\s*let .* in\s)*\s*first_of \(", re.M)
+GRIND = re.compile(r"\./proofs/(\S+)/Answers\.antt:\S+ (?:error: )?`(\S+)`: `search`: no proof")
 
 
 def print_dearest(title, seconds_by_name):
@@ -42,66 +42,52 @@ def print_dearest(title, seconds_by_name):
     print(title, *(f"{seconds:5.1f} s  {name}" for seconds, name in dearest), sep="\n", flush=True)
 
 
+def gaps(times):
+    """Some names with the seconds between their time and that of the one before."""
+    return [(at - before, name) for (before, _), (at, name) in zip(times, times[1:])]
+
+
 def timed_lines(command, folder):
-    """The lines that a command prints, each with the seconds until it came, and its status."""
-    start = time.monotonic()
-    run = subprocess.Popen(command, cwd=folder, stdin=subprocess.DEVNULL, stdout=subprocess.PIPE, stderr=subprocess.STDOUT, text=True)
-    lines = [(time.monotonic() - start, line.rstrip("\n")) for line in run.stdout]
-    return lines, run.wait()
+    """The lines that a command prints, each with the second at which it came, and its status."""
+    run = subprocess.Popen(command, cwd=folder, stdin=subprocess.DEVNULL, stdout=subprocess.PIPE, stderr=subprocess.STDOUT,
+                           encoding="utf-8")
+    return [(time.monotonic(), line.rstrip("\n")) for line in run.stdout], run.wait()
 
 
-def forgotten(folder):
+def forget(folder):
     """Makes the crate in this folder one of which no check on this machine kept anything: its text is new, and out/ is empty."""
-    root = next(it for it in [folder / "src" / "lib.rt", folder / "src" / "main.rt"] if it.exists())
+    root = next(folder.glob("src/lib.rt"), folder / "src/main.rt")
     root.write_text(read(root) + f"// {time.time_ns()}\n", encoding="utf-8")
     shutil.rmtree(folder / "out", ignore_errors=True)
     (folder / "out" / "incremental").mkdir(parents=True)
 
 
-def functions(lines):
-    """The seconds of each function, in the order in which they were checked."""
-    told, before = [], 0.0
-    for at, line in lines:
-        if line.startswith("so far: 0 of"):
-            before = at
-        found = re.match(r"checked (\S+), \d+ of \d+", line)
-        if found:
-            told.append((at - before, found[1].partition("::")[2]))
-            before = at
-    return told
-
-
 def modules(folder):
-    """The seconds of each module that the check kept, by its path below the crate's folder."""
-    kept = [(it.stat().st_mtime_ns, it.stem) for it in (folder / "out" / "incremental").rglob("Rattle-*.oantt") if "records" not in it.parts]
-    kept.sort()
-    told = [((at - before) / 1e9, name) for (before, _), (at, name) in zip(kept, kept[1:])]
-    return [(seconds, name.removeprefix(f"Rattle-{folder.name}-").replace(".", "/")) for seconds, name in told]
+    """The seconds of each module of specs/ and proofs/, by its path below the crate's folder, as the check kept it."""
+    files = [it for it in folder.glob("out/incremental/**/Rattle-*.oantt") if "records" not in it.parts]
+    kept = sorted((it.stat().st_mtime_ns / 1e9, it.stem) for it in files)
+    paths = [(seconds, name.removeprefix(f"Rattle-{folder.name}-").replace(".", "/")) for seconds, name in gaps(kept)]
+    return [(seconds, path) for seconds, path in paths if (folder / f"{path}.antt").exists()]
 
 
 def first_check(folder):
     """Prints the tables of a first check; whether it does not prove."""
-    forgotten(folder)
-    stages = folder / "stages.txt"
+    forget(folder)
+    stages, start = folder / "stages.txt", time.monotonic()
     lines, status = timed_lines(["rt", "check", "--jobs", "1", "--stage-times", str(stages)], folder)
     if status:
         print(f"{folder.name} was not proved: {lines[-1][1] if lines else 'nothing was said'}")
         return True
-    told, shares = functions(lines), Counter()
+    told = [(at, re.match(r"so far: 0 of|checked \w+::(\S+), \d+ of \d+", line)) for at, line in lines]
+    times, shares = [(start, None), *((at, found[1]) for at, found in told if found)], Counter()
+    functions = [(seconds, name) for seconds, name in gaps(times) if name]
     for name, seconds in re.findall(r"(?m)^stage (\S+) (\S+)", read(stages)):
-        shares[STAGES.get(name, REST)] += float(seconds)
-    whole = sum(shares.values())
-    print(f"{folder.name}: {whole:.0f} s, of which before the first function ends {told[0][0]:.0f} s")
+        shares[STAGES.get(name, "making and the rest")] += float(seconds)
+    whole = shares.total()
+    print(f"{folder.name}: {whole:.0f} s, of which before the first function ends {functions[0][0]:.0f} s")
     print("\n".join(f"{100 * seconds / whole:5.1f} %  {name}" for name, seconds in shares.items()))
-    print_dearest("functions:", told[1:])
-    own, made = [], Counter()
-    for seconds, name in modules(folder):
-        if (folder / f"{name}.antt").exists():
-            own.append((seconds, name))
-        else:
-            made[name.rpartition("/")[2]] += seconds
-    print_dearest("modules of specs/ and proofs/:", own)
-    print_dearest("what is made for functions, by kind:", [(seconds, kind) for kind, seconds in made.items()])
+    print_dearest("functions:", functions[1:])
+    print_dearest("modules of specs/ and proofs/:", modules(folder))
     return False
 
 
@@ -138,21 +124,20 @@ def grinds(folder):
         return True
     answer_all(folder, proofs)
     _, said = rt.check(folder, "--jobs", "1")
-    found = re.findall(r"\./proofs/(\S+)/Answers\.antt:\S+ (?:error: )?`(\S+)`: `search`: no proof", said)
-    print(f"{folder.name}: {len(found)} goals are left to grind", *(f"  {path} {goal}" for path, goal in sorted(found)), sep="\n", flush=True)
+    found = [f"  {path} {goal}" for path, goal in sorted(GRIND.findall(said))]
+    print(f"{folder.name}: {len(found)} goals are left to grind", *found, sep="\n", flush=True)
     return False
-
-
-def link_or_copy(one, other):
-    """Gives a module that a check kept a second name, since a check replaces such files and changes none; copies any other."""
-    return os.link(one, other) if one.endswith(".oantt") else shutil.copy2(one, other)
 
 
 @contextmanager
 def set_back(out):
-    """What checks keep in a folder out/ is set back to what it was."""
+    """What checks keep in a folder out/ is set back. A check replaces the modules there, so a second name keeps one."""
+    def keep(one, other):
+        make = os.link if one.endswith(".oantt") else shutil.copy2
+        make(one, other)
+
     aside = out.with_name("out-before")
-    shutil.copytree(out, aside, symlinks=True, copy_function=link_or_copy)
+    shutil.copytree(out, aside, symlinks=True, copy_function=keep)
     try:
         yield
     finally:
@@ -167,16 +152,11 @@ def seconds_spent():
 
 
 def timed_check(folder):
-    """The processor seconds of a check, whether it proved, and what it said."""
+    """The processor seconds of a check, whether it proved, and its first message about a goal of src/, or else its first."""
     before = seconds_spent()
     is_proved, said = rt.check(folder, "--jobs", "1")
-    return seconds_spent() - before, is_proved, said
-
-
-def refusal(said):
-    """The first message of a check about a goal of src/, or else its first message."""
     found = re.search(r"(?m)^(?:note: )?(?:\./)?src/\S+:\d+:\d+: .*", said)
-    return found[0][:200] if found else rt.first_message(said)
+    return seconds_spent() - before, is_proved, found[0][:200] if found else rt.first_message(said)
 
 
 def tried(edit, folder):
@@ -186,34 +166,33 @@ def tried(edit, folder):
     except (OSError, edits.BadEdit) as error:
         return 0.0, f"BAD EDIT: {error}", False
     with set_back(folder / "out"), edits.put_in(texts):
-        seconds, is_proved, said = timed_check(folder)
-    return seconds, "NOT REFUSED" if is_proved else refusal(said), not is_proved
+        seconds, is_proved, message = timed_check(folder)
+    return seconds, "NOT REFUSED" if is_proved else message, not is_proved
 
 
 def wrong_bodies(folder, function):
     """Prints what each wrong body of a function, or of any, takes; whether one is not refused."""
-    _, is_proved, said = timed_check(folder)
+    _, is_proved, message = timed_check(folder)
     if not is_proved:
-        print(f"{folder.name} is not proved: {rt.first_message(said)}")
+        print(f"{folder.name} is not proved: {message}")
         return True
     print(f"{folder.name}: {timed_check(folder)[0]:.1f} s for a check that has nothing to prove", flush=True)
-    whole, is_refused = 0.0, []
+    told = []
     for edit in sorted(folder.glob(f"must-fail/{function}{function and '.'}*.edit")):
-        seconds, said, refused = tried(edit, folder)
-        print(f"{seconds:5.1f} s  {edit.stem}: {said}", flush=True)
-        whole, is_refused = whole + seconds, [*is_refused, refused]
-    print(f"{whole:.0f} s together, of {len(is_refused)}")
-    return not all(is_refused) or not is_refused
+        told.append(tried(edit, folder))
+        print(f"{told[-1][0]:5.1f} s  {edit.stem}: {told[-1][1]}", flush=True)
+    print(f"{sum(seconds for seconds, *_ in told):.0f} s together, of {len(told)}")
+    return not told or not all(is_refused for *_, is_refused in told)
 
 
 def main(arguments, root):
     at = next((i for i, it in enumerate(arguments) if it.startswith("--")), len(arguments))
     names, (option, function) = arguments[:at], [*arguments[at:], "", ""][:2]
-    fault = repository.unknown_crate(root, names) if names else "name a crate"
-    if fault:
-        return fault
     kinds = {"": first_check, "--grinds": grinds, "--edits": lambda folder: wrong_bodies(folder, function)}
     if option not in kinds:
         return f"{option} is none of --grinds, --edits"
+    fault = repository.unknown_crate(root, names) if names else "name a crate"
+    if fault:
+        return fault
     with repository.copied(root) as copy:
         return any([kinds[option](copy / "crates" / it) for it in names])

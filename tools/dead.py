@@ -74,17 +74,12 @@ def cited_by_pages(tree, crate):
 
 def cited(tree):
     """The items that something cites, directly or by others."""
-    known, rest = set(), [it for it in tree.items if not is_lemma(it)]
+    first = [it for it in tree.items if not is_lemma(it)]
     for crate in repository.crates(tree.root):
-        rest += cited_by_pages(tree, crate)
+        first += cited_by_pages(tree, crate)
         for file in (tree.root / "crates" / crate).glob("src/**/*.rt"):
-            rest += filter(None, cited_by_source(tree, crate, read(file)))
-    while rest:
-        item = rest.pop()
-        if item not in known:
-            known.add(item)
-            rest += tree.words(item)
-    return known
+            first += filter(None, cited_by_source(tree, crate, read(file)))
+    return repository.closed(first, tree.words)
 
 
 def dead_helpers(item):
@@ -124,17 +119,15 @@ def unused_imports(file):
 
 
 def main(arguments, root):
-    tree, files = Modules(root), []
-    for crate in repository.crates(root):
-        files += [it for it in sorted((root / "crates" / crate).glob("proofs/**/*.antt")) if it.stem != "Lib"]
-        for folder in ("specs", "proofs"):
-            for file in sorted((root / "crates" / crate / folder).glob("**/*.antt")):
-                tree.read_module(file)
+    folders = [root / "crates" / crate / part for crate in repository.crates(root) for part in ("specs", "proofs")]
+    files = [file for folder in folders for file in sorted(folder.rglob("*.antt"))]
+    tree = Modules(root, files)
     known, lemmas = cited(tree), [it for it in tree.items if is_lemma(it)]
     faults = [f"{it} is cited by nothing" for it in lemmas if it not in known]
     faults += [f"{it}: its helper {name} is cited by nothing" for it in tree.items for name in dead_helpers(it)]
     for crate in repository.crates(root):
         faults += [*passed_to_nobody(tree, crate), *missing_from_index(tree, crate)]
-    faults += [f"{file.relative_to(root)} imports {name} and does not use it" for file in files for name in unused_imports(file)]
+    proofs = [it for it in files if "proofs" in it.relative_to(root).parts and it.stem != "Lib"]
+    faults += [f"{file.relative_to(root)} imports {name} and does not use it" for file in proofs for name in unused_imports(file)]
     print("\n".join(faults) or f"{len(lemmas)} lemmas and laws are cited")
     return bool(faults) or not lemmas

@@ -9,28 +9,25 @@ from contextlib import contextmanager
 from repository import read
 
 
+PART = re.compile(r"file: ?(.+)\n|old: ?(.*)\nnew: ?(.*)\n(?:# right: ?(.*)\n)?")
+
+
 class BadEdit(ValueError):
     """An edit that cannot be read or applied."""
 
 
 def replacements(edit):
-    """The replacements of an edit in order: the path of the file in the crate's folder, the old text, the new one and the right one."""
-    path, old, found, before = None, None, [], ""
-    for line in read(edit).splitlines():
-        key, _, value = line.partition(":")
-        value = value.removeprefix(" ")
-        if key == "file":
-            path = value
-        elif key == "old" and path:
-            old = value
-        elif key == "new" and old is not None:
-            found.append((path, old, value, value))
-            old = None
-        elif key == "# right" and before == "new":
-            found[-1] = (*found[-1][:3], value)
+    """The replacements of an edit in order: the path of a file in the crate's folder, the old text, the new and the right one."""
+    text, path, found = read(edit), "", []
+    while text:
+        part = PART.match(text)
+        if not part or not (part[1] or path):
+            raise BadEdit(f"no line of an edit: {text.splitlines()[0]}")
+        if part[1]:
+            path = part[1]
         else:
-            raise BadEdit(f"no line of an edit: {line}")
-        before = key
+            found.append((path, part[2], part[3], part[3] if part[4] is None else part[4]))
+        text = text[part.end():]
     return found
 
 

@@ -20,7 +20,7 @@ not. None is asked for a door to a function that a wrong body touches: at most t
 names a function of the crate that is private, or has the same name with `_counted`.
 """
 import re
-from collections import Counter
+from collections import Counter, namedtuple
 from pathlib import Path
 
 import edits
@@ -41,89 +41,92 @@ STORED_FIRST = {"from_utf16_lossy.reads_a_pair_as_two"}
 VERDICT = re.compile(r"must-fail (\w+)/(\S+)\.edit: refused, as it must be: (.*)")
 
 
-def named_by(edit, asked):
-    """The function for which a wrong body is named; None where there is none."""
-    return max((it for it in asked if edit.startswith(f"{it}.")), key=len, default=None)
+# A crate: its folder, its functions by their files and together, and those by name for which a wrong body is asked.
+Crate = namedtuple("Crate", "folder functions everything asked")
 
 
-def asked_functions(functions):
-    """The functions for which a wrong body is asked, by their names."""
-    return sources.named([it for of_file in functions.values() for it in of_file if it.is_asked])
-
-
-def lacking(folder, faults):
-    """The functions of a crate for which a wrong body is asked, by their names, each with how many are missing; what is wrong
-    with the name or the text of a wrong body goes to the faults."""
+def read_crate(folder):
     functions = sources.functions(folder)
     everything = [it for of_file in functions.values() for it in of_file]
-    asked = asked_functions(functions)
+    return Crate(folder, functions, everything, sources.named([it for it in everything if it.is_asked]))
+
+
+def named_by(edit, crate):
+    """The name of the function for which a wrong body is named, and what that rests on; None and nothing where there is none."""
+    name = max((it for it in crate.asked if edit.startswith(f"{it}.")), key=len, default=None)
+    return name, sources.reached(crate.asked[name], crate.everything) if name else []
+
+
+def lacking(crate, faults):
+    """The functions for which a wrong body is asked, by their names, each with how many are missing; what is wrong with the name
+    or the text of a wrong body goes to the faults."""
     touched, tried = [], Counter()
-    for edit in sorted(folder.glob("must-fail/*.edit")):
+    for edit in sorted(crate.folder.glob("must-fail/*.edit")):
         try:
-            places = edits.applied(edit, folder)[1]
+            touches = sources.standing_at(edits.applied(edit, crate.folder)[1], crate.functions)
         except edits.BadEdit as error:
             faults.append(f"{edit.name}: {error}")
             continue
-        touches = [it for file, line in places for it in functions.get(file, []) if line in it.place]
         touched += touches
-        name = named_by(edit.name, asked)
+        name, rests_on = named_by(edit.name, crate)
         if not name:
-            faults.append(f"{folder.name} {edit.name}: no public function has this name")
-        elif not any(it in touches for it in sources.reached(asked[name], everything)):
-            faults.append(f"{folder.name} {edit.name}: it does not touch {name}, nor what that names")
+            faults.append(f"{crate.folder.name} {edit.name}: no public function has this name")
+        elif not any(it in touches for it in rests_on):
+            faults.append(f"{crate.folder.name} {edit.name}: it does not touch {name}, nor what that names")
         else:
             tried[name] += 1
     for _ in range(3):
-        touched += [it for it in everything if it not in touched and any(it.is_door_to(other) for other in touched)]
-    return {name: missing(it, tried[name], touched) for name, it in asked.items() if name not in LAWS_THAT_BORROW}
+        touched += [it for it in crate.everything if it not in touched and any(it.is_door_to(other) for other in touched)]
+    return {name: missing(it, tried[name], touched) for name, it in crate.asked.items() if name not in LAWS_THAT_BORROW}
 
 
 def missing(function, tried, touched):
     """How many wrong bodies of a function are missing."""
     if function.is_equivalence():
         return max(0, 2 - tried)
-    return int(not tried and not (function in touched and function.named))
+    return int(not tried and not (function in touched and function.named()))
 
 
-def refusal_fault(folder, name, said):
+def speaks_of_counts(function, clause):
+    """Whether the clause of this name is about counts."""
+    found = re.search(rf"(?s)\bensures {clause} \{{(.*?)(?=\n *(?:ensures|requires|where|ghost)\b|$)", function.header)
+    return found and "steps." in found[1]
+
+
+def refusal_fault(crate, name, said):
     """What is wrong with the refusal of a wrong body; None where nothing is."""
-    functions = sources.functions(folder)
-    everything = [it for of_file in functions.values() for it in of_file]
-    asked = asked_functions(functions)
-    function = asked.get(named_by(f"{name}.edit", asked))
-    rests_on = sources.reached(function, everything) if function else []
+    owner, rests_on = named_by(f"{name}.edit", crate)
     place = re.search(r"\b(src/\S+?):(\d+):\d+: .*?(?:\(`(?:\S+-)?clause-(\w+)`\)|$)", said)
     if place:
-        file, line, clause = folder / place[1], int(place[2]) - 1, place[3]
-        at = [it for it in functions.get(file, []) if line in it.place]
+        at = sources.standing_at([(crate.folder / place[1], int(place[2]) - 1)], crate.functions)
         if not any(it in rests_on for it in at):
             return f"refused at {place[1]}:{place[2]}, where nothing is that it is named for"
-        if clause and at[0].speaks_of_counts(clause) and not function.counts():
-            return f"refused by the counts of {at[0].name}, of which it is not named for"
-        return None
+        counts = place[3] and speaks_of_counts(at[0], place[3]) and "steps: &mut Steps" not in crate.asked[owner].header
+        return f"refused by the counts of {at[0].name}, of which it is not named for" if counts else None
     stored = re.search(r"\bproofs/(?:\w+/)*(\w+)/\w+\.antt", said)
     if not stored or not any(it.name == stored[1] for it in rests_on):
         return f"refused neither by a goal of src/ nor over a stored proof of what it is named for: {said[:100]}"
-    is_shown = VALUES in said or name in STORED_FIRST or edits.has_control(folder / "must-fail" / f"{name}.edit")
+    is_shown = VALUES in said or name in STORED_FIRST or edits.has_control(crate.folder / "must-fail" / f"{name}.edit")
     return None if is_shown else "refused over a stored proof, and has no control"
 
 
-def refusals(root, log):
-    """What is wrong with the refusals that a log tells, and how many it tells."""
+def refusals(crates, log):
+    """What is wrong with the refusals that a log tells."""
     told = VERDICT.findall(repository.read(Path(log)))
-    faults = [f"{crate} {name}: {fault}" for crate, name, said in told if (fault := refusal_fault(root / "crates" / crate, name, said))]
-    wanted = {(crate, it.stem) for crate in repository.crates(root) for it in (root / "crates" / crate).glob("must-fail/*.edit")}
-    faults += [f"{crate} {name}: the log does not say that it is refused" for crate, name in sorted(wanted - {it[:2] for it in told})]
-    return faults
+    found = [(f"{crate} {name}", refusal_fault(crates[crate], name, said)) for crate, name, said in told]
+    yield from (f"{name}: {fault}" for name, fault in found if fault)
+    wanted = {(crate, it.stem) for crate in crates for it in crates[crate].folder.glob("must-fail/*.edit")}
+    untold = sorted(wanted - {it[:2] for it in told})
+    yield from (f"{crate} {name}: the log does not say that it is refused" for crate, name in untold)
 
 
 def main(arguments, root):
-    found, faults = {}, []
-    for crate in repository.crates(root):
-        if crate not in FOR_TESTS:
-            found |= {f"{crate} {name}": count for name, count in lacking(root / "crates" / crate, faults).items()}
-    faults += [f"no wrong body of {name}" if count == 1 else f"no {count} wrong bodies of {name}" for name, count in found.items() if count]
+    crates, found, faults = {it: read_crate(root / "crates" / it) for it in repository.crates(root)}, {}, []
+    for name in [it for it in crates if it not in FOR_TESTS]:
+        found |= {f"{name} {it}": count for it, count in lacking(crates[name], faults).items()}
+    plural = {1: "no wrong body", 2: "no 2 wrong bodies"}
+    faults += [f"{plural[count]} of {name}" for name, count in found.items() if count]
     if arguments[:1] == ["--refused"]:
-        faults += refusals(root, arguments[1])
+        faults += refusals(crates, arguments[1])
     print("\n".join(faults) or f"wrong bodies try {len(found)} functions")
     return bool(faults) or not found

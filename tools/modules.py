@@ -44,8 +44,10 @@ class Item:
 class Modules:
     """Some modules of a repository: all items in order, and by the path of a module what the names in it stand for."""
 
-    def __init__(self, root):
+    def __init__(self, root, files):
         self.root, self.items, self.modules = root, [], {}
+        for file in files:
+            self.read_module(file)
 
     def read_module(self, file):
         """Takes down the items of a module of specs/ or proofs/, and what the names in it stand for."""
@@ -85,8 +87,8 @@ class Modules:
     def named(self, term, names):
         """The items that a term names. Labels of clauses and of records are no words, nor are fields."""
         term = re.sub(rf"(?m)\b(requires|ensures)( \w+)? \{{|(^ *|[{{;] |\blet ){NAME} = ", " ", term)
-        found = (self.resolved(names, word) for word in re.findall(rf"\.?{NAME}(?:\.{NAME})*", term) if word[0] != ".")
-        return {it for it in found if it}
+        found = {self.resolved(names, word) for word in re.findall(rf"\.?{NAME}(?:\.{NAME})*", term)}
+        return found - {None}
 
     def words(self, item):
         """The items that an item names."""

@@ -19,7 +19,11 @@ import subprocess
 import pages
 from repository import read
 
-DEFINITION = r"\s*(?:(?:abbrev|unfoldable)(?: pub)?|(?:pub )?(?:data|record)) {}\s"
+DEFINITION = r"(?m)^([ ]*)(?:(?:abbrev|unfoldable)(?: pub)?|(?:pub )?(?:data|record)) {}\s"
+PRINTED = re.compile(r"(Printed by `(tools/run [^`]+)`:\n+```\w+\n)(?:.*\n)*?```")
+# A heading with the path of a file of specs/ and what stands below it, and a row of a table there.
+SECTION = re.compile(r"(?m)^#.*`(crates/\S+/specs/\S+\.antt)`.*(?:\n(?!#).*)*")
+ROW = re.compile(r"(?m)^\|(`.*?`)\|[\d, ]*\|")
 BLOCK = re.compile(r"(?s)(From|Printed by) `([^`\n]+)`:\n+```\w+\n(.*?)\n```")
 WHOLE = re.compile(r"(?m)^- `(\w+)`:((?:(?!^- )[\s\S])*?),? which are all that it has\.")
 WRONG_BODY = re.compile(r"[\w.*]*\.[a-z]+_\w+")
@@ -34,51 +38,38 @@ def pages_of(root):
 def with_printed(root, text):
     """The text of a page with what commands print."""
     def block(found):
-        printed = subprocess.run(found[2].split(), cwd=root, stdout=subprocess.PIPE, stderr=subprocess.DEVNULL, encoding="utf-8").stdout
-        return f"{found[1]}{printed}```"
-    return re.sub(r"(Printed by `(tools/run [^`]+)`:\n+```\w+\n)(?:.*\n)*?```", block, text)
+        run = subprocess.run(found[2].split(), cwd=root, stdout=subprocess.PIPE, stderr=subprocess.DEVNULL, encoding="utf-8")
+        return f"{found[1]}{run.stdout}```"
+    return PRINTED.sub(block, text)
 
 
 def line_of(name, file):
     """The line of a definition in a file of specs/; none where there is none."""
-    begin = re.compile(DEFINITION.format(re.escape(name)))
-    lines = read(file).split("\n") if file.is_file() else []
-    return next((str(number) for number, line in enumerate(lines, 1) if begin.match(line)), None)
+    found = re.search(DEFINITION.format(re.escape(name)), read(file)) if file.is_file() else None
+    return str(found.string.count("\n", 0, found.end(1)) + 1) if found else None
 
 
 def with_lines(root, text, faults):
     """The text of a page with the lines of definitions; what is not defined where it says goes to the faults."""
-    rows, path = [], None
-    for row in text.split("\n"):
-        if row.startswith("#"):
-            found = re.search(r"`(crates/\S+/specs/\S+\.antt)`", row)
-            path = found and found[1]
-        cells = path and re.fullmatch(r"\|(`.*?`)\|([\d, ]*)\|(.*)", row)
-        if cells:
-            names = re.findall(r"`([^\s`]+)[^`]*`", cells[1])
-            numbers = [line_of(name, root / path) for name in names]
-            missing = [name for name, number in zip(names, numbers) if not number]
-            faults += [not_defined(root, path, name) for name in missing]
-            if not missing:
-                row = f"|{cells[1]}|{', '.join(numbers)}|{cells[3]}"
-        rows.append(row)
-    return "\n".join(rows)
+    def lines(row, file):
+        names = re.findall(r"`([^\s`]+)[^`]*`", row[1])
+        numbers = [line_of(name, root / file) for name in names]
+        for name in (it for it, number in zip(names, numbers) if not number):
+            others = [str(it.relative_to(root)) for it in sorted(root.glob("crates/*/specs/*.antt")) if line_of(name, it)]
+            faults.append(f"{file} does not define {name}; these do: {', '.join(others) or 'none'}")
+        return f"|{row[1]}|{', '.join(numbers)}|" if all(numbers) else row[0]
+
+    def section(found):
+        return ROW.sub(lambda row: lines(row, found[1]), found[0])
+    return SECTION.sub(section, text)
 
 
-def not_defined(root, path, name):
-    others = [str(it.relative_to(root)) for it in sorted(root.glob("crates/*/specs/*.antt")) if line_of(name, it)]
-    return f"{path} does not define {name}; these do: {', '.join(others) or 'none'}"
-
-
-def faults_of_blocks(root, page, blocks):
-    """The blocks of a page that are not in the files that they quote."""
-    for said, source, block in blocks:
+def faults_of(root, page, text):
+    """The blocks of a page that are not in the files that they quote, the wrong bodies that it names and that are none, and what
+    its lists that are to be whole leave out, or name besides."""
+    for said, source, block in BLOCK.findall(text):
         if said == "From" and f"\n{block}\n" not in "\n" + read(root / source):
             yield f"{page}: {source} does not have these lines: {block.splitlines()[0]} .."
-
-
-def faults_of_names(root, page, text):
-    """The wrong bodies that a page names and that are none; what its lists that are to be whole leave out, or name besides."""
     for name in filter(WRONG_BODY.fullmatch, pages.inline_code(text)):
         if not any(root.glob(f"crates/*/must-fail/{name}.edit")):
             yield f"{page}: no wrong body is named {name}"
@@ -99,8 +90,7 @@ def main(arguments, root):
         else:
             changed = (row for old, row in zip(text.split("\n"), now.split("\n")) if old != row)
             faults += [f"{page}: tools/run quotes --write would write: {row}" for row in changed]
-        blocks = BLOCK.findall(now)
-        faults += [*faults_of_blocks(root, page, blocks), *faults_of_names(root, page, now)]
-        compared += len(blocks)
+        faults += faults_of(root, page, now)
+        compared += len(BLOCK.findall(now))
     print("\n".join(faults) or f"{compared} blocks are as in the files")
     return bool(faults) or not compared

@@ -1,42 +1,39 @@
 """The functions of source files, which are laid out as `rt fmt` does."""
 import re
 from collections import Counter
+from dataclasses import dataclass
 
-from repository import read, sources
+from repository import closed, public_types, read, sources
 
 ITEM = re.compile(r"( *)(pub |pub\(\w+\) )?(?:const |unsafe )*(?:fn (\w+)|(impl|trait)\b(.*) \{$)")
-RETURNS_BOOL = re.compile(r"\) -> bool( \{)?$")
 BRANCH = re.compile(r"\b(if|match|while|for|loop)\b|\?[;)]")
 
 
+@dataclass(eq=False)
 class Function:
-    """A function of a source file, by its path in Rust, and the lines of it or of the impl of a trait that it is in."""
+    """A function of a source file: its type and trait, and the lines of it or of the impl of a trait that it is in."""
 
-    def __init__(self, path, is_asked, is_private, place, header, body):
-        self.path, self.is_private, self.place, self.header = path, is_private, place, header
-        self.name = path.rpartition("::")[2]
-        self.body = [line for line in body if not line.strip().startswith("//")]
-        self.is_asked = is_asked and bool(self.body)
-        is_door = 0 < len(self.body) <= 3 and not BRANCH.search(" ".join(self.body))
-        self.named = re.findall(r"\w+", self.body[-1]) if is_door else []
+    name: str
+    kind: str
+    trait: str
+    is_asked: bool
+    is_private: bool
+    place: range
+    header: str
+    body: list
 
     def is_equivalence(self):
         """Whether it decides something: the clauses have an equivalence, or it returns a `bool`."""
-        return "↔" in "\n".join(self.header) or any(RETURNS_BOOL.search(line) for line in self.header)
+        return "↔" in self.header or bool(re.search(r"(?m)\) -> bool( \{)?$", self.header))
 
-    def speaks_of_counts(self, clause):
-        """Whether a clause of this name is about counts."""
-        lines = "\n".join(self.header)
-        found = re.search(rf"(?s)\bensures {clause} \{{(.*?)(?=\n *(?:ensures|requires|where|ghost)\b|$)", lines)
-        return bool(found and "steps." in found[1])
-
-    def counts(self):
-        """Whether its signature has a counter."""
-        return any("steps: &mut Steps" in line for line in self.header)
+    def named(self):
+        """What the last line of a door names: at most three lines without a branch. Nothing where it is no door."""
+        is_door = 0 < len(self.body) <= 3 and not BRANCH.search(" ".join(self.body))
+        return re.findall(r"\w+", self.body[-1]) if is_door else []
 
     def is_door_to(self, other):
-        """Whether this one only hands on to the other: at most three lines without a branch, of which the last names it."""
-        return other.name in self.named and (other.is_private or other.name == f"{self.name}_counted")
+        """Whether this one only hands on to the other."""
+        return (other.is_private or other.name == f"{self.name}_counted") and other.name in self.named()
 
     def mentions(self, other):
         """Whether the body has the name of the other function."""
@@ -44,14 +41,10 @@ class Function:
 
     def names(self):
         """By what the function can be called, the shortest first: `next`, `Drain.next`, `Drain.Iterator`, `Error.From.Utf8`."""
-        trait = re.fullmatch(r"<(\w+) as (?:\w+::)*(\w+)(<.*>)?>::\w+", self.path)
-        kind = trait[1] if trait else self.path.rpartition("::")[0]
+        trait = re.findall(r"\w+", re.sub(r"^(\w+::)+", "", self.trait))
         yield self.name
-        if kind:
-            yield f"{kind}.{self.name}"
-        if trait:
-            yield f"{kind}.{trait[2]}"
-            yield ".".join([kind, trait[2], *re.findall(r"\w+", trait[3] or "")])
+        yield from [f"{self.kind}.{self.name}"] * bool(self.kind)
+        yield from [f"{self.kind}.{it}" for it in (*trait[:1], ".".join(trait)) if it]
 
 
 def type_and_trait(header):
@@ -61,48 +54,43 @@ def type_and_trait(header):
     return re.search(r"\w+", kind)[0], re.sub(r"'\w+ ", "", trait)
 
 
-def public_types(folder):
-    """The names of the public types of a crate."""
-    return set(re.findall(r"(?m)^pub (?:struct|enum) (\w+)", "\n".join(read(it) for it in sources(folder))))
-
-
 def functions_of(file, public):
     """The functions of a source file; those of a trait's impl are asked about if its type is among the public ones."""
     lines = read(file).split("\n")
-    kind, trait, is_in_trait = "", "", False
+    kind, trait, block = "", "", ""
     for at, line in enumerate(lines):
         item = ITEM.match(line)
-        if not item:
+        if not item or item[1] and block == "trait":
             continue
-        indent, visibility, name, block, header = item.groups()
-        if indent and is_in_trait:
-            continue
+        indent, visibility, name = item[1], item[2], item[3]
         ends = (line if line.endswith("}") else "", f"{indent}}}", f"{indent}{{}}")
         last = next(i for i in range(at, len(lines)) if lines[i] and lines[i] in ends)
-        if block:
-            is_in_trait = block == "trait"
-            kind, trait = type_and_trait(header)
-            of_impl = range(at, last + 1)
-            has_contract = re.search(r"(?m)^ *(ghost (?!use )|ensures )", "\n".join(lines[at:last]))
+        if not name:
+            block, (kind, trait), of_impl = item[4], type_and_trait(item[5]), range(at, last + 1)
+            has_contract = bool(re.search(r"(?m)^ *(ghost (?!use )|ensures )", "\n".join(lines[at:last])))
             continue
-        above = at
-        while lines[above - 1].startswith(f"{indent}#["):
-            above -= 1
         first = next((i + 1 for i in range(at, last) if re.fullmatch(rf"{indent}(\S.* )?\{{", lines[i])), last)
-        is_of_trait = bool(indent and trait)
-        if is_of_trait:
-            path, is_asked = f"<{kind} as {trait}>::{name}", kind in public and bool(has_contract)
+        header, body = "\n".join(lines[at:first]), [it for it in lines[first:last] if not it.strip().startswith("//")]
+        if indent and trait:
+            yield Function(name, kind, trait, bool(body) and kind in public and has_contract, False, of_impl, header, body)
         else:
-            path = f"{kind}::{name}" if indent else name
-            is_asked = visibility == "pub " or file.name == "main.rt" and name != "main"
-        place = of_impl if is_of_trait else range(above, last + 1)
-        yield Function(path, is_asked, visibility != "pub " and not is_of_trait, place, lines[at:first], lines[first:last])
+            while lines[at - 1].startswith(f"{indent}#["):
+                at -= 1
+            is_asked = bool(body) and (visibility == "pub " or file.name == "main.rt" and name != "main")
+            owner = kind if indent else ""
+            yield Function(name, owner, "", is_asked, visibility != "pub ", range(at, last + 1), header, body)
 
 
 def functions(folder):
     """The functions of a crate, by the files of its src/."""
-    public = public_types(folder)
-    return {file: list(functions_of(file, public)) for file in sources(folder)}
+    files = sources(folder)
+    public = public_types(files)
+    return {file: list(functions_of(file, public)) for file in files}
+
+
+def standing_at(places, functions):
+    """The functions, among those of some files, that have one of these lines of a file."""
+    return [it for file, line in places for it in functions.get(file, []) if line in it.place]
 
 
 def named(functions):
@@ -113,10 +101,4 @@ def named(functions):
 
 def reached(function, everything):
     """The function and what it names, directly or by others."""
-    found, rest = [], [function]
-    while rest:
-        one = rest.pop()
-        if one not in found:
-            found.append(one)
-            rest += [it for it in everything if it is not one and one.mentions(it)]
-    return found
+    return closed([function], lambda one: [it for it in everything if it is not one and one.mentions(it)])

@@ -5,7 +5,13 @@ tools/run trusted                how many definitions the contract of `run` reac
 tools/run trusted --list [NAME]  first names them in the order in which to read them: those of `run`, and then the others; or
                                  those of public functions with this name
 
-`specs.py` says what a definition is, and what a contract reaches.
+A definition is an `abbrev`, `unfoldable`, `data` or `record` of a module of specs/, but no `abbrev` of an equation or of a
+comparison. Its lines go from its name to its last clause, without comments and blank lines. What std defines is none, nor what
+Rattle makes of a type of src/ (`specs.declared`). Contracts are the clauses of functions and the ghost members of impls. They
+are public if the function is, or the type of an impl of a trait. One reaches the definitions of its words, those of their
+words, and so on, and those of the `Model` of each type in its signature. Proofs are not followed, nor is the inverse of a
+`Model`, which is proved. One reads in the order of crates.txt, of specs/Lib.antt and of the lines: what a definition is made
+of comes before it.
 
 It fails at what is no definition in specs/, at a call of a tactic and at an import of a proof there, but in modules named
 GhostProofs; at a definition that no contract and no law reaches, where a law is what is `pub` in a module `..Laws`; and where
@@ -13,22 +19,64 @@ the tables of PAGE do not begin with the definitions of `run` in order, or lack 
 """
 import re
 import sys
+from collections import namedtuple
 
-from modules import NAME
-from repository import read
-from specs import Specs
+from modules import NAME, Modules, imports
+from repository import closed, crates, public_types, read, sources
 
 LIBRARIES = ["arraystring_base", "arraystring_core", "arraystring", "arraystring_run", "bounded_records"]
 PAGE = "docs/definitions.md"
 TACTICS = {"rw", "simp", "search", "assumption", "ground", "cc", "omega", "grind", "hlevel"}
+FUNCTION = r"(?:pub(?:\(\w+\))? |const |unsafe )*fn "
+
+Contract = namedtuple("Contract", "name is_public signature words")
 
 
-def faults_of_specs(specs):
+def modules(root):
+    """The modules of specs/ and those of laws, in the order in which they are read."""
+    for folder in [root / "crates" / it for it in crates(root)]:
+        order = "".join(read(it) for it in folder.glob("specs/Lib.antt"))
+        yield from sorted(folder.glob("specs/**/*.antt"), key=lambda it: order.find(f"mod {it.stem}\n"))
+        yield from sorted(folder.glob("proofs/*Laws.antt"))
+
+
+def contracts(tree, source, of_library):
+    """The contracts of a file of src/, laid out as `rt fmt` does; `of_library` are the public types of a library, else None."""
+    source, is_library = re.sub(r'//.*|"[^"\n]*"', "", source), of_library is not None
+    for block in re.split(rf"(?m)^(?={FUNCTION}|impl\b)", source)[1:]:
+        trait, kind = re.match(r"(?:impl(?:<(?:[^<>]|<[^<>]*>)*>)? (?:(.*) for )?(\w+))?", block).groups("")
+        is_public_type = is_library and kind in of_library
+        for text in re.split(rf"(?m)^ *(?={FUNCTION})", block)[1:]:
+            header = re.split(r"(?m)^ *\{\}?$| \{$", text)[0]
+            signature, *clauses = re.split(r"\n *(?=(?:requires|ensures)\b)", header)
+            parameters = re.findall(r"(\w+): ", signature)
+            words = {name: it for name, it in imports(source).items() if name not in parameters}
+            is_public = is_public_type if trait else is_library and text.startswith("pub ")
+            name = re.search(r"fn (\w+)", text)[1]
+            yield Contract(name, is_public, f"{kind} {signature}", tree.named("\n".join(clauses), words))
+        for member in re.findall(r"(?ms)^ {4}ghost (?!use )(\w+ = \{.*?\});$", block):
+            is_public = is_public_type and not member.startswith("inverse")
+            yield Contract(f"{trait} for {kind}", is_public, "", tree.named(member, imports(source)))
+
+
+def closure(tree, found):
+    """The definitions among some items, and those that they are made of, in order."""
+    reached = closed(found, lambda it: tree.words(it) if it.is_definition else [])
+    return [it for it in tree.items if it.is_definition and it in reached]
+
+
+def reached(tree, public, name):
+    """The definitions that public functions with this name reach, in order."""
+    asked = [it for it in public if it.name == name]
+    models = {f"Model for {word}" for it in asked for word in re.findall(r"\w+", it.signature)}
+    return closure(tree, (word for it in public if it in asked or it.name in models for word in it.words))
+
+
+def faults_of_specs(tree, known):
     """What is in specs/ and is no definition, or is none that a contract or a law reaches."""
-    laws = [it for it in specs.items if it.is_law]
-    words = [word for it in specs.contracts for word in it.words] + [word for it in laws for word in specs.words(it)]
-    told = specs.closure(words)
-    for item in (it for it in specs.items if it.is_kept):
+    laws = [word for it in tree.items if it.is_law for word in tree.words(it)]
+    told = closure(tree, [word for it in known for word in it.words] + laws)
+    for item in (it for it in tree.items if it.is_kept):
         calls = sorted(TACTICS.intersection(re.findall(NAME, "\n".join(item.lines))))
         if not item.is_definition:
             yield f"{item} is a proof: it belongs in proofs/, or in GhostProofs where a ghost member of src/ cites it"
@@ -36,32 +84,36 @@ def faults_of_specs(specs):
             yield f"{item} calls a tactic: {', '.join(calls)}"
         elif item not in told:
             yield f"{item} is reached by no contract and no law"
-    for path, names in specs.modules.items():
+    for path, names in tree.modules.items():
         proofs = sorted({it[0] for it in names.values() if isinstance(it, tuple) and ".proofs." in it[0]})
         if ".specs." in path and proofs and not path.endswith(".GhostProofs"):
             yield f"{path} imports from proofs: {', '.join(proofs)}"
 
 
-def faults_of_page(root, specs, headline):
+def faults_of_page(page, tree, public, headline):
     """What the tables of PAGE lack; they begin with the definitions of the headline."""
-    rows = re.findall(r"(?m)^\|(`.*?`)\|\d", read(root / PAGE))
+    rows = re.findall(r"(?m)^\|(`.*?`)\|\d", page)
     told = [name for row in rows for name in re.findall(r"`([^\s`]+)[^`]*`", row)]
     other = [f"{PAGE} has {name} in the place of {it}" for it, name in zip(headline, told) if it.name != name]
     yield from other[:1]
-    cited = {it for contract in specs.public() for it in contract.words if it.is_definition}
-    yield from (f"{PAGE} does not name {it}" for it in specs.items if it in cited and it.name not in told)
+    cited = {it for contract in public for it in contract.words if it.is_definition}
+    yield from (f"{PAGE} does not name {it}" for it in tree.items if it in cited and it.name not in told)
 
 
 def main(arguments, root):
-    specs = Specs(root, LIBRARIES)
-    headline = specs.reached("run")
-    everything = specs.closure(word for it in specs.public() for word in it.words)
+    tree, known = Modules(root, modules(root)), []
+    for crate in crates(root):
+        files = sources(root / "crates" / crate)
+        types = public_types(files) if crate in LIBRARIES else None
+        known += [it for file in files for it in contracts(tree, read(file), types)]
+    public = [it for it in known if it.is_public]
+    headline, everything = reached(tree, public, "run"), closure(tree, (word for it in public for word in it.words))
     if arguments[:1] == ["--list"]:
         others = [it for it in everything if it not in headline]
-        for item in specs.reached(arguments[1]) if arguments[1:] else headline + others:
+        for item in reached(tree, public, arguments[1]) if arguments[1:] else headline + others:
             print(f"{item}, {len(item.lines)} lines")
     for name, found in (("run", headline), ("all public contracts", everything)):
         print(f"{name}: {len(found)} definitions, {sum(len(it.lines) for it in found)} lines")
-    faults = [*faults_of_specs(specs), *faults_of_page(root, specs, headline)]
+    faults = [*faults_of_specs(tree, known), *faults_of_page(read(root / PAGE), tree, public, headline)]
     print("\n".join(faults), end="\n" if faults else "", file=sys.stderr)
     return bool(faults)

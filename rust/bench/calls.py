@@ -1,7 +1,7 @@
 """Programs without std of one call each, which link only where the call has no panic in its machine code.
 
 The calls are those that the reference shows: each safe function, each macro, each safe call of a type, and each impl of a trait. A
-call with no entry in EXPRESSIONS or PANICS stops the bench, and so does an entry of what is not shown.
+call that no entry here makes stops the bench, and so does an entry of what is not shown.
 """
 import re
 import subprocess
@@ -10,9 +10,17 @@ import urllib.parse
 from concurrent.futures import ThreadPoolExecutor
 
 # Traits that have no call, and those that each type has by std.
-UNCALLED = {"Copy", "Eq", "FusedIterator", "StructuralPartialEq", "Freeze", "RefUnwindSafe", "Send", "Sync", "Unpin", "UnsafeUnpin", "UnwindSafe"}
+UNCALLED = {
+    "Copy", "Eq", "FusedIterator", "StructuralPartialEq", "Freeze", "RefUnwindSafe", "Send", "Sync", "Unpin", "UnsafeUnpin",
+    "UnwindSafe",
+}
 OF_EACH = ("T", "I", "P", "D", "F")
 
+# The ranges of an index, each as a text of it.
+RANGES = {
+    "Range<u8>": "v.at..v.end", "RangeFrom<u8>": "v.at..", "RangeTo<u8>": "..v.end", "RangeInclusive<u8>": "v.at..=v.end",
+    "RangeToInclusive<u8>": "..=v.end",
+}
 # What has a panic in its machine code, and why. Such a program must not link, but for what `core` prints: how much of that is left
 # depends on the level.
 LIKE_STR = "it panics as the index of `str` does"
@@ -22,15 +30,10 @@ PANICS = {
     "ArrayString::make_ascii_uppercase_in": LIKE_STR,
     "ArrayString::make_ascii_lowercase_in": LIKE_STR,
     "utils::look": "it panics as the index of a slice does",
-    **{f"Index<{ends}> for ArrayString<N>": LIKE_STR for ends in ["Range<u8>", "RangeFrom<u8>", "RangeTo<u8>", "RangeInclusive<u8>", "RangeToInclusive<u8>"]},
+    **{f"Index<{ends}> for ArrayString<N>": LIKE_STR for ends in RANGES},
     "From<ArrayString<N>> for String": "std panics where memory is refused",
     "From<CacheString> for String": "std panics where memory is refused",
-    "Debug for ArrayString<N>": BY_CORE,
-    "Debug for CacheString": BY_CORE,
-    "Debug for Drain<N>": BY_CORE,
-    "Debug for Steps": BY_CORE,
-    "Debug for Unit16": BY_CORE,
-    "Debug for Units<'a>": BY_CORE,
+    **{f"Debug for {name}": BY_CORE for name in ["ArrayString<N>", "CacheString", "Drain<N>", "Steps", "Unit16", "Units<'a>"]},
 }
 
 # Where two calls together are more than each alone.
@@ -44,6 +47,7 @@ BY_TRAITS = {
     "AsRef<str> for S": "AsRef::<str>::as_ref(&v.s).len()",
     "Borrow<str> for S": "Borrow::<str>::borrow(&v.s).len()",
     "Clone for S": "v.s.clone()",
+    "Debug for S": 'write!(Out(0), "{:?}", v.s)',
     "Default for S": "S::default()",
     "Deref for S": "Deref::deref(&v.s).len()",
     "Display for S": 'write!(Out(0), "{}", v.s)',
@@ -71,59 +75,43 @@ BY_TRAITS = {
     "PartialOrd for S": "(v.s < v.t, v.s.partial_cmp(&v.t))",
     "Write for S": '(v.s.write_str(v.text), v.s.write_char(v.ch), write!(v.s, "{}-", v.text))',
 }
+# The calls by their arguments: those that make a string of both types, and those of an `ArrayString` alone.
 MADE = {
-    "new": "S::new()",
-    "capacity": "S::capacity()",
-    "try_from_str": "S::try_from_str(v.text)",
-    "from_str_truncate": "S::from_str_truncate(v.text)",
-    "try_from_iterator": "S::try_from_iterator([v.text, v.text])",
-    "from_iterator": "S::from_iterator([v.text, v.text])",
-    "try_from_chars": "S::try_from_chars(v.text.chars())",
-    "from_chars": "S::from_chars(v.text.chars())",
-    "try_from_utf8": "S::try_from_utf8(v.bytes)",
-    "from_utf8": "S::from_utf8(v.bytes)",
-    "try_from_utf16": "S::try_from_utf16(v.units)",
-    "from_utf16": "S::from_utf16(v.units)",
-    "from_utf16_lossy": "S::from_utf16_lossy(v.units)",
-    "split_off": "v.s.split_off(v.at)",
+    "": "new capacity",
+    "v.text": "try_from_str from_str_truncate",
+    "[v.text, v.text]": "try_from_iterator from_iterator",
+    "v.text.chars()": "try_from_chars from_chars",
+    "v.bytes": "try_from_utf8 from_utf8",
+    "v.units": "try_from_utf16 from_utf16 from_utf16_lossy",
 }
 EDITED = {
-    "len": "v.s.len()",
-    "is_empty": "v.s.is_empty()",
-    "as_str": "v.s.as_str()",
-    "as_bytes": "v.s.as_bytes()",
-    "remaining_capacity": "v.s.remaining_capacity()",
-    "is_full": "v.s.is_full()",
-    "try_push": "v.s.try_push(v.ch)",
-    "try_push_str": "v.s.try_push_str(v.text)",
-    "push_str": "v.s.push_str(v.text)",
-    "try_write": 'v.s.try_write(format_args!("{}-{}", v.text, v.ch))',
-    "extend_chars": "v.s.extend_chars(v.text.chars())",
-    "extend_strs": "v.s.extend_strs([v.text, v.text])",
-    "try_insert": "v.s.try_insert(v.at, v.ch)",
-    "try_insert_str": "v.s.try_insert_str(v.at, v.text)",
-    "try_insert_str_counted": "v.s.try_insert_str_counted(v.at, v.text, &mut v.steps)",
-    "insert_str": "v.s.insert_str(v.at, v.text)",
+    "": "len is_empty as_str as_bytes remaining_capacity is_full pop clear trim trim_spaces make_ascii_uppercase make_ascii_lowercase",
+    "v.ch": "try_push",
+    "v.text": "try_push_str push_str",
+    'format_args!("{}-{}", v.text, v.ch)': "try_write",
+    "v.text.chars()": "extend_chars",
+    "[v.text, v.text]": "extend_strs",
+    "v.at": "remove truncate",
+    "v.at, v.ch": "try_insert",
+    "v.at, v.text": "try_insert_str insert_str",
+    "v.at..v.end": "make_ascii_uppercase_in make_ascii_lowercase_in",
+    "v.at..v.end, v.text": "replace_range",
+    "&mut v.steps": "pop_counted trim_counted",
+    "v.at, &mut v.steps": "remove_counted",
+    "v.at, v.text, &mut v.steps": "try_insert_str_counted",
+    "v.at..=v.end, &mut v.steps": "drain_counted",
+    "v.at..=v.end, v.text, &mut v.steps": "replace_range_counted",
+}
+OF_BOTH = {
+    **{name: f"S::{name}({given})" for given, names in MADE.items() for name in names.split()},
+    "split_off": "v.s.split_off(v.at)",
+}
+OF_ONE = {
+    **{name: f"v.s.{name}({given})" for given, names in EDITED.items() for name in names.split()},
     "slice": "v.s.slice(v.at..v.end).len()",
     "get": "(v.s.get(v.at..v.end), v.s.get(..=v.end), v.s.get(v.at..))",
     "drain": "v.s.drain(v.at..v.end).map(|drain| drain.map(u32::from).fold(0, u32::wrapping_add))",
-    "drain_counted": "v.s.drain_counted(v.at..=v.end, &mut v.steps)",
-    "replace_range": "v.s.replace_range(v.at..v.end, v.text)",
-    "replace_range_counted": "v.s.replace_range_counted(v.at..=v.end, v.text, &mut v.steps)",
-    "make_ascii_uppercase_in": "v.s.make_ascii_uppercase_in(v.at..v.end)",
-    "make_ascii_lowercase_in": "v.s.make_ascii_lowercase_in(v.at..v.end)",
-    "truncate": "v.s.truncate(v.at)",
-    "pop": "v.s.pop()",
-    "pop_counted": "v.s.pop_counted(&mut v.steps)",
-    "remove": "v.s.remove(v.at)",
-    "remove_counted": "v.s.remove_counted(v.at, &mut v.steps)",
     "retain": "{ let ch = v.ch; v.s.retain(|it| it != ch) }",
-    "clear": "v.s.clear()",
-    "trim": "v.s.trim()",
-    "trim_counted": "v.s.trim_counted(&mut v.steps)",
-    "trim_spaces": "v.s.trim_spaces()",
-    "make_ascii_uppercase": "v.s.make_ascii_uppercase()",
-    "make_ascii_lowercase": "v.s.make_ascii_lowercase()",
 }
 ERRORS = ["Error", "Utf8", "Utf16", "OutOfBounds"]
 BY_ERROR = {
@@ -179,16 +167,6 @@ OTHERS = {
     "Debug for Steps": 'write!(Out(0), "{:?}", v.steps)',
     "Default for Steps": "Steps::default()",
 }
-DEBUGGED = {f"Debug for {name}": 'write!(Out(0), "{:?}", v.s)' for name in ["ArrayString<N>", "CacheString"]}
-INDEXED = {
-    f"Index<{ends}> for ArrayString<N>": f"v.s[{given}].len()"
-    for ends, given in [
-        ("Range<u8>", "v.at..v.end"), ("RangeFrom<u8>", "v.at.."), ("RangeTo<u8>", "..v.end"),
-        ("RangeInclusive<u8>", "v.at..=v.end"), ("RangeToInclusive<u8>", "..=v.end"),
-    ]
-}
-
-
 def for_cache(expression):
     """The expression for a `CacheString`."""
     for name, put in [("S", "CacheString"), (r"v\.s", "v.c"), (r"v\.t", "v.o")]:
@@ -198,15 +176,12 @@ def for_cache(expression):
 
 def expressions():
     """The call of each name that the reference may show."""
-    found = {**OTHERS, **DEBUGGED, **INDEXED, **TOGETHER}
+    found = {**OTHERS, **TOGETHER, **{f"Index<{ends}> for ArrayString<N>": f"v.s[{given}].len()" for ends, given in RANGES.items()}}
     for name, call in BY_TRAITS.items():
         found[re.sub(r"\bS\b", "ArrayString<N>", name)] = call
         found[re.sub(r"\bS\b", "CacheString", name)] = for_cache(call)
-    found["Debug for CacheString"] = for_cache(found["Debug for CacheString"])
-    for name, call in {**MADE, **EDITED}.items():
-        found[f"ArrayString::{name}"] = call
-    for name, call in MADE.items():
-        found[f"CacheString::{name}"] = for_cache(call)
+    found |= {f"ArrayString::{name}": call for name, call in {**OF_BOTH, **OF_ONE}.items()}
+    found |= {f"CacheString::{name}": for_cache(call) for name, call in OF_BOTH.items()}
     for error in ERRORS:
         for name, call in BY_ERROR.items():
             value = f"black_box({error})" if error != "Error" else "v.error"
@@ -366,13 +341,11 @@ extern "C" fn main() -> i32 {
 """
 
 
-def links(call, words, folder):
-    """Whether the program with a call links. What stops it otherwise than a panic is a fault of the bench."""
-    source = folder / "call.rs"
-    source.write_text(PROGRAM.replace("CALL", call))
-    told = subprocess.run(["rustc", *words, "-o", folder / "call", source], capture_output=True, text=True)
+def links(source, words, out):
+    """Whether a program links. What stops it otherwise than a panic is a fault of the bench."""
+    told = subprocess.run(["rustc", *words, "-o", out, source], capture_output=True, text=True)
     if told.returncode and "a_panic_is_left" not in told.stderr:
-        raise ValueError(f"{call}: {told.stderr}")
+        raise ValueError(f"{source}: {told.stderr}")
     return told.returncode == 0
 
 
@@ -397,9 +370,9 @@ def faults(calls, words, folder):
 def unlinked(calls, words, folder):
     """The names of the calls whose program does not link, in order. Two programs are built at a time."""
     def is_unlinked(number, call):
-        own = folder / f"call-{number}"
-        own.mkdir(exist_ok=True)
-        return not links(call, words, own)
+        source = folder / f"call-{number}.rs"
+        source.write_text(PROGRAM.replace("CALL", call))
+        return not links(source, words, source.with_suffix(""))
 
     with ThreadPoolExecutor(2) as pool:
         told = list(pool.map(is_unlinked, range(len(calls)), calls.values()))

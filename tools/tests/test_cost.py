@@ -1,6 +1,4 @@
 """What is said of the wrong bodies of a crate, and that each is tried over the same."""
-from unittest import mock
-
 import cost
 import rt
 from tests.trees import TreeTest
@@ -11,6 +9,7 @@ BEGINNING = {"numbers.oantt": "a module", "last-used": "a day"}
 
 
 class WrongBodies(TreeTest):
+    COMMAND = cost
     FILES = {
         "crates.txt": "numbers:\n",
         "crates/numbers/src/lib.rt": "fn twice(value: u8) -> u8 {\n    value + value\n}\n",
@@ -26,12 +25,10 @@ class WrongBodies(TreeTest):
         self.checks = {
             "value + value\n": (2.0, True, "logic=proved\n"),
             "value + 0\n": (5.5, False, "note: ./proofs/twice/Answers.antt:3:1: no\nsrc/lib.rt:1:1: error: open\n"),
-            "value + value + value\n": (31.25, False, f"read\n{ADVICE}note: ./proofs/twice/Answers.antt:3:1: no\nlogic=not-proved\n"),
+            "value + value + value\n": (31.25, False, f"read\n{ADVICE}note: ./proofs/twice/Answers.antt:3:1: no\nlogic=no\n"),
         }
-        for where, name, stand_in in ((rt, "check", self.check), (cost, "seconds_spent", lambda: self.spent)):
-            patch = mock.patch.object(where, name, stand_in)
-            patch.start()
-            self.addCleanup(patch.stop)
+        self.put(rt, "check", self.check)
+        self.put(cost, "seconds_spent", lambda: self.spent)
 
     def check(self, folder, *flags):
         """Stands for the check, which keeps modules in out/, and sees what it begins with."""
@@ -48,32 +45,26 @@ class WrongBodies(TreeTest):
         return is_proved, said
 
     def test_each_is_told_with_what_refuses_it(self):
-        printed = self.assert_passes(cost, "numbers", "--edits")
+        head = "numbers: 2.0 s for a check that has nothing to prove\n"
         once = "  5.5 s  twice_is_once: src/lib.rt:1:1: error: open\n"
         thrice = " 31.2 s  twice_is_thrice: note: ./proofs/twice/Answers.antt:3:1: no\n"
-        head = "numbers: 2.0 s for a check that has nothing to prove\n"
-        self.assertEqual(printed, head + once + thrice + "37 s together, of 2\n")
-
-    def test_those_of_one_function_are_told_alone(self):
+        self.assertEqual(self.assert_passes("numbers", "--edits"), head + once + thrice + "37 s together, of 2\n")
         self.write("crates/numbers/must-fail/twice_more.is_once.edit", EDIT.format("value + 0"))
-        printed = self.assert_passes(cost, "numbers", "--edits", "twice_more")
-        self.assertIn("  5.5 s  twice_more.is_once: src/lib.rt:1:1: error: open\n6 s together, of 1\n", printed)
-        self.assert_fails("0 s together, of 0\n", cost, "numbers", "--edits", "twice")
+        told = once.replace("twice_is_once", "twice_more.is_once")
+        self.assertEqual(self.assert_passes("numbers", "--edits", "twice_more"), f"{head}{told}6 s together, of 1\n")
+        self.assert_fails("0 s together, of 0\n", "numbers", "--edits", "twice")
 
-    def test_one_that_proves_fails(self):
+    def test_one_that_proves_or_cannot_be_applied_fails(self):
         self.checks["value + 0\n"] = 3.0, True, "logic=proved\n"
-        self.assert_fails("  3.0 s  twice_is_once: NOT REFUSED\n", cost, "numbers", "--edits")
-
-    def test_one_that_cannot_be_applied_fails(self):
-        self.write("crates/numbers/must-fail/twice_is_once.edit", EDIT.replace("value + value", "three").format("3"))
-        self.assert_fails("  0.0 s  twice_is_once: BAD EDIT: src/lib.rt does not have this once", cost, "numbers", "--edits")
+        self.assert_fails("  3.0 s  twice_is_once: NOT REFUSED\n", "numbers", "--edits")
+        self.change("crates/numbers/must-fail/twice_is_once.edit", "value + value", "three")
+        self.assert_fails("  0.0 s  twice_is_once: BAD EDIT: src/lib.rt does not have this once", "numbers", "--edits")
 
     def test_nothing_is_tried_of_a_crate_that_is_not_proved(self):
         self.checks["value + value\n"] = 2.0, False, "src/lib.rt:1:1: error: open\n"
-        printed = self.told(cost, "numbers", "--edits")
-        self.assertEqual(printed, (True, "numbers is not proved: src/lib.rt:1:1: error: open\n"))
+        self.assertEqual(self.told("numbers", "--edits"), (True, "numbers is not proved: src/lib.rt:1:1: error: open\n"))
 
     def test_a_crate_and_an_option_are_named(self):
-        self.assertEqual(cost.main([], self.root), "name a crate")
-        self.assertEqual(cost.main(["letters"], self.root), "no crate is named letters")
-        self.assertEqual(cost.main(["numbers", "--only"], self.root), "--only is none of --grinds, --edits")
+        for words, wanted in (([], "name a crate"), (["letters"], "no crate is named letters"),
+                              (["numbers", "--only"], "--only is none of --grinds, --edits")):
+            self.assert_fails(wanted, *words)

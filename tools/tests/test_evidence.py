@@ -1,4 +1,4 @@
-"""Which functions a wrong body is asked for, how it is named, and what it touches."""
+"""Which functions a wrong body is asked for, how it is named, what it touches, and what refuses it."""
 import evidence
 from tests.trees import TreeTest
 
@@ -26,89 +26,71 @@ fn twice(value: u8) -> u8 {
     value + value
 }
 """
+FILE, FOLDER = "crates/numbers/src/lib.rt", "crates/numbers/must-fail"
+ONCE, ONE = f"{FOLDER}/doubled.is_once.edit", f"{FOLDER}/default.is_one.edit"
+EDIT = "file: src/{}.rt\nold:     {}\nnew:     {}\n"
 
 
 class Evidence(TreeTest):
+    COMMAND = evidence
     FILES = {
         "crates.txt": "# numbers\nnumbers:\n",
-        "crates/numbers/src/lib.rt": SOURCE,
+        FILE: SOURCE,
         "crates/numbers/src/tests.rt": "pub fn tried() {\n    1\n}\n",
-        "crates/numbers/must-fail/doubled.is_once.edit": "file: src/lib.rt\nold:     value + value\nnew:     value + 0\n",
-        "crates/numbers/must-fail/default.is_one.edit": "file: src/lib.rt\nold:         Number { value: 0 }\nnew:         Number { value: 1 }\n",
+        ONCE: EDIT.format("lib", "value + value", "value + 0"),
+        ONE: EDIT.format("lib", "    Number { value: 0 }", "    Number { value: 1 }"),
     }
 
-    def rename(self, name, other):
-        folder = self.root / "crates/numbers/must-fail"
-        (folder / f"{name}.edit").rename(folder / f"{other}.edit")
-
     def test_a_wrong_body_of_its_name_touches_the_function_or_what_it_names(self):
-        self.assertIn("try 2 functions", self.assert_passes(evidence))
+        self.assertIn("try 2 functions", self.assert_passes())
 
-    def test_a_function_without_one_is_named(self):
-        (self.root / "crates/numbers/must-fail/doubled.is_once.edit").unlink()
-        self.assert_fails("no wrong body of numbers doubled", evidence)
+    def test_what_is_missing_or_touches_something_else_is_told(self):
+        def renamed(path, name):
+            return (path, None), (f"{FOLDER}/{name}.edit", self.FILES[path])
 
-    def test_an_impl_without_one_is_named(self):
-        (self.root / "crates/numbers/must-fail/default.is_one.edit").unlink()
-        self.assert_fails("no wrong body of numbers default", evidence)
-
-    def test_a_name_belongs_to_a_public_function(self):
-        for other in ("twice.is_once", "tripled.is_once", "is_once"):
-            self.rename("doubled.is_once", other)
-            self.assert_fails(f"{other}.edit: no public function has this name", evidence)
-            self.rename(other, "doubled.is_once")
-
-    def test_a_wrong_body_touches_what_it_is_named_for(self):
-        self.rename("default.is_one", "doubled.is_one")
-        self.assert_fails("doubled.is_one.edit: it does not touch doubled, nor what that names", evidence)
+        self.assert_plants(
+            ("no wrong body of numbers doubled", (ONCE, None)),
+            ("no wrong body of numbers default", (ONE, None)),
+            *((f"{it}.edit: no public function has this name", *renamed(ONCE, it)) for it in ("twice.is_once", "is_once")),
+            ("doubled.is_one.edit: it does not touch doubled, nor what that names", *renamed(ONE, "doubled.is_one")),
+            ("doubled.is_once.edit: src/lib.rt does not have this once", (ONCE, "value + value", "three")),
+            ("doubled.is_once.edit: no line of an edit: right", (ONCE, self.FILES[ONCE] + "right:     value + value\n")),
+            ("wrong bodies try 0 functions", *((path, None) for path in self.FILES if path != "crates.txt")),
+            # (of a program all but `main`)
+            ("no wrong body of program print", ("crates.txt", "numbers:\nprogram:\n"),
+             ("crates/program/src/main.rt", "fn main() {\n    print()\n}\n\nfn print() {\n    1\n}\n")),
+        )
 
     def test_a_door_to_what_is_touched_needs_none(self):
-        source = SOURCE.replace("fn twice", "pub fn doubled_again(value: u8) -> u8 {\n    twice(value)\n}\n\nfn twice")
-        self.write("crates/numbers/src/lib.rt", source)
-        self.assertIn("try 3 functions", self.assert_passes(evidence))
-        self.write("crates/numbers/src/lib.rt", source.replace("{\n    twice(value)", "{\n    if true { twice(value) } else { 0 }"))
-        self.assert_fails("no wrong body of numbers doubled_again", evidence)
+        door = "pub fn doubled_again(value: u8) -> u8 {{\n    {}\n}}\n\nfn twice"
+        branch = (FILE, "fn twice", door.format("if true { twice(value) } else { 0 }"))
+        self.assert_plants(("no wrong body of numbers doubled_again", branch))
+        self.change(FILE, "fn twice", door.format("twice(value)"))
+        self.assertIn("try 3 functions", self.assert_passes())
 
     def test_the_type_and_the_trait_tell_equal_names_apart(self):
-        text = self.FILES["crates/numbers/src/lib.rt"]
-        letter = text.replace("Number", "Letter").replace("fn twice(value: u8) -> u8 {\n    value + value\n}\n", "")
+        letter = SOURCE.partition("fn twice")[0].replace("Number", "Letter")
         self.write("crates/numbers/src/letter.rt", letter)
-        self.assert_fails("doubled.is_once.edit: no public function has this name", evidence)
-        self.rename("doubled.is_once", "Number.doubled.is_once")
-        self.rename("default.is_one", "Number.default.is_one")
-        self.assert_fails("no wrong body of numbers Letter.default", evidence)
-        self.write("crates/numbers/must-fail/Letter.default.is_one.edit",
-                   "file: src/letter.rt\nold:         Letter { value: 0 }\nnew:         Letter { value: 1 }\n")
-        self.assert_passes(evidence)
-        shown = "".join(f"impl {it} for Number {{\n    ghost output = {{ 0 }};\n    fn fmt() {{\n        {it}\n    }}\n}}\n\n" for it in ("Debug", "Display"))
-        self.write("crates/numbers/src/shown.rt", shown)
-        self.assert_fails("no wrong body of numbers Number.Display", evidence)
-
-    def test_a_wrong_body_that_cannot_be_applied_is_named(self):
-        self.write("crates/numbers/must-fail/doubled.is_once.edit", "file: src/lib.rt\nold: three\nnew: 3\n")
-        self.assert_fails("doubled.is_once.edit: src/lib.rt does not have this once", evidence)
-
-    def test_of_a_program_all_but_main_is_asked_for(self):
-        self.write("crates.txt", "numbers:\nprogram:\n")
-        self.write("crates/program/src/main.rt", "fn main() {\n    print()\n}\n\nfn print() {\n    1\n}\n")
-        self.assert_fails("no wrong body of program print", evidence)
-
-    def test_no_function_is_a_fault(self):
-        for path in ("src/lib.rt", "src/tests.rt", "must-fail/doubled.is_once.edit", "must-fail/default.is_one.edit"):
-            (self.root / "crates/numbers" / path).unlink()
-        self.assert_fails("wrong bodies try 0 functions", evidence)
+        self.assert_fails("doubled.is_once.edit: no public function has this name")
+        for path in (ONCE, ONE):
+            self.write(path.replace("must-fail/", "must-fail/Number."), self.FILES[path])
+            self.write(path, None)
+        self.assert_fails("no wrong body of numbers Letter.default")
+        made = EDIT.format("letter", "    Letter { value: 0 }", "    Letter { value: 1 }")
+        self.write(f"{FOLDER}/Letter.default.is_one.edit", made)
+        self.assert_passes()
+        shown = "impl {0} for Number {{\n    ghost output = {{ 0 }};\n    fn fmt() {{\n        {0}\n    }}\n}}\n\n"
+        self.write("crates/numbers/src/shown.rt", shown.format("Debug") + shown.format("Display"))
+        self.assert_fails("no wrong body of numbers Number.Display")
 
     def test_what_decides_has_one_for_each_direction(self):
-        self.replace("crates/numbers/src/lib.rt", "pub fn doubled(&self) -> u8\n", "pub fn doubled(&self) -> bool\n")
-        self.assert_fails("no wrong body of numbers doubled", evidence)
-        self.write("crates/numbers/must-fail/doubled.is_thrice.edit", self.FILES["crates/numbers/must-fail/doubled.is_once.edit"].replace("0\n", "7\n"))
-        self.assert_passes(evidence)
-        self.replace("crates/numbers/src/lib.rt", "-> bool\n", "-> u8\n")
-        self.replace("crates/numbers/src/lib.rt", "result ≡ 2", "(result ≡ 0) ↔ 2")
-        self.assert_passes(evidence)
-        (self.root / "crates/numbers/must-fail/doubled.is_once.edit").unlink()
-        (self.root / "crates/numbers/must-fail/doubled.is_thrice.edit").unlink()
-        self.assert_fails("no 2 wrong bodies of numbers doubled", evidence)
+        other = (f"{FOLDER}/doubled.is_thrice.edit", self.FILES[ONCE].replace("+ 0", "+ 7"))
+        for decides in ((FILE, "doubled(&self) -> u8", "doubled(&self) -> bool"), (FILE, "result ≡ 2", "(result ≡ 0) ↔ 2")):
+            self.assert_plants(
+                ("no wrong body of numbers doubled", decides),
+                ("no 2 wrong bodies of numbers doubled", decides, (ONCE, None)),
+                ("", decides, other),
+            )
 
 
 COUNTED = """\
@@ -137,58 +119,41 @@ pub fn other()
     1
 }
 """
+MOVES = "crates/moves/src/lib.rt"
+GOAL = "note: src/lib.rt:{}:1: it is not proved that what the function ensures holds when it returns (`{}`); `search` gave up"
+STORED = "./proofs/{}/Answers.antt:12:4: error: {}"
+REFUSED = {
+    "counted.is_one": GOAL.format(13, "returns-clause-moved"),
+    "plain.is_one": GOAL.format(13, "returns-clause-text"),
+    "other.is_zero": GOAL.format(20, "returns"),
+}
 
 
 class Refusals(TreeTest):
+    COMMAND = evidence
     FILES = {
         "crates.txt": "moves:\n",
-        "crates/moves/src/lib.rt": COUNTED,
-        "crates/moves/must-fail/counted.is_one.edit": "file: src/lib.rt\nold:     0\nnew:     1\n",
-        "crates/moves/must-fail/plain.is_one.edit": "file: src/lib.rt\nold:     0\nnew:     1\n",
-        "crates/moves/must-fail/other.is_zero.edit": "file: src/lib.rt\nold:     1\nnew:     0\n",
+        MOVES: COUNTED,
+        **{f"crates/moves/must-fail/{name}.edit": EDIT.format("lib", *("10" if "zero" in name else "01")) for name in REFUSED},
+        "log": "\n".join(f"rt: must-fail moves/{name}.edit: refused, as it must be: {said}" for name, said in REFUSED.items()),
     }
 
-    GOAL = "note: src/lib.rt:{}:1: it is not proved that what the function ensures holds when it returns (`{}`); `search` gave up"
-    TOLD = {"counted.is_one": GOAL.format(13, "returns-clause-moved"), "plain.is_one": GOAL.format(13, "returns-clause-text"),
-            "other.is_zero": GOAL.format(20, "returns")}
-
-    def tell(self, **changed):
-        """The log, in which some verdicts are others."""
-        told = {**self.TOLD, **{name.replace("__", "."): said for name, said in changed.items()}}
-        lines = [f"rt: must-fail moves/{name}.edit: refused, as it must be: {said}" for name, said in told.items() if said]
-        self.write("log", "\n".join(["checked moves", *lines, "3 passed, 0 failed"]))
-        return ["--refused", str(self.root / "log")]
-
     def test_each_is_refused_where_it_is_named_for(self):
-        self.assert_passes(evidence, *self.tell())
-
-    def test_one_that_the_log_lacks_is_named(self):
-        self.assert_fails("moves other.is_zero: the log does not say that it is refused", evidence, *self.tell(other__is_zero=""))
-
-    def test_a_goal_of_another_function_refuses_nothing(self):
-        words = self.tell(other__is_zero=self.GOAL.format(13, "returns-clause-text"))
-        self.assert_fails("moves other.is_zero: refused at src/lib.rt:13", evidence, *words)
-
-    def test_counts_refuse_nothing_of_what_does_not_count(self):
-        words = self.tell(plain__is_one=self.GOAL.format(13, "returns-then-zero-clause-moved"))
-        self.assert_fails("moves plain.is_one: refused by the counts of move_all", evidence, *words)
-
-    def test_a_stored_proof_refuses_where_there_is_a_control(self):
-        words = self.tell(plain__is_one="./proofs/move_all/Answers.antt:12:4: error: `returns-clause-text`: expected another")
-        self.assert_fails("moves plain.is_one: refused over a stored proof, and has no control", evidence, *words)
-        edit = "crates/moves/must-fail/plain.is_one.edit"
-        self.write(edit, self.FILES[edit] + "# right:     { 0 }\n")
-        self.assert_passes(evidence, *words)
-
-    def test_a_stored_proof_refuses_where_values_are_shown(self):
-        words = self.tell(plain__is_one="./proofs/move_all/Answers.antt:12:4: error: `returns-clause-text`: `omega`: the goal "
-                                        "does not follow from what it read. All of that holds, a")
-        self.assert_passes(evidence, *words)
-
-    def test_what_stands_above_a_function_is_its_own(self):
-        self.replace("crates/moves/src/lib.rt", "pub fn other()", "#[inline]\n#[cold]\npub fn other()")
-        self.assert_passes(evidence, *self.tell(other__is_zero=self.GOAL.format(20, "returns")))
-
-    def test_a_stored_proof_of_another_function_refuses_nothing(self):
-        words = self.tell(plain__is_one="./proofs/other/Answers.antt:12:4: error: `returns`: expected another")
-        self.assert_fails("moves plain.is_one: refused neither by a goal", evidence, *words)
+        of_counts = GOAL.format(13, "returns-then-zero-clause-moved")
+        over_values = "`omega`: the goal does not follow from what it read. All of that holds, a"
+        plain, other = REFUSED["plain.is_one"], REFUSED["other.is_zero"]
+        fits_not, edit = STORED.format("move_all", "`returns-clause-text`: no"), "crates/moves/must-fail/plain.is_one.edit"
+        self.assert_plants(
+            ("", (MOVES, COUNTED)),
+            ("moves other.is_zero: the log does not say that it is refused", ("log", "other.is_zero", "another.is_zero")),
+            ("moves other.is_zero: refused at src/lib.rt:13", ("log", other, GOAL.format(13, "returns-clause-text"))),
+            ("moves plain.is_one: refused by the counts of move_all", ("log", plain, of_counts)),
+            ("moves plain.is_one: refused neither by a goal", ("log", plain, STORED.format("other", "`returns`: no"))),
+            # (a stored proof refuses where there is a control, or values are shown)
+            ("moves plain.is_one: refused over a stored proof, and has no control", ("log", plain, fits_not)),
+            ("", ("log", plain, fits_not), (edit, self.FILES[edit] + "# right:     { 0 }\n")),
+            ("", ("log", plain, STORED.format("move_all", over_values))),
+            # (what stands above a function is its own)
+            ("", (MOVES, "pub fn other()", "#[inline]\n#[cold]\npub fn other()")),
+            words=["--refused", str(self.root / "log")],
+        )

@@ -1,27 +1,29 @@
 """What is recorded as proved, and what differs from the record: a small repository, over a stand-in for `rt`."""
-import io
 import os
 import shutil
 import subprocess
-from contextlib import redirect_stdout
 from unittest import mock
 
 import proved
+import rt
 from tests.trees import TreeTest
 
 KIT = "a-kit logic 0a1b"
-# Writes down where it is called and with what, does MORE, and fails in the crate FAULT.
+# Writes down where it is called and with what, does MORE, and ends with STATUS in the crate FAULT.
 STAND_IN = """\
 #!/bin/sh
 if [ "$*" = version ]; then
     echo 'a-kit logic 0a1b'
+    [ "FAULT" != version ]
     exit
 fi
 echo "${PWD##*/}: $*" >> "$CALLS"
 MORE
 if [ "${PWD##*/}" = "FAULT" ]; then
-    echo './src/lib.rt:1:1: open'
-    exit 1
+    echo 'read'
+    echo './proofs/f/Answers.antt:2:1: note: large'
+    echo './src/lib.rt:1:1: open' >&2
+    exit STATUS
 fi
 """
 # (the checksums of the two texts are those of FIPS 180-4)
@@ -35,9 +37,11 @@ DUE = f"""\
 {EMPTY}  crates/arraystring_base/src/lib.rt
 {ABC}  crates/arraystring_core/src/deep/er/file.rt
 """
+PATHS = [line.partition("  ")[2] for line in DUE.splitlines()[1:]]
 
 
 class Proved(TreeTest):
+    COMMAND = proved
     FILES = {
         "crates/arraystring/src/lib.rt": "abc",
         "crates/arraystring_base/proofs/f/Answers.antt": "",
@@ -53,84 +57,58 @@ class Proved(TreeTest):
 
     def setUp(self):
         super().setUp()
-        self.calls = self.root / "calls"
-        settings = {"PATH": f"{self.root / 'bin'}:{os.environ['PATH']}", "CALLS": str(self.calls)}
+        settings = {"PATH": f"{self.root / 'bin'}:{os.environ['PATH']}", "CALLS": str(self.root / "calls")}
         patch = mock.patch.dict(os.environ, settings)
         patch.start()
         self.addCleanup(patch.stop)
         self.stand_in()
 
-    def stand_in(self, fault="", more=""):
-        self.write("bin/rt", STAND_IN.replace("FAULT", fault).replace("MORE", more))
-        (self.root / "bin/rt").chmod(0o755)
-
-    def record(self):
-        return (self.root / proved.RECORD).read_text(encoding="utf-8")
+    def stand_in(self, fault="", status=0, more=""):
+        script = STAND_IN.replace("FAULT", fault).replace("STATUS", str(status)).replace("MORE", more)
+        self.write("bin/rt", script, is_program=True)
 
     def test_what_three_green_checks_have_proved_is_recorded(self):
-        self.assertIn("5 sources written to rust/proved.txt", self.assert_passes(proved))
-        self.assertEqual(self.record(), DUE)
-        self.assertEqual(self.calls.read_text(), "arraystring_base: check\narraystring_core: check\narraystring: check\n")
-        self.assertIn("5 sources of the Rust crate are as they were proved", self.assert_passes(proved, "--check"))
-
-    def test_sha256sum_reads_the_record(self):
-        self.assert_passes(proved)
+        self.assertIn("5 sources written to rust/proved.txt", self.assert_passes())
+        self.assertEqual(self.text(proved.RECORD), DUE)
+        self.assertEqual(self.text("calls"), "arraystring_base: check\narraystring_core: check\narraystring: check\n")
+        self.assertIn("5 sources of the Rust crate are as they were proved", self.assert_passes("--check"))
         words = [shutil.which("sha256sum"), "--check", "--strict", proved.RECORD]
         said = subprocess.run(words, cwd=self.root, check=True, stdout=subprocess.PIPE, encoding="utf-8").stdout
-        self.assertEqual(said, "".join(f"{line.partition('  ')[2]}: OK\n" for line in DUE.splitlines()[1:]))
+        self.assertEqual(said, "".join(f"{path}: OK\n" for path in PATHS))
 
-    def test_nothing_is_recorded_where_a_crate_is_not_proved(self):
-        for crate in proved.CRATES:
-            self.stand_in(fault=crate)
-            self.assert_fails(f"proved {crate}: REFUSED: ./src/lib.rt:1:1: open", proved)
-            self.assertEqual(self.record(), "of an earlier run\n")
-
-    def test_nothing_is_recorded_where_a_source_changes_meanwhile(self):
+    def test_nothing_is_recorded_where_a_crate_is_not_proved_or_a_source_changes_meanwhile(self):
+        # (2 is that nothing was judged)
+        for crate, status in zip(proved.CRATES, (1, 2, 101)):
+            self.stand_in(crate, status)
+            self.assert_fails(f"proved {crate}: REFUSED: ./src/lib.rt:1:1: open")
         for path in ("src/lib.rt", "src/new.rt"):
             self.stand_in(more=f"echo more >> ../arraystring_base/{path}")
-            with redirect_stdout(io.StringIO()):
-                self.assertEqual(proved.main([], self.root), "a source changed while it was proved, so nothing is written")
-            self.assertEqual(self.record(), "of an earlier run\n")
+            self.assert_fails("a source changed while it was proved, so nothing is written")
+        self.assertEqual(self.text(proved.RECORD), "of an earlier run\n")
 
-    def assert_named(self, wanted):
-        self.assert_fails(f"rust/proved.txt: not as it was proved: {wanted}\nprove them: tools/run proved", proved, "--check")
+    def test_what_differs_is_named(self):
+        def named(*lines):
+            return "".join(f"rust/proved.txt: not as it was proved: {it}\n" for it in lines) + "prove them: tools/run proved\n"
 
-    def test_a_source_that_was_changed_is_named(self):
         self.write(proved.RECORD, DUE)
-        for path in (line.partition("  ")[2] for line in DUE.splitlines()[1:]):
-            text = (self.root / path).read_text(encoding="utf-8")
-            for changed in {f"{text} ", text.replace("c", "d"), text[1:]} - {text}:
-                self.write(path, changed)
-                self.assert_named(path)
-            self.write(path, text)
-        self.assert_passes(proved, "--check")
-        self.assertFalse(self.calls.exists())
+        kits = [f"# {KIT}0", "# a-kit logic 0a1c", "# b-kit logic 0a1b"]
+        self.assert_plants(
+            ("", ("crates/arraystring_run/src/lib.rt", "ab")),
+            *((named(it), (it, f"{self.FILES[it]} ")) for it in PATHS),
+            *((named(it), (it, None)) for it in PATHS),
+            *((named(f"{it}.more"), (f"{it}.more", "")) for it in PATHS),
+            *((named(line.partition("  ")[2] or line), (proved.RECORD, f"{line}\n", "")) for line in DUE.splitlines()),
+            *((named(*sorted([f"# {KIT}", it])), (proved.RECORD, f"# {KIT}", it)) for it in kits),
+            (named(f"# {KIT}", *PATHS), (proved.RECORD, None)),
+            words=["--check"],
+        )
 
-    def test_a_source_that_only_one_of_them_has_is_named(self):
-        for line in DUE.splitlines()[1:]:
-            path = line.partition("  ")[2]
-            self.write(proved.RECORD, DUE.replace(f"{line}\n", ""))
-            self.assert_named(path)
-            self.write(proved.RECORD, DUE)
-            (self.root / path).rename(self.root / "aside")
-            self.assert_named(path)
-            (self.root / "aside").rename(self.root / path)
-            self.write(f"{path}.more", "")
-            self.assert_named(f"{path}.more")
-            (self.root / f"{path}.more").unlink()
-        self.assert_passes(proved, "--check")
-
-    def test_another_kit_is_named_with_the_one_that_proved(self):
-        for line in (f"# {KIT}0", "# a-kit logic 0a1c", "# b-kit logic 0a1b"):
-            self.write(proved.RECORD, DUE.replace(f"# {KIT}", line))
-            self.assert_named("\nrust/proved.txt: not as it was proved: ".join(sorted([f"# {KIT}", line])))
-        self.write(proved.RECORD, DUE.replace(f"# {KIT}\n", ""))
-        self.assert_named(f"# {KIT}")
-
-    def test_without_a_record_nothing_is_as_it_was(self):
-        (self.root / proved.RECORD).unlink()
-        self.assert_fails("not as it was proved: crates/arraystring/src/lib.rt\n", proved, "--check")
+    def test_no_kit_is_read_of_a_command_that_fails(self):
+        self.stand_in("version")
+        self.assertRaises(subprocess.CalledProcessError, rt.logic)
+        self.stand_in()
+        self.assertEqual(rt.logic(), "0a1b\n")
 
     def test_other_words_are_refused(self):
         for words in (["--chek"], ["arraystring"], ["--check", "--check"]):
-            self.assertEqual(proved.main(words, self.root), "the argument is --check, or none")
+            self.assert_fails("the argument is --check, or none", *words)
