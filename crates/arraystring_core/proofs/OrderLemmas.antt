@@ -101,7 +101,7 @@ none-is true e = absurd (omega arith)
 none-is false e = refl
 
 -- the lowest bit of a mask of lanes
-pub first_bit : (xs ys : List ℕ) (m : ℕ) → length xs ≡ length ys → m ≡ mask_l (zip2 apart xs ys) → 0 < m → m < 2 ^ 64
+first_bit : (xs ys : List ℕ) (m : ℕ) → length xs ≡ length ys → m ≡ mask_l (zip2 apart xs ys) → 0 < m → m < 2 ^ 64
     → (trailing_zeros w64 m < length xs) × (take (trailing_zeros w64 m) xs ≡ take (trailing_zeros w64 m) ys)
     × (get_or xs (trailing_zeros w64 m) 0 ≢ get_or ys (trailing_zeros w64 m) 0)
 first_bit xs ys m long is some small =
@@ -141,7 +141,7 @@ block_of K at a b same =
     rw wide (sym (drop-take at K a) ∙ ap (drop at) same ∙ drop-take at K b)
 
 -- the first of K bytes that is apart, behind `at` bytes that are not
-pub differ_behind : (K at : ℕ) (a b : List ℕ) → at + K ≤ length a → at + K ≤ length b → take at a ≡ take at b → (i : ℕ)
+differ_behind : (K at : ℕ) (a b : List ℕ) → at + K ≤ length a → at + K ≤ length b → take at a ≡ take at b → (i : ℕ)
     → (i < length (block K at a)) × (take i (block K at a) ≡ take i (block K at b)) × (get_or (block K at a) i 0 ≢ get_or (block K at b) i 0)
     → (at + i < length a) × (at + i < length b) × (take (at + i) a ≡ take (at + i) b) × (get_or a (at + i) 0 ≢ get_or b (at + i) 0)
 differ_behind K at a b in_a in_b before i found =
@@ -155,6 +155,15 @@ differ_behind K at a b in_a in_b before i found =
 
     read : (l : List ℕ) → get_or (block K at l) i 0 ≡ get_or l (at + i) 0
     read l = get_or-take (at + K - at) (drop at l) i 0 within ∙ get_or-drop at l i 0
+
+-- the byte that a mask of K lanes finds, where some bit of it is set
+pub differ_at : (K at m : ℕ) (a b : List ℕ) → at + K ≤ length a → at + K ≤ length b → take at a ≡ take at b
+    → m ≡ mask_l (zip2 apart (block K at a) (block K at b)) → 0 < m → m < 2 ^ 64
+    → (at + trailing_zeros w64 m < length a) × (at + trailing_zeros w64 m < length b)
+    × (take (at + trailing_zeros w64 m) a ≡ take (at + trailing_zeros w64 m) b)
+    × (get_or a (at + trailing_zeros w64 m) 0 ≢ get_or b (at + trailing_zeros w64 m) 0)
+differ_at K at m a b in_a in_b before is some small =
+    differ_behind K at a b in_a in_b before _ (first_bit _ _ m (block_length K at a in_a ∙ sym (block_length K at b in_b)) is some small)
 
 -- numbers that are ordered as two lists
 pub same_numbers : (x y : ℕ) (a b : List ℕ) → nat_cmp x y ≡ slice_cmp nat_cmp a b → x ≡ y → a ≡ b

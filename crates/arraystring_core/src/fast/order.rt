@@ -40,18 +40,15 @@ fn order_by_bytes(a: &[u8], b: &[u8], common: usize) -> Ordering
     requires lesser { common ≡ min (length a.now) (length b.now) }
     ensures { result ≡ slice_cmp nat_cmp a.now b.now }
 {
-    let mut at = 0;
-    while at < common {
+    for at in 0..common {
         if a[at] != b[at] {
-            return order_at(a, b, at);
+            return order_of_different(a[at] as u64, b[at] as u64);
         }
-        at += 1;
     }
-    a.len().cmp(&b.len())
+    order_of_lengths(a, b)
 }
 
-/// The order of texts of which the shorter has `K` to `2 * K` bytes: its first `K` decide, or else its last `K`. For these bytes
-/// stand numbers.
+/// The order of texts of which the shorter has `K` to `2 * K` bytes, by numbers that stand for its first and its last `K`.
 #[inline(always)]
 fn order_by_ends<const K: usize>(
     a: &[u8],
@@ -68,12 +65,12 @@ fn order_by_ends<const K: usize>(
     ensures { result ≡ slice_cmp nat_cmp a.now b.now }
 {
     if first.0 != first.1 {
-        return first.0.cmp(&first.1);
+        return order_of_different(first.0, first.1);
     }
     if last.0 != last.1 {
-        return last.0.cmp(&last.1);
+        return order_of_different(last.0, last.1);
     }
-    a.len().cmp(&b.len())
+    order_of_lengths(a, b)
 }
 
 /// Two numbers that are ordered as the 8 bytes of each text from `at` on.
@@ -99,14 +96,34 @@ fn halves(a: &[u8], b: &[u8], at: usize) -> (u64, u64)
     let (Some(one), Some(other)) = (a[at..].first_chunk::<4>(), b[at..].first_chunk::<4>()) else {
         unreachable!();
     };
-    (
-        u32::from_be_bytes(*one) as u64,
-        u32::from_be_bytes(*other) as u64,
-    )
+    let (one, other) = (u32::from_be_bytes(*one), u32::from_be_bytes(*other));
+    (one as u64, other as u64)
 }
 
-/// The order of texts of which the shorter has up to 80 bytes, and the first 16 are equal: by the blocks of 16 behind
-/// them. What `N` bytes can't have is not tested.
+/// The order of two texts of which one begins the other.
+#[inline(always)]
+fn order_of_lengths(a: &[u8], b: &[u8]) -> Ordering
+    ensures { result ≡ nat_cmp (length a.now) (length b.now) }
+{
+    if a.len() == b.len() {
+        return Ordering::Equal;
+    }
+    a.len().cmp(&b.len())
+}
+
+/// The order of two numbers that differ.
+#[inline(always)]
+fn order_of_different(one: u64, other: u64) -> Ordering
+    requires { one ≢ other }
+    ensures { result ≡ nat_cmp one other }
+{
+    if one < other {
+        return Ordering::Less;
+    }
+    Ordering::Greater
+}
+
+/// The order of texts of up to 80 bytes, by the blocks of 16 behind the first. What `N` bytes can't have is not tested.
 #[inline(always)]
 fn order_by_blocks<const N: usize>(a: &[u8], b: &[u8], common: usize) -> Ordering
     requires least { 16 ≤ common }
@@ -137,8 +154,7 @@ fn order_by_blocks<const N: usize>(a: &[u8], b: &[u8], common: usize) -> Orderin
     order_by_block::<16>(a, b, common, 64)
 }
 
-/// The order of longer texts, of which the first 16 bytes are equal: past groups of 64 bytes that are equal, and past
-/// one block of 32.
+/// The order of longer texts, by the first group of 64 bytes behind the first 16 that differs, or else by the last 32.
 #[inline(always)]
 fn order_by_groups(a: &[u8], b: &[u8], common: usize) -> Ordering
     requires least { 64 ≤ common }
@@ -156,8 +172,7 @@ fn order_by_groups(a: &[u8], b: &[u8], common: usize) -> Ordering
     order_by_block::<32>(a, b, common, at)
 }
 
-/// How many bytes at the front are equal, if the group of 64 behind them differs, or the last 64 of the first `common` bytes
-/// do where there are fewer. `None` if at most the last 32 differ.
+/// How many bytes at the front are equal, if the 64 behind them differ, or the last 64. `None` if at most the last 32 do.
 #[inline(always)]
 fn equal_groups(a: &[u8], b: &[u8], common: usize) -> Option<usize>
     requires least { 64 ≤ common }
@@ -180,8 +195,7 @@ fn equal_groups(a: &[u8], b: &[u8], common: usize) -> Option<usize>
     None
 }
 
-/// How two texts are ordered of which the first `at` bytes are equal. Of the `K` behind them some differ, or the first
-/// `common` bytes end there: then the last `K` are looked at.
+/// The order of texts whose first `at` bytes are equal, by the `K` behind them, or by the last `K` if there are fewer.
 #[inline(always)]
 fn order_by_block<const K: usize>(a: &[u8], b: &[u8], common: usize, at: usize) -> Ordering
     requires lanes { K ≤ 64 }
@@ -194,7 +208,7 @@ fn order_by_block<const K: usize>(a: &[u8], b: &[u8], common: usize, at: usize) 
 {
     match block_order::<K>(a, b, at.min(common - K)) {
         Some(order) => order,
-        None => a.len().cmp(&b.len()),
+        None => order_of_lengths(a, b),
     }
 }
 
@@ -214,17 +228,6 @@ fn block_order<const K: usize>(a: &[u8], b: &[u8], at: usize) -> Option<Ordering
     if mask == 0 {
         return None;
     }
-    Some(order_at(a, b, at + mask.trailing_zeros() as usize))
-}
-
-/// How two texts are ordered that differ at `at`, and not before.
-#[inline(always)]
-fn order_at(a: &[u8], b: &[u8], at: usize) -> Ordering
-    requires one { at < length a.now }
-    requires other { at < length b.now }
-    requires before { take at a.now ≡ take at b.now }
-    requires apart { slice_index_or a.now at 0 ≢ slice_index_or b.now at 0 }
-    ensures { result ≡ slice_cmp nat_cmp a.now b.now }
-{
-    a[at].cmp(&b[at])
+    let at = at + mask.trailing_zeros() as usize;
+    Some(order_of_different(a[at] as u64, b[at] as u64))
 }

@@ -1,7 +1,7 @@
 use Rattle.std.proofs.Common.{◌∙◌, sym, arith}
 use Rattle.std.proofs.lemmas.Bool.{eq-eqb}
 use Rattle.arraystring_core.proofs.EqualLemmas.{mask-is, same_block}
-use Rattle.arraystring_core.proofs.OrderLemmas.{block, block_length, past_block, first_bit, differ_behind}
+use Rattle.arraystring_core.proofs.OrderLemmas.{block, block_length, past_block, differ_at, first_decides}
 use Rattle.arraystring_core.proofs.fast.order.block_order.Goals as goal
 
 pub returns-then-mask-eq0-clause-none : goal.returns-then-mask-eq0-clause-none
@@ -10,12 +10,35 @@ returns-then-mask-eq0-clause-none g c =
     let other = block_length g.row.K c.args.at c.args.b.now c.requires.other in
     past_block g.row.K c.args.at c.args.a.now c.args.b.now c.requires.before ((same_block g.row.K _ _ c.requires.lanes one other).0 (eq-eqb _ _ c.if-mask-eq0.true))
 
-pub order_at-requires : goal.order_at-requires
-order_at-requires g c =
+pub bounds-a-at : goal.bounds-a-at
+bounds-a-at g c =
     let K = g.row.K in
     let one = block_length K c.args.at c.args.a.now c.requires.one in
     let other = block_length K c.args.at c.args.b.now c.requires.other in
     let is = mask-is K (block K c.args.at c.args.a.now) (block K c.args.at c.args.b.now) c.requires.lanes one other in
-    let found = first_bit _ _ _ (one ∙ sym other) is (omega arith) (omega arith) in
-    let differ = differ_behind K c.args.at c.args.a.now c.args.b.now c.requires.one c.requires.other c.requires.before _ found in
-    record { one = differ.0; other = differ.1; before = differ.2; apart = differ.3 }
+    (differ_at K c.args.at _ c.args.a.now c.args.b.now c.requires.one c.requires.other c.requires.before is (omega arith) (omega arith)).0
+
+pub bounds-b-at : goal.bounds-b-at
+bounds-b-at g c =
+    let K = g.row.K in
+    let one = block_length K c.args.at c.args.a.now c.requires.one in
+    let other = block_length K c.args.at c.args.b.now c.requires.other in
+    let is = mask-is K (block K c.args.at c.args.a.now) (block K c.args.at c.args.b.now) c.requires.lanes one other in
+    (differ_at K c.args.at _ c.args.a.now c.args.b.now c.requires.one c.requires.other c.requires.before is (omega arith) (omega arith)).1
+
+pub order_of_different-requires : goal.order_of_different-requires
+order_of_different-requires g c =
+    let K = g.row.K in
+    let one = block_length K c.args.at c.args.a.now c.requires.one in
+    let other = block_length K c.args.at c.args.b.now c.requires.other in
+    let is = mask-is K (block K c.args.at c.args.a.now) (block K c.args.at c.args.b.now) c.requires.lanes one other in
+    (differ_at K c.args.at _ c.args.a.now c.args.b.now c.requires.one c.requires.other c.requires.before is (omega arith) (omega arith)).3
+
+pub returns-clause-some : goal.returns-clause-some
+returns-clause-some g c =
+    let K = g.row.K in
+    let one = block_length K c.args.at c.args.a.now c.requires.one in
+    let other = block_length K c.args.at c.args.b.now c.requires.other in
+    let is = mask-is K (block K c.args.at c.args.a.now) (block K c.args.at c.args.b.now) c.requires.lanes one other in
+    let differ = differ_at K c.args.at _ c.args.a.now c.args.b.now c.requires.one c.requires.other c.requires.before is (omega arith) (omega arith) in
+    c.order_of_different.ensures ∙ sym (first_decides c.args.a.now c.args.b.now _ differ.0 differ.1 differ.2 differ.3)

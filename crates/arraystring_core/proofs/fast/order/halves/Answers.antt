@@ -8,5 +8,5 @@ pub returns : goal.returns
 returns c =
     let one = c.in-Some-Some.ensures.cases.same ∙ ap (take 4) (take_rest c.args.a.now c.args.at) in
     let other = c.in-Some-Some.ensures'.cases.same ∙ ap (take 4) (take_rest c.args.b.now c.args.at) in
-    rw (c.from_be_bytes.ensures ∙ ap (from_be_bytes w32) one, c.from_be_bytes-2.ensures ∙ ap (from_be_bytes w32) other)
+    rw (c.from_be_bytes-one.ensures ∙ ap (from_be_bytes w32) one, c.from_be_bytes-other.ensures ∙ ap (from_be_bytes w32) other)
     (numbers_cmp 4 (from_be_bytes w32) value_4 c.args.at c.args.a.now c.args.b.now c.requires.one c.requires.other c.type_inv.a c.type_inv.b)

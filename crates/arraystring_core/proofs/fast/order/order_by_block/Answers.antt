@@ -7,4 +7,4 @@ returns-in-None g c =
     let same = c.in-None.ensures.none in
     let reached = last_rest g.row.K c.args.at c.args.common _ c.args.a.now c.args.b.now c.requires.least c.requires.rest c.min.ensures same in
     let all = shorter_same c.args.common _ c.args.a.now c.args.b.now reached same in
-    c.cmp.ensures ∙ sym (prefix_decides c.args.a.now c.args.b.now c.args.common c.requires.lesser all)
+    c.order_of_lengths.ensures ∙ sym (prefix_decides c.args.a.now c.args.b.now c.args.common c.requires.lesser all)
