@@ -1,5 +1,5 @@
-use Rattle.std.proofs.Common.{◌+◌, ◌-◌, ◌≤◌, ◌++◌, chars, length, refl, arith, rules}
-use Rattle.arraystring_base.specs.Text.{cap, front, back}
+use Rattle.std.proofs.Common.{◌+◌, ◌-◌, ◌++◌, chars, length, refl, arith, rules}
+use Rattle.arraystring_base.specs.Text.{front, back}
 use Rattle.arraystring_base.proofs.TextLaws.{size-borrowed}
 use Rattle.arraystring_core.proofs.StoredLaws.{opened-size, opened-within}
 use Rattle.arraystring_core.proofs.SpanLemmas.{Lies, spliced, filled}
@@ -9,8 +9,7 @@ use Rattle.arraystring_core.proofs.array_string.ArrayString.splice.Goals as goal
 pub open_gap-requires : goal.open_gap-requires
 open_gap-requires g c =
     let within = opened-within c.self.invariant c.self.view_is _ c.requires.end in
-    let room : c.self.inside.start + (c.args.start + (length c.args.given.now + (c.self.inside.size - c.args.end))) ≤ cap g.row.N = rw (← c.new-text.ensures.offset, ← c.new-text.ensures.size) (omega arith) in
-    rw (c.new-text.ensures.offset, c.new-text.ensures.size) (search rules, (c.requires.order, (within, (c.self.invariant.within, (room, c.requires.countable)))))
+    (search rules, (c.requires.order, (omega arith, (omega arith, (omega arith, c.requires.countable)))))
 
 pub overflow_sub-tail : goal.overflow_sub-tail
 overflow_sub-tail g c = rw c.new-text.ensures.size (opened-within c.self.invariant c.self.view_is _ c.requires.end)
