@@ -1,5 +1,5 @@
 -- Laws of edits: when a cause holds, and what an edit then does.
-use Rattle.std.proofs.Common.{◌≡◌, ℕ, ◌+◌, ◌<◌, ◌≤◌, List, [], ◌∷◌, ◌++◌, ap, ◌∙◌, arith, suc, true, false, refl, sym, Some, None, Ok, Err}
+use Rattle.std.proofs.Common.{◌≡◌, ℕ, ◌+◌, ◌<◌, ◌≤◌, List, [], ◌∷◌, ◌++◌, ap, arith, suc, true, false, refl, Some, None, Ok, Err}
 use Rattle.std.proofs.lemmas.Bool.{lt-ltb, le-ltb, and_right}
 use Rattle.std.proofs.Math.Bool.{or_assoc, or-false}
 use Rattle.std.proofs.lemmas.Bool.Decides.{nat_tests}
@@ -7,7 +7,7 @@ use Rattle.std.specs.Char.{is_whitespace}
 use Rattle.std.specs.Prelude.{◌&&◌, ◌||◌, ◌==◌, nat_le, nat_lt}
 use Rattle.arraystring_base.specs.Text.{size, boundary}
 use Rattle.arraystring_base.proofs.BoundaryLaws.{boundary-end}
-use Rattle.arraystring_core.specs.Edits.{Cause, Room, Test, Edit, Makes, NoneHolds, first_cause, error_of, ok_unless, inside, addition, last_of, all_but_last, is_white_space}
+use Rattle.arraystring_core.specs.Edits.{Cause, Room, Test, Edit, Makes, NoneHolds, first_cause, error_of, inside, addition, last_of, all_but_last, is_white_space}
 use Rattle.arraystring_base.specs.declared.error.Error.{Error}
 use Rattle.arraystring_base.specs.declared.error.Error.TheVariants.{OutOfBounds}
 
