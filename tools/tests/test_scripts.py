@@ -21,11 +21,8 @@ echo "FOLDER${0##*/} $*FLAGS" >> "$CALLS"
 class ScriptTest(TreeTest):
     """A tree with a copy of a script, and a PATH that has these programs and the stand-ins of its folder `bin` alone."""
 
-    SCRIPT = ""
-    # What a stand-in writes down before its name, and behind its arguments.
-    FOLDER, FLAGS = "", ""
-    # What it prints last where all has passed.
-    PASSED = "all passed"
+    # What a stand-in writes down before its name and behind its arguments, and what the script prints last where all has passed.
+    SCRIPT, FOLDER, FLAGS, PASSED = "", "", "", "all passed"
     PROGRAMS = "bash sh dirname id ls cmp grep sed paste rm mkdir cat wc mktemp sha256sum sleep tee"
 
     def setUp(self):
@@ -36,8 +33,8 @@ class ScriptTest(TreeTest):
         self.write(self.SCRIPT, (ROOT / self.SCRIPT).read_text(encoding="utf-8"))
 
     def stand_in(self, path, *lines):
-        self.write(path, STAND_IN.replace("FOLDER", self.FOLDER).replace("FLAGS", self.FLAGS) + "".join(f"{line}\n" for line in lines))
-        (self.root / path).chmod(0o755)
+        head = STAND_IN.replace("FOLDER", self.FOLDER).replace("FLAGS", self.FLAGS)
+        self.write(path, "\n".join([head, *lines, ""]), is_program=True)
 
     def called(self, fault=0, words=()):
         """Whether the script fails if the call with this number does, what it prints, and the calls that it made."""
@@ -67,7 +64,8 @@ class ScriptTest(TreeTest):
 class Gate(ScriptTest):
     SCRIPT = ".ci/run"
     PROGRAM = "crates/arraystring_cli/out/arraystring_cli"
-    RAN = "    run: all memory is taken"
+    RAN = "echo '    run: all memory is taken'"
+    TRIED = f"echo 'try: {CASES} cases, 0 differ'"
 
     def setUp(self):
         super().setUp()
@@ -76,50 +74,46 @@ class Gate(ScriptTest):
         self.write("crates/numbers_tests/src/lib.rt", "let a = ScarceMemory::take(&rt)?;\nlet b = ScarceMemory::take(&rt)?;\n")
         self.stand_in("tools/run")
         self.proves(self.RAN, self.RAN)
-        self.tries(f"try: {CASES} cases, 0 differ")
+        self.stand_in("crates/arraystring_cli/try", self.TRIED)
         self.stand_in("rust/check")
         (self.root / "bin/cargo").symlink_to("/bin/false")
 
     def proves(self, *lines):
-        """`rt ci` prints these lines, and leaves a program."""
-        self.stand_in("bin/rt", "sleep 0.02", f"echo a program > {self.PROGRAM}", *(f"echo '{it}'" for it in lines))
-
-    def tries(self, *lines):
-        """The try of the program prints these lines."""
-        self.stand_in("crates/arraystring_cli/try", *(f"echo '{it}'" for it in lines))
+        """`rt ci` does this, and leaves a program."""
+        self.stand_in("bin/rt", "sleep 0.02", f"echo a program > {self.PROGRAM}", *lines)
 
     def test_each_call_is_enough_to_fail(self):
-        calls = self.assert_each_call_is_enough_to_fail()
-        calls = [re.sub("(?<=--refused ).*", "LOG", it) for it in calls]
+        calls = [re.sub("(?<=--refused ).*", "LOG", it) for it in self.assert_each_call_is_enough_to_fail()]
         self.assertEqual(calls, ["run check", "rt ci", "run proved --check", "rt must-fail", "run evidence --refused LOG",
                                  f"try {self.PROGRAM}", "check "])
 
-    def test_a_test_without_memory_that_has_not_run_is_counted(self):
-        self.proves(self.RAN, "    not run: the checker of addresses of `rt try` has memory set aside")
-        self.assert_refused("run: 1 tests without memory have run, and 2 are due")
-        self.proves()
-        self.assert_refused("run: 0 tests without memory have run, and 2 are due")
+    def test_fewer_tests_without_memory_or_cases_are_refused(self):
+        for count, lines in ((1, [self.RAN, "echo '    not run: the checker has memory set aside'"]), (0, [])):
+            self.proves(*lines)
+            self.assert_refused(f"run: {count} tests without memory have run, and 2 are due")
+        self.proves(self.RAN, self.RAN)
+        for count, line in ((CASES - 1, f"echo 'try: {CASES - 1} cases, 0 differ'"), ("no", "echo 'ok       a case'")):
+            self.stand_in("crates/arraystring_cli/try", line)
+            self.assert_refused(f"run: {count} cases of the program were tried, and {CASES} are due")
 
-    def test_fewer_cases_of_the_program_are_refused(self):
-        self.tries("ok       a case", f"try: {CASES - 1} cases, 0 differ")
-        self.assert_refused(f"run: {CASES - 1} cases of the program were tried, and {CASES} are due")
-        self.tries("ok       a case")
-        self.assert_refused(f"run: no cases of the program were tried, and {CASES} are due")
+    def test_what_fails_before_a_pipe_is_refused(self):
+        for ending, status in (('[ "$1" != ci ]', 0), ("", 1)):
+            self.proves(self.RAN, self.RAN, ending)
+            self.stand_in("crates/arraystring_cli/try", self.TRIED, f"exit {status}")
+            self.assertTrue(self.called()[0])
 
-    def test_a_program_of_an_earlier_run_is_refused(self):
-        self.stand_in("bin/rt", f"echo '{self.RAN}'", f"echo '{self.RAN}'")
-        self.assert_refused(f"rt ci has left no new {self.PROGRAM}")
-
-    def test_another_program_than_the_one_that_ran_is_refused(self):
-        self.stand_in("crates/arraystring_cli/try", f"echo more >> {self.PROGRAM}", f"echo 'try: {CASES} cases, 0 differ'")
+    def test_a_program_is_the_one_that_ran(self):
+        self.stand_in("crates/arraystring_cli/try", f"echo more >> {self.PROGRAM}", self.TRIED)
         self.assert_refused(f"{self.PROGRAM} is no longer the one that rt ci ran")
+        os.utime(self.root / self.PROGRAM, (0, 0))
+        self.stand_in("bin/rt", self.RAN, self.RAN)
+        self.assert_refused(f"rt ci has left no new {self.PROGRAM}")
 
     def test_where_there_is_no_cargo_it_says_what_was_not_checked(self):
         (self.root / "bin/cargo").unlink()
         failed, printed, calls = self.called()
-        self.assertFalse(failed)
         self.assertIn("there is no cargo, so the Rust crate (rust/check) was not checked", printed)
-        self.assertNotIn("check ", calls)
+        self.assertEqual((failed, "check " in calls), (False, False))
 
 
 # The calls of rust/check, each with the folder in which it is made. The first are made before flags are set, the second with
@@ -170,7 +164,6 @@ class RustCheck(ScriptTest):
     PASSED = "rust/check: 11 passed, 0 skipped\n"
     FOLDER = "${PWD##*/}: "
     FLAGS = "${RUSTFLAGS:+ with$RUSTFLAGS}${RUSTDOCFLAGS:+ and$RUSTDOCFLAGS}"
-    CRATES = ["arraystring", "arraystring_serde", "erase", "no_panic"]
     REFERENCE = "$CARGO_TARGET_DIR/doc/arraystring"
     # (what `cargo doc` makes, and the number that `cargo pkgid` tells)
     CARGO = """\
@@ -181,8 +174,6 @@ esac"""
 
     def setUp(self):
         super().setUp()
-        for crate in self.CRATES:
-            self.write(f"rust/{crate}/Cargo.toml", "")
         self.write("LICENSE", "a license")
         self.write("rust/arraystring/LICENSE", "a license")
         self.stand_in("rust/erase/run")
@@ -193,8 +184,7 @@ esac"""
         self.reference_has('id="method.new" id="method.try_from_str" id="method.len"')
 
     def serde_is_there(self, is_there):
-        self.write("bin/ls", f"#!/bin/sh\nexit {0 if is_there else 2}\n")
-        (self.root / "bin/ls").chmod(0o755)
+        self.write("bin/ls", f"#!/bin/sh\nexit {0 if is_there else 2}\n", is_program=True)
 
     def due(self):
         """The calls that are due."""
@@ -239,17 +229,15 @@ esac"""
         self.called()
         self.assertFalse((self.root / "rust/arraystring_serde/Cargo.lock").exists())
 
-    def test_another_license_is_refused(self):
+    def test_another_license_or_reference_is_refused(self):
+        for page, wanted in (
+            ('id="method.new" id="method.try_from_str" a ghost', "a word of the proofs is in the reference"),
+            ('id="method.new" id="method.len"', "the constructors are not what the reference shows first, but new len"),
+        ):
+            self.reference_has(page)
+            self.assert_refused(wanted)
         self.write("rust/arraystring/LICENSE", "another")
         self.assert_refused("differ")
-
-    def test_a_word_of_the_proofs_in_the_reference_is_refused(self):
-        self.reference_has('id="method.new" id="method.try_from_str" a ghost')
-        self.assert_refused("a word of the proofs is in the reference")
-
-    def test_a_reference_that_begins_with_other_calls_is_refused(self):
-        self.reference_has('id="method.new" id="method.len"')
-        self.assert_refused("the constructors are not what the reference shows first, but new len")
 
 
 class Try(TreeTest):
@@ -299,9 +287,8 @@ fi
     def tried(self, program, lines=()):
         """The names of the cases that are as they should be, and of those that differ, over a program of these lines."""
         if lines:
+            self.write(program, lines, is_program=True)
             program = self.root / program
-            program.write_text(lines, encoding="utf-8")
-            program.chmod(0o755)
         run = subprocess.run([str(ROOT / "crates/arraystring_cli/try"), program], stdout=subprocess.PIPE,
                              stderr=subprocess.STDOUT, encoding="utf-8", errors="replace")
         lines = run.stdout.splitlines()
