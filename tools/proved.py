@@ -3,8 +3,8 @@
 tools/run proved            proves the crates that rust/erase reads, by `rt check` in each, and writes rust/proved.txt
 tools/run proved --check    proves nothing, and fails where that file is not what would be written now
 
-rust/proved.txt begins with the line of `rt version`. Then it has the checksum of each file in src/, specs/ and proofs/ of these
-crates, so that `sha256sum --check rust/proved.txt` reads it at the top of the repository. rust/erase/run and rust/check stop at
+rust/proved.txt begins with the logic that `rt version` names, which kits of several names share. Then it has the checksum of each
+file in src/, specs/ and proofs/ of these crates, so that `sha256sum --check rust/proved.txt` reads it at the top of the repository. rust/erase/run and rust/check stop at
 a source that it does not have. It is a record and no evidence, since anyone can write it: `rt ci` proves the sources anew.
 """
 import hashlib
@@ -27,7 +27,7 @@ def sources(root):
 def lines(root):
     """The record as it is due if all is proved."""
     sums = [f"{hashlib.sha256(it.read_bytes()).hexdigest()}  {it.relative_to(root).as_posix()}" for it in sources(root)]
-    return [f"# {rt.version().strip()}", *sums]
+    return [f"# logic {rt.logic().strip()}", *sums]
 
 
 def recorded(root):
@@ -37,7 +37,7 @@ def recorded(root):
 
 
 def compare(root):
-    """Compares the record with the sources and the kit, and names each file or kit that only one of them has so."""
+    """Compares the record with the sources and the logic, and names each file or logic that only one of them has so."""
     due = lines(root)
     changed = sorted({line.partition("  ")[2] or line for line in set(recorded(root)) ^ set(due)})
     faults = [f"{RECORD}: not as it was proved: {it}" for it in changed]

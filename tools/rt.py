@@ -3,14 +3,10 @@ import re
 import subprocess
 
 
-def version():
-    """The kit's name and its logic, as `rt version` prints them."""
-    return subprocess.run(["rt", "version"], check=True, stdout=subprocess.PIPE, encoding="utf-8").stdout
-
-
 def logic():
     """The logic that `rt version` names behind the kit's name; kits of several names may share one."""
-    return version().partition(" logic ")[2]
+    told = subprocess.run(["rt", "version"], check=True, stdout=subprocess.PIPE, encoding="utf-8").stdout
+    return told.partition(" logic ")[2]
 
 
 def check(folder, *flags):

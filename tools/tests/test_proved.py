@@ -8,12 +8,12 @@ import proved
 import rt
 from tests.trees import TreeTest
 
-KIT = "a-kit logic 0a1b"
+LOGIC = "# logic 0a1b"
 # Writes down where it is called and with what, does MORE, and ends with STATUS in the crate FAULT.
 STAND_IN = """\
 #!/bin/sh
 if [ "$*" = version ]; then
-    echo 'a-kit logic 0a1b'
+    echo 'KIT logic 0a1b'
     [ "FAULT" != version ]
     exit
 fi
@@ -30,7 +30,7 @@ fi
 EMPTY, ABC = "e3b0c44298fc1c149afbf4c8996fb92427ae41e4649b934ca495991b7852b855", \
     "ba7816bf8f01cfea414140de5dae2223b00361a396177a9cb410ff61f20015ad"
 DUE = f"""\
-# {KIT}
+{LOGIC}
 {ABC}  crates/arraystring/src/lib.rt
 {EMPTY}  crates/arraystring_base/proofs/f/Answers.antt
 {ABC}  crates/arraystring_base/specs/Lib.antt
@@ -63,8 +63,8 @@ class Proved(TreeTest):
         self.addCleanup(patch.stop)
         self.stand_in()
 
-    def stand_in(self, fault="", status=0, more=""):
-        script = STAND_IN.replace("FAULT", fault).replace("STATUS", str(status)).replace("MORE", more)
+    def stand_in(self, fault="", status=0, more="", kit="a-kit"):
+        script = STAND_IN.replace("FAULT", fault).replace("STATUS", str(status)).replace("MORE", more).replace("KIT", kit)
         self.write("bin/rt", script, is_program=True)
 
     def test_what_three_green_checks_have_proved_is_recorded(self):
@@ -91,19 +91,24 @@ class Proved(TreeTest):
             return "".join(f"rust/proved.txt: not as it was proved: {it}\n" for it in lines) + "prove them: tools/run proved\n"
 
         self.write(proved.RECORD, DUE)
-        kits = [f"# {KIT}0", "# a-kit logic 0a1c", "# b-kit logic 0a1b"]
+        others = [f"{LOGIC}0", "# logic 0a1c", "# a-kit logic 0a1b"]
         self.assert_plants(
             ("", ("crates/arraystring_run/src/lib.rt", "ab")),
             *((named(it), (it, f"{self.FILES[it]} ")) for it in PATHS),
             *((named(it), (it, None)) for it in PATHS),
             *((named(f"{it}.more"), (f"{it}.more", "")) for it in PATHS),
             *((named(line.partition("  ")[2] or line), (proved.RECORD, f"{line}\n", "")) for line in DUE.splitlines()),
-            *((named(*sorted([f"# {KIT}", it])), (proved.RECORD, f"# {KIT}", it)) for it in kits),
-            (named(f"# {KIT}", *PATHS), (proved.RECORD, None)),
+            *((named(*sorted([LOGIC, it])), (proved.RECORD, f"{LOGIC}\n", f"{it}\n")) for it in others),
+            (named(LOGIC, *PATHS), (proved.RECORD, None)),
             words=["--check"],
         )
 
-    def test_no_kit_is_read_of_a_command_that_fails(self):
+    def test_a_kit_of_another_name_may_have_the_same_logic(self):
+        self.write(proved.RECORD, DUE)
+        self.stand_in(kit="b-kit")
+        self.assert_passes("--check")
+
+    def test_no_logic_is_read_of_a_command_that_fails(self):
         self.stand_in("version")
         self.assertRaises(subprocess.CalledProcessError, rt.logic)
         self.stand_in()

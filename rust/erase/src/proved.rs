@@ -8,7 +8,7 @@ use crate::checksum::sha256;
 use crate::files::{Made, read, sources};
 use crate::rules::CRATES;
 
-/// The record, which `tools/run proved` writes: the kit, and the checksum of each file that a proof is made of.
+/// The record, which `tools/run proved` writes: the logic of the kit, and the checksum of each file that a proof is made of.
 const RECORD: &str = "rust/proved.txt";
 
 /// The folders of a crate that its proof is made of.
@@ -35,8 +35,8 @@ pub fn told(made: &mut Made, root: &Path, is_unproved_allowed: bool) -> Result<S
 /// How many sources are as in the record; the first that is not is an error.
 fn as_recorded(root: &Path) -> Result<String, String> {
     let record = read(&root.join(RECORD))?;
-    let (kit, lines) = record.split_once('\n').unwrap_or((&record, ""));
-    let kit = kit.strip_prefix("# ").ok_or(format!("{RECORD}:1: no kit that proved the sources"))?;
+    let (logic, lines) = record.split_once('\n').unwrap_or((&record, ""));
+    let logic = logic.strip_prefix("# ").ok_or(format!("{RECORD}:1: no logic that proved the sources"))?;
     let mut left: BTreeMap<_, _> =
         lines.lines().filter_map(|line| line.split_once("  ")).map(|(sum, path)| (path, sum)).collect();
     let count = left.len();
@@ -51,7 +51,7 @@ fn as_recorded(root: &Path) -> Result<String, String> {
     }
     match left.first_key_value() {
         Some((path, _)) => Err(format!("{path} is in {RECORD}, and is not there")),
-        None => Ok(format!("{count:5} sources are as in {RECORD}, proved by {kit}")),
+        None => Ok(format!("{count:5} sources are as in {RECORD}, proved by {logic}")),
     }
 }
 
@@ -87,7 +87,7 @@ mod tests {
         /// One whose sources are as in its record.
         fn new(name: &str) -> Self {
             let repository = Repository(std::env::temp_dir().join(format!("erase-{name}-{}", std::process::id())));
-            let mut record = "# a kit\n".to_string();
+            let mut record = "# a logic\n".to_string();
             for (path, text) in SOURCES {
                 repository.write(path, text);
                 record += &format!("{}  {path}\n", if text.is_empty() { EMPTY } else { ABC });
@@ -140,7 +140,7 @@ mod tests {
         let repository = Repository::new("as-recorded");
         repository.write("crates/arraystring_core/must-fail/f.edit", "no part of the proof");
         repository.write("crates/arraystring_run/src/lib.rt", "no source of the Rust crate");
-        let due = "    9 sources are as in rust/proved.txt, proved by a kit".to_string();
+        let due = "    9 sources are as in rust/proved.txt, proved by a logic".to_string();
         for is_unproved_allowed in [false, true] {
             assert_eq!(repository.told(is_unproved_allowed), (Ok(due.clone()), "fn f() {}\n".to_string()));
         }
@@ -181,12 +181,12 @@ mod tests {
     }
 
     #[test]
-    fn a_record_that_names_no_kit_is_refused() {
-        let repository = Repository::new("no-kit");
+    fn a_record_that_names_no_logic_is_refused() {
+        let repository = Repository::new("no-logic");
         let record = repository.record();
-        for first in ["", "a kit\n", "\n"] {
-            repository.write(RECORD, &record.replace("# a kit\n", first));
-            repository.assert_differs("rust/proved.txt:1: no kit that proved the sources");
+        for first in ["", "a logic\n", "\n"] {
+            repository.write(RECORD, &record.replace("# a logic\n", first));
+            repository.assert_differs("rust/proved.txt:1: no logic that proved the sources");
         }
     }
 
