@@ -39,7 +39,8 @@ get_users es q = finite.get-from_entries nat_list_cmp_total (by_text es) q ∙ f
 -- what is found under each text after a change to what is under one
 updated-users : (old new : List (Stored × User)) (t : List ℕ) (value : Option User)
     → ((q : Stored) → lookup (has_text q.text) new ≡ cond (has_text t q) value (lookup (has_text q.text) old))
-    → (q : List ℕ) → finite.get (users_of new) q ≡ cond (eq_by_cmp (slice_cmp nat_cmp) q t) (option_map texts value) (finite.get (users_of old) q)
+    → (q : List ℕ) → finite.get (users_of new) q
+    ≡ cond (eq_by_cmp (slice_cmp nat_cmp) q t) (option_map texts value) (finite.get (users_of old) q)
 updated-users old new t value is q = cc (
   get_users new q,
   updated-text old new t value is q,
@@ -54,7 +55,8 @@ pub insert_users : (old new : List (Stored × User)) (k : Stored) (u : User)
     → users_of new ≡ finite.insert (users_of old) k.text (texts u)
 insert_users old new k u is =
     finite.same_map nat_list_cmp_total exact_bytes _ _
-    (λ q. updated-users old new k.text (Some u) is q ∙ sym (finite.get-insert nat_list_cmp_total (users_of old) k.text (texts u) q))
+    (λ q. updated-users old new k.text (Some u) is q
+    ∙ sym (finite.get-insert nat_list_cmp_total (users_of old) k.text (texts u) q))
 
 -- one user less
 pub remove_users : (old new : List (Stored × User)) (t : List ℕ)
@@ -107,7 +109,8 @@ module _ (m : Users) (t : List ℕ) where
   -- a removal takes one if there is one
   pub len_removed : (o : Option User) → option_map texts o ≡ finite.get m t → finite.len (finite.remove m t) + (if is_some o then 1 else 0) ≡ finite.len m
   len_removed None is =
-      let none : finite.contains_key m t ≡ false = ap is_some (sym is) in omega (arith, rw none at (finite.len-remove nat_list_cmp_total m t))
+      let none : finite.contains_key m t ≡ false = ap is_some (sym is) in
+      omega (arith, rw none at (finite.len-remove nat_list_cmp_total m t))
   len_removed (Some u) is =
       let some : finite.contains_key m t ≡ true = ap is_some (sym is) in
       omega (arith, rw some at (finite.len-remove nat_list_cmp_total m t), has_one _ refl some)

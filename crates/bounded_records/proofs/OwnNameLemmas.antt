@@ -32,7 +32,8 @@ module _ (m : finite.FinMap (slice_cmp nat_cmp) (List ℕ × List ℕ)) (own : A
   pub own-insert : (r : List ℕ) → AreUnderTheirNames (finite.insert m t (t, r))
   own-insert r q =
       rw (finite.get-insert nat_list_cmp_total m t (t, r) q)
-      (cond_both (eq_by_cmp (slice_cmp nat_cmp) q t) _ _ (λ u. IfSome u (λ u. u.0 ≡ q)) (λ e. sym (tells_apart exact_bytes q t e)) (λ e. own q))
+      (cond_both (eq_by_cmp (slice_cmp nat_cmp) q t) _ _ (λ u. IfSome u (λ u. u.0 ≡ q))
+      (λ e. sym (tells_apart exact_bytes q t e)) (λ e. own q))
 
   pub own-remove : AreUnderTheirNames (finite.remove m t)
   own-remove q =
