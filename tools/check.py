@@ -34,7 +34,7 @@ LEAST = {
     "{} tests of the tools": 50,
     "run: {} definitions": 60,
     "all public contracts: {} definitions": 190,
-    "{} lemmas and laws are cited": 880,
+    "{} lemmas and laws are cited": 740,
     "{} blocks are as in the files": 14,
     "the pages name {} public calls": 58,
     "public calls and {} traits": 18,

@@ -275,7 +275,7 @@ impl<const N: usize> Ord for ArrayString<N> {
     fn cmp(&self, other: &Self) -> Ordering {
         // The other one is read first, so that no register has to be moved.
         let other_text = other.as_str();
-        order(self.as_str(), other_text)
+        order::<N>(self.as_str(), other_text)
     }
 }
 

@@ -248,7 +248,7 @@ impl<const N: usize> Ord for Drain<N> {
     /// Another body runs here than the one that was proved: std compares the bytes of the texts.
     #[inline(always)]
     fn cmp(&self, other: &Self) -> Ordering {
-        order(self.as_str(), other.as_str())
+        order::<N>(self.as_str(), other.as_str())
     }
 }
 

@@ -8,6 +8,7 @@ use core::cmp::Ordering;
 /// <details><summary>Contract</summary>
 ///
 /// ```text
+/// requires most { length text.now ≤ N }
 /// ensures { result ≡ slice_cmp nat_cmp text.now other.now }
 /// ```
 ///
@@ -17,6 +18,6 @@ use core::cmp::Ordering;
 ///
 /// Another body runs here than the one that was proved: std compares the bytes of the texts.
 #[inline(always)]
-pub(crate) fn order(text: &str, other: &str) -> Ordering {
+pub(crate) fn order<const N: usize>(text: &str, other: &str) -> Ordering {
     text.cmp(other)
 }
