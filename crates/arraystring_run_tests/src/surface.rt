@@ -1,4 +1,12 @@
-//! The paths by which callers reach `arraystring_run`, and the traits of the types at those paths.
+//! The paths by which callers reach `arraystring_run`, those of its definitions among them, and the traits of the types at
+//! those paths.
+ghost use Rattle.arraystring_run.specs.Grammar.{IsLineOf};
+ghost use Rattle.arraystring_run.specs.Word.{IsOnlyWord};
+ghost use Rattle.arraystring_run.specs.Script.{line_feed, ended, all_ended, IsOneLine, AreOneLine, first_byte, lines, AreLinesOf, IsBadAt};
+ghost use Rattle.arraystring_run.specs.Script.{printed, replies_printed, all_printed, run_printed, AppendsPrefix};
+ghost use Rattle.arraystring_run.specs.Script.{IfBadLine, IsPlayed, IsPartPlayed};
+ghost use Rattle.arraystring_run.specs.Script.{capacity_named, status_of, usage_line, fault_line, report_of, IsServed};
+
 use super::runs::text_of;
 use super::table::agree;
 use arraystring::error::Error;
