@@ -51,7 +51,7 @@ module _ {t : List ℕ} (i : ℕ) (given : List ℕ) (n : ℕ) {new : List ℕ} 
       ⊎ ((i ≤ size t) × (n < size t + size given) × (error ≡ OutOfBounds))
       ⊎ ((i < size t) × (size t + size given ≤ n) × (boundary t i ≡ false) × (error ≡ Utf8)))
       × (new ≡ t)
-  insertion-refused m = let (cause, held, e, same) = edit-first_held m in (grind (arith, nat_tests), same)
+  insertion-refused m = let (cause, first, e, same) = edit-first_held m in (grind (arith, nat_tests), same)
 
 module _ {t : List ℕ} (i : ℕ) (given : List ℕ) (n : ℕ) {new : List ℕ} {result : Result (Unit {0}) Error} where
   -- what fits is put at a boundary

@@ -26,7 +26,7 @@ module _ {t : List ℕ} (start end : ℕ) {new : List ℕ} where
       ⊎ ((start ≤ end) × (end ≤ size t) × (boundary t start ≡ false) × (error ≡ Utf8))
       ⊎ ((start ≤ end) × (end ≤ size t) × (boundary t start ≡ true) × (boundary t end ≡ false) × (error ≡ Utf8)))
       × (new ≡ t)
-  draining-refused m = let (cause, held, e, same) = edit-first_held m in (grind (arith, nat_tests, inside-failed t start), same)
+  draining-refused m = let (cause, first, e, same) = edit-first_held m in (grind (arith, nat_tests, inside-failed t start), same)
 
 module _ {t : List ℕ} (start end : ℕ) {new : List ℕ} {result : Result (List ℕ) Error} where
   -- the part between two boundaries is drained
@@ -66,7 +66,7 @@ module _ {t : List ℕ} (start end : ℕ) (given : List ℕ) (n : ℕ) {new : Li
       × (error ≡ Utf8)))
       × (new ≡ t)
   replacement-refused m =
-      let (cause, held, e, same) = edit-first_held m in (grind (arith, nat_tests, inside-failed t start), same)
+      let (cause, first, e, same) = edit-first_held m in (grind (arith, nat_tests, inside-failed t start), same)
 
 module _ {t : List ℕ} (start end : ℕ) (given : List ℕ) (n : ℕ) {new : List ℕ} {result : Result (Unit {0}) Error} where
   -- what fits replaces the part between two boundaries

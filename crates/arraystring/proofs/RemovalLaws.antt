@@ -50,7 +50,7 @@ module _ {t : List ℕ} (i : ℕ) {new : List ℕ} where
   -- one that returned `Err`: the index is inside a character
   pub truncation-refused : {error : Error} → Makes (truncation t i) t (Err error) new
       → (i < size t) × (boundary t i ≡ false) × (error ≡ Utf8) × (new ≡ t)
-  truncation-refused m = let (cause, held, e, same) = edit-first_held m in grind (arith, nat_tests)
+  truncation-refused m = let (cause, first, e, same) = edit-first_held m in grind (arith, nat_tests)
 
 module _ {t : List ℕ} (i : ℕ) {new : List ℕ} {result : Result (Unit {0}) Error} where
   -- at a boundary, or past the text, it returns `Ok`
@@ -100,7 +100,7 @@ module _ {t : List ℕ} (i : ℕ) {new : List ℕ} where
   -- one that returned `Err`: the index is not below the size of the text, or inside a character
   pub removal-refused : {error : Error} → Makes (removal t i) t (Err error) new
       → (((size t ≤ i) × (error ≡ OutOfBounds)) ⊎ ((i < size t) × (boundary t i ≡ false) × (error ≡ Utf8))) × (new ≡ t)
-  removal-refused m = let (cause, held, e, same) = edit-first_held m in (grind (arith, nat_tests), same)
+  removal-refused m = let (cause, first, e, same) = edit-first_held m in (grind (arith, nat_tests), same)
 
 module _ {t : List ℕ} (i : ℕ) {new : List ℕ} {result : Result ℕ Error} where
   -- the character that begins at a boundary is removed

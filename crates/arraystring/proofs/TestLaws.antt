@@ -36,7 +36,7 @@ inside-fails t i b = grind (arith, nat_tests)
 -- the first test of an index that holds
 pub index-held : (t : List ℕ) (i : ℕ) {cause : Cause} {error : Error} → FirstHolds (past t i ∷ inside t i ∷ []) cause → error ≡ error_of cause
     → ((size t < i) × (error ≡ OutOfBounds)) ⊎ ((i < size t) × (boundary t i ≡ false) × (error ≡ Utf8))
-index-held t i held e = grind (arith, nat_tests)
+index-held t i first e = grind (arith, nat_tests)
 
 -- if the range is in order and in the text, an end inside a character is found
 pub ends-held : (t : List ℕ) (start end : ℕ) → start ≤ end → end ≤ size t → (boundary t start ≡ false) ⊎ (boundary t end ≡ false)

@@ -50,25 +50,25 @@ module _ (f : ℕ → ℕ) (is : IsAsciiChange f) where
   changed-chars t s = chars-bytes (changed-utf8 t s) (sym (bytes-change t))
 
 -- the bytes from start to end of the text that stands from p on are changed
-module _ {f : ℕ → ℕ} (is : IsAsciiChange f) {array_size : ℕ} {array : List ℕ} {p n : ℕ} (held : IsStored array_size array p n) {v : Stored}
+module _ {f : ℕ → ℕ} (is : IsAsciiChange f) {array_size : ℕ} {array : List ℕ} {p n : ℕ} (in_array : IsStored array_size array p n) {v : Stored}
     (e : stored array p n ≡ v) {start end : ℕ} (order : start ≤ end) (b : boundary v.text start ≡ true) (d : boundary v.text end ≡ true)
     {after : List ℕ}
     (written : after ≡ take (p + start) array ++ (map f (take (p + end - (p + start)) (drop (p + start) array)) ++ drop (p + end) array)) where
   pub changed : Lies array_size after p n (front v.text start ++ (map f (part v.text start end) ++ back v.text end))
   changed =
-      let there = part_lies held e order b d in
+      let there = part_lies in_array e order b d in
       let run = take (end - start) (drop (p + start) array) in
-      let of : IsText (part v.text start end) = rw there.shown at (text-chars (stored-utf8 there.held)) in
-      let same : run ≡ bytes (part v.text start end) = sym (stored-bytes there.held) ∙ ap bytes there.shown in
+      let of : IsText (part v.text start end) = rw there.shown at (text-chars (stored-utf8 there.in_array)) in
+      let same : run ≡ bytes (part v.text start end) = sym (stored-bytes there.in_array) ∙ ap bytes there.shown in
       let u : IsUtf8 (map f run) = rw same (changed-utf8 f is _ of) in
       let wide : end - start ≡ length (map f run) =
-      sym (length-map run f ∙ length-take-le (end - start) _ (omega (arith, length-drop (p + start) array, there.held))) in
+      sym (length-map run f ∙ length-take-le (end - start) _ (omega (arith, length-drop (p + start) array, there.in_array))) in
       let less : p + end - (p + start) ≡ end - start = omega arith in
       let past : p + end ≡ p + start + length (map f run) = omega arith in
       let tail : p + (start + (end - start)) ≡ p + end = omega arith in
-      let whole : start + (end - start + (n - end)) ≡ n = omega (arith, opened-within held e end d) in
+      let whole : start + (end - start + (n - end)) ≡ n = omega (arith, opened-within in_array e end d) in
       rw (whole, same, changed-chars f is _ of) at
-      (filled held e order b d (omega (arith, spliced held e d u)) u refl refl wide array held.length (omega arith) refl
+      (filled in_array e order b d (omega (arith, spliced in_array e d u)) u refl refl wide array in_array.length (omega arith) refl
       (rw tail refl) (rw (less, past) at written))
 
 -- all of a text is changed

@@ -15,11 +15,11 @@ use Rattle.arraystring_core.proofs.EndLemmas.{low-width, first-low}
 
 -- c came off the front, or off the back, of the text t, and the part from i on of the n bytes from the offset p on is left
 pub record GivesFirst (array_size : ℕ) (array : List ℕ) (p n i : ℕ) (t : List ℕ) (c : ℕ) : Type 0 where
-  pub held : IsDrained array_size array p n i
+  pub in_array : IsDrained array_size array p n i
   pub rest : t ≡ c ∷ back (stored array p n).text i
 
 pub record GivesLast (array_size : ℕ) (array : List ℕ) (p n i : ℕ) (t : List ℕ) (c : ℕ) : Type 0 where
-  pub held : IsDrained array_size array p n i
+  pub in_array : IsDrained array_size array p n i
   pub rest : t ≡ back (stored array p n).text i ++ c ∷ []
 
 module _ {array_size : ℕ} {array : List ℕ} {p n i : ℕ} (is : IsDrained array_size array p n i) where
@@ -27,10 +27,10 @@ module _ {array_size : ℕ} {array : List ℕ} {p n i : ℕ} (is : IsDrained arr
   removed = (stored array p n).text
 
   pub given-within : i ≤ n
-  given-within = opened-within is.held refl i is.at
+  given-within = opened-within is.in_array refl i is.at
 
   lies : Lies array_size array (p + i) (n - i) (back removed i)
-  lies = dropped is.held refl i is.at
+  lies = dropped is.in_array refl i is.at
 
   -- the bytes of what is left are those of the array from f to t
   module _ (f t : ℕ) (from : f ≡ p + i) (to : t ≡ p + n) where
@@ -38,10 +38,10 @@ module _ {array_size : ℕ} {array : List ℕ} {p n i : ℕ} (is : IsDrained arr
     long = omega (arith, given-within)
 
     pub borrowed-utf8 : IsUtf8 (take (t - f) (drop f array))
-    borrowed-utf8 = rw (long, from) (stored-utf8 lies.held)
+    borrowed-utf8 = rw (long, from) (stored-utf8 lies.in_array)
 
     pub borrowed-bytes : {v : Drained} → drained (stored array p n) i ≡ v → take (t - f) (drop f array) ≡ bytes v.left
-    borrowed-bytes e = rw (long, from) (sym (stored-bytes lies.held) ∙ ap bytes (lies.shown ∙ ap (λ d. d.left) e))
+    borrowed-bytes e = rw (long, from) (sym (stored-bytes lies.in_array) ∙ ap bytes (lies.shown ∙ ap (λ d. d.left) e))
 
   -- the value that a contract sees
   module _ {v : Drained} (e : drained (stored array p n) i ≡ v) where
@@ -49,10 +49,10 @@ module _ {array_size : ℕ} {array : List ℕ} {p n i : ℕ} (is : IsDrained arr
     left-is = ap (λ d. d.left) e
 
     left-size : size v.left ≡ n - i
-    left-size = omega (arith, ap size left-is, back-size removed i is.at, stored-size is.held)
+    left-size = omega (arith, ap size left-is, back-size removed i is.at, stored-size is.in_array)
 
     left-bytes : bytes v.left ≡ drop i (take n (drop p array))
-    left-bytes = ap bytes (sym left-is) ∙ sym (bytes-back removed i is.at) ∙ ap (drop i) (stored-bytes is.held)
+    left-bytes = ap bytes (sym left-is) ∙ sym (bytes-back removed i is.at) ∙ ap (drop i) (stored-bytes is.in_array)
 
     pub left-fits : size v.left ≤ cap array_size
     left-fits = omega (arith, left-size)
@@ -65,7 +65,7 @@ module _ {array_size : ℕ} {array : List ℕ} {p n i : ℕ} (is : IsDrained arr
       front-given : GivesFirst array_size array p n (i + width c) v.left c
       front-given =
           let next = next-char removed i is.at c rest (left-is ∙ starts) in
-          record { held = record { held = is.held; at = next.0 }; rest = rw next.1 starts }
+          record { in_array = record { in_array = is.in_array; at = next.0 }; rest = rw next.1 starts }
 
     -- if what is left is known by its bytes, and by those after its first character
     module _ {bs : List ℕ} (u : IsUtf8 bs) (shown : bs ≡ bytes v.left) (c : ℕ) {rest : List ℕ} (w : IsUtf8 rest)
@@ -87,7 +87,7 @@ module _ {array_size : ℕ} {array : List ℕ} {p n i : ℕ} (is : IsDrained arr
       first-is : (rest : List ℕ) × (v.left ≡ get_or array (p + i) 0 ∷ rest)
       first-is =
           let bs = take n (drop p array) in
-          let long = length-take-le n (drop p array) (omega (arith, length-drop p array, is.held)) in
+          let long = length-take-le n (drop p array) (omega (arith, length-drop p array, is.in_array)) in
           let more = rw (get_or-take n (drop p array) i 0 some, get_or-drop p array i 0) at (drop_more bs i 0 (omega arith)) in
           first-low v.left (left-bytes ∙ more) low
 
@@ -109,17 +109,17 @@ module _ {array_size : ℕ} {array : List ℕ} {p n i : ℕ} (is : IsDrained arr
       last-starts = rw parts (boundary-is (before ++ rest) (c ∷ []) (i + size rest) shorter)
 
       kept_lies : Lies array_size array p (i + size rest) (front removed (i + size rest))
-      kept_lies = kept is.held refl (i + size rest) last-starts
+      kept_lies = kept is.in_array refl (i + size rest) last-starts
 
       kept-text : (stored array p (i + size rest)).text ≡ before ++ rest
       kept-text =
           kept_lies.shown ∙ ap (λ t. front t (i + size rest)) parts ∙ front-is (before ++ rest) (c ∷ []) (i + size rest) shorter
 
       pub back-within : i + size rest ≤ n
-      back-within = opened-within is.held refl (i + size rest) last-starts
+      back-within = opened-within is.in_array refl (i + size rest) last-starts
 
       pub back-given : GivesLast array_size array p (i + size rest) i v.left c
       back-given = record {
-        held = record { held = kept_lies.held; at = rw kept-text (boundary-is before rest i (front-size removed i is.at)) };
+        in_array = record { in_array = kept_lies.in_array; at = rw kept-text (boundary-is before rest i (front-size removed i is.at)) };
         rest = rw (kept-text, back-is before rest i (front-size removed i is.at)) ends;
       }

@@ -1,8 +1,9 @@
 -- The first and the last character of a text, and the bytes of UTF-8 at its ends.
-use Rattle.std.proofs.Common.{◌≡◌, ℕ, ◌+◌, ◌<◌, List, [], ◌∷◌, ◌++◌, refl, sym, ap, ◌∙◌, arith, length, length-append, get_or}
+use Rattle.std.proofs.Common.{◌≡◌, ℕ, ◌+◌, ◌<◌, List, [], ◌∷◌, ◌++◌, refl, sym, ap, ◌∙◌, arith, length, length-append, get_or, true}
 use Rattle.std.proofs.lemmas.Bool.Decides.{nat_tests}
-use Rattle.arraystring_base.specs.Text.{width, utf8, bytes}
-use Rattle.arraystring_base.proofs.TextLaws.{utf8-one, length-utf8}
+use Rattle.arraystring_base.specs.Text.{width, utf8, bytes, size, front, boundary}
+use Rattle.arraystring_base.proofs.TextLaws.{utf8-one, length-utf8, size-append}
+use Rattle.arraystring_base.proofs.BoundaryLaws.{boundary-is, front-is}
 
 -- a text that is not empty ends with a character
 pub last-split : (c : ℕ) (cs : List ℕ) → (xs : List ℕ) × (x : ℕ) × (c ∷ cs ≡ xs ++ x ∷ [])
@@ -27,3 +28,17 @@ first-low (c ∷ cs) e lt =
     let first = ap (λ l. get_or l 0 0) e in
     let one = utf8-one c (first-ascii c (bytes cs) (rw first lt)) in
     (cs, ap (λ x. x ∷ cs) (sym (ap (λ l. get_or (l ++ bytes cs) 0 0) one) ∙ first))
+
+module _ {text seen : List ℕ} {ch start : ℕ} (same : seen ≡ text)
+    (found : (before : List ℕ) × (seen ≡ before ++ ch ∷ []) × (size before ≡ start)) where
+  pub last-parts : text ≡ found.0 ++ ch ∷ []
+  last-parts = sym same ∙ found.1
+
+  pub last-size : size text ≡ start + width ch
+  last-size = omega (arith, found.2, ap size last-parts, size-append found.0 (ch ∷ []))
+
+  pub last-boundary : boundary text start ≡ true
+  last-boundary = ap (λ l. boundary l start) last-parts ∙ boundary-is found.0 (ch ∷ []) start found.2
+
+  pub last-front : {left : List ℕ} → left ≡ front text start → left ≡ found.0
+  last-front kept = kept ∙ ap (λ l. front l start) last-parts ∙ front-is found.0 (ch ∷ []) start found.2

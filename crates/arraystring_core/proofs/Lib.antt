@@ -8,14 +8,11 @@ mod StoredLaws
 mod GapLemmas
 mod SpanLemmas
 mod AppendLemmas
-mod InsertLemmas
-mod PieceLemmas
 mod TakenLemmas
 mod AsciiLemmas
 mod TrimLemmas
 mod RetainLemmas
 mod EndLemmas
-mod LastLemmas
 mod CauseLemmas
 mod PartLemmas
 mod DrainLemmas

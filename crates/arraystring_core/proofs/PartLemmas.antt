@@ -19,8 +19,8 @@ module _ {array_size : ℕ} {array : List ℕ} {p n : ℕ} (is : IsStored array_
       let front_is = kept is e end d in
       let starts : boundary (stored array p end).text start ≡ true =
       rw front_is.shown (boundary-in_front v.text start end order b) in
-      let there = dropped front_is.held refl start starts in
-      record { held = there.held; shown = there.shown ∙ ap (λ t. back t start) front_is.shown }
+      let there = dropped front_is.in_array refl start starts in
+      record { in_array = there.in_array; shown = there.shown ∙ ap (λ t. back t start) front_is.shown }
 
 -- the part was not refused, and where the array holds it
 pub record IsTakable (array_size : ℕ) (array : List ℕ) (p n : ℕ) (v : Stored) (start end : ℕ) : Type 0 where
@@ -28,7 +28,7 @@ pub record IsTakable (array_size : ℕ) (array : List ℕ) (p n : ℕ) (v : Stor
   pub within : end ≤ n
   pub starts : boundary v.text start ≡ true
   pub ends : boundary v.text end ≡ true
-  pub held : IsStored array_size array (p + start) (end - start)
+  pub in_array : IsStored array_size array (p + start) (end - start)
   pub made : (left new : List ℕ) → left ≡ (stored array (p + start) (end - start)).text → new ≡ front v.text start ++ back v.text end
       → Makes (draining v.text start end) v.text (Ok left) new
 
@@ -47,6 +47,6 @@ takable is {v = v} e start end checked =
       within = omega (arith, opened-size is e);
       starts = starts;
       ends = ends;
-      held = (part_lies is e order starts ends).held;
+      in_array = (part_lies is e order starts ends).in_array;
       made = λ left new same after. makes edit v.text left new none (same ∙ (part_lies is e order starts ends).shown) after;
     }

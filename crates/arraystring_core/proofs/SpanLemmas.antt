@@ -14,29 +14,29 @@ use Rattle.arraystring_core.proofs.GapLemmas.{written, written-from-zero, shifte
 
 -- the n bytes of the array from the offset p on are the text t, and end within the capacity
 pub record Lies (array_size : ℕ) (array : List ℕ) (p n : ℕ) (t : List ℕ) : Type 0 where
-  pub held : IsStored array_size array p n
+  pub in_array : IsStored array_size array p n
   pub shown : chars (take n (drop p array)) ≡ t
 
 -- these bytes are the UTF-8 of t
 pub laid : {array_size : ℕ} (array : List ℕ) (p n : ℕ) {bs t : List ℕ} → IsUtf8 bs → chars bs ≡ t → length array ≡ array_size
     → p + n ≤ cap array_size → take n (drop p array) ≡ bs → Lies array_size array p n t
 laid array p n u is long within same =
-    record { held = record { within = within; length = long; utf8 = ∣ rw same u ∣₁ }; shown = ap chars same ∙ is }
+    record { in_array = record { within = within; length = long; utf8 = ∣ rw same u ∣₁ }; shown = ap chars same ∙ is }
 
 -- where the same bytes are is the same text
 pub carried : {array_size : ℕ} {array : List ℕ} {p n : ℕ} {t : List ℕ} → Lies array_size array p n t → (after : List ℕ) (q : ℕ)
     → length after ≡ array_size → q + n ≤ cap array_size → take n (drop q after) ≡ take n (drop p array) → Lies array_size after q n t
-carried {n = n} is after q = laid after q n (stored-utf8 is.held) is.shown
+carried {n = n} is after q = laid after q n (stored-utf8 is.in_array) is.shown
 
 -- two texts, one behind the other
 pub joined : {array_size : ℕ} {array : List ℕ} {p n m : ℕ} {a b : List ℕ} → Lies array_size array p n a → Lies array_size array (p + n) m b
     → Lies array_size array p (n + m) (a ++ b)
 joined {array = array} {p} {n} {m} one two =
-    let u = stored-utf8 one.held in
-    let w = stored-utf8 two.held in
+    let u = stored-utf8 one.in_array in
+    let w = stored-utf8 two.in_array in
     let both = take-add n m (drop p array) ∙ ap (λ l. take n (drop p array) ++ take m l) (drop-drop n p array) in
-    laid array p (n + m) (IsUtf8-append _ _ u w) (rw (chars-append _ _ u, one.shown, two.shown)) one.held.length
-    (omega (arith, two.held)) both
+    laid array p (n + m) (IsUtf8-append _ _ u w) (rw (chars-append _ _ u, one.shown, two.shown)) one.in_array.length
+    (omega (arith, two.in_array)) both
 
 module _ {array_size : ℕ} {array : List ℕ} {p n : ℕ} (is : IsStored array_size array p n) {v : Stored} (e : stored array p n ≡ v) where
   -- the part before the boundary m, and that from it on
@@ -128,7 +128,7 @@ module _ {array_size : ℕ} {array : List ℕ} {p n : ℕ} (is : IsStored array_
       laid compact 0 n (stored-utf8 is) refl (there.long ∙ is.length) (omega arith) there.here
 
   pub compact-stored : IsStored array_size compact 0 n
-  compact-stored = compacted.held
+  compact-stored = compacted.in_array
 
   -- and `given` was written behind it
   pub appended_at_start : {v : Stored} → stored array p n ≡ v → {given after : List ℕ} → IsUtf8 given

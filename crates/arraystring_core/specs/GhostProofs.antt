@@ -44,7 +44,7 @@ module _ {array_size : ℕ} {array : List ℕ} {start n i : ℕ} (is : IsDrained
   drained-front = front-size (stored array start n).text i is.at
 
   pub drained-array : array_of (removed_of (drained (stored array start n) i)) ≡ array
-  drained-array = ap array_of drained-removed ∙ stored-all is.held
+  drained-array = ap array_of drained-removed ∙ stored-all is.in_array
 
   pub drained-size : size (removed_of (drained (stored array start n) i)).text ≡ n
-  drained-size = ap (λ r. size r.text) drained-removed ∙ stored-size is.held
+  drained-size = ap (λ r. size r.text) drained-removed ∙ stored-size is.in_array

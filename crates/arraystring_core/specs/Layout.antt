@@ -18,7 +18,7 @@ pub record IsStored (array_size : ℕ) (array : List ℕ) (start n : ℕ) : Type
 
 -- the n bytes of the array from `start` on are the text that was removed, and i is a boundary of it
 pub record IsDrained (array_size : ℕ) (array : List ℕ) (start n i : ℕ) : Type 0 where
-  pub held : IsStored array_size array start n
+  pub in_array : IsStored array_size array start n
   pub at : IsTrue (boundary (stored array start n).text i)
 
 -- the start and the array, given back

@@ -37,13 +37,13 @@ abbrev pub leaves : Said → List ℕ → Edited
 leaves r t = record { reply = r; text = t }
 
 -- a result as a reply
-abbrev pub said_of : {A : Type 0} → (A → Said) → Result A Error → Said
-said_of say (Ok value) = say value
-said_of say (Err e) = Refused e
+abbrev pub reply_of : {A : Type 0} → (A → Said) → Result A Error → Said
+reply_of say (Ok value) = say value
+reply_of say (Err e) = Refused e
 
 -- a row of the table of edits, as it is made of t
 abbrev pub made : {A : Type 0} → (A → Said) → Edit A → List ℕ → Edited
-made say row t = leaves (said_of say (result_of row)) (text_of row t)
+made say row t = leaves (reply_of say (result_of row)) (text_of row t)
 
 -- a row with the reply Done
 abbrev pub done : Edit (Unit {0}) → List ℕ → Edited

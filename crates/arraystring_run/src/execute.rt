@@ -3,7 +3,7 @@ ghost use Rattle.std.specs.Prelude.{◌≡◌, ◌∷◌, [], ◌&&◌, chars, t
 ghost use Rattle.arraystring.specs.Text.{cap};
 ghost use Rattle.arraystring.specs.Edits.{from_out_of_bounds, from_utf8_error, with_text, insertion, insertion_of_cut, replacement, addition_of_cut, part_in};
 ghost use Rattle.arraystring.specs.Drained.{with_left};
-ghost use Rattle.arraystring_run.specs.Runs.{said, said_of, char_or_none, text_or_none, Done, Char, Text, done, edit, tight, adds_less, lacks_room, is_made, is_out_of_bounds, is_refusable, without};
+ghost use Rattle.arraystring_run.specs.Runs.{said, reply_of, char_or_none, text_or_none, Done, Char, Text, done, edit, tight, adds_less, lacks_room, is_made, is_out_of_bounds, is_refusable, without};
 
 use crate::{Command, Reply};
 use arraystring::error::{Error, OutOfBounds, Utf8};
@@ -89,7 +89,7 @@ fn not_tight<const N: usize>(reply: Reply<N>) -> (Reply<N>, bool)
 /// The reply to an addition. One that is refused is tight, since it is refused only if it does not
 /// fit.
 fn added<const N: usize>(outcome: Result<(), OutOfBounds>) -> (Reply<N>, bool)
-    ensures reply { said result.0 ≡ said_of (λ _. Done) (from_out_of_bounds outcome) }
+    ensures reply { said result.0 ≡ reply_of (λ _. Done) (from_out_of_bounds outcome) }
     ensures tight { result.1 ≡ is_err outcome }
 {
     match outcome {
@@ -128,7 +128,7 @@ fn popped<const N: usize>(outcome: Option<char>) -> Reply<N>
 
 /// The reply to `truncate`.
 fn truncated<const N: usize>(outcome: Result<(), Utf8>) -> Reply<N>
-    ensures { said result ≡ said_of (λ _. Done) (from_utf8_error outcome) }
+    ensures { said result ≡ reply_of (λ _. Done) (from_utf8_error outcome) }
 {
     match outcome {
         Ok(()) => Reply::Done,
@@ -138,7 +138,7 @@ fn truncated<const N: usize>(outcome: Result<(), Utf8>) -> Reply<N>
 
 /// The reply to `remove`.
 fn removed<const N: usize>(outcome: Result<char, Error>) -> Reply<N>
-    ensures { said result ≡ said_of Char outcome }
+    ensures { said result ≡ reply_of Char outcome }
 {
     match outcome {
         Ok(ch) => Reply::Char(ch),
@@ -204,7 +204,7 @@ fn replace<const N: usize>(
 /// The reply to what is put at an index. If that is within the text, `OutOfBounds` says that it
 /// does not fit.
 fn placed<const N: usize>(outcome: Result<(), Error>, is_within: bool) -> (Reply<N>, bool)
-    ensures reply { said result.0 ≡ said_of (λ _. Done) outcome }
+    ensures reply { said result.0 ≡ reply_of (λ _. Done) outcome }
     ensures tight { result.1 ≡ (is_within && is_out_of_bounds outcome) }
 {
     match outcome {
@@ -216,7 +216,7 @@ fn placed<const N: usize>(outcome: Result<(), Error>, is_within: bool) -> (Reply
 
 /// The reply to `split_off`.
 fn split<const N: usize>(outcome: Result<ArrayString<N>, Error>) -> Reply<N>
-    ensures { said result ≡ said_of Text (with_text outcome.entry) }
+    ensures { said result ≡ reply_of Text (with_text outcome.entry) }
 {
     match outcome {
         Ok(text) => Reply::Text(text),
@@ -226,7 +226,7 @@ fn split<const N: usize>(outcome: Result<ArrayString<N>, Error>) -> Reply<N>
 
 /// The reply to `drain`, with the characters in order.
 fn drained<const N: usize>(outcome: Result<Drain<N>, Error>) -> Reply<N>
-    ensures { said result ≡ said_of Text (with_left outcome.entry) }
+    ensures { said result ≡ reply_of Text (with_left outcome.entry) }
 {
     match outcome {
         Ok(removed) => {
@@ -239,7 +239,7 @@ fn drained<const N: usize>(outcome: Result<Drain<N>, Error>) -> Reply<N>
 
 /// The reply to `drain`, with the characters from the last to the first.
 fn drained_back<const N: usize>(outcome: Result<Drain<N>, Error>) -> Reply<N>
-    ensures { said result ≡ said_of (λ left. Text (reverse left)) (with_left outcome.entry) }
+    ensures { said result ≡ reply_of (λ left. Text (reverse left)) (with_left outcome.entry) }
 {
     match outcome {
         Ok(removed) => Reply::Text(reversed(removed)),

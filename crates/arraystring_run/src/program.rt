@@ -102,8 +102,8 @@ pub const BUFFER: usize = 8192;
 
 /// Serves a word with a buffer before the output, so that a line costs no system call of its own.
 /// For a word that names no capacity no memory is taken. If there is no memory for a buffer, the
-/// output is not buffered. Returns the output too. After a failed write bytes may be left in the
-/// buffer (`held`), which are dropped.
+/// output is not buffered. Returns the output too. After a failed write bytes may wait in the
+/// buffer (`unsent`), which are dropped.
 pub fn serve_buffered<I: Read, O: Write + Drop, E: Write>(
     alloc: Global,
     word: Option<&str>,
@@ -111,8 +111,8 @@ pub fn serve_buffered<I: Read, O: Write + Drop, E: Write>(
     output: O,
     errors: &mut E,
 ) -> (u8, O)
-    ensures { (held : List ℕ) × (result.0 ≢ 4 → held ≡ [])
-        × IsServed word.entry (I.remaining input.old) (O.contents output) (append_known (O.contents result.1) held)
+    ensures { (unsent : List ℕ) × (result.0 ≢ 4 → unsent ≡ [])
+        × IsServed word.entry (I.remaining input.old) (O.contents output) (append_known (O.contents result.1) unsent)
         (E.contents errors.old) (E.contents errors.new) (input.new ≡ input.old) (result.1 ≡ output) (errors.new ≡ errors.old) result.0 }
 {
     let waiting = buffer(alloc, word);

@@ -1,5 +1,4 @@
-mod FieldLemmas
-mod DecodeLemmas
+mod RecordLemmas
 mod MapLemmas
 mod OwnNameLemmas
 mod WalkLemmas

@@ -109,7 +109,7 @@ pub fn decode(given: &[u8]) -> Result<User, RecordFault>
 }
 
 /// Writes a text into a field of zero bytes.
-#[tactic(auto, using(crate::proofs::FieldLemmas::written))]
+#[tactic(auto, using(crate::proofs::RecordLemmas::written))]
 fn put<const N: usize>(field: &mut [u8], text: &ArrayString<N>)
     requires { field.old ≡ replicate (suc N) 0 }
     ensures field { field.new ≡ field_of N text.now.text }

@@ -15,9 +15,9 @@ fn is_ordered<T: PartialOrd + Ord>() {}
 
 fn is_refusal<T: Display + Error>() {}
 
-fn is_held<T: Debug + Drop>() {}
+fn is_debug<T: Debug + Drop>() {}
 
-fn is_walked<
+fn is_iterator<
     'a,
     I: 'a,
     T: DoubleEndedIterator<Item = &'a I> + ExactSizeIterator + FusedIterator + Clone + Debug + Drop,
@@ -31,9 +31,9 @@ fn each_type_has_its_traits(_rt: HostRuntime) {
     is_ordered::<User>();
     is_refusal::<RecordFault>();
     is_refusal::<UserFault>();
-    is_held::<Directory>();
-    is_walked::<ArrayString<20>, Names<'static>>();
-    is_walked::<User, Users<'static>>();
+    is_debug::<Directory>();
+    is_iterator::<ArrayString<20>, Names<'static>>();
+    is_iterator::<User, Users<'static>>();
 }
 
 /// The position of a test among the four. There is no other case.

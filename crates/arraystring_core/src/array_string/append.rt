@@ -88,9 +88,9 @@ impl<const N: usize> ArrayString<N> {
         len: &mut u8,
         characters: I,
     ) -> Result<(), OutOfBounds>
-        requires held { IsStored N array.old start.old len.old }
+        requires in_array { IsStored N array.old start.old len.old }
         requires ends { IsFiniteIterable I.into_iter_gives I.IntoIter.can_next I.IntoIter.remaining characters }
-        ensures held { IsStored N array.new start.new len.new }
+        ensures in_array { IsStored N array.new start.new len.new }
         ensures taken { let t = (stored array.old start.old len.old).text in
             (taken : List ℕ) × Takes I.into_iter_gives I.IntoIter.next_gives (λ cs. cs) characters (cap N - size t) taken
             × MatchResult result (λ _. size taken ≤ cap N - size t) (λ _. cap N - size t < size taken)
@@ -119,22 +119,22 @@ impl<const N: usize> ArrayString<N> {
         end: usize,
         ch: char,
     ) -> Option<usize>
-        requires held { IsStored N array.old start.old len.old }
+        requires in_array { IsStored N array.old start.old len.old }
         requires end { end ≡ start.old + len.old }
-        ensures held { IsStored N array.new start.new len.new }
+        ensures in_array { IsStored N array.new start.new len.new }
         ensures end { IfSome result (λ next. next ≡ start.new + len.new) }
         ensures text { let t = (stored array.old start.old len.old).text in let new = (stored array.new start.new len.new).text in
             MatchOption result ((cap N < size t + size (ch ∷ [])) × (new ≡ t)) (λ _. (size t + size (ch ∷ []) ≤ cap N) × (new ≡ t ++ ch ∷ [])) }
     {
         if !Self::has_room(end, ch) {
-            let held = end - *start as usize;
-            if !Self::has_room(held, ch) {
+            let size = end - *start as usize;
+            if !Self::has_room(size, ch) {
                 return None;
             }
-            let held = compact_and_append(array, *start as usize, held, ch);
+            let size = compact_and_append(array, *start as usize, size, ch);
             *start = 0;
-            *len = held as u8;
-            return Some(held);
+            *len = size as u8;
+            return Some(size);
         }
         let next = end + encode(ch, array, end);
         *len = (next - *start as usize) as u8;
@@ -165,9 +165,9 @@ impl<const N: usize> ArrayString<N> {
         len: &mut u8,
         pieces: I,
     ) -> Result<(), OutOfBounds>
-        requires held { IsStored N array.old start.old len.old }
+        requires in_array { IsStored N array.old start.old len.old }
         requires ends { IsFiniteIterable I.into_iter_gives I.IntoIter.can_next I.IntoIter.remaining pieces }
-        ensures held { IsStored N array.new start.new len.new }
+        ensures in_array { IsStored N array.new start.new len.new }
         ensures taken { let t = (stored array.old start.old len.old).text in
             (taken : List (Bor (List ℕ))) × Takes I.into_iter_gives I.IntoIter.next_gives joined_pieces pieces (cap N - size t) taken
             × MatchResult result (λ _. size (joined_pieces taken) ≤ cap N - size t) (λ _. cap N - size t < size (joined_pieces taken))
@@ -203,7 +203,7 @@ impl<const N: usize> ArrayString<N> {
         string: &str,
     ) -> Option<usize>
         requires { IsStored N array.old start.old len.old }
-        ensures held { IsStored N array.new start.new len.new }
+        ensures in_array { IsStored N array.new start.new len.new }
         ensures end { IfSome result (λ next. next ≡ start.new + len.new) }
         ensures text { let t = (stored array.old start.old len.old).text in let new = (stored array.new start.new len.new).text in
             MatchOption result ((cap N < size t + size (chars string.now)) × (new ≡ t ++ cut (chars string.now) (cap N - size t)))
@@ -230,10 +230,10 @@ fn compact_and_append<const N: usize>(
     size: usize,
     ch: char,
 ) -> usize
-    requires held { IsStored N array.old start size }
+    requires in_array { IsStored N array.old start size }
     requires room { size + width ch ≤ cap N }
     ensures size { result ≡ size + width ch }
-    ensures held { IsStored N array.new 0 result }
+    ensures in_array { IsStored N array.new 0 result }
     ensures text { (stored array.new 0 result).text ≡ (stored array.old start size).text ++ ch ∷ [] }
 {
     shift(array, start, 0, size, &mut Steps::new());
@@ -244,9 +244,9 @@ fn compact_and_append<const N: usize>(
 /// Moves a text to the start of the array if there is no room for `more` bytes behind it.
 #[inline(always)]
 fn make_room<const N: usize>(array: &mut [u8; N], start: &mut u8, size: usize, more: usize)
-    requires held { IsStored N array.old start.old size }
+    requires in_array { IsStored N array.old start.old size }
     requires fits { size + more ≤ cap N }
-    ensures held { IsStored N array.new start.new size }
+    ensures in_array { IsStored N array.new start.new size }
     ensures room { start.new + size + more ≤ cap N }
     ensures text { (stored array.new start.new size).text ≡ (stored array.old start.old size).text }
 {

@@ -38,7 +38,7 @@ pub(super) fn open_gap<const N: usize>(
 )
     requires order { start ≤ end }
     requires within { end ≤ text.size }
-    requires held { text.offset + text.size ≤ cap N }
+    requires in_array { text.offset + text.size ≤ cap N }
     requires room { text.offset + (start + (len + (text.size - end))) ≤ cap N }
     requires countable { steps.old.moved ≤ 2 ^ 63 }
     ensures len { length array.new ≡ N }
@@ -72,7 +72,7 @@ pub(super) fn compact_and_open_gap<const N: usize>(
 )
     requires order { start ≤ end }
     requires within { end ≤ text.size }
-    requires held { text.offset + text.size ≤ cap N }
+    requires in_array { text.offset + text.size ≤ cap N }
     requires room { start + (len + (text.size - end)) ≤ cap N }
     requires countable { steps.old.moved ≤ 2 ^ 63 }
     ensures len { length array.new ≡ N }

@@ -266,7 +266,7 @@ fn retain_at<const N: usize, F: FnMut(char) -> bool + Drop>(
     size: usize,
     mut f: F,
 )
-    requires held { offset + size ≤ N }
+    requires in_array { offset + size ≤ N }
     requires small { size ≤ 255 }
     requires text { IsUtf8 (take size (drop offset array.old)) }
     requires callable { IsCallableInTurn F.pre F.step f (chars (take size (drop offset array.old))) }

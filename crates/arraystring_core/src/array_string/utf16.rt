@@ -116,7 +116,7 @@ impl<const N: usize> ArrayString<N> {
     /// its size, and the item right after it.
     #[inline(always)]
     fn write_prefix(array: &mut [u8; N], units: &[u16]) -> (u8, Option<Unit16>)
-        ensures held { IsStored N array.new 0 result.0 }
+        ensures in_array { IsStored N array.new 0 result.0 }
         ensures stop { (items : List Unit16) → IsReading units.now items → first_stop items (cap N) ≡ stop_at result.1 (stored array.new 0 result.0).text }
     {
         only_reading(units);
@@ -159,7 +159,7 @@ impl<const N: usize> ArrayString<N> {
 fn write_ascii<const N: usize>(array: &mut [u8; N], units: &[u16]) -> usize
     ensures within { result ≤ length units.now }
     ensures ascii { (i : ℕ) → i < result → slice_index units.now i < 0x80 }
-    ensures held { IsStored N array.new 0 result }
+    ensures in_array { IsStored N array.new 0 result }
     ensures text { (stored array.new 0 result).text ≡ take result units.now }
 {
     let most = units.len().min(ArrayString::<N>::capacity() as usize);

@@ -30,9 +30,9 @@ where
 
 fn is_a_string<'a, T: Display + FromStr<Err = OutOfBounds> + Write + Add<&'a str, Output = T>>() {}
 
-fn is_walked_from_both_ends<T: DoubleEndedIterator<Item = char> + FusedIterator>() {}
+fn is_iterator_of_both_ends<T: DoubleEndedIterator<Item = char> + FusedIterator>() {}
 
-fn is_walked<T: Iterator<Item = Unit16> + FusedIterator>() {}
+fn is_iterator<T: Iterator<Item = Unit16> + FusedIterator>() {}
 
 #[test]
 fn each_type_has_its_traits(rt: HostRuntime) {
@@ -73,8 +73,8 @@ fn each_type_has_its_traits(rt: HostRuntime) {
     is_a_string::<ArrayString<5>>();
     is_a_string::<CacheString>();
 
-    is_walked_from_both_ends::<Drain<5>>();
-    is_walked::<Units<'static>>();
+    is_iterator_of_both_ends::<Drain<5>>();
+    is_iterator::<Units<'static>>();
 
     // What is at hand is the default: nothing is refused, and nothing is left.
     agree(&rt, "a drain", Drain::<5>::default().next(), None);

@@ -12,13 +12,13 @@ use Rattle.arraystring_run.proofs.script.parse_script.Goals as goal
 first-line : (bs : List ℕ) (end : ℕ) → 0 < length bs → end ≤ length bs
     → (end < length bs → slice_index bs end ≡ line_feed) → ((i : ℕ) → i < end → slice_index bs i ≢ line_feed)
     → lines bs ≡ take end bs ∷ lines (drop (end + 1) bs)
-first-line [] end some le ended one = absurd (omega arith)
-first-line (b ∷ bs) zero some le ended one = rw (ended (omega arith)) refl
-first-line (b ∷ []) (suc end) some le ended one =
+first-line [] end some le ends one = absurd (omega arith)
+first-line (b ∷ bs) zero some le ends one = rw (ends (omega arith)) refl
+first-line (b ∷ []) (suc end) some le ends one =
     let last : end ≡ 0 = omega arith in
     rw (last, ne_eqb b line_feed (one 0 (omega arith))) refl
-first-line (b ∷ d ∷ bs) (suc end) some le ended one =
-    let rest = first-line (d ∷ bs) end (omega arith) (omega arith) (λ lt. ended (omega arith)) (λ i lt. one (suc i) (omega arith)) in
+first-line (b ∷ d ∷ bs) (suc end) some le ends one =
+    let rest = first-line (d ∷ bs) end (omega arith) (omega arith) (λ lt. ends (omega arith)) (λ i lt. one (suc i) (omega arith)) in
     let up : suc end + 1 ≡ suc (end + 1) = omega arith in
     rw (ne_eqb b line_feed (one 0 (omega arith)), up) (ap (first_byte b) rest)
 
@@ -35,18 +35,18 @@ module _ (bs : List ℕ) (start len : ℕ) where
       → start < length bs → len ≤ length rest → (len < length rest → slice_index rest len ≡ line_feed)
       → ((i : ℕ) → i < len → slice_index rest i ≢ line_feed)
       → IsPartRead all done (slice_range bs start (start + len) ∷ lines (drop (start + len + 1) bs)) number
-  next-line {all} {done} {number} way lt le ended one =
+  next-line {all} {done} {number} way lt le ends one =
       let some : 0 < length rest = omega (arith, ap length rest-is, length-drop start bs) in
       let size : start + len - start ≡ len = omega arith in
       let up : start + (len + 1) ≡ start + len + 1 = omega arith in
       let next : drop (len + 1) (drop start bs) ≡ drop (start + len + 1) bs = drop-drop (len + 1) start bs ∙ ap (λ k. drop k bs) up in
-      subst (λ l. IsPartRead all done l number) (cc (rest-is, first-line rest len some le ended one)) way
+      subst (λ l. IsPartRead all done l number) (cc (rest-is, first-line rest len some le ends one)) way
 
   -- a character begins after its end
   after-line_feed : (len < length rest → slice_index rest len ≡ line_feed)
       → IsUtf8 bs → start + len + 1 < length bs → 128 ≤ slice_index bs (start + len + 1) → 192 ≤ slice_index bs (start + len + 1)
-  after-line_feed ended u lt =
-      let at = subst (λ l. len < length l → slice_index l len ≡ line_feed) rest-is ended (omega (arith, length-drop start bs)) in
+  after-line_feed ends u lt =
+      let at = subst (λ l. len < length l → slice_index l len ≡ line_feed) rest-is ends (omega (arith, length-drop start bs)) in
       lead_after_ascii bs (start + len) u (omega (arith, get_or-drop start bs len 0)) lt
 
 more-lines : (front : List (List ℕ)) (done : List Command) (line : List ℕ) (c : Command) → AreLinesOf front done → IsLineOf line c

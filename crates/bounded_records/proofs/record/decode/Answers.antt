@@ -2,7 +2,7 @@ use Rattle.std.proofs.Common.{◌∙◌, sym}
 use mathlib.Core.Bool.{true≢false}
 use Rattle.std.proofs.lemmas.Result.{err_from_is_err_and}
 use Rattle.bounded_records.specs.declared.record.RecordFault.TheVariants.{Length}
-use Rattle.bounded_records.proofs.DecodeLemmas.{refused, refused_count, refused_text, refused_padding, accepted}
+use Rattle.bounded_records.proofs.RecordLemmas.{refused, refused_count, refused_text, refused_padding, accepted}
 use Rattle.bounded_records.proofs.record.decode.Goals as goal
 
 pub returns-then-not-has_length : goal.returns-then-not-has_length

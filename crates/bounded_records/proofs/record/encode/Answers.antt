@@ -1,6 +1,6 @@
 use Rattle.std.proofs.Common.{◌++◌}
 use Rattle.bounded_records.specs.Records.{IsRecord}
-use Rattle.bounded_records.proofs.DecodeLemmas.{one_user}
+use Rattle.bounded_records.proofs.RecordLemmas.{one_user}
 use Rattle.bounded_records.proofs.record.encode.Goals as goal
 
 pub returns-clause-only : goal.returns-clause-only

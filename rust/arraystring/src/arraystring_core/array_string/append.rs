@@ -146,9 +146,9 @@ impl<const N: usize> ArrayString<N> {
     /// <details><summary>Contract</summary>
     ///
     /// ```text
-    /// requires held { IsStored N array.old start.old len.old }
+    /// requires in_array { IsStored N array.old start.old len.old }
     /// requires ends { IsFiniteIterable I.into_iter_gives I.IntoIter.can_next I.IntoIter.remaining characters }
-    /// ensures held { IsStored N array.new start.new len.new }
+    /// ensures in_array { IsStored N array.new start.new len.new }
     /// ensures taken { let t = (stored array.old start.old len.old).text in
     ///     (taken : List ℕ) × Takes I.into_iter_gives I.IntoIter.next_gives (λ cs. cs) characters (cap N - size t) taken
     ///     × MatchResult result (λ _. size taken ≤ cap N - size t) (λ _. cap N - size t < size taken)
@@ -193,9 +193,9 @@ impl<const N: usize> ArrayString<N> {
     /// <details><summary>Contract</summary>
     ///
     /// ```text
-    /// requires held { IsStored N array.old start.old len.old }
+    /// requires in_array { IsStored N array.old start.old len.old }
     /// requires end { end ≡ start.old + len.old }
-    /// ensures held { IsStored N array.new start.new len.new }
+    /// ensures in_array { IsStored N array.new start.new len.new }
     /// ensures end { IfSome result (λ next. next ≡ start.new + len.new) }
     /// ensures text { let t = (stored array.old start.old len.old).text in let new = (stored array.new start.new len.new).text in
     ///     MatchOption result ((cap N < size t + size (ch ∷ [])) × (new ≡ t)) (λ _. (size t + size (ch ∷ []) ≤ cap N) × (new ≡ t ++ ch ∷ [])) }
@@ -209,20 +209,20 @@ impl<const N: usize> ArrayString<N> {
         // SAFETY: `end <= 255`: by this function's `# Safety` the text ends at `end`, and within the capacity.
         // Proved: crates/arraystring_core/src/array_string/append.rt
         if !unsafe { Self::has_room(end, ch) } {
-            let held = end - *start as usize;
-            // SAFETY: `held <= 255`: `held` is at most `end`.
+            let size = end - *start as usize;
+            // SAFETY: `size <= 255`: `size` is at most `end`.
             // Proved: crates/arraystring_core/src/array_string/append.rt
-            if !unsafe { Self::has_room(held, ch) } {
+            if !unsafe { Self::has_room(size, ch) } {
                 return None;
             }
-            // SAFETY: the `held` bytes of `array` from `*start` on are UTF-8 and end within the capacity;
-            // `held + ch.len_utf8() <= Self::capacity()`: `held` is `*len` by this function's `# Safety`, and
+            // SAFETY: the `size` bytes of `array` from `*start` on are UTF-8 and end within the capacity;
+            // `size + ch.len_utf8() <= Self::capacity()`: `size` is `*len` by this function's `# Safety`, and
             // `has_room` returned true for it.
             // Proved: crates/arraystring_core/src/array_string/append.rt
-            let held = unsafe { compact_and_append(array, *start as usize, held, ch) };
+            let size = unsafe { compact_and_append(array, *start as usize, size, ch) };
             *start = 0;
-            *len = held as u8;
-            return Some(held);
+            *len = size as u8;
+            return Some(size);
         }
         // SAFETY: `end + ch.len_utf8() <= N`: `has_room` returned true, and the capacity is at most `N`.
         // Proved: crates/arraystring_core/src/array_string/append.rt
@@ -265,9 +265,9 @@ impl<const N: usize> ArrayString<N> {
     /// <details><summary>Contract</summary>
     ///
     /// ```text
-    /// requires held { IsStored N array.old start.old len.old }
+    /// requires in_array { IsStored N array.old start.old len.old }
     /// requires ends { IsFiniteIterable I.into_iter_gives I.IntoIter.can_next I.IntoIter.remaining pieces }
-    /// ensures held { IsStored N array.new start.new len.new }
+    /// ensures in_array { IsStored N array.new start.new len.new }
     /// ensures taken { let t = (stored array.old start.old len.old).text in
     ///     (taken : List (Bor (List ℕ))) × Takes I.into_iter_gives I.IntoIter.next_gives joined_pieces pieces (cap N - size t) taken
     ///     × MatchResult result (λ _. size (joined_pieces taken) ≤ cap N - size t) (λ _. cap N - size t < size (joined_pieces taken))
@@ -323,7 +323,7 @@ impl<const N: usize> ArrayString<N> {
     ///
     /// ```text
     /// requires { IsStored N array.old start.old len.old }
-    /// ensures held { IsStored N array.new start.new len.new }
+    /// ensures in_array { IsStored N array.new start.new len.new }
     /// ensures end { IfSome result (λ next. next ≡ start.new + len.new) }
     /// ensures text { let t = (stored array.old start.old len.old).text in let new = (stored array.new start.new len.new).text in
     ///     MatchOption result ((cap N < size t + size (chars string.now)) × (new ≡ t ++ cut (chars string.now) (cap N - size t)))
@@ -365,10 +365,10 @@ impl<const N: usize> ArrayString<N> {
 /// <details><summary>Contract</summary>
 ///
 /// ```text
-/// requires held { IsStored N array.old start size }
+/// requires in_array { IsStored N array.old start size }
 /// requires room { size + width ch ≤ cap N }
 /// ensures size { result ≡ size + width ch }
-/// ensures held { IsStored N array.new 0 result }
+/// ensures in_array { IsStored N array.new 0 result }
 /// ensures text { (stored array.new 0 result).text ≡ (stored array.old start size).text ++ ch ∷ [] }
 /// ```
 ///
@@ -396,9 +396,9 @@ unsafe fn compact_and_append<const N: usize>(array: &mut [u8; N], start: usize, 
 /// <details><summary>Contract</summary>
 ///
 /// ```text
-/// requires held { IsStored N array.old start.old size }
+/// requires in_array { IsStored N array.old start.old size }
 /// requires fits { size + more ≤ cap N }
-/// ensures held { IsStored N array.new start.new size }
+/// ensures in_array { IsStored N array.new start.new size }
 /// ensures room { start.new + size + more ≤ cap N }
 /// ensures text { (stored array.new start.new size).text ≡ (stored array.old start.old size).text }
 /// ```

@@ -44,7 +44,7 @@ impl Span {
 /// ```text
 /// requires order { start ≤ end }
 /// requires within { end ≤ text.size }
-/// requires held { text.offset + text.size ≤ cap N }
+/// requires in_array { text.offset + text.size ≤ cap N }
 /// requires room { text.offset + (start + (len + (text.size - end))) ≤ cap N }
 /// requires countable { steps.old.moved ≤ 2 ^ 63 }
 /// ensures len { length array.new ≡ N }
@@ -90,7 +90,7 @@ pub(super) unsafe fn open_gap<const N: usize>(
 /// ```text
 /// requires order { start ≤ end }
 /// requires within { end ≤ text.size }
-/// requires held { text.offset + text.size ≤ cap N }
+/// requires in_array { text.offset + text.size ≤ cap N }
 /// requires room { start + (len + (text.size - end)) ≤ cap N }
 /// requires countable { steps.old.moved ≤ 2 ^ 63 }
 /// ensures len { length array.new ≡ N }

@@ -409,7 +409,7 @@ unsafe fn first_char(text: &str) -> (char, usize) {
 /// <details><summary>Contract</summary>
 ///
 /// ```text
-/// requires held { offset + size ≤ N }
+/// requires in_array { offset + size ≤ N }
 /// requires small { size ≤ 255 }
 /// requires text { IsUtf8 (take size (drop offset array.old)) }
 /// requires callable { IsCallableInTurn F.pre F.step f (chars (take size (drop offset array.old))) }

@@ -142,7 +142,7 @@ impl<const N: usize> ArrayString<N> {
     /// <details><summary>Contract</summary>
     ///
     /// ```text
-    /// ensures held { IsStored N array.new 0 result.0 }
+    /// ensures in_array { IsStored N array.new 0 result.0 }
     /// ensures stop { (items : List Unit16) → IsReading units.now items → first_stop items (cap N) ≡ stop_at result.1 (stored array.new 0 result.0).text }
     /// ```
     ///
@@ -213,7 +213,7 @@ impl<const N: usize> ArrayString<N> {
 /// ```text
 /// ensures within { result ≤ length units.now }
 /// ensures ascii { (i : ℕ) → i < result → slice_index units.now i < 0x80 }
-/// ensures held { IsStored N array.new 0 result }
+/// ensures in_array { IsStored N array.new 0 result }
 /// ensures text { (stored array.new 0 result).text ≡ take result units.now }
 /// ```
 ///

@@ -9,12 +9,12 @@ use Rattle.arraystring_core.proofs.array_string.ArrayString.append_chars.Goals a
 pub loop-ch-init : goal.loop-ch-init
 loop-ch-init g c =
     let old = (stored c.args.array.now c.args.start.now c.args.len.now).text in
-    let long = stored-size c.requires.held in
+    let long = stored-size c.requires.in_array in
     let on = c.requires.ends c.into_iter-ch-iterator.result c.into_iter-ch-iterator.ensures.into_iter_gives in
     record {
       can = on.0;
       ends = on.1;
-      held = c.requires.held;
+      in_array = c.requires.in_array;
       end = refl;
       added = record { text = sym (append-nil old); fits = omega arith };
     }
@@ -26,7 +26,7 @@ loop-ch-preserved g c =
     record {
       can = on.0;
       ends = on.1;
-      held = c.in-Some-append_char.ensures.held;
+      in_array = c.in-Some-append_char.ensures.in_array;
       end = c.in-Some-append_char.ensures.end;
       added = added-more of_characters inv.added c.in-Some.ch c.in-Some-append_char.ensures.text;
     }

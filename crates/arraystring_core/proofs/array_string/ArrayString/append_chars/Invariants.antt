@@ -8,7 +8,7 @@ abbrev pub invariant-loop-ch : goal.invariant-loop-ch
 invariant-loop-ch g l = let old = (stored l.fn.array l.fn.start l.fn.len).text in record {
   can : (goal.iterator-loop-ch g).can_next l.ch-iterator;
   ends : (goal.iterator-loop-ch g).is_finite l.ch-iterator;
-  held : IsStored g.row.N l.array l.start l.len;
+  in_array : IsStored g.row.N l.array l.start l.len;
   end : l.end ≡ l.start + l.len;
   added : IsAdded chars_text old (stored l.array l.start l.len).text (cap g.row.N) l.yielded;
 }

@@ -10,12 +10,12 @@ use Rattle.arraystring_core.proofs.array_string.ArrayString.append_strs.Goals as
 pub loop-piece-init : goal.loop-piece-init
 loop-piece-init g c =
     let old = (stored c.args.array.now c.args.start.now c.args.len.now).text in
-    let long = stored-size c.requires.held in
+    let long = stored-size c.requires.in_array in
     let on = c.requires.ends c.into_iter-piece-iterator.result c.into_iter-piece-iterator.ensures.into_iter_gives in
     record {
       can = on.0;
       ends = on.1;
-      held = c.requires.held;
+      in_array = c.requires.in_array;
       end = refl;
       added = record { text = sym (append-nil old); fits = omega arith };
     }
@@ -28,7 +28,7 @@ loop-piece-preserved-then-next-capacity g c =
     record {
       can = on.0;
       ends = on.1;
-      held = done.held;
+      in_array = done.in_array;
       end = done.end;
       added = added-more of_pieces inv.added c.in-Some.piece done.text;
     }
@@ -40,12 +40,12 @@ loop-piece-preserved g c =
     let on = c.in-Some.ensures.goes.on inv.ends in
     let utf8 : IsUtf8 x.now = rw (← c.as_bytes.ensures.value) c.as_bytes.ensures.utf8 in
     let wide = size-borrowed utf8 in
-    let long = stored-size inv.held in
-    let lies = appended inv.held refl utf8 (omega arith) (rw (inv.end, c.as_bytes.ensures.value) at c.write_over.ensures) in
+    let long = stored-size inv.in_array in
+    let lies = appended inv.in_array refl utf8 (omega arith) (rw (inv.end, c.as_bytes.ensures.value) at c.write_over.ensures) in
     record {
       can = on.0;
       ends = on.1;
-      held = lies.held;
+      in_array = lies.in_array;
       end = omega arith;
       added = added-more of_pieces inv.added x (omega arith, lies.shown);
     }

@@ -9,7 +9,7 @@ abbrev pub invariant-loop-piece : goal.invariant-loop-piece
 invariant-loop-piece g l = let old = (stored l.fn.array l.fn.start l.fn.len).text in record {
   can : (goal.iterator-loop-piece g).can_next l.piece-iterator;
   ends : (goal.iterator-loop-piece g).is_finite l.piece-iterator;
-  held : IsStored g.row.N l.array l.start l.len;
+  in_array : IsStored g.row.N l.array l.start l.len;
   end : l.end ≡ l.start + l.len;
   added : IsAdded joined_pieces old (stored l.array l.start l.len).text (cap g.row.N) l.yielded;
 }

@@ -21,7 +21,7 @@ written g c =
     (omega (arith, opened-size c.self.invariant c.self.view_is)) c.shift.ensures.bytes c.encode-len.ensures.bytes
 
 pub invariant_of-self : goal.invariant_of-self
-invariant_of-self g c = (written g c).held
+invariant_of-self g c = (written g c).in_array
 
 pub returns : goal.returns
 returns g c = (written g c).shown

@@ -36,7 +36,7 @@ written g c =
     gap.new.array gap.ensures.len gap.ensures.front gap.ensures.tail (rw c.as_bytes.ensures.value at c.write_over.ensures)
 
 pub invariant_of-self : goal.invariant_of-self
-invariant_of-self g c = (written g c).held
+invariant_of-self g c = (written g c).in_array
 
 pub returns-clause-text : goal.returns-clause-text
 returns-clause-text g c = (written g c).shown

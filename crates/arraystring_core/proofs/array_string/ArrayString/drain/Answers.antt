@@ -8,7 +8,7 @@ overflow_add-self-inside g c = omega (arith, takable c.self.invariant c.self.vie
 
 pub new-removed-requires : goal.new-removed-requires
 new-removed-requires g c =
-    (search rules, (search rules, (takable c.self.invariant c.self.view_is _ _ c.in_ok-check_part.ensures).held))
+    (search rules, (search rules, (takable c.self.invariant c.self.view_is _ _ c.in_ok-check_part.ensures).in_array))
 
 pub take_out-requires : goal.take_out-requires
 take_out-requires g c =

@@ -13,7 +13,7 @@ pub overflow_sub-self : goal.overflow_sub-self
 overflow_sub-self g c = opened-within c.self.invariant c.self.view_is _ c.requires
 
 pub invariant_of-self : goal.invariant_of-self
-invariant_of-self g c = (dropped c.self.invariant c.self.view_is _ c.requires).held
+invariant_of-self g c = (dropped c.self.invariant c.self.view_is _ c.requires).in_array
 
 pub returns : goal.returns
 returns g c = (dropped c.self.invariant c.self.view_is _ c.requires).shown

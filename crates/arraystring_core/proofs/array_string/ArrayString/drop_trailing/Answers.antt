@@ -2,8 +2,7 @@ use Rattle.std.proofs.Common.{◌≡◌, ℕ, ◌+◌, Bool, List, ◌++◌, ◌
 use Rattle.arraystring_base.specs.Text.{size, width, front}
 use Rattle.arraystring_base.proofs.TextLaws.{chars-bytes, width-bounds}
 use Rattle.arraystring_core.specs.Edits.{without_trailing}
-use Rattle.arraystring_core.proofs.EndLemmas.{pushed-length}
-use Rattle.arraystring_core.proofs.LastLemmas.{last-parts, last-size, last-boundary, last-front}
+use Rattle.arraystring_core.proofs.EndLemmas.{pushed-length, last-parts, last-size, last-boundary, last-front}
 use Rattle.arraystring_core.proofs.TrimLemmas.{without_trailing-passes, without_trailing-stops}
 use Rattle.arraystring_core.proofs.array_string.ArrayString.drop_trailing.Goals as goal
 use Rattle.arraystring_core.proofs.array_string.ArrayString.drop_trailing.Goals.{in-Some+then-not-drops, in_default}
@@ -66,7 +65,7 @@ pub returns-clause-text : goal.returns-clause-text
 returns-clause-text g c = λ passes tells.
     let text = c.loop-start.self.text in
     let borrowed = chars-bytes c.as_str.utf8 c.as_str.ensures.bytes in
-    let ended : without_trailing passes text ≡ text = elim c.match-last_char.branch [
+    let unchanged : without_trailing passes text ≡ text = elim c.match-last_char.branch [
       | in-Some+then-not-drops w ↦
           without_trailing-stops passes text _ w.in-Some.ch (last-parts borrowed w.in-Some.ensures.some)
           (sym (tells.at w.in-Some.ch w.drops.result w.drops.ensures) ∙ w.if-not-drops.true)
@@ -74,7 +73,7 @@ returns-clause-text g c = λ passes tells.
           let none = sym borrowed ∙ (rw w.in_default.is at c.last_char.ensures.none) in
           ap (without_trailing passes) none ∙ sym none
     ] in
-    sym ended ∙ c.loop-start.invariant.same passes tells
+    sym unchanged ∙ c.loop-start.invariant.same passes tells
 
 pub returns-clause-least : goal.returns-clause-least
 returns-clause-least g c =

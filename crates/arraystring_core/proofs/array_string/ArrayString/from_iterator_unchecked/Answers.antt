@@ -19,7 +19,7 @@ loop-piece-init g c =
     record {
       can = on.0;
       ends = on.1;
-      held = record { within = omega arith; length = length-replicate g.row.N 0; utf8 = ∣ IsUtf8-nil ∣₁ };
+      in_array = record { within = omega arith; length = length-replicate g.row.N 0; utf8 = ∣ IsUtf8-nil ∣₁ };
       text = chars-nil;
     }
 
@@ -34,7 +34,7 @@ room g c =
     let xs = c.loop-piece.yielded in
     let yields = Yields-more g.I.IntoIter.Iterator.next_gives _ xs _ x _ c.loop-piece.yielded_by c.in-Some.ensures.steps in
     let fits = c.requires.fits c.into_iter-piece-iterator.result c.into_iter-piece-iterator.ensures.into_iter_gives _ c.next.new.self yields in
-    omega (arith, next-fits of_pieces xs inv.text x fits, stored-size inv.held, size-borrowed (piece g c))
+    omega (arith, next-fits of_pieces xs inv.text x fits, stored-size inv.in_array, size-borrowed (piece g c))
 
 pub write_over-requires : goal.write_over-requires
 write_over-requires g c =
@@ -46,12 +46,12 @@ loop-piece-preserved g c =
     let before = (goal.at.loop-piece-preserved g c).After-as_bytes in
     let x = c.in-Some.piece in
     let written = rw c.as_bytes.ensures.value at c.write_over.ensures in
-    let lies = appended inv.held refl (piece g before) (room g before) (written-from-zero c.loop-piece.array _ x.now c.loop-piece.end written) in
+    let lies = appended inv.in_array refl (piece g before) (room g before) (written-from-zero c.loop-piece.array _ x.now c.loop-piece.end written) in
     let on = c.in-Some.ensures.goes.on inv.ends in
     record {
       can = on.0;
       ends = on.1;
-      held = lies.held;
+      in_array = lies.in_array;
       text = next-text of_pieces c.loop-piece.yielded inv.text x lies.shown;
     }
 

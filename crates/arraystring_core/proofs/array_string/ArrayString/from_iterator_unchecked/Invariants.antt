@@ -7,6 +7,6 @@ abbrev pub invariant-loop-piece : goal.invariant-loop-piece
 invariant-loop-piece g l = record {
   can : (goal.iterator-loop-piece g).can_next l.piece-iterator;
   ends : (goal.iterator-loop-piece g).is_finite l.piece-iterator;
-  held : IsStored g.row.N l.array 0 l.end;
+  in_array : IsStored g.row.N l.array 0 l.end;
   text : (stored l.array 0 l.end).text ≡ joined_pieces l.yielded;
 }

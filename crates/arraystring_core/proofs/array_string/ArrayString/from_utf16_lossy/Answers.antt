@@ -14,7 +14,7 @@ loop-item-init g c =
     let units = c.args.units.now in
     let left = c.into_iter-item-iterator.result in
     record {
-      held = run.ensures.held;
+      in_array = run.ensures.in_array;
       read = λ items is.
           ap lossy_text (whole-reading run.result units run.ensures.ascii c.new-item-items.ensures
           c.into_iter-item-iterator.ensures.into_iter_gives c.only_reading.ensures.only is)
@@ -29,7 +29,7 @@ loop-item-preserved g c =
     let added = c.in-Some-write_char.ensures in
     let first = ap lossy_text c.in-Some.ensures.steps ∙ ap (λ d. d ∷ left) (sym c.shown.ensures) in
     record {
-      held = added.0;
+      in_array = added.0;
       read = λ items is.
           c.loop-item.invariant.read items is ∙ ap (λ l. text ++ l) first ∙ sym (append_assoc text (ch ∷ []) left)
           ∙ ap (λ l. l ++ left) (sym added.1);
@@ -41,14 +41,14 @@ invariant_of-result g c =
       | in-None w ↦ w.array-is
       | in-Some+in-None-write_char w ↦ w.array-is ∙ w.in-None-write_char.ensures.1
     ] in
-    rw same c.loop-item.invariant.held
+    rw same c.loop-item.invariant.in_array
 
 pub returns : goal.returns
 returns g c = λ items is.
     let inv = c.loop-item.invariant in
     let n = cap g.row.N in
     let text = (stored c.loop-item.array 0 c.loop-item.end).text in
-    let long = stored-size inv.held in
+    let long = stored-size inv.in_array in
     let room : size text ≤ n = omega arith in
     let same = inv.read items is in
     elim c.match-next.branch [

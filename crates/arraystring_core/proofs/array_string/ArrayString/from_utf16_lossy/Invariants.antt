@@ -6,7 +6,7 @@ use Rattle.arraystring_core.proofs.array_string.ArrayString.from_utf16_lossy.Giv
 
 abbrev pub invariant-loop-item : goal.invariant-loop-item
 invariant-loop-item g l = record {
-  held : IsStored g.row.N l.array 0 l.end;
+  in_array : IsStored g.row.N l.array 0 l.end;
   read : (items : List Unit16) → IsReading l.units items
       → lossy_text items ≡ (stored l.array 0 l.end).text ++ lossy_text l.item-iterator;
 }

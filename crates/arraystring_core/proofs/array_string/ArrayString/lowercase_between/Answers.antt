@@ -14,7 +14,7 @@ lowercase_bytes-requires g c =
     (search rules, (omega arith, omega (arith, opened-within c.self.invariant c.self.view_is _ c.requires.end)))
 
 pub invariant_of-self : goal.invariant_of-self
-invariant_of-self g c = (changed lowercase-change c.self.invariant c.self.view_is c.requires.order c.requires.start c.requires.end c.lowercase_bytes.ensures).held
+invariant_of-self g c = (changed lowercase-change c.self.invariant c.self.view_is c.requires.order c.requires.start c.requires.end c.lowercase_bytes.ensures).in_array
 
 pub returns : goal.returns
 returns g c = (changed lowercase-change c.self.invariant c.self.view_is c.requires.order c.requires.start c.requires.end c.lowercase_bytes.ensures).shown

@@ -2,7 +2,7 @@ use Rattle.std.proofs.Common.{◌∙◌, sym, ap, refl, arith, rules}
 use Rattle.arraystring_base.proofs.TextLaws.{chars-bytes}
 use Rattle.arraystring_core.specs.Edits.{popping, last_of, all_but_last}
 use Rattle.arraystring_core.proofs.EditLaws.{makes, last_of-push, all_but_last-push}
-use Rattle.arraystring_core.proofs.LastLemmas.{last-parts, last-size, last-boundary, last-front}
+use Rattle.arraystring_core.proofs.EndLemmas.{last-parts, last-size, last-boundary, last-front}
 use Rattle.arraystring_core.proofs.array_string.ArrayString.pop_counted.Goals as goal
 
 pub returns-in_err-start-clause-edit : goal.returns-in_err-start-clause-edit

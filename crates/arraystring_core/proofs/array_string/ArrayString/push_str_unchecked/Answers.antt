@@ -19,7 +19,7 @@ written g c =
     appended c.self.invariant c.self.view_is c.utf8.string room copied
 
 pub invariant_of-self : goal.invariant_of-self
-invariant_of-self g c = (written g c).held
+invariant_of-self g c = (written g c).in_array
 
 pub returns : goal.returns
 returns g c = (written g c).shown

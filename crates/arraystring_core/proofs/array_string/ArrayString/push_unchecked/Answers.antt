@@ -20,7 +20,7 @@ written g c =
     char-appended c.self.invariant c.self.view_is c.args.ch (search rules) c.encode-len.ensures.width room (rw end at c.encode-len.ensures.bytes)
 
 pub invariant_of-self : goal.invariant_of-self
-invariant_of-self g c = (written g c).held
+invariant_of-self g c = (written g c).in_array
 
 pub returns : goal.returns
 returns g c = (written g c).shown

@@ -40,7 +40,7 @@ written g c =
     gap.ensures.tail c.encode.ensures.bytes
 
 pub invariant_of-self : goal.invariant_of-self
-invariant_of-self g c = (written g c).held
+invariant_of-self g c = (written g c).in_array
 
 pub returns : goal.returns
 returns g c = (written g c).shown

@@ -29,7 +29,7 @@ shift-requires g c =
 
 pub invariant_of-self : goal.invariant_of-self
 invariant_of-self g c =
-    (closed c.self.invariant c.self.view_is c.requires.order c.requires.start c.requires.end c.shift.ensures.bytes).held
+    (closed c.self.invariant c.self.view_is c.requires.order c.requires.start c.requires.end c.shift.ensures.bytes).in_array
 
 pub returns-clause-text : goal.returns-clause-text
 returns-clause-text g c =

@@ -1,6 +1,6 @@
 use Rattle.std.proofs.Common.{◌∷◌, [], ◌∙◌, sym, arith, rules}
 use Rattle.arraystring_base.proofs.TextLaws.{width-is}
-use Rattle.arraystring_core.proofs.InsertLemmas.{refuses-insertion, refuses-inside, makes-insertion}
+use Rattle.arraystring_core.proofs.CauseLemmas.{refuses-insertion, refuses-inside, makes-insertion}
 use Rattle.arraystring_core.proofs.array_string.ArrayString.try_insert.Goals as goal
 
 pub returns-then-len-len_utf8 : goal.returns-then-len-len_utf8

@@ -1,6 +1,6 @@
 use Rattle.std.proofs.Common.{◌∙◌, sym, arith, rules}
 use Rattle.arraystring_base.proofs.TextLaws.{size-borrowed, empty-size}
-use Rattle.arraystring_core.proofs.InsertLemmas.{refuses-insertion, refuses-inside, makes-insertion}
+use Rattle.arraystring_core.proofs.CauseLemmas.{refuses-insertion, refuses-inside, makes-insertion}
 use Rattle.arraystring_core.proofs.array_string.ArrayString.try_insert_str_counted.Goals as goal
 
 pub returns-then-len-string-clause-edit : goal.returns-then-len-string-clause-edit

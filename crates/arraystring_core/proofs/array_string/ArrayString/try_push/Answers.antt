@@ -1,5 +1,5 @@
 use Rattle.std.proofs.Common.{refl, arith, rules}
-use Rattle.arraystring_core.proofs.InsertLemmas.{makes-addition}
+use Rattle.arraystring_core.proofs.CauseLemmas.{makes-addition}
 use Rattle.arraystring_core.proofs.array_string.ArrayString.try_push.Goals as goal
 
 pub push_unchecked-requires : goal.push_unchecked-requires

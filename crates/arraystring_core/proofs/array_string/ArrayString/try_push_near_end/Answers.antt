@@ -1,7 +1,7 @@
 use Rattle.std.proofs.Common.{refl, arith, rules}
 use Rattle.std.proofs.Math.Nat.{lt_of_not-le}
 use Rattle.std.proofs.lemmas.Bool.{iff_false}
-use Rattle.arraystring_core.proofs.InsertLemmas.{makes-addition, refuses-addition}
+use Rattle.arraystring_core.proofs.CauseLemmas.{makes-addition, refuses-addition}
 use Rattle.arraystring_core.proofs.StoredLaws.{opened-size}
 use Rattle.arraystring_core.proofs.array_string.ArrayString.try_push_near_end.Goals as goal
 

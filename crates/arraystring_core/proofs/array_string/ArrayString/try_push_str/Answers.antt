@@ -1,6 +1,6 @@
 use Rattle.std.proofs.Common.{arith}
 use Rattle.arraystring_base.proofs.TextLaws.{size-borrowed}
-use Rattle.arraystring_core.proofs.InsertLemmas.{makes-addition, refuses-addition}
+use Rattle.arraystring_core.proofs.CauseLemmas.{makes-addition, refuses-addition}
 use Rattle.arraystring_core.proofs.array_string.ArrayString.try_push_str.Goals as goal
 
 pub returns-then-size-string : goal.returns-then-size-string

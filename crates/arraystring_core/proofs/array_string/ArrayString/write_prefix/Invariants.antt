@@ -7,6 +7,6 @@ use Rattle.arraystring_core.proofs.array_string.ArrayString.write_prefix.Given a
 
 abbrev pub invariant-loop-item : goal.invariant-loop-item
 invariant-loop-item g l = record {
-  held : IsStored g.row.N l.array 0 l.end;
+  in_array : IsStored g.row.N l.array 0 l.end;
   read : (items : List Unit16) → IsReading l.units items → items ≡ map Char (stored l.array 0 l.end).text ++ l.item-iterator;
 }

@@ -7,10 +7,10 @@ pub prove-unreachable-requires : goal.prove-unreachable-requires
 prove-unreachable-requires g c =
     omega (arith, width-bounds c.args.ch)
 
-pub returns-clause-held : goal.returns-clause-held
-returns-clause-held g c =
-    (char-appended_at_start c.requires.held refl c.args.ch (search rules) c.encode.ensures.width c.requires.room c.shift.ensures.bytes c.encode.ensures.bytes).held
+pub returns-clause-in_array : goal.returns-clause-in_array
+returns-clause-in_array g c =
+    (char-appended_at_start c.requires.in_array refl c.args.ch (search rules) c.encode.ensures.width c.requires.room c.shift.ensures.bytes c.encode.ensures.bytes).in_array
 
 pub returns-clause-text : goal.returns-clause-text
 returns-clause-text g c =
-    (char-appended_at_start c.requires.held refl c.args.ch (search rules) c.encode.ensures.width c.requires.room c.shift.ensures.bytes c.encode.ensures.bytes).shown
+    (char-appended_at_start c.requires.in_array refl c.args.ch (search rules) c.encode.ensures.width c.requires.room c.shift.ensures.bytes c.encode.ensures.bytes).shown

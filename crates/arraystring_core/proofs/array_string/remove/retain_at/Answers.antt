@@ -62,8 +62,8 @@ loop-read-preserved g c =
 pub returns-clause-filtered : goal.returns-clause-filtered
 returns-clause-filtered g c =
     let l = c.loop-read in
-    let ended : c.args.size - l.read ≡ 0 = omega arith in
+    let none : c.args.size - l.read ≡ 0 = omega arith in
     let over : chars (unread l.array c.args.offset l.read c.args.size) ≡ [] =
-    ap (λ k. chars (take k (drop (c.args.offset + l.read) l.array))) ended ∙ chars-nil in
+    ap (λ k. chars (take k (drop (c.args.offset + l.read) l.array))) none ∙ chars-nil in
     let filtered = rw over at l.invariant.filtered in
     rw (← append-nil (chars (take l.kept (drop c.args.offset l.array)))) (filtered [] ([], l.f, refl, refl, refl))

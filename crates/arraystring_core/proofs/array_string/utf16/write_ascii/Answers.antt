@@ -22,10 +22,10 @@ pub returns-else-units-run-lt128 : goal.returns-else-units-run-lt128
 returns-else-units-run-lt128 g c =
     let inv = c.loop-run.invariant in
     let lies = run-lies c.args.array.now c.args.units.now c.loop-run.run c.told-array (omega arith) (omega arith) inv.ascii inv.bytes in
-    record { within = omega arith; ascii = inv.ascii; held = lies.held; text = lies.shown }
+    record { within = omega arith; ascii = inv.ascii; in_array = lies.in_array; text = lies.shown }
 
 pub returns-after-loop-run : goal.returns-after-loop-run
 returns-after-loop-run g c =
     let inv = c.loop-run.invariant in
     let lies = run-lies c.args.array.now c.args.units.now c.loop-run.run c.told-array (omega arith) (omega arith) inv.ascii inv.bytes in
-    record { within = omega arith; ascii = inv.ascii; held = lies.held; text = lies.shown }
+    record { within = omega arith; ascii = inv.ascii; in_array = lies.in_array; text = lies.shown }

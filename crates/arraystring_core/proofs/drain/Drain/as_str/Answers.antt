@@ -20,7 +20,7 @@ returns-clause-bytes g c =
 
 pub returns-clause-text : goal.returns-clause-text
 returns-clause-text g c =
-    let removed = opened-text c.self.invariant.held refl in
+    let removed = opened-text c.self.invariant.in_array refl in
     subst (λ d. IsText d.left) c.self.view_is (back-text _ c.self.inside.front removed)
 
 pub returns-clause-fits : goal.returns-clause-fits

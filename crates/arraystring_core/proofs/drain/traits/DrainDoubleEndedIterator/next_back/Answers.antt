@@ -28,7 +28,7 @@ gives g c =
     rw (← c.in_ok-kept.ensures.some.2) (back-given c.self.invariant c.self.view_is _ _ (sym (chars-bytes c.as_str.utf8 c.as_str.ensures.bytes) ∙ c.in_ok-kept.ensures.some.1))
 
 pub invariant_of-self : goal.invariant_of-self
-invariant_of-self g c = (gives g c).held
+invariant_of-self g c = (gives g c).in_array
 
 pub returns : goal.returns
 returns g c =

@@ -19,7 +19,7 @@ pub overflow_add-self : goal.overflow_add-self
 overflow_add-self g c = omega (arith, given-within c.self.invariant)
 
 pub invariant_of-self : goal.invariant_of-self
-invariant_of-self g c = (first-given c.self.invariant c.self.view_is (omega (arith, given-within c.self.invariant)) c.if-first-lt128.true).held
+invariant_of-self g c = (first-given c.self.invariant c.self.view_is (omega (arith, given-within c.self.invariant)) c.if-first-lt128.true).in_array
 
 pub returns-then-first-lt128 : goal.returns-then-first-lt128
 returns-then-first-lt128 g c =
@@ -53,7 +53,7 @@ gives g c =
     (sym c.chars-left.ensures.rest ∙ c.in_ok-ch.ensures.steps.0 ∙ ap (λ l. encode_utf8 c.in_ok-ch.ch ++ l) (sym c.as_str-2.ensures))
 
 pub invariant_of-self-2 : goal.invariant_of-self-2
-invariant_of-self-2 g c = (gives g c).held
+invariant_of-self-2 g c = (gives g c).in_array
 
 pub returns : goal.returns
 returns g c =

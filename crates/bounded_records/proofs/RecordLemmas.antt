@@ -1,16 +1,53 @@
--- What `decode` returns is decided by its bytes.
-use Rattle.std.proofs.Common.{◌≡◌, ◌↔◌, ℕ, ◌≤◌, List, length, take, drop, Result, Ok, Err, refl, sym, ap, subst, ◌∙◌, arith, length-append, length-drop, length-take-le, take-append-drop, take_at}
+-- The fields of a record, and that what `decode` returns is decided by its bytes.
+use Rattle.std.proofs.Common.{◌≡◌, ℕ, ◌+◌, ◌-◌, ◌≤◌, List, [], ◌∷◌, ◌++◌, length, drop, replicate, refl, sym, ap, ◌∙◌, arith, length-append, length-drop, length-take-le, take-append-drop, take_at, ◌↔◌, take, Result, Ok, Err, subst}
+use Rattle.std.specs.Prelude.{slice_set, suc}
 use Rattle.std.specs.List.{All}
 use Rattle.std.specs.Result.{IsOkAnd, IsErrAnd}
-use Rattle.std.proofs.lemmas.List.{drop_at}
-use Rattle.arraystring.specs.Text.{bytes, IsText, IsWellFormed}
-use Rattle.arraystring.proofs.TextLaws.{bytes_same}
+use Rattle.std.proofs.lemmas.List.{drop_at, drop-drop, drop-replicate, length-replicate}
+use Rattle.std.proofs.lemmas.List.Elements.{All-head, All-tail, All-replicate}
+use borrow.Rule.Slice.PartMut.{put_mid}
+use Rattle.arraystring.specs.Text.{size, bytes, IsText, IsWellFormed}
+use Rattle.arraystring.proofs.TextLaws.{size-is, bytes_same}
+use Rattle.bounded_records.specs.Records.{field_of, count, counted, padding, IsRecord, username_field, role_field, HasLength, CountsFit, AreWellFormed, ArePadded, IsFirstFault}
 use Rattle.bounded_records.specs.declared.user.User.{User}
 use Rattle.bounded_records.specs.declared.record.RecordFault.{RecordFault}
 use Rattle.bounded_records.specs.declared.record.RecordFault.TheVariants.{Length, Count, Utf8, Padding}
 use Rattle.bounded_records.specs.Users.{texts}
-use Rattle.bounded_records.specs.Records.{field_of, count, counted, padding, IsRecord, username_field, role_field, HasLength, CountsFit, AreWellFormed, ArePadded, IsFirstFault}
-use Rattle.bounded_records.proofs.FieldLemmas.{length-field, counted-field, padding-field, field-is}
+
+-- a text written over zero bytes
+pub written : (room n k : ℕ) (t new field : List ℕ) → field ≡ replicate (suc room) 0 → n ≡ size t → k ≡ size t → new ≡ bytes t
+    → put_mid 1 k (slice_set field 0 n) new ≡ field_of room t
+written room n k t new field zero long end same =
+    rw (zero, long, end, same) (ap (λ z. size t ∷ (bytes t ++ z)) (drop-replicate (size t) room 0))
+
+-- bytes that are zero
+zeros : (l : List ℕ) → All (λ b. b ≡ 0) l → l ≡ replicate (length l) 0
+zeros [] is = refl
+zeros (b ∷ l) is = let tail = zeros l (All-tail (λ b. b ≡ 0) b l is) in let head = All-head (λ b. b ≡ 0) b l is in cc
+
+-- what stands in the field of a text
+module _ (room : ℕ) (t : List ℕ) (fits : size t ≤ room) where
+  pub length-field : length (field_of room t) ≡ 1 + room
+  length-field = omega (arith, size-is t, length-append (bytes t) (replicate (room - size t) 0), length-replicate {A = ℕ} (room - size t) 0)
+
+  pub counted-field : counted (field_of room t) ≡ bytes t
+  counted-field = take_at (bytes t) (replicate (room - size t) 0) (size t) (sym (size-is t))
+
+  pub padding-field : All (λ b. b ≡ 0) (padding (field_of room t))
+  padding-field =
+      rw (← drop-drop (size t) 1 (field_of room t), drop_at (bytes t) (replicate (room - size t) 0) (size t) (sym (size-is t)))
+      (All-replicate (λ b. b ≡ 0) _ 0 refl)
+
+-- a field whose tests pass is that of its text
+pub field-is : (room : ℕ) (field t : List ℕ) → length field ≡ 1 + room → count field ≤ room → bytes t ≡ counted field
+    → All (λ b. b ≡ 0) (padding field) → field ≡ field_of room t
+field-is room [] t long fits same zero = absurd (omega arith)
+field-is room (n ∷ rest) t long fits same zero =
+    let within : n ≤ length rest = omega arith in
+    let size_is : size t ≡ n = size-is t ∙ ap length same ∙ length-take-le n rest within in
+    let left : length (drop n rest) ≡ room - n = omega (arith, length-drop n rest) in
+    let padded : drop n rest ≡ replicate (room - n) 0 = zeros (drop n rest) (rw (← drop-drop n 1 (n ∷ rest)) at zero) ∙ ap (λ k. replicate k 0) left in
+    rw (size_is, same) (cc (take-append-drop n rest))
 
 -- a record passes all tests, and has the bytes of its texts
 module _ (bs username role : List ℕ) (is : IsRecord bs username role) where
