@@ -24,12 +24,13 @@ class Item:
     """An item of a module: its lines, and the blocks `module _ .. where` that it is in."""
 
     def __init__(self, path, number, line, around, names):
-        kind, public, other, self.name = re.match(rf"\s*(abbrev |unfoldable )?(pub )?(data |record )?({NAME})", line).groups()
+        kind, public, other, self.name = re.match(rf"\s*(abbrev |unfoldable )?(pub )?(data |record |ruleset )?({NAME})", line).groups()
         self.path, self.number, self.lines, self.around, self.names = path, number, [line], around, names
         self.module = module_of(path)
         is_claim = kind and re.search("[≡≢≤<]", line.rpartition("→" if "→" in line else " : ")[2])
         self.is_public = bool(public)
-        self.is_definition, self.is_data = bool(kind or other) and not is_claim, other == "data "
+        self.is_definition = bool(kind or other in ("data ", "record ")) and not is_claim
+        self.is_data = other == "data "
         self.is_law = self.is_public and not self.is_definition and re.search("(Laws|GhostProofs)$", path.stem)
         self.is_kept = path.parts[2] == "specs" and path.stem != "GhostProofs"
 

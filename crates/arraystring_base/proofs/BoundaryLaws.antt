@@ -130,3 +130,7 @@ boundary-prefix t i = (
   λ b. (front t i, (back t i, sym (front-back t i)), front-size t i b),
   λ h. rw h.1.1 (boundary-is h.0 h.1.0 i h.2),
 )
+
+pub ruleset boundary_prefix = (boundary-prefix)
+
+pub ruleset parts = (front-back, front-size, front-is, back-is, back-start)

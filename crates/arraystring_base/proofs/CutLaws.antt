@@ -77,3 +77,5 @@ cut-is_longest t n = record { prefix = cut-prefix t n; fits = cut-fits t n; long
 pub longest-is_cut : {t p : List ℕ} {n : ℕ} → IsLongestFitting p t n → p ≡ cut t n
 longest-is_cut {t} {p} {n} is =
     parts-same p (cut t n) (cut-longest t n p is.prefix is.fits) (is.longest (cut t n) (cut-prefix t n) (cut-fits t n))
+
+pub ruleset cut_cut = (cut-cut)

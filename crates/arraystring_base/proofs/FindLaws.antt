@@ -167,3 +167,5 @@ before_first-none p (d ∷ ds) = go (p d) refl (before_first-none p ds)
     go false is none =
         let more : 1 + position_or_len p ds ≡ suc (position_or_len p ds) = omega arith in
         rw is (subst (λ n. NonePass p (take n (d ∷ ds))) (sym more) (is, none))
+
+pub ruleset find_first = (find-first)

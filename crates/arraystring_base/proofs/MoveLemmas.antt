@@ -50,3 +50,5 @@ copied-by-ends old half new given first last at k within least most is_first is_
     rw (take_all (length given) given (omega arith)) at
     (moved-by-ends given old half first 0 at k (length given) (omega arith) within least is_first one new last most
     (rw zero is_last) two)
+
+pub ruleset written_as_one = (written-as-one)

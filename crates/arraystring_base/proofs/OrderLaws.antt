@@ -85,3 +85,5 @@ bytes-equal a b = rw order-bytes (equal-same a b, same-equal a b)
 
 pub bytes-greater : (a b : List ℕ) → (slice_cmp nat_cmp (bytes a) (bytes b) ≡ Greater) ↔ IsBefore b a
 bytes-greater a b = rw order-bytes (greater-before a b, before-greater a b)
+
+pub ruleset order_of_bytes = (order-bytes, bytes-less, bytes-equal, bytes-greater)

@@ -114,3 +114,7 @@ well_formed-utf8 well = rw (← well.1.1) (bytes-utf8 well.0 well.1.0)
 
 pub utf8-well_formed : {bs : List ℕ} → IsUtf8 bs → IsWellFormed bs
 utf8-well_formed {bs} u = (chars bs, (text-chars u, bytes-chars u))
+
+pub ruleset size_is = (size-is)
+
+pub ruleset borrowed = (text-chars, bytes-chars)

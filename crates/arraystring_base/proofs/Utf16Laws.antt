@@ -49,3 +49,5 @@ first_stop-is items n stop = (stop-is items n stop, λ e. subst (StopsAt items n
 pub lossy_text-characters : (t : List ℕ) → lossy_text (map Char t) ≡ t
 lossy_text-characters [] = refl
 lossy_text-characters (c ∷ cs) = cc (lossy_text-characters cs)
+
+pub ruleset first_stop_is = (first_stop-is)

@@ -20,17 +20,20 @@ pub fn longest_cut()
 {}
 
 /// The cut of a longer cut is the cut.
+#[tactic(auto, using(crate::proofs::CutLaws::cut_cut))]
 pub fn cut_of_cut()
     ensures { (t : List ℕ) (m n : ℕ) → n ≤ m → cut (cut t m) n ≡ cut t n }
 {}
 
 /// `i` is a boundary of a text if and only if one of its prefixes has size `i`.
+#[tactic(auto, using(crate::proofs::BoundaryLaws::boundary_prefix))]
 pub fn boundaries()
     ensures { (t : List ℕ) (i : ℕ) → IsTrue (boundary t i) ↔ ((p : List ℕ) × IsPrefix p t × (size p ≡ i)) }
 {}
 
 /// The parts before and from an index, joined, are the text. The part before a boundary has as many
 /// bytes as the boundary says. At the index where two texts are joined, the parts are those two.
+#[tactic(auto, using(crate::proofs::BoundaryLaws::parts))]
 pub fn parts()
     ensures joined { (t : List ℕ) (i : ℕ) → front t i ++ back t i ≡ t }
     ensures size { (t : List ℕ) (i : ℕ) → IsTrue (boundary t i) → size (front t i) ≡ i }
@@ -40,16 +43,19 @@ pub fn parts()
 
 /// A text takes as many bytes as its UTF-8 has. So `len` of a string is how many bytes its
 /// `as_bytes` and its `as_str` return.
+#[tactic(auto, using(crate::proofs::TextLaws::size_is))]
 pub fn size_is_length()
     ensures { (t : List ℕ) → size t ≡ length (bytes t) }
 {}
 
 /// Bytes spell one text.
+#[tactic(auto, using(crate::proofs::TextLaws::bytes_same))]
 pub fn one_text()
     ensures { (a b : List ℕ) → bytes a ≡ bytes b → a ≡ b }
 {}
 
 /// Every `&str` is the bytes of its characters, and each of these is a Unicode scalar value.
+#[tactic(auto, using(crate::proofs::TextLaws::borrowed))]
 pub fn borrowed_text(given: &str)
     ensures text { IsText (chars given.now) }
     ensures bytes { bytes (chars given.now) ≡ given.now }
@@ -57,6 +63,7 @@ pub fn borrowed_text(given: &str)
 
 /// The order of the bytes of two texts is the order of their characters. The bytes are less if and
 /// only if the one text comes before the other, and equal if and only if the texts are the same.
+#[tactic(auto, using(crate::proofs::OrderLaws::order_of_bytes))]
 pub fn order_of_bytes()
     ensures same { (a b : List ℕ) → slice_cmp nat_cmp (bytes a) (bytes b) ≡ slice_cmp nat_cmp a b }
     ensures less { (a b : List ℕ) → (slice_cmp nat_cmp (bytes a) (bytes b) ≡ Less) ↔ IsBefore a b }
@@ -85,6 +92,7 @@ pub fn text_reading()
 
 /// The first stop of items at `n` bytes is where the longest prefix of characters that fits ends,
 /// with what comes after it; no other stop is so.
+#[tactic(auto, using(crate::proofs::Utf16Laws::first_stop_is))]
 pub fn one_stop()
     ensures { (items : List Unit16) (n : ℕ) (stop : Stop) → (StopsAt items n stop) ↔ (first_stop items n ≡ stop) }
 {}
@@ -95,6 +103,7 @@ pub fn one_stop()
 /// # Precondition
 ///
 /// `place` must be what `text.find(c)` returned.
+#[tactic(auto, using(crate::proofs::FindLaws::find_first))]
 pub fn found_first(text: &str, c: char, place: Option<usize>)
     requires { MatchOption place (FindsChar c text.now None) (MatchBeginsAt (FindsChar c) text.now) }
     ensures { MatchOption place (position_or_len (λ d. d == c) (chars text.now) ≡ length (chars text.now)) (λ i. (i < size (chars text.now)) × IsTrue (boundary (chars text.now) i) × (front (chars text.now) i ≡ before_first (λ d. d == c) (chars text.now)) × (back (chars text.now) i ≡ c ∷ after_first (λ d. d == c) (chars text.now))) }

@@ -269,6 +269,7 @@ fn put_bytes<const N: usize, const K: usize>(array: &mut [u8; N], at: usize, byt
 }
 
 /// Writes `2 * K` bytes from `at` on.
+#[tactic(auto, using(crate::proofs::MoveLemmas::written_as_one))]
 #[inline(always)]
 fn put_pair<const N: usize, const K: usize>(
     array: &mut [u8; N],

@@ -94,3 +94,5 @@ is_white_space_std c =
       or_assoc,
       or-false,
     ) refl
+
+pub ruleset popped = (last_of-push, all_but_last-push)

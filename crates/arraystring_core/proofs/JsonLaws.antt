@@ -26,3 +26,5 @@ whole-fits value t n whole fits = cut-whole value n ∙ ap (option_map (λ t. cu
 
 pub reads_back : (t : List ℕ) (n : ℕ) → IsText t → size t ≤ n → text_within (json_text t) n ≡ Some t
 reads_back t n is fits = whole-fits (json_text t) t n (reads_whole t is) fits
+
+pub ruleset whole = (reads_whole, cut-whole, whole-fits)

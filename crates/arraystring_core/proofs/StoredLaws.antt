@@ -1,4 +1,5 @@
 -- Laws of what is stored.
+use Rattle.std.proofs.lemmas.Str.{chars-nil}
 use Rattle.std.proofs.Common.{◌≡◌, ℕ, ◌+◌, ◌-◌, ◌≤◌, List, take, drop, refl, subst, sym, ap, ◌∙◌, arith, true, chars}
 use Rattle.arraystring_base.specs.Text.{size, bytes, boundary, IsText}
 use Rattle.arraystring_base.proofs.TextLaws.{text-chars, chars-bytes, bytes-utf8}
@@ -31,3 +32,9 @@ module _ {array_size : ℕ} {array : List ℕ} {start n : ℕ} (is : IsStored ar
 -- UTF-8 of a text spells it
 pub text_spelled : (t : List ℕ) → IsText t → chars (bytes t) ≡ t
 text_spelled t is = chars-bytes (bytes-utf8 t is) refl
+
+pub ruleset opened_size = (opened-size)
+
+pub ruleset opened_end = (opened-end)
+
+pub ruleset chars_nil = (chars-nil)

@@ -10,7 +10,7 @@ use Rattle.std.proofs.lemmas.Iterator.Consumers.{YieldsList-from_first}
 use Rattle.std.proofs.lemmas.Str.{Chars-gives, encodes-chars}
 use Rattle.std.specs.Borrow.{Bor}
 use Rattle.arraystring_base.specs.Text.{size, bytes, cut}
-use Rattle.arraystring_base.proofs.TextLaws.{size-append, bytes-append}
+use Rattle.arraystring_base.proofs.TextLaws.{size-append, bytes-append, chars-bytes}
 use Rattle.arraystring_base.proofs.CutLaws.{cut-past}
 use Rattle.arraystring_base.specs.declared.error.Error.{Error}
 use Rattle.arraystring_core.specs.Stored.{Stored}
@@ -124,3 +124,9 @@ text-gives s it bs u rest e = Chars-gives (chars bs) it (encodes-chars bs u ∙ 
 -- a `Drain` gives the characters that are left
 pub drain-gives : (s it : Drained) (left : List ℕ) → s.left ≡ left → it ≡ s → AlwaysYields (YieldsFirst (λ d. d.left)) (λ c. c) it left
 drain-gives s it left is e = (YieldsList-from_first (λ c. c) (λ (d : Drained). d.left) left (ap (λ d. d.left) e ∙ is)).runs
+
+pub ruleset past_the_room = (cut-past, cut-joined_past)
+
+pub ruleset drain_gives = (drain-gives)
+
+pub ruleset bytes_joined = (bytes-joined, chars-bytes)

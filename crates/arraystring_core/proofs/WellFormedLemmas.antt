@@ -1,7 +1,7 @@
 -- Bytes that are UTF-8, by their first characters.
 use Rattle.std.proofs.Common.{◌≡◌, ℕ, ◌+◌, ◌-◌, ◌<◌, ◌≤◌, ◌↔◌, List, [], ◌∷◌, length, take, drop, get_or, subst, arith, IsUtf8, take-append-drop}
 use Rattle.std.proofs.lemmas.List.{take_rest}
-use Rattle.std.proofs.lemmas.Str.{IsUtf8-append, IsUtf8-drop, IsCharBoundary-from_take}
+use Rattle.std.proofs.lemmas.Str.{IsUtf8-append, IsUtf8-drop, IsCharBoundary-from_take, IsUtf8-from_ascii}
 use Rattle.std.proofs.str.Valid.{of_one, of_two, of_three, of_four, longer}
 use Rattle.arraystring_core.proofs.UnitLemmas.{AreAscii, run-utf8}
 
@@ -38,3 +38,7 @@ pub four-bytes : (a b c d : ℕ) → 0xF0 ≤ a → a ≤ 0xF4 → (0x80 ≤ b) 
     → (0x80 ≤ c) × (c ≤ 0xBF) → (0x80 ≤ d) × (d ≤ 0xBF) → IsUtf8 (a ∷ b ∷ c ∷ d ∷ [])
 four-bytes a b c d least most second long low third fourth =
     of_four (a ∷ b ∷ c ∷ d ∷ []) 0 (omega arith) (omega arith) (omega arith) (omega arith) (omega arith) (grind arith)
+
+pub ruleset utf8_from_ascii = (IsUtf8-from_ascii)
+
+pub ruleset utf8_run = (utf8-run)

@@ -90,6 +90,7 @@ impl<const N: usize> ArrayString<N> {
     /// let string = ArrayString::<8>::new();
     /// assert!(string.is_empty());
     /// ```
+    #[tactic(auto, using(crate::proofs::StoredLaws::chars_nil))]
     #[inline(always)]
     pub const fn new() -> Self
         ensures { result.text ≡ [] }
@@ -126,6 +127,7 @@ impl<const N: usize> ArrayString<N> {
     /// string.push_str("é"); // two bytes
     /// assert_eq!(string.len(), 5);
     /// ```
+    #[tactic(auto, using(crate::proofs::StoredLaws::opened_size))]
     #[inline]
     pub const fn len(&self) -> u8
         ensures value { result ≡ size self.now.text }
@@ -199,6 +201,7 @@ impl<const N: usize> ArrayString<N> {
     }
 
     /// The offset at which the text ends.
+    #[tactic(auto, using(crate::proofs::StoredLaws::opened_end))]
     #[inline(always)]
     pub(crate) fn end(&self) -> usize
         ensures value { result ≡ start_of self.now + size self.now.text }

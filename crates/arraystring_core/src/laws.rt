@@ -41,6 +41,7 @@ pub fn text_spelled<const N: usize>(string: &ArrayString<N>)
 }
 
 /// A drain, as an iterator, gives the characters that are left.
+#[tactic(auto, using(crate::proofs::TakenLaws::drain_gives))]
 #[inline]
 pub fn left_given<const N: usize>(drained: &Drain<N>)
     ensures { (it : Drained) → it.left ≡ drained.now.left → AlwaysYields (YieldsFirst (λ d. d.left)) (λ c. c) it drained.now.left }
@@ -56,6 +57,7 @@ pub fn left_fits<const N: usize>(drained: &Drain<N>)
 }
 
 /// What comes after characters or pieces that no longer fit changes no cut.
+#[tactic(auto, using(crate::proofs::TakenLaws::past_the_room))]
 pub fn what_comes_past_the_room()
     ensures characters { (taken more : List ℕ) (n : ℕ) → n < size taken → cut (taken ++ more) n ≡ cut taken n }
     ensures pieces { (taken more : List (List ℕ)) (n : ℕ) → n < size (joined taken) → cut (joined (taken ++ more)) n ≡ cut (joined taken) n }
@@ -64,6 +66,7 @@ pub fn what_comes_past_the_room()
 /// The text whose bytes are those of the pieces, one after the other, is the pieces joined, and so
 /// has the same cuts. So `from_iterator` of pieces is `from_str_truncate` of the text that they
 /// make.
+#[tactic(auto, using(crate::proofs::TakenLaws::bytes_joined))]
 pub fn pieces_make_one_text(whole: &str)
     ensures text { (pieces : List (List ℕ)) → whole.now ≡ joined (map bytes pieces) → chars whole.now ≡ joined pieces }
     ensures cut { (pieces : List (List ℕ)) (n : ℕ) → whole.now ≡ joined (map bytes pieces) → cut (joined pieces) n ≡ cut (chars whole.now) n }
@@ -80,6 +83,7 @@ pub fn units_read_back()
 
 /// What a pop leaves, followed by the character that it returns, is the text before. Of the empty
 /// text it returns `None`, and the text stays empty.
+#[tactic(auto, using(crate::proofs::EditLaws::popped))]
 pub fn popped()
     ensures last { (front : List ℕ) (ch : ℕ) → ((popping (front ++ ch ∷ [])).result ≡ Some ch) × ((popping (front ++ ch ∷ [])).after ≡ front) }
     ensures empty { ((popping []).result ≡ None) × ((popping []).after ≡ []) }
@@ -100,6 +104,7 @@ pub fn white_space()
 
 /// If a split is not refused, the text that it keeps, followed by the part that it returns, is the
 /// text before.
+#[tactic(auto, using(arraystring_base::proofs::BoundaryLaws::parts))]
 pub fn split_back()
     ensures { (t : List ℕ) (i : ℕ) → first_cause (split t i).tests ≡ None → (split t i).after ++ (split t i).result ≡ t }
 {}
@@ -144,6 +149,7 @@ pub fn json_reads_back()
 
 /// The whole JSON text of a text is the text. What a JSON value gives within `n` bytes is its whole
 /// text cut to `n` bytes, so all of it if it fits.
+#[tactic(auto, using(crate::proofs::JsonLaws::whole))]
 pub fn json_reads_whole()
     ensures back { (t : List ℕ) → IsText t → whole_text (json_text t) ≡ Some t }
     ensures cut { (value : Data) (n : ℕ) → text_within value n ≡ option_map (λ t. cut t n) (whole_text value) }

@@ -126,6 +126,7 @@ impl<const N: usize> ArrayString<N> {
     }
 
     /// Drops the part before a boundary. Writes nothing if there is none.
+    #[tactic(auto, using(arraystring_base::proofs::BoundaryLaws::parts))]
     #[inline(always)]
     fn drop_run(&mut self, end: usize)
         requires { IsTrue (boundary self.old.text end) }

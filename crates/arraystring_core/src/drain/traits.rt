@@ -40,6 +40,7 @@ impl<const N: usize> fmt::Debug for Drain<N> {
 impl<const N: usize> Default for Drain<N> {
     ghost is_default = { λ d. d.left ≡ [] };
 
+    #[tactic(auto, using(crate::proofs::StoredLaws::chars_nil))]
     fn default() -> Self {
         Drain::new([0; N], 0, 0)
     }

@@ -82,6 +82,7 @@ fn equal_by_four(a: &[u8], b: &[u8]) -> bool
 }
 
 /// Whether `K` to `2 * K` bytes are equal: the first `K` and the last `K`, which may overlap.
+#[tactic(auto, using(crate::proofs::EqualLemmas::both_ends))]
 #[inline(always)]
 fn equal_by_two<const K: usize>(a: &[u8], b: &[u8]) -> bool
     requires lanes { K ≤ 64 }

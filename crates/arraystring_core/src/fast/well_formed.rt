@@ -7,6 +7,7 @@ use std::str;
 
 /// Returns the text whose UTF-8 is `given`, or `Err(Utf8)` if `given` is not well-formed. Most
 /// texts are ASCII, for which a test by blocks is enough.
+#[tactic(auto, using(crate::proofs::WellFormedLemmas::utf8_from_ascii))]
 pub(crate) fn read_utf8(given: &[u8]) -> Result<&str, Utf8>
     ensures { MatchResult result (λ string. (string.now ≡ given.now) × IsUtf8 given.now) (λ _. ¬ (IsUtf8 given.now)) }
 {
@@ -48,6 +49,7 @@ fn behind_characters(given: &[u8]) -> &[u8]
 
 /// How many bytes the first character takes. Four characters of ASCII are taken together with those
 /// that follow. 0 if no character is at the front.
+#[tactic(auto, using(crate::proofs::WellFormedLemmas::utf8_run))]
 #[inline(always)]
 fn characters_at_front(bytes: &[u8]) -> usize
     requires four { 4 ≤ length bytes.now }
