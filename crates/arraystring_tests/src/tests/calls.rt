@@ -14,7 +14,7 @@
 //!
 //! A range is written as in Rust, or as two bounds in brackets: `(` and `)` exclude an index, `[`
 //! and `]` include it. With `~` before them, it is of a type that does not say its bounds, and
-//! `walked` is an inclusive range that was iterated to its end. `slice` has no row with `..=`.
+//! `exhausted` is an inclusive range that was iterated to its end. `slice` has no row with `..=`.
 ghost use Rattle.std.specs.Prelude.{◌≤◌};
 
 use super::table::{agree, character, hash_of, number, returned, string};
@@ -304,8 +304,8 @@ fn in_range<R: Abort + AllocGlobal, const N: usize>(
 {
     let given = column(row, 2);
     let sign = given.chars().next().unwrap_or(' ');
-    if sign == 'w' {
-        return of_range(rt, text, call, row, walked());
+    if sign == 'e' {
+        return of_range(rt, text, call, row, exhausted());
     }
     let (start, end) = given.split_once("..").expect(rt, "a range in the column");
     if sign == '~' || sign == '(' || sign == '[' {
@@ -434,7 +434,7 @@ impl RangeBounds<u8> for Opaque {
 }
 
 /// `1..=3` after all three numbers were taken from it: it is empty and is at 3.
-fn walked() -> RangeInclusive<u8> {
+fn exhausted() -> RangeInclusive<u8> {
     let mut range = 1..=3;
     for _ in 0..3 {
         let _ = range.next();

@@ -163,13 +163,13 @@ fn ranges(rt: HostRuntime) {
               | replace_range         | ~[3..2)       | x  | OutOfBounds | ABCD🤔
         ABCD🤔 | drain_counted         | ~[1..2]       |    | BC          | AD🤔      | 5
               | replace_range_counted | ~[1..2]       |    | Utf8        | AD🤔      | 0
-        ABCD🤔 | get                   | walked        |    |             | ABCD🤔
-              | drain                 | walked        |    |             | ABCD🤔
-              | drain_counted         | walked        |    |             | ABCD🤔    | 0
-              | replace_range         | walked        | xy | ok          | ABCxyD🤔
-              | replace_range_counted | walked        | z  | ok          | ABCzxyD🤔 | 7
-        é     | get                   | walked        |    | None        | é
-              | drain                 | walked        |    | OutOfBounds | é
+        ABCD🤔 | get                   | exhausted     |    |             | ABCD🤔
+              | drain                 | exhausted     |    |             | ABCD🤔
+              | drain_counted         | exhausted     |    |             | ABCD🤔    | 0
+              | replace_range         | exhausted     | xy | ok          | ABCxyD🤔
+              | replace_range_counted | exhausted     | z  | ok          | ABCzxyD🤔 | 7
+        é     | get                   | exhausted     |    | None        | é
+              | drain                 | exhausted     |    | OutOfBounds | é
         ",
     );
 }

@@ -233,7 +233,7 @@ impl RangeBounds<u8> for Untold {
 
 fn in_range<const N: usize>(text: &mut ArrayString<N>, call: &str, row: &str) {
     let written = column(row, 2);
-    if written == "walked" {
+    if written == "exhausted" {
         let mut range = 1..=3u8;
         while range.next().is_some() {}
         return of_range(text, call, row, range);
