@@ -26,7 +26,7 @@ const KINDS: &[Kind] = &[
 
 /// The sources of these impls, in which each is one of a macro for both types of strings.
 const SOURCES: &[&str] = &[
-    include_str!("../src/by_hand/convert.rs"),
+    include_str!("../src/by_hand/traits.rs"),
     #[cfg(feature = "alloc")]
     include_str!("../src/by_hand/owned.rs"),
 ];
