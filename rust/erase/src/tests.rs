@@ -6,8 +6,6 @@ use super::*;
 
 #[path = "tests/accesses.rs"]
 mod accesses;
-#[path = "tests/certain.rs"]
-mod certain;
 #[path = "tests/odd.rs"]
 mod odd;
 #[path = "tests/pages.rs"]
