@@ -320,7 +320,7 @@ pub fn answer<P: Peer>(call: u8, case: &Case) -> u64 {
     answer.wrapping_mul(31).wrapping_add(digest(text.as_str()))
 }
 
-/// The tests stand before the calls that would panic.
+/// `ArrayString` of the Rust crate arrayvec, with the tests before the calls that would panic.
 #[cfg(has_arrayvec)]
 impl<const N: usize> Peer for arrayvec::ArrayString<N> {
     const HAS: &'static [u8] = crate::cases::CALLS_OF_ARRAYVEC;

@@ -1,5 +1,5 @@
-//! A small program without `std`, whose bytes of code are counted: it edits names of at most 23 bytes. With the setting `over_string`
-//! it edits names of any size, over std's `String`: the bytes of code that the same work takes there.
+//! A small program without `std`, whose bytes of code are counted: it edits names of at most 23 bytes. With the setting
+//! `over_string` it does so over std's `String`, whose memory is that of C: the bytes of code that its work takes there.
 #![no_std]
 #![no_main]
 

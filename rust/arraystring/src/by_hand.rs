@@ -1,6 +1,6 @@
-//! What Rust asks beyond erasure: nothing here is proved. `access` has `unsafe` blocks, which rest on the proofs, or on the comments
-//! of bodies by hand, and the calls of its `char` and `str` are `unsafe`, as those of std are. The rest has none; but `simd` and
-//! `constant` could break UTF-8 all the same.
+//! What Rust asks beyond erasure: nothing here is proved. `access` has `unsafe` blocks, which rest on the proofs, or on the
+//! comments of bodies by hand, and the calls of its `char` and `str` are `unsafe`, as those of std are. The rest has none; but
+//! `simd` and `constant` could break UTF-8 all the same.
 //!
 //! - `access`, a module of the root: what a proved body reads and writes, without a test that it is there, `known!`, which tells
 //!   rustc a clause that is proved, and what is made of `char` and `str` without a test, which the feature `checked` makes.

@@ -1,5 +1,5 @@
-//! Moving from the Rust crate 0.3.0: each public call of it that is here, by its name and signature, the examples of README.md, which
-//! says of the others what to write, and those of the faults in docs/differences.md.
+//! Moving from the Rust crate 0.3.0: each public call of it that is here, by its name and signature, the examples of the table of
+//! moves in README.md, which says of the others what to write, and those of the faults in docs/differences.md.
 
 use std::fmt::{Debug, Display, Write};
 use std::hash::Hash;

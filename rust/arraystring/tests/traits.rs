@@ -205,8 +205,8 @@ fn texts_of_other_types_are_taken() {
     );
 }
 
-/// Comparisons that have no string of this crate in them, and that are compiled all the same where it is loaded. An impl of it for
-/// `str` or `&str` could take that away: with one order of `str` more, rustc no longer infers what stands on the right.
+/// Comparisons that have no string of this crate in them, and that are compiled all the same where it is loaded. An impl of it
+/// for `str` or `&str` could take that away: with one order of `str` more, rustc no longer infers what stands on the right.
 #[test]
 #[allow(clippy::useless_asref, clippy::useless_conversion, reason = "that these forms are compiled is what is shown")]
 fn an_order_is_inferred() {
@@ -395,8 +395,8 @@ macro_rules! takes {
     }};
 }
 
-/// Each impl of `FromIterator` and `Extend` takes the items that fit and one more, also of an iterator that never ends. What does not
-/// fit of the last is cut.
+/// Each impl of `FromIterator` and `Extend` takes the items that fit and one more, also of an iterator that never ends. What does
+/// not fit of the last is cut.
 #[test]
 fn each_impl_takes_what_fits_and_one_more() {
     takes!(ArrayString<0>, 0);

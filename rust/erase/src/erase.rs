@@ -116,8 +116,8 @@ fn tested(source: &Source, tally: &mut Tally) -> String {
     lines
 }
 
-/// A file with its modules in the order that the reference shows, if a rule has one. rustdoc shows the calls of a type in the order of
-/// its modules, and those of the type's own file behind those of the modules in it. So the impl of that file is split, and each
+/// A file with its modules in the order that the reference shows, if a rule has one. rustdoc shows the calls of a type in the order
+/// of its modules, and those of the type's own file behind those of the modules in it. So the impl of that file is split, and each
 /// part of it stands in a module of its own.
 fn ordered(source: &Source, made: String, tally: &mut Tally) -> Result<String, Fault> {
     let Some(rule) = ORDER.iter().find(|rule| rule.file == source.path) else { return Ok(made) };

@@ -1,5 +1,5 @@
-//! The traits by hand. Those between the strings, `str` and iterators are each one call of the string or of the texts; behind them
-//! is what Rust prints, hashes and makes by default of small values.
+//! The traits by hand. Those between the strings, `str` and iterators are each one call of the string or of the texts; behind
+//! them is what Rust prints, hashes and makes by default of small values.
 //!
 //! A `str` has no order with a string on its right. With one, `"a" < &t` of a `String` and `s < t.as_ref()` would no longer be
 //! compiled in a program that has this crate, since std's own order of `str` is then not the only one.

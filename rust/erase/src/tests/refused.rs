@@ -1,5 +1,5 @@
-//! A sample for each refusal, with its line and its words. Last come sources that say something else than they seem to: clauses that
-//! hold more than what Rust does without, and functions that only have the name of one that a rule knows.
+//! A sample for each refusal, with its line and its words. Last come sources that say something else than they seem to: clauses
+//! that hold more than what Rust does without, and functions that only have the name of one that a rule knows.
 
 use crate::names::laws_change_nothing;
 use crate::rules::{GIVEN_UP, NAMED, NO_FACTS, PROOFS_ALONE};
