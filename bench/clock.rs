@@ -7,8 +7,7 @@
 use std::hint::black_box;
 use std::time::Instant;
 
-use crate::cases::Case;
-use crate::edges::{EDGES, short_cases};
+use crate::cases::{Case, EDGES, short_cases};
 use crate::peers::{self, Peer};
 use crate::string::Limited;
 

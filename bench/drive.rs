@@ -8,12 +8,8 @@
 //! timed.
 #![cfg_attr(erased, allow(dead_code))]
 
-#[cfg(has_arrayvec)]
-mod arrayvec;
 mod cases;
 mod clock;
-mod curves;
-mod edges;
 mod lookup;
 mod peers;
 #[cfg_attr(erased, path = "../rust/bench/erased.rs")]
@@ -24,8 +20,7 @@ mod string;
 use std::arch::global_asm;
 use std::hint::black_box;
 
-use cases::{CALLS, Case};
-use edges::{EDGES, short_cases};
+use cases::{CALLS, Case, EDGES, curves, short_cases};
 #[cfg(has_arrayvec)]
 use peers::Peer;
 
@@ -37,8 +32,8 @@ fn answer<const N: usize>(call: u8, case: &Case, answers: &mut Vec<u64>) {
     port::answer::<N>(call, case, answers);
     answers.push(peers::answer::<string::Limited<N>>(call, case));
     #[cfg(has_arrayvec)]
-    if <::arrayvec::ArrayString<N> as Peer>::HAS.contains(&call) {
-        answers.push(peers::answer::<::arrayvec::ArrayString<N>>(call, case));
+    if <arrayvec::ArrayString<N> as Peer>::HAS.contains(&call) {
+        answers.push(peers::answer::<arrayvec::ArrayString<N>>(call, case));
     }
 }
 
@@ -85,7 +80,7 @@ fn found<const N: usize>(names: &[String], asked: &[String]) -> Vec<u64> {
     let mut found = port::found::<N>(names, asked);
     found.push(lookup::answer::<string::Limited<N>>(names, asked));
     #[cfg(has_arrayvec)]
-    found.push(lookup::answer::<::arrayvec::ArrayString<N>>(names, asked));
+    found.push(lookup::answer::<arrayvec::ArrayString<N>>(names, asked));
     found
 }
 
@@ -123,7 +118,7 @@ fn main() {
     match place {
         "edges" => return make_edges(capacity, times),
         "short" => return make_titled(capacity, short_cases(capacity), times),
-        "curves" => return make_titled(capacity, curves::cases(capacity, &words[4..]), times),
+        "curves" => return make_titled(capacity, curves(capacity, &words[4..]), times),
         "lookup" => return make_lookups(capacity),
         "in_turn" | "waiting" => return tell_clock(capacity, place, times),
         _ => {}

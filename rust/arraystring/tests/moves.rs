@@ -1,10 +1,166 @@
-//! The examples of the table of moves in README.md, and those of the faults in docs/differences.md.
+//! Moving from the Rust crate 0.3.0: each public call of it that is here, by its name and signature, the examples of the table of
+//! moves in README.md, which says of the others what to write, and those of the faults in docs/differences.md.
 
-use std::fmt::Write;
+use std::fmt::{Debug, Display, Write};
+use std::hash::Hash;
+use std::iter::FusedIterator;
+use std::ops::{Add, Deref, Index, Range, RangeFrom, RangeFull, RangeInclusive, RangeTo, RangeToInclusive};
 use std::panic::{AssertUnwindSafe, catch_unwind};
+use std::str::FromStr;
 
-use arraystring::error::OutOfBounds;
-use arraystring::{ArrayString, CacheString, Error, MaxString, SmallString};
+use arraystring::drain::Drain;
+use arraystring::error::{Error, OutOfBounds, Utf8, Utf16};
+use arraystring::utils::{is_char_boundary, is_inside_boundary};
+use arraystring::{ArrayString, CacheString, MaxString, SmallString};
+
+type Text = ArrayString<23>;
+type Made<T, E> = Result<T, E>;
+type Chars = std::str::Chars<'static>;
+
+#[test]
+fn the_calls_of_a_string() {
+    let _: fn() -> Text = Text::new;
+    let _: fn(&'static str) -> Made<Text, OutOfBounds> = Text::try_from_str::<&'static str>;
+    let _: fn(String) -> Text = Text::from_str_truncate::<String>;
+    let _: unsafe fn(&'static str) -> Text = Text::from_str_unchecked::<&'static str>;
+    let _: fn(Vec<String>) -> Made<Text, OutOfBounds> = Text::try_from_iterator::<String, Vec<String>>;
+    let _: fn(Vec<String>) -> Text = Text::from_iterator::<String, Vec<String>>;
+    let _: unsafe fn(Vec<String>) -> Text = Text::from_iterator_unchecked::<String, Vec<String>>;
+    let _: fn(Chars) -> Made<Text, OutOfBounds> = Text::try_from_chars::<Chars>;
+    let _: fn(Chars) -> Text = Text::from_chars::<Chars>;
+    let _: unsafe fn(Chars) -> Text = Text::from_chars_unchecked::<Chars>;
+    let _: fn(&'static [u8]) -> Made<Text, Error> = Text::try_from_utf8::<&'static [u8]>;
+    let _: fn(Vec<u8>) -> Made<Text, Utf8> = Text::from_utf8::<Vec<u8>>;
+    let _: unsafe fn(&'static [u8]) -> Text = Text::from_utf8_unchecked::<&'static [u8]>;
+    let _: fn(&'static [u16]) -> Made<Text, Error> = Text::try_from_utf16::<&'static [u16]>;
+    let _: fn(Vec<u16>) -> Made<Text, Utf16> = Text::from_utf16::<Vec<u16>>;
+    let _: fn(&'static [u16]) -> Text = Text::from_utf16_lossy::<&'static [u16]>;
+    let _: fn(&Text) -> &str = Text::as_str;
+    let _: fn(&Text) -> &[u8] = Text::as_bytes;
+    let _: fn() -> u8 = Text::capacity;
+    let _: fn(&mut Text, String) -> Made<(), OutOfBounds> = Text::try_push_str::<String>;
+    let _: fn(&mut Text, String) = Text::push_str::<String>;
+    let _: unsafe fn(&mut Text, String) = Text::push_str_unchecked::<String>;
+    let _: fn(&mut Text, char) -> Made<(), OutOfBounds> = Text::try_push;
+    let _: unsafe fn(&mut Text, char) = Text::push_unchecked;
+    let _: fn(&mut Text, u8) -> Made<(), Utf8> = Text::truncate;
+    let _: fn(&mut Text) -> Option<char> = Text::pop;
+    let _: fn(&mut Text) = Text::trim;
+    let _: fn(&mut Text, u8) -> Made<char, Error> = Text::remove;
+    let _: fn(&mut Text, fn(char) -> bool) = Text::retain::<fn(char) -> bool>;
+    let _: fn(&mut Text, u8, char) -> Made<(), Error> = Text::try_insert;
+    let _: unsafe fn(&mut Text, u8, char) = Text::insert_unchecked;
+    let _: fn(&mut Text, u8, String) -> Made<(), Error> = Text::try_insert_str::<String>;
+    let _: fn(&mut Text, u8, String) -> Made<(), Error> = Text::insert_str::<String>;
+    let _: unsafe fn(&mut Text, u8, String) = Text::insert_str_unchecked::<String>;
+    let _: fn(&Text) -> u8 = Text::len;
+    let _: fn(&Text) -> bool = Text::is_empty;
+    let _: fn(&mut Text, u8) -> Made<Text, Error> = Text::split_off;
+    let _: fn(&mut Text) = Text::clear;
+    let _: fn(&mut Text, Range<u8>) -> Made<Drain<23>, Error> = Text::drain::<Range<u8>>;
+    let _: fn(&mut Text, Range<u8>, String) -> Made<(), Error> = Text::replace_range::<String, Range<u8>>;
+    let _: fn(&Drain<23>) -> &str = Drain::as_str;
+    let _: fn(u8, u16) -> Made<(), OutOfBounds> = is_inside_boundary::<u8, u16>;
+    let _: fn(&Text, u8) -> Made<(), Utf8> = is_char_boundary::<23>;
+}
+
+#[test]
+fn the_calls_of_a_cache_string() {
+    let _: fn() -> CacheString = CacheString::new;
+    let _: fn(&'static str) -> Made<CacheString, OutOfBounds> = CacheString::try_from_str::<&'static str>;
+    let _: fn(String) -> CacheString = CacheString::from_str_truncate::<String>;
+    let _: unsafe fn(&'static str) -> CacheString = CacheString::from_str_unchecked::<&'static str>;
+    let _: fn(Vec<String>) -> Made<CacheString, OutOfBounds> = CacheString::try_from_iterator::<String, Vec<String>>;
+    let _: fn(Vec<String>) -> CacheString = CacheString::from_iterator::<String, Vec<String>>;
+    let _: unsafe fn(Vec<String>) -> CacheString = CacheString::from_iterator_unchecked::<String, Vec<String>>;
+    let _: fn(Chars) -> Made<CacheString, OutOfBounds> = CacheString::try_from_chars::<Chars>;
+    let _: fn(Chars) -> CacheString = CacheString::from_chars::<Chars>;
+    let _: unsafe fn(Chars) -> CacheString = CacheString::from_chars_unchecked::<Chars>;
+    let _: fn(&'static [u8]) -> Made<CacheString, Error> = CacheString::try_from_utf8::<&'static [u8]>;
+    let _: fn(&'static [u8]) -> Made<CacheString, Utf8> = CacheString::from_utf8::<&'static [u8]>;
+    let _: unsafe fn(&'static [u8]) -> CacheString = CacheString::from_utf8_unchecked::<&'static [u8]>;
+    let _: fn(&'static [u16]) -> Made<CacheString, Error> = CacheString::try_from_utf16::<&'static [u16]>;
+    let _: fn(&'static [u16]) -> Made<CacheString, Utf16> = CacheString::from_utf16::<&'static [u16]>;
+    let _: fn(&'static [u16]) -> CacheString = CacheString::from_utf16_lossy::<&'static [u16]>;
+    let _: fn() -> u8 = CacheString::capacity;
+    let _: fn(&mut CacheString, u8) -> Made<CacheString, Error> = CacheString::split_off;
+    let _: fn(ArrayString<63>) -> CacheString = CacheString::from;
+}
+
+/// Each call that a constant may be made by, in one.
+#[test]
+fn the_constants() {
+    use arraystring::utils::Steps;
+    const TEXT: Text = Text::new();
+    const SIZES: (u8, u8, bool) = (Text::capacity(), TEXT.len(), TEXT.is_empty());
+    const NONE: ArrayString<0> = ArrayString::new();
+    const LARGE: ArrayString<300> = ArrayString::new();
+    const ENDS: [u8; 4] = [NONE.len(), ArrayString::<0>::capacity(), LARGE.len(), ArrayString::<300>::capacity()];
+    const CACHED: CacheString = CacheString::new();
+    const HELD: (u8, u8, bool) = (CacheString::capacity(), CACHED.0.len(), CACHED.0.is_empty());
+    const STEPS: Steps = Steps::new();
+    const COUNTS: (u64, u64) = (STEPS.looked(), STEPS.moved());
+    static SHARED: (Text, CacheString) = (Text::new(), CacheString::new());
+    assert_eq!((SIZES, ENDS, HELD, COUNTS), ((23, 0, true), [0, 0, 0, 255], (63, 0, true), (0, 0)));
+    assert_eq!((SHARED.0.as_str(), SHARED.1.as_str(), TEXT == SHARED.0, CACHED == SHARED.1), ("", "", true, true));
+    assert_eq!((NONE.as_str(), LARGE.as_str()), ("", ""));
+}
+
+/// What a type has to implement to be given here.
+fn is_string<T>()
+where
+    T: Copy
+        + Debug
+        + Display
+        + Default
+        + Eq
+        + Ord
+        + Hash
+        + FromStr<Err = OutOfBounds>
+        + Write
+        + AsRef<str>
+        + AsRef<[u8]>,
+    T: std::borrow::Borrow<str> + PartialEq<str> + Deref + for<'a> Add<&'a str, Output = T> + Send + Sync + Unpin,
+{
+}
+
+fn is_indexed<T>()
+where
+    T: Index<Range<u8>> + Index<RangeFrom<u8>> + Index<RangeTo<u8>> + Index<RangeFull>,
+    T: Index<RangeInclusive<u8>> + Index<RangeToInclusive<u8>>,
+    T: for<'a> From<&'a str> + FromIterator<char> + for<'a> FromIterator<&'a str>,
+    T: Extend<char> + for<'a> Extend<&'a char> + for<'a> Extend<&'a str>,
+{
+}
+
+fn is_error<T: Copy + std::error::Error + Eq + From<std::str::Utf8Error>>() {}
+
+fn is_drain<T: Copy + Debug + Default + Eq + Ord + Hash + DoubleEndedIterator<Item = char> + FusedIterator>() {}
+
+#[test]
+fn the_traits() {
+    is_string::<Text>();
+    is_string::<CacheString>();
+    is_indexed::<Text>();
+    is_error::<Error>();
+    is_error::<Utf8>();
+    is_drain::<Drain<23>>();
+    let _: fn(Utf8) -> Error = Error::from;
+    let _: fn(Utf16) -> Error = Error::from;
+    let _: fn(OutOfBounds) -> Error = Error::from;
+    let _: fn(std::char::DecodeUtf16Error) -> Error = Error::from;
+    let _: fn(std::char::DecodeUtf16Error) -> Utf16 = Utf16::from;
+}
+
+#[test]
+fn the_aliases() {
+    assert_eq!((SmallString::capacity(), MaxString::capacity(), CacheString::capacity()), (23, 255, 63));
+    use arraystring::prelude::{
+        ArrayString as A, CacheString as C, Drain as D, MaxString as M, OutOfBounds, SmallString as S, Utf8, Utf16,
+    };
+    let _: (A<23>, C, D<4>, M, S) = Default::default();
+    let _ = (Utf8, Utf16, OutOfBounds);
+}
 
 #[test]
 fn what_is_other_than_in_the_crate_before() {

@@ -1,11 +1,15 @@
-//! The traits that are written by hand, and those among them that name `String`, which are there with the feature `alloc`.
+//! The traits that are written by hand, and those among them that name `String`, which are there with the feature `alloc`: what
+//! they show of a string, which comparisons they leave to `str`, and how many items they take.
 
-use std::borrow::Borrow;
+use std::borrow::{Borrow, Cow};
+use std::cell::Cell;
 use std::collections::hash_map::DefaultHasher;
-use std::collections::{BTreeMap, HashMap};
+use std::collections::{BTreeMap, BTreeSet, HashMap};
 use std::error::Error as StdError;
 use std::fmt::Write;
 use std::hash::{Hash, Hasher};
+use std::iter;
+use std::rc::Rc;
 
 use arraystring::error::{OutOfBounds, Utf8, Utf16};
 use arraystring::prelude::*;
@@ -199,6 +203,225 @@ fn texts_of_other_types_are_taken() {
         arraystring::utils::is_inside_boundary(3u8, 4u16).is_ok()
             && arraystring::utils::is_inside_boundary(5usize, 4u8).is_err()
     );
+}
+
+/// Comparisons that have no string of this crate in them, and that are compiled all the same where it is loaded. An impl of it
+/// for `str` or `&str` could take that away: with one order of `str` more, rustc no longer infers what stands on the right.
+#[test]
+#[allow(clippy::useless_asref, clippy::useless_conversion, reason = "that these forms are compiled is what is shown")]
+fn an_order_is_inferred() {
+    let (string, name) = (String::from("b"), "b");
+    assert_eq!(("a" < &string, "b" <= &string, "a" > &string, "a" >= &string), (true, true, false, false));
+    assert!(name > "a".as_ref() && "a" < string.as_ref() && string.as_str() >= string.as_ref());
+    assert!("a" < string.borrow() && "a" < name.into() && "a" > Default::default());
+    let (boxed, shared, lent): (Box<str>, Rc<str>, Cow<str>) = (name.into(), name.into(), name.into());
+    assert!("a" < &boxed && "a" < &shared && "a" < &lent && *"a" < *string);
+    assert_eq!(("a".partial_cmp(&string), "b".partial_cmp(string.as_ref())), (Some("a".cmp("b")), Some("b".cmp("b"))));
+    assert!(("a".."c").contains(&string.as_ref()) && ("a"..="c").contains(&&*string));
+    assert!(Some("a") < Some(&string).map(|string| string.as_ref()) && ("a", 2) < (&string, 1));
+}
+
+/// `==` of `str` has many impls by std, so that it infers nothing there with this crate or without it.
+#[test]
+fn texts_are_equal() {
+    let string = String::from("b");
+    assert_eq!("b", string);
+    assert_eq!(string, "b");
+    assert_eq!(&string, "b");
+    assert_eq!(*"b", *string);
+    assert!("b" == &string && "b" == &*string && *"b" == string);
+    assert!(["a", "b"].contains(&string.as_str()) && ["a", "b"].contains(&&*string));
+    assert!(Some("b") == Some(&string).map(|string| string.as_ref()));
+    assert!([string.clone()].iter().eq(["b"].iter().copied()) && vec![string] == ["b"]);
+}
+
+/// What is asked of a string of this crate in the same places.
+macro_rules! in_the_place_of_a_text {
+    ($type:ty) => {{
+        let string = <$type>::from("b");
+        assert_eq!("b", string);
+        assert_eq!(string, "b");
+        assert_eq!(*"b", string);
+        assert_eq!(string, *"b");
+        assert_eq!(string, <$type>::from("b"));
+        assert_ne!("a", string);
+        assert!(
+            "b" == string && *"b" == string && string == *"b" && string == "b" && &string == "b" && "b" == &*string
+        );
+        assert!(
+            string > "a" && string > *"a" && "a" < string.as_str() && "a" < string.as_ref() && *"a" < *string.as_str()
+        );
+        assert!(string.as_str() > "a".as_ref() && "a" < &string && string.max("a".into()) == "b");
+        assert!(["a", "b"].contains(&string.as_str()) && [string].contains(&"b".into()) && vec![string] == ["b"]);
+        assert!(("a".."c").contains(&string.as_ref()) && BTreeSet::from([string]).contains("b"));
+    }};
+}
+
+#[test]
+fn strings_stand_in_the_place_of_a_text() {
+    in_the_place_of_a_text!(ArrayString<4>);
+    in_the_place_of_a_text!(CacheString);
+}
+
+/// What the items of an iterator are.
+#[derive(Clone, Copy, Debug, PartialEq)]
+enum Kind {
+    Char,
+    CharRef,
+    Text,
+    #[cfg(feature = "alloc")]
+    Owned,
+}
+
+const KINDS: &[Kind] = &[
+    Kind::Char,
+    Kind::CharRef,
+    Kind::Text,
+    #[cfg(feature = "alloc")]
+    Kind::Owned,
+];
+
+/// The sources of these impls, in which each is one of a macro for both types of strings.
+const SOURCES: &[&str] = &[
+    include_str!("../src/by_hand/traits.rs"),
+    #[cfg(feature = "alloc")]
+    include_str!("../src/by_hand/owned.rs"),
+];
+
+/// How many items are taken at most: what has no end is not taken without end.
+const MOST: usize = 256;
+
+/// One text over and over, so many times or without end. It counts how often it was taken.
+struct Items<'a> {
+    text: &'a str,
+    first: char,
+    count: Option<usize>,
+    taken: Cell<usize>,
+}
+
+impl<'a> Items<'a> {
+    fn new(text: &'a str, count: Option<usize>) -> Self {
+        Items { text, first: text.chars().next().expect("a character"), count, taken: Cell::new(0) }
+    }
+
+    fn texts(&self) -> impl Iterator<Item = &str> {
+        iter::from_fn(|| {
+            let taken = self.taken.get();
+            assert!(taken <= MOST, "more is taken than fits into any string");
+            self.count.is_none_or(|count| taken < count).then(|| {
+                self.taken.set(taken + 1);
+                self.text
+            })
+        })
+    }
+
+    fn chars(&self) -> impl Iterator<Item = char> {
+        self.texts().map(|_| self.first)
+    }
+
+    /// Asserts how many were taken into so much room, and what was added.
+    fn were_taken(&self, room: usize, added: &str, kind: Kind) {
+        let wanted = self.count.unwrap_or(usize::MAX).min(room / self.text.len() + 1);
+        assert_eq!(self.taken.get(), wanted, "{kind:?} {:?} {:?} {room}", self.text, self.count);
+        let given = self.text.repeat(wanted);
+        let end = (0..=room.min(given.len())).rev().find(|end| given.is_char_boundary(*end)).unwrap_or(0);
+        assert_eq!(added, &given[..end], "{kind:?} {:?} {:?} {room}", self.text, self.count);
+    }
+}
+
+/// The string that is collected from items of a kind.
+macro_rules! collected {
+    ($string:ty, $kind:expr, $items:expr) => {{
+        let items: &Items = $items;
+        match $kind {
+            Kind::Char => items.chars().collect::<$string>(),
+            Kind::CharRef => items.chars().map(|_| &items.first).collect(),
+            Kind::Text => items.texts().collect(),
+            #[cfg(feature = "alloc")]
+            Kind::Owned => items.texts().map(String::from).collect(),
+        }
+    }};
+}
+
+/// The string of a text that is extended by items of a kind.
+macro_rules! extended {
+    ($string:ty, $before:expr, $kind:expr, $items:expr) => {{
+        let items: &Items = $items;
+        let mut string = <$string>::from($before);
+        match $kind {
+            Kind::Char => Extend::extend(&mut string, items.chars()),
+            Kind::CharRef => Extend::extend(&mut string, items.chars().map(|_| &items.first)),
+            Kind::Text => Extend::extend(&mut string, items.texts()),
+            #[cfg(feature = "alloc")]
+            Kind::Owned => Extend::extend(&mut string, items.texts().map(String::from)),
+        }
+        string
+    }};
+}
+
+/// What the items of a kind are: characters of each width, and with them texts of several, and one that fits into no string.
+fn texts(kind: Kind) -> Vec<String> {
+    let mut texts: Vec<String> = ["\0", "a", "é", "€", "🤔"].map(String::from).into();
+    if ![Kind::Char, Kind::CharRef].contains(&kind) {
+        texts.extend(["ab", "aé", "🤔b", "aé€🤔"].map(String::from));
+        texts.push("é".repeat(128));
+    }
+    texts
+}
+
+/// How many items there are. Without a number they never end.
+const COUNTS: [Option<usize>; 6] = [None, Some(0), Some(1), Some(2), Some(9), Some(1000)];
+
+/// Asserts what each impl of a type of strings takes, with each room that is left, and returns how often.
+macro_rules! takes {
+    ($string:ty, $capacity:expr) => {{
+        let capacity: usize = $capacity;
+        let mut runs = 0;
+        for kind in KINDS {
+            for (text, count) in texts(*kind).iter().flat_map(|text| COUNTS.map(|count| (text, count))) {
+                let items = Items::new(text, count);
+                items.were_taken(capacity, &collected!($string, kind, &items), *kind);
+                for room in 0..=capacity {
+                    let items = Items::new(text, count);
+                    let before = "m".repeat(capacity - room);
+                    let string = extended!($string, before.as_str(), kind, &items);
+                    items.were_taken(room, string.strip_prefix(&*before).expect("the text before"), *kind);
+                    runs += 1;
+                }
+            }
+        }
+        let texts: usize = KINDS.iter().map(|kind| texts(*kind).len()).sum();
+        assert_eq!(runs, texts * COUNTS.len() * (capacity + 1));
+    }};
+}
+
+/// Each impl of `FromIterator` and `Extend` takes the items that fit and one more, also of an iterator that never ends. What does
+/// not fit of the last is cut.
+#[test]
+fn each_impl_takes_what_fits_and_one_more() {
+    takes!(ArrayString<0>, 0);
+    takes!(ArrayString<1>, 1);
+    takes!(ArrayString<2>, 2);
+    takes!(ArrayString<3>, 3);
+    takes!(ArrayString<4>, 4);
+    takes!(ArrayString<7>, 7);
+    takes!(ArrayString<8>, 8);
+    takes!(ArrayString<16>, 16);
+    takes!(ArrayString<23>, 23);
+    takes!(CacheString, 63);
+    takes!(ArrayString<64>, 64);
+    takes!(ArrayString<127>, 127);
+    takes!(ArrayString<255>, 255);
+    takes!(ArrayString<300>, 255);
+}
+
+#[test]
+fn each_impl_has_a_kind() {
+    for name in ["FromIterator<", "Extend<"] {
+        let lines = SOURCES.iter().flat_map(|source| source.lines());
+        let impls = lines.filter(|line| line.trim_start().starts_with("impl<") && line.contains(name));
+        assert_eq!(impls.count(), KINDS.len(), "{name}");
+    }
 }
 
 #[cfg(feature = "alloc")]

@@ -11,17 +11,12 @@ use states::{WIDTHS, at_each_capacity, cases, counts, length, string_counts, tex
 #[path = "every_state/states.rs"]
 mod states;
 
-/// How many bytes after the address of a string that of its text is.
-fn distance<const N: usize>(string: &ArrayString<N>) -> usize {
-    string.as_bytes().as_ptr().addr() - std::ptr::from_ref(string).addr()
-}
-
 /// A string whose text begins at an offset of its array.
 fn behind<const N: usize>(offset: usize, text: &str) -> ArrayString<N> {
     let mut string = ArrayString::<N>::from(".".repeat(offset).as_str());
     assert_eq!(string.try_push_str(text), Ok(()));
     assert!(string.drain(..offset as u8).is_ok());
-    assert_eq!(distance(&string), distance(&ArrayString::<N>::from(text)) + offset);
+    assert_eq!(states::offset(&string), offset);
     string
 }
 

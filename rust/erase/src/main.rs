@@ -22,7 +22,6 @@ mod functions;
 mod items;
 mod listed;
 mod names;
-mod pages;
 mod proved;
 mod reasons;
 mod rules;

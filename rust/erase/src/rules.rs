@@ -11,26 +11,22 @@ pub const CRATES: &[&str] = &["arraystring_base", "arraystring_core", "arraystri
 pub const BY_HAND: &[(&str, &str)] = &[
     ("by_hand.rs", "the module of what follows, and this page"),
     (
-        "by_hand/convert.rs",
+        "by_hand/traits.rs",
         "`Deref`, `AsRef`, `Borrow`, `FromIterator`, `Extend`, `Index` and some `From`, each one call of the string. Nothing lends \
          the text to be written (`DerefMut` to `str`, `AsMut`, `BorrowMut`, `IndexMut`): a write through it could break UTF-8. \
-         `DerefMut` of `CacheString` lends the string inside",
-    ),
-    (
-        "by_hand/compare.rs",
-        "`==` with a `str` on the left, `PartialOrd` with one on the right, and `AddAssign`, each one call of the texts",
+         `DerefMut` of `CacheString` lends the string inside. `==` with a `str` on the left, `PartialOrd` with one on the right, and \
+         `AddAssign`, each one call of the texts. `Debug` and `Default` of `Steps`, and `Hash` of the errors of one case",
     ),
     ("by_hand/owned.rs", "the traits that name `String`, each one call of the string"),
     ("by_hand/room.rs", "`is_full` and `remaining_capacity`"),
     ("by_hand/write.rs", "`try_write`, over `write_str` and `truncate`"),
     ("by_hand/constant.rs", "`arraystring!`, and what it is made of. A fault in it could break UTF-8"),
-    ("by_hand/read.rs", "`Debug` and `Default` of `Steps`, and `Hash` of the errors of one case"),
     ("by_hand/simd.rs", "the vectors of the sources, as arrays or words. A fault in it could break UTF-8"),
     (
         "by_hand/access.rs",
-        "what is read and written without a test, and what is told to rustc. A fault in it could break UTF-8",
+        "what is read and written without a test, what is told to rustc, and `from_utf8_unchecked` and `from_u32_unchecked`, \
+         which `checked` tests. A fault in it could break UTF-8",
     ),
-    ("by_hand/unchecked.rs", "`from_utf8_unchecked` and `from_u32_unchecked`, which `checked` tests"),
     ("by_hand/contracts.rs", "the page on contracts"),
     ("by_hand/count_tests.rs", "tests"),
 ];

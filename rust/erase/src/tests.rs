@@ -6,8 +6,6 @@ use super::*;
 
 #[path = "tests/accesses.rs"]
 mod accesses;
-#[path = "tests/certain.rs"]
-mod certain;
 #[path = "tests/odd.rs"]
 mod odd;
 #[path = "tests/pages.rs"]
@@ -77,15 +75,19 @@ fn tally() -> Tally {
 }
 
 /// What comes of a file of the lowest crate.
-fn made(text: &str) -> Result<String, String> {
-    let source = Source { krate: "arraystring_base", path: "arraystring_base/src/sample.rt", text };
+fn erased(path: &str, text: &str) -> Result<String, Fault> {
+    let source = Source { krate: "arraystring_base", path, text };
     let mut tally = tally();
     // As `files` does: once for the contracts, and once by them.
     let _ = erase(&source, &mut tally);
     tally.contracts.is_whole = true;
-    let erased = erase(&source, &mut tally);
-    erased
-        .map(|erased| erased.text.split_once('\n').unwrap().1.to_string())
+    erase(&source, &mut tally).map(|erased| erased.text)
+}
+
+/// The same without its first line, or the line of a fault and why it is one.
+fn made(text: &str) -> Result<String, String> {
+    erased("arraystring_base/src/sample.rt", text)
+        .map(|made| made.split_once('\n').unwrap().1.to_string())
         .map_err(|fault| format!("{}: {}", line_of(text, fault.at), fault.why))
 }
 
@@ -280,13 +282,9 @@ fn f(text: &Text) {
     );
 }
 
-/// What comes of a file of the lowest crate that has a name of its own.
+/// What comes of a file that has a name of its own.
 fn made_as(path: &str, text: &str) -> Result<String, String> {
-    let source = Source { krate: "arraystring_base", path, text };
-    let mut tally = tally();
-    let _ = erase(&source, &mut tally);
-    tally.contracts.is_whole = true;
-    erase(&source, &mut tally).map(|erased| erased.text).map_err(|fault| fault.why)
+    erased(path, text).map_err(|fault| fault.why)
 }
 
 /// What comes of a worker in whose body a clause is known.

@@ -1,4 +1,5 @@
-//! What is read and written without a test that it is there, and what is proved and told to rustc.
+//! What is read and written without a test that it is there, what is proved and told to rustc, and what is made of numbers and
+//! bytes without a test, which the feature `checked` makes.
 //!
 //! A function of the sources is accepted only if it is proved never to panic. So each index and each part in it is within, each
 //! copy is between parts of one length, and no `unreachable!()` is reached. rustc can't see that proof, and would test all
@@ -105,6 +106,59 @@ macro_rules! known {
             unsafe { core::hint::assert_unchecked(is_so) };
         }
     };
+}
+
+/// What the sources use of `char`.
+pub(crate) mod char {
+    /// `char::from_u32_unchecked`. With the feature `checked` the number is tested.
+    ///
+    /// # Safety
+    ///
+    /// The number must be a scalar value.
+    #[inline(always)]
+    pub(crate) const unsafe fn from_u32_unchecked(number: u32) -> char {
+        if cfg!(feature = "checked") && char::from_u32(number).is_none() {
+            panic!("a character is no scalar value");
+        }
+        // SAFETY: the caller shows it.
+        unsafe { char::from_u32_unchecked(number) }
+    }
+
+    #[cfg(all(test, feature = "checked"))]
+    mod tests {
+        use std::panic::catch_unwind;
+
+        extern crate std;
+
+        /// Each scalar value is made, and each other number panics.
+        #[test]
+        fn what_is_no_scalar_value_panics() {
+            // SAFETY: a number that is none panics.
+            let made = |number: u32| catch_unwind(|| unsafe { super::from_u32_unchecked(number) }).ok();
+            for number in (0..=0x80).chain(0xD700..=0xE100).chain(0x10_FF00..=0x11_0100) {
+                assert_eq!(made(number), char::from_u32(number), "{number:X}");
+            }
+        }
+    }
+}
+
+/// What they use of `std::str`.
+pub(crate) mod str {
+    /// `str::from_utf8_unchecked`. No index shows that bytes are not UTF-8, so with the feature `checked` they are tested.
+    ///
+    /// # Safety
+    ///
+    /// The bytes must be UTF-8.
+    #[inline(always)]
+    pub(crate) const unsafe fn from_utf8_unchecked(bytes: &[u8]) -> &str {
+        if cfg!(feature = "checked") && from_utf8(bytes).is_err() {
+            panic!("a text is not UTF-8");
+        }
+        // SAFETY: the caller shows it.
+        unsafe { core::str::from_utf8_unchecked(bytes) }
+    }
+
+    pub(crate) use core::str::from_utf8;
 }
 
 #[cfg(test)]

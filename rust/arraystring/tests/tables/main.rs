@@ -4,10 +4,9 @@
 //! told by its shape: blocks under lines such as `# 8 | ..`, steps over a drain, units in hexadecimal, constructors, or calls.
 
 mod calls;
-mod constructors;
-mod drains;
 mod named;
 mod rows;
+mod shapes;
 
 use std::collections::BTreeMap;
 
@@ -75,10 +74,10 @@ fn each_table_holds_here_too() {
             "blocks" => calls::blocks(text),
             "calls" => calls::at(capacity, text),
             "anywhere" => calls::anywhere(text),
-            "drains" => drains::at(capacity, text),
-            "units" => constructors::made_of_units_at(capacity, text),
-            "extended" => constructors::extended_at(capacity, text),
-            _ => constructors::made_at(capacity, text),
+            "drains" => shapes::walked_at(capacity, text),
+            "units" => shapes::made_of_units_at(capacity, text),
+            "extended" => shapes::extended_at(capacity, text),
+            _ => shapes::made_at(capacity, text),
         };
     }
     for (shape, least) in LEAST.iter().chain(named::PLAYERS) {

@@ -1,10 +1,20 @@
-//! Traits between the strings, `str` and iterators. Each is one call of the string.
+//! The traits by hand. Those between the strings, `str` and iterators are each one call of the string or of the texts; behind
+//! them is what Rust prints, hashes and makes by default of small values.
+//!
+//! A `str` has no order with a string on its right. With one, `"a" < &t` of a `String` and `s < t.as_ref()` would no longer be
+//! compiled in a program that has this crate, since std's own order of `str` is then not the only one.
 
 use core::borrow::Borrow;
 use core::char::DecodeUtf16Error;
-use core::ops::{Deref, DerefMut, Index, Range, RangeFrom, RangeFull, RangeInclusive, RangeTo, RangeToInclusive};
+use core::cmp::Ordering;
+use core::fmt;
+use core::hash::{Hash, Hasher};
+use core::ops::{
+    AddAssign, Deref, DerefMut, Index, Range, RangeFrom, RangeFull, RangeInclusive, RangeTo, RangeToInclusive,
+};
 
-use crate::error::{Error, Utf16};
+use crate::error::{Error, OutOfBounds, Utf8, Utf16};
+use crate::utils::Steps;
 use crate::{ArrayString, CacheString};
 
 /// The text: each call of `str` that reads is one of the string.
@@ -225,6 +235,76 @@ macro_rules! as_text {
 
 as_text!((const N: usize) ArrayString<N>, () CacheString);
 
+/// Implements what both types of strings have beside a kind of text: it is on the left of `==`, and on the right of `<`.
+macro_rules! beside {
+    ($(($($generics:tt)*) $string:ty, $text:ty);*) => {$(
+        /// Whether the string has this text.
+        ///
+        /// ```
+        /// use arraystring::{ArrayString, CacheString};
+        ///
+        /// assert!("ab" == ArrayString::<4>::from("ab") && *"ab" == ArrayString::<4>::from("ab"));
+        /// assert!("ab" != CacheString::from("b") && *"ab" != CacheString::from("b"));
+        /// ```
+        impl<$($generics)*> PartialEq<$string> for $text {
+            #[inline]
+            fn eq(&self, other: &$string) -> bool {
+                str::eq(self, other.as_str())
+            }
+        }
+
+        /// The order of the texts, which is that of their characters.
+        ///
+        /// ```
+        /// use arraystring::{ArrayString, CacheString};
+        ///
+        /// assert!(ArrayString::<4>::from("ab") < "b" && ArrayString::<4>::from("ab") < *"b");
+        /// assert!(CacheString::from("é") > "z" && CacheString::from("é") > *"z");
+        /// ```
+        impl<$($generics)*> PartialOrd<$text> for $string {
+            #[inline]
+            fn partial_cmp(&self, other: &$text) -> Option<Ordering> {
+                Some(str::cmp(self.as_str(), other))
+            }
+        }
+    )*};
+}
+
+beside!(
+    (const N: usize) ArrayString<N>, str;
+    (const N: usize) ArrayString<N>, &str;
+    () CacheString, str;
+    () CacheString, &str
+);
+
+/// As [`push_str`](ArrayString::push_str), which adds the longest prefix of whole characters that fits.
+///
+/// ```
+/// let mut string = arraystring::ArrayString::<4>::from("abc");
+/// string += "de";
+/// assert_eq!(string, "abcd");
+/// ```
+impl<const N: usize> AddAssign<&str> for ArrayString<N> {
+    #[inline]
+    fn add_assign(&mut self, string: &str) {
+        self.push_str(string);
+    }
+}
+
+/// As [`push_str`](ArrayString::push_str), which adds the longest prefix of whole characters that fits.
+///
+/// ```
+/// let mut key = arraystring::CacheString::from("user:");
+/// key += "42";
+/// assert_eq!(key, "user:42");
+/// ```
+impl AddAssign<&str> for CacheString {
+    #[inline]
+    fn add_assign(&mut self, string: &str) {
+        self.0.push_str(string);
+    }
+}
+
 /// As [`from_str_truncate`](Self::from_str_truncate): what does not fit is **cut** off, also by `into`, and std's `try_from` is
 /// `Ok` of a cut text. `parse` and [`try_from_str`](Self::try_from_str) refuse it.
 ///
@@ -292,3 +372,58 @@ impl From<DecodeUtf16Error> for Error {
         Error::Utf16
     }
 }
+
+/// A fresh counter, as [`new`](Self::new) returns it.
+///
+/// ```
+/// use arraystring::utils::Steps;
+///
+/// assert_eq!((Steps::default().looked(), Steps::default().moved()), (0, 0));
+/// ```
+impl Default for Steps {
+    #[inline]
+    fn default() -> Self {
+        Self::new()
+    }
+}
+
+/// `Steps { looked: 1, moved: 2 }` for one look and two moves.
+///
+/// ```
+/// use arraystring::utils::{self, Steps};
+///
+/// let mut steps = Steps::new();
+/// utils::look(b"a", 0, &mut steps);
+/// assert_eq!(format!("{steps:?}"), "Steps { looked: 1, moved: 0 }");
+/// ```
+impl fmt::Debug for Steps {
+    fn fmt(&self, f: &mut fmt::Formatter<'_>) -> fmt::Result {
+        f.debug_struct("Steps").field("looked", &self.looked()).field("moved", &self.moved()).finish()
+    }
+}
+
+/// Implements the hash of errors of one case.
+macro_rules! hashed {
+    ($($error:ty),*) => {$(
+        /// Hashes as the case of its name of [`Error`] does.
+        ///
+        /// ```
+        /// use arraystring::Error;
+        /// use arraystring::error::{OutOfBounds, Utf8, Utf16};
+        /// use std::hash::{BuildHasher, RandomState};
+        ///
+        /// let hasher = RandomState::new();
+        /// assert_eq!(hasher.hash_one(Utf8), hasher.hash_one(Error::Utf8));
+        /// assert_eq!(hasher.hash_one(Utf16), hasher.hash_one(Error::Utf16));
+        /// assert_eq!(hasher.hash_one(OutOfBounds), hasher.hash_one(Error::OutOfBounds));
+        /// ```
+        impl Hash for $error {
+            #[inline]
+            fn hash<H: Hasher>(&self, state: &mut H) {
+                Error::from(*self).hash(state);
+            }
+        }
+    )*};
+}
+
+hashed!(Utf8, Utf16, OutOfBounds);

@@ -1,7 +1,8 @@
-//! Tables of what constructors make, of text and of units, and of what iterators add.
+//! The tables that are told by their shape, but those of calls: what constructors make, of text and of units, what iterators add,
+//! and steps over a drain.
 
 use arraystring::error::OutOfBounds;
-use arraystring::{ArrayString, Error};
+use arraystring::{ArrayString, Drain, Error};
 
 use crate::at_capacity;
 use crate::rows::{column, rows};
@@ -105,6 +106,33 @@ fn extended<const N: usize>(table: &str) -> usize {
             by_pieces.extend(pieces.by_ref());
             assert_eq!((by_chars.as_str(), by_pieces), (column(row, 3), by_chars), "{row}");
             next(row, chars.next(), pieces.next());
+        })
+        .count()
+}
+
+/// Asserts what each step over a drain gives. The columns are
+///
+///     text, with what is taken out in `[ ]` | step | result | what is left
+///
+/// With no text, the step is one of the drain that the row above left, and first of a default drain. With no result, it gives
+/// no character.
+pub fn walked_at(capacity: usize, table: &str) -> usize {
+    at_capacity!(capacity, walked, table)
+}
+
+fn walked<const N: usize>(table: &str) -> usize {
+    let mut drain = Drain::<N>::default();
+    rows(table)
+        .inspect(|row| {
+            if let Some((before, rest)) = column(row, 0).split_once('[') {
+                let (inside, after) = rest.split_once(']').expect("the end of the part");
+                let mut text: ArrayString<N> = [before, inside, after].into_iter().collect();
+                let start = before.len() as u8;
+                drain = text.drain(start..start + inside.len() as u8).expect("the part");
+                assert_eq!(text.as_str(), [before, after].concat(), "{row}");
+            }
+            let answer = if column(row, 1) == "next" { drain.next() } else { drain.next_back() };
+            assert_eq!((answer, drain.as_str()), (column(row, 2).chars().next(), column(row, 3)), "{row}");
         })
         .count()
 }
