@@ -12,7 +12,6 @@ from repository import crates, inline_code, read, section, sources
 
 STRING_CRATES = ("arraystring_base", "arraystring_core", "arraystring")
 TYPES = "ArrayString|CacheString|Drain"
-UNCALLED = {"Model"}  # what contracts see of a type
 
 FUNCTION = re.compile(r"(?m)^ *pub (?:const |unsafe )*fn (\w+)")
 HIDDEN = re.compile(r"#\[doc\(hidden\)\][^{]*")  # from the reference of the Rust crate
@@ -27,25 +26,24 @@ def source(file):
     return re.sub(r"//.*", "", read(file))
 
 
-def calls_of(*texts):
-    """The names of the public functions in some texts."""
-    return {name for text in texts for name in FUNCTION.findall(HIDDEN.sub("", text))}
+def text_of(root, files):
+    return "\n".join(read(it) for it in sorted(root.glob(files)))
 
 
-def texts_of(folder):
-    """The texts of the files of a crate's src/."""
-    return [read(it) for it in sorted(folder.glob("src/**/*.r[st]"))]
+def calls_of(text):
+    """The names of the public functions in a text."""
+    return set(FUNCTION.findall(HIDDEN.sub("", text)))
 
 
-def string_calls(folder):
-    """The names of the public calls of `ArrayString` in a crate."""
-    return calls_of(*(block[0] for text in texts_of(folder) for block in STRING.finditer(text)))
+def string_calls(text):
+    """Those of `ArrayString`."""
+    return calls_of("\n".join(block[0] for block in STRING.finditer(text)))
 
 
 def traits_of(text):
-    """The traits of the string types, without lifetimes."""
+    """The traits of the string types, without lifetimes, but for what contracts see of a type."""
     derived = [name for names in DERIVE.findall(text) for name in names.split(", ")]
-    return {re.sub(r"'\w+ ", "", name) for name in IMPL.findall(text)}.union(derived) - UNCALLED
+    return {re.sub(r"'\w+ ", "", name) for name in IMPL.findall(text)}.union(derived) - {"Model"}
 
 
 def named(calls, code):
@@ -63,17 +61,15 @@ def first_words(page):
 def places(root):
     """All that stands in two places: what it is, the one place with the names that it has, and the other with those it has."""
     readme, rust_page = read(root / "README.md"), read(root / "rust/arraystring/README.md")
-    folders = [root / "crates" / it for it in STRING_CRATES]
-    texts = [text for it in folders for text in texts_of(it)]
+    base, core, string = (text_of(root, f"crates/{it}/src/**/*.rt") for it in STRING_CRATES)
 
-    calls, listed = string_calls(folders[1]) | calls_of(*texts_of(folders[2])), inline_code(section(readme, "The calls"))
-    pages = [read(root / "crates" / it) for it in ("arraystring/CALLING.md", "arraystring/LAWS.md", "bounded_records/CALLING.md")]
-    code = listed + inline_code("\n".join(pages))
+    calls, listed = string_calls(core) | calls_of(string), inline_code(section(readme, "The calls"))
+    code = listed + inline_code(text_of(root, "crates/arraystring/*.md") + text_of(root, "crates/bounded_records/*.md"))
     yield "public calls", "src/ of the string", calls, "what README.md and the pages for callers name", named(calls, code)
-    traits = traits_of("\n".join(texts))
+    traits = traits_of(core + string)
     yield "traits", "src/ of the string", traits, "the list of calls in README.md", traits.intersection(listed)
 
-    calls = string_calls(root / "rust/arraystring")
+    calls = string_calls(text_of(root, "rust/arraystring/src/**/*.rs"))
     code = [it for heading in ("What cuts, and what refuses", "The calls") for it in inline_code(section(rust_page, heading))]
     yield "Rust calls", "rust/arraystring/src", calls, "rust/arraystring/README.md", named(calls, code)
     # (the program links only if none of the calls in it can panic)
@@ -88,15 +84,15 @@ def places(root):
     played = " ".join(re.findall(r'(?m)^const \w+: &str =\s*"([^"]*)";', source(root / rust)))
     yield "calls of tables", proved, arms, rust, set(re.findall(r"\w+", played))
 
-    counted = {it for it in calls_of(*texts) if it.endswith("_counted")}
+    counted = {it for it in calls_of(base + core + string) if it.endswith("_counted")}
     bodies = first_words(section(readme, "What a reader checks in the counted calls"))
     yield "counted calls", "src/ of the string", counted, "the table of bodies in README.md", bodies
 
     promises, surface = "docs/promises.md", "crates/arraystring_tests/src/tests/surface.rt"
-    promised = [name for it in inline_code(read(root / promises)) if it.startswith("laws::") for name in re.findall(r"\w+", it)[1:]]
-    laws = calls_of(*(read(it) for it in root.glob("crates/*/src/laws.rt")))
-    yield "laws", "crates/*/src/laws.rt", laws, promises, set(promised)
-    laws = calls_of(*(read(it / "src/laws.rt") for it in folders if (it / "src/laws.rt").exists()))
+    promised = " ".join(it.removeprefix("laws") for it in inline_code(read(root / promises)) if it.startswith("laws::"))
+    laws = calls_of(text_of(root, "crates/*/src/laws.rt"))
+    yield "laws", "crates/*/src/laws.rt", laws, promises, set(re.findall(r"\w+", promised))
+    laws = set().union(*(calls_of(text_of(root, f"crates/{it}/src/laws.rt")) for it in STRING_CRATES))
     called = set(re.findall(r"\blaws::(\w+)\(", read(root / surface)))
     yield "laws of the string", "src/laws.rt of the string", laws, surface, called
 

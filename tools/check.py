@@ -1,7 +1,6 @@
 """What a change has to pass before anything is proved: the tests of the tools; specs/ has definitions alone and the page has
-them; something cites each lemma; the pages are as the files that they quote; what stands in two lists is the same in both, and
-pages name each public call and trait of the string; every move goes through `shift`; a wrong body touches each public function
-and impl; and each control and each source of the Rust crate is as it was when it proved.
+them; something cites each lemma; the pages are as the files that they quote; what stands in two places is the same in both; a
+wrong body touches each public function and impl; and each control and each source of the Rust crate is as it was when it proved.
 
 tools/run check             writes nothing
 tools/run check --write     first lays out each crate by `rt fmt`, makes the Rust crate by rust/erase/run where cargo is there,
@@ -34,7 +33,7 @@ def tests(arguments, root):
 # The parts, each with the words of its call, and how much it has to say at least that it looked at. A search that finds less than
 # there is fails at nothing else.
 PARTS = [
-    (tests, [], {"{} tests of the tools": 25}),
+    (tests, [], {"{} tests of the tools": 20}),
     (trusted.main, [], {"run: {} definitions": 60, "all public contracts: {} definitions": 190}),
     (dead.main, [], {"{} lemmas and laws are cited": 740}),
     (quotes.main, [], {"{} blocks are as in the files": 14}),
@@ -48,8 +47,7 @@ PARTS = [
 def is_written(root):
     """Writes what commands can write; whether none of them fails."""
     commands = [(["rt", "fmt"], root / "crates" / it) for it in repository.crates(root)]
-    if shutil.which("cargo"):
-        commands.append((["rust/erase/run"], root))
+    commands += [(["rust/erase/run"], root)] if shutil.which("cargo") else []
     statuses = [subprocess.run(words, cwd=folder, stdout=subprocess.DEVNULL).returncode for words, folder in commands]
     quotes.main(["--write"], root)
     return not any(statuses)

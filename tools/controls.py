@@ -27,14 +27,9 @@ def controls_of(root, crates):
     return {f"{it.parent.parent.name}/{it.stem}": it for it in found}
 
 
-def recorded(root):
-    """The checksums that were written, by the name of the control."""
-    return dict(line.split(" ") for line in repository.read(root / RECORD).splitlines())
-
-
-def record(root, more):
-    """Writes these checksums of controls and those that were written, but for lines that have no control or no checksum."""
-    known, there = {**recorded(root), **more}, controls_of(root, repository.crates(root))
+def record(root, known):
+    """Writes these checksums of controls, but for those that have no control or no checksum."""
+    there = controls_of(root, repository.crates(root))
     lines = [f"{it} {known[it]}\n" for it in sorted(known) if known[it] and it in there]
     (root / RECORD).write_text("".join(lines), encoding="utf-8")
 
@@ -45,48 +40,37 @@ def proved_part(file):
 
 
 def checksum_of(edit, functions, proofs, logic):
-    """The checksum of what a control depends on, in a crate of these functions and files of proofs/; None where it cannot be
-    applied."""
+    """The checksum of what a control depends on in a crate of these functions and proofs; None where it cannot be applied."""
     digest = hashlib.sha256(logic.encode())
     try:
         texts, places = edits.applied(edit, is_right=True)
-    except edits.BadEdit:
+    except ValueError:
         return None
     changed = sources.standing_at(places, functions)
-    callers = [it for of_file in functions.values() for it in of_file if any(it.mentions(other) for other in changed)]
+    callers = [it for of_file in functions.values() for it in of_file if any(other.name in it.words for other in changed)]
     names = {it.name for it in changed + callers}
     for file in [edit, *texts, *(it for it in proofs if it.parent.name in names)]:
         digest.update(hashlib.sha256(proved_part(file)).digest())
     return digest.hexdigest()[:16]
 
 
-def checksums(root, crates, logic):
-    """The checksums of the controls of some crates, by their names."""
-    sums = {}
-    for crate in crates:
-        folder = root / "crates" / crate
-        functions, proofs = sources.functions(folder), sorted(folder.glob("proofs/**/*.antt"))
-        sums |= {name: checksum_of(it, functions, proofs, logic) for name, it in controls_of(root, [crate]).items()}
-    return sums
-
-
-def try_controls(root, names, logic):
-    """Tries controls, and writes a line of each that proves; whether one does not."""
+def try_controls(root, controls, sums, known):
+    """Tries controls, and writes a line of each that proves beside those known; whether one does not."""
+    record(root, known)
     failed = 0
     with repository.copied(root) as copy:
-        crates = repository.crates(copy)
-        edits_there, sums = controls_of(copy, crates), checksums(copy, crates, logic)
-        for name in names:
-            is_right, told = edits.tried(edits_there[name], is_right=True)
-            record(root, {name: sums[name] if is_right else None})
+        for name, edit in controls.items():
+            is_right, told = edits.tried(copy / edit.relative_to(root), is_right=True)
+            known[name] = sums[name] if is_right else None
+            record(root, known)
             failed += not is_right
             print(f"controls {name}: {told}", flush=True)
-    print(f"{len(names) - failed} prove, {failed} do not")
+    print(f"{len(controls) - failed} prove, {failed} do not")
     return failed > 0
 
 
 def try_wrong_bodies(root, crate, function):
-    """Tries the wrong bodies of a function; what is wrong, or whether there is none or one proves."""
+    """Tries the wrong bodies of a function; what is wrong, or whether one proves."""
     outcomes = []
     with repository.copied(root) as copy:
         is_proved, message = repository.check(copy / "crates" / crate)
@@ -96,22 +80,26 @@ def try_wrong_bodies(root, crate, function):
             is_right, told = edits.tried(edit, is_right=False)
             outcomes.append(is_right)
             print(f"{edit.stem}: {told}", flush=True)
-    return not outcomes or not all(outcomes)
+    return not all(outcomes) if outcomes else f"{crate} has no wrong body of {function}"
 
 
 def main(arguments, root):
-    is_of_edits = arguments[1:2] == ["--edits"]
-    names = arguments[:1] if is_of_edits else [it for it in arguments if it != "--check"]
+    is_checking, is_of_edits = arguments == ["--check"], len(arguments) == 3 and arguments[1] == "--edits"
+    names = [] if is_checking else arguments[:1] if is_of_edits else arguments
     unknown = repository.unknown_crate(root, names)
     if unknown or is_of_edits:
-        return unknown or try_wrong_bodies(root, names[0], arguments[-1])
-    known, logic = recorded(root), repository.logic()
-    sums = checksums(root, names or repository.crates(root), logic)
-    stale = [name for name in sums if sums[name] is None or known.get(name) != sums[name]]
-    if arguments == ["--check"]:
+        return unknown or try_wrong_bodies(root, names[0], arguments[2])
+    known = dict(line.split(" ") for line in repository.read(root / RECORD).splitlines())
+    logic, controls, sums = repository.logic(), {}, {}
+    for crate in names or repository.crates(root):
+        folder, of_it = root / "crates" / crate, controls_of(root, [crate])
+        functions, proofs = sources.functions(folder), sorted(folder.glob("proofs/**/*.antt"))
+        sums |= {name: checksum_of(edit, functions, proofs, logic) for name, edit in of_it.items()}
+        controls |= of_it
+    stale = {name: edit for name, edit in controls.items() if sums[name] is None or known.get(name) != sums[name]}
+    if is_checking:
         faults = [f"{it}: {'not as it was when it proved' if it in known else 'not tried'}" for it in stale]
         faults += [f"{it}: there is no such control" for it in sorted(known.keys() - sums)]
         print("\n".join(faults) or f"{len(sums)} controls are as they were when they proved")
         return bool(faults)
-    record(root, {})
-    return try_controls(root, stale, logic)
+    return try_controls(root, stale, sums, known)

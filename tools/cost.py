@@ -14,16 +14,13 @@ import time
 import repository
 
 
-def forget(folder):
-    """Makes a crate one of which no check on this machine kept anything: its text is new, and out/ is empty."""
-    main = next(folder.glob("src/lib.rt"), folder / "src/main.rt")
-    main.write_text(f"{repository.read(main)}// {time.time_ns()}\n", encoding="utf-8")
-    shutil.rmtree(folder / "out", ignore_errors=True)
-
-
 def first_check(folder):
     """Prints what the functions of a crate take; whether it does not prove."""
-    forget(folder)
+    # (the text is new, and the folder is there, so that it begins with nothing that a check on this machine kept)
+    root = next(folder.glob("src/lib.rt"), folder / "src/main.rt")
+    root.write_text(f"{repository.read(root)}// {time.time_ns()}\n", encoding="utf-8")
+    shutil.rmtree(folder / "out", ignore_errors=True)
+    (folder / "out/incremental").mkdir(parents=True)
     seconds, before, line = {}, time.monotonic(), ""
     with subprocess.Popen(["rt", "check", "--jobs", "1"], cwd=folder, stdin=subprocess.DEVNULL, stdout=subprocess.PIPE,
                           stderr=subprocess.STDOUT, encoding="utf-8") as run:

@@ -1,5 +1,5 @@
-"""Fails at a lemma or law of proofs/ that nothing cites, at a law that is passed on for nobody, and where LAWS.md of a crate names
-a law that callers of the crate can't cite.
+"""Fails at a lemma or law of proofs/ that nothing cites, at a law that is passed on for nobody, and where LAWS.md of a crate
+names a law that callers of the crate can't cite.
 
 A lemma is cited if one of these reaches it, directly or by other lemmas: an answer, which is what is `pub` in the folder of
 a function, since the check calls it by the name of a goal; what stands in specs/; a file of src/; a page for callers. What a
@@ -45,8 +45,8 @@ def names_of(page):
 
 
 class Callers:
-    """What callers of a crate can cite: `passed_on` are the laws that its proofs/ pass on, each behind the module that does so, and
-    `laws` are those and its own; its pages cite those in `named`, by themselves or by their family."""
+    """What callers of a crate can cite: `passed_on` are the laws that its proofs/ pass on, each behind the module that does so,
+    and `laws` are those and its own; its pages cite those in `named`, by themselves or by their family."""
 
     def __init__(self, tree, crate):
         laws, self.passed_on, self.folder = [it for it in tree.items if it.is_law], [], tree.root / "crates" / crate
@@ -62,8 +62,8 @@ class Callers:
         self.named = {it for it in self.laws if it.name in names | families}
 
     def faults(self, tree):
-        """The laws that are passed on by their names, though no page names them and nothing imports them from there; and the names
-        with a dash in LAWS.md that are neither laws for callers nor answers."""
+        """The laws that are passed on by their names, though no page names them and nothing imports them from there; and the
+        names with a dash in LAWS.md that are neither laws for callers nor answers."""
         imported = {it for names in tree.modules.values() for it in names.values() if isinstance(it, tuple)}
         for module, law in self.passed_on:
             if not module.endswith(".Lib") and law not in self.named and (module, law.name) not in imported:

@@ -12,28 +12,24 @@ from repository import read
 PART = re.compile(r"file: ?(.+)\n|old: ?(.*)\nnew: ?(.*)\n(?:# right: ?(.*)\n)?")
 
 
-class BadEdit(ValueError):
-    """An edit that cannot be read or applied."""
-
-
 def has_control(edit):
     return bool(re.search("(?m)^# right:", read(edit)))
 
 
 def applied(edit, is_right=False):
     """The files of its crate that an edit changes, or its control, each with its text after, and where it changes them: pairs of
-    a file and a line of it, counted from 0."""
+    a file and a line of it, counted from 0. A ValueError says why one cannot be read or applied."""
     texts, places, path, rest = {}, [], "", read(edit)
     while rest:
         part = PART.match(rest)
         if not part or not (part[1] or path):
-            raise BadEdit(f"no line of an edit: {rest.splitlines()[0]}")
+            raise ValueError(f"no line of an edit: {rest.splitlines()[0]}")
         path, rest = part[1] or path, rest[part.end():]
         if not part[1]:
             file, old, made = edit.parent.parent / path, part[2], part[3] if part[4] is None or not is_right else part[4]
             text = texts.get(file) or (read(file) if file.is_file() else "")
             if text.count(old) != 1:
-                raise BadEdit(f"{path} does not have this once: {old}")
+                raise ValueError(f"{path} does not have this once: {old}")
             before, _, behind = text.partition(old)
             texts[file] = before + made + behind
             places += [(file, before.count("\n"))] * (made != old)
@@ -46,7 +42,7 @@ def tried(edit, is_right):
     folder, before = edit.parent.parent, edit.parent.parent.with_name("before")
     try:
         texts, _ = applied(edit, is_right)
-    except BadEdit as error:
+    except ValueError as error:
         return False, f"BAD EDIT: {error}"
     shutil.copytree(folder, before, symlinks=True)
     for file, text in texts.items():

@@ -29,15 +29,12 @@ from repository import closed
 
 FOR_TESTS = {"test_support"}  # only tests call it: a wrong body there is seen by its own tests and theirs
 
-# Laws that borrow what they speak of, so that the prover has the fact. Without the borrow they are as true.
+# They borrow what they speak of, so that the prover has the fact. Without the borrow they are as true.
 LAWS_THAT_BORROW = {"text_fits", "text_spelled", "left_fits"}
-
 # What the prover says before the values at which a goal is false; the log cuts it off somewhere behind.
 VALUES = "the goal does not follow from what it read. All of"
-
 # Of this one `rt` tells a stored proof first, and leaves a goal of src/ open as well. A control would show more.
 STORED_FIRST = {"from_utf16_lossy.reads_a_pair_as_two"}
-
 VERDICT = re.compile(r"must-fail (\w+)/(\S+)\.edit: refused, as it must be: (.*)")
 
 
@@ -47,7 +44,10 @@ class Crate:
     def __init__(self, folder):
         self.folder, self.edits, self.functions = folder, sorted(folder.glob("must-fail/*.edit")), sources.functions(folder)
         self.everything = [it for of_file in self.functions.values() for it in of_file]
-        self.asked = sources.named([it for it in self.everything if it.is_asked])
+        asked = [it for it in self.everything if it.is_asked]
+        counts = Counter(name for it in asked for name in set(it.names()))
+        # (by the shortest name that each has alone)
+        self.asked = {next(name for name in it.names() if counts[name] == 1): it for it in asked}
 
     def owner(self, edit):
         """The name of the function for which an edit is named; None where there is none."""
@@ -55,7 +55,7 @@ class Crate:
 
     def rests_on(self, name):
         """The function of a name and what it names, directly or by others."""
-        return closed([self.asked[name]], lambda one: [it for it in self.everything if one.mentions(it)])
+        return closed([self.asked[name]], lambda one: [it for it in self.everything if it.name in one.words])
 
     def fault_of_name(self, edit):
         """What is wrong with the name or the text of an edit; None where nothing is."""
@@ -64,8 +64,8 @@ class Crate:
             return "no public function has this name"
         try:
             touched = sources.standing_at(edits.applied(edit)[1], self.functions)
-        except edits.BadEdit as error:
-            return error
+        except ValueError as error:
+            return str(error)
         return None if self.rests_on(name).intersection(touched) else f"it does not touch {name}, nor what that names"
 
     def lacking(self):
@@ -95,24 +95,23 @@ class Crate:
         return None if is_shown else "refused over a stored proof, and has no control"
 
 
-def faults_of_log(crates, log):
-    """What is wrong with the refusals that a log tells."""
-    told = {(crate, name): said for crate, name, said in VERDICT.findall(log)}
-    for crate in crates.values():
-        for edit in crate.edits:
-            said = told.get((crate.folder.name, edit.stem))
-            fault = crate.fault_of_refusal(edit, said) if said else "the log does not say that it is refused"
-            yield from [f"{crate.folder.name} {edit.stem}: {fault}"] * bool(fault)
+def faults_of(crate, log):
+    """What is wrong with the edits of a crate, and with their refusals in a log, if there is one."""
+    told = {name: said for folder, name, said in VERDICT.findall(log or "") if folder == crate.folder.name}
+    for edit in crate.edits:
+        faults = [crate.fault_of_name(edit)] if crate.folder.name not in FOR_TESTS else []
+        if log is not None:
+            said = told.get(edit.stem)
+            faults.append(crate.fault_of_refusal(edit, said) if said else "the log does not say that it is refused")
+        yield from (f"{crate.folder.name} {edit.stem}: {fault}" for fault in faults if fault)
 
 
 def main(arguments, root):
-    crates = {it: Crate(root / "crates" / it) for it in repository.crates(root)}
-    asked = {name: it for name, it in crates.items() if name not in FOR_TESTS}
-    named = [(f"{name} {it.name}", crate.fault_of_name(it)) for name, crate in asked.items() for it in crate.edits]
-    faults = [f"{name}: {fault}" for name, fault in named if fault]
-    lacking = {f"{name} {it}": count for name, crate in asked.items() for it, count in crate.lacking()}
+    log = repository.read(Path(arguments[1])) if arguments[:1] == ["--refused"] else None
+    crates = [Crate(root / "crates" / it) for it in repository.crates(root)]
+    asked = [it for it in crates if it.folder.name not in FOR_TESTS]
+    lacking = {f"{crate.folder.name} {name}": count for crate in asked for name, count in crate.lacking()}
+    faults = [fault for crate in crates for fault in faults_of(crate, log)]
     faults += [f"wrong bodies of {name} that are missing: {count}" for name, count in lacking.items() if count]
-    if arguments[:1] == ["--refused"]:
-        faults += faults_of_log(crates, repository.read(Path(arguments[1])))
     print("\n".join(faults) or f"wrong bodies try {len(lacking)} functions")
     return bool(faults) or not lacking

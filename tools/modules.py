@@ -8,27 +8,6 @@ NAME = r"[^\s(){}\[\];,.]+"
 IMPORT = re.compile(r"(?m)^ *(?:pub |ghost )*use (Rattle[^\s{;]*?)(?:\.\{([^}]*)\})?(?: as ([^\s;]+))?;?$")
 
 
-def files(root):
-    """The modules in the order in which they are read: that of crates.txt, of specs/Lib.antt, and of their paths."""
-    for folder in [root / "crates" / it for it in crates(root)]:
-        order = "".join(read(it) for it in folder.glob("specs/Lib.antt"))
-        yield from sorted(folder.glob("specs/**/*.antt"), key=lambda it: order.find(f"mod {it.stem}\n"))
-        yield from sorted(folder.glob("proofs/**/*.antt"))
-
-
-def lines_of(text):
-    """The lines of a module with their numbers, without its imports, comments and blank lines, and what strings say."""
-    for number, line in enumerate(text.split("\n"), 1):
-        line = re.sub(r"(^|\s)--(\s.*)?$", "", re.sub('"[^"]*"', '""', line)).rstrip()
-        if line and not re.match(r"(pub )?(use|mod) ", line):
-            yield number, line
-
-
-def module_of(path):
-    """The name of the module in a file, by its path in the repository."""
-    return "Rattle." + ".".join(path.with_suffix("").parts[1:])
-
-
 def imports(text):
     """What a file imports: by each name the path of a module, and a word of it or nothing."""
     names = {}
@@ -39,6 +18,11 @@ def imports(text):
             word, _, other = word.partition(" as ")
             names[other or word] = (path, word)
     return names
+
+
+def module_of(path):
+    """The name of the module in a file, by its path in the repository."""
+    return "Rattle." + ".".join(path.with_suffix("").parts[1:])
 
 
 class Item:
@@ -53,10 +37,6 @@ class Item:
         self.is_definition, self.is_data = bool(kind or other) and not is_claim, other == "data "
         self.is_law = self.is_public and not self.is_definition and re.search("(Laws|GhostProofs)$", path.stem)
 
-    def terms(self):
-        """Its lines and those of the blocks around it."""
-        return "\n".join(line for it in [*self.around, self] for line in it.lines)
-
     def __str__(self):
         return f"{self.path}:{self.number}: {self.name}"
 
@@ -65,7 +45,11 @@ class Item:
 def parsed(path, text):
     """The items of a module in order, and what the names in it stand for."""
     items, names, item, around = [], imports(text), None, []
-    for number, line in lines_of(text):
+    for number, line in enumerate(text.split("\n"), 1):
+        # (without comments, and what strings say)
+        line = re.sub(r"(^|\s)--(\s.*)?$", "", re.sub('"[^"]*"', '""', line)).rstrip()
+        if not line or re.match(r"(pub )?(use|mod) ", line):
+            continue
         indent = len(line) - len(line.lstrip())
         around = around[: indent // 2]
         if item and (indent > 2 * len(around) or line.split()[0] in (item.name, "unfolding") or line.lstrip()[0] in ")]}"):
@@ -84,14 +68,18 @@ def parsed(path, text):
 
 
 class Modules:
-    """The modules of a repository: all items in order, and by the path of a module what the names in it stand for."""
+    """The modules of a repository in the order in which they are read, that of crates.txt, of specs/Lib.antt, and of their paths:
+    all items, and by the path of a module what the names in it stand for."""
 
     def __init__(self, root):
         self.root, self.items, self.modules = root, [], {}
-        for file in files(root):
-            path = file.relative_to(root)
-            items, self.modules[module_of(path)] = parsed(path, read(file))
-            self.items += items
+        for folder in [root / "crates" / it for it in crates(root)]:
+            order = "".join(read(it) for it in folder.glob("specs/Lib.antt"))
+            specs = sorted(folder.glob("specs/**/*.antt"), key=lambda it: order.find(f"mod {it.stem}\n"))
+            for file in [*specs, *sorted(folder.glob("proofs/**/*.antt"))]:
+                path = file.relative_to(root)
+                items, self.modules[module_of(path)] = parsed(path, read(file))
+                self.items += items
 
     def resolved(self, names, word):
         """The item of the repository that a word stands for among these names, if it is one."""
@@ -114,5 +102,5 @@ class Modules:
         return found - {None}
 
     def words(self, item):
-        """The items that an item names."""
-        return self.named(item.terms(), item.names)
+        """The items that an item and the blocks around it name."""
+        return self.named("\n".join(line for it in [*item.around, item] for line in it.lines), item.names)

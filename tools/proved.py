@@ -15,27 +15,26 @@ import repository
 RECORD = "rust/proved.txt"
 # (in the order in which they are proved; rust/erase stops at a source of any other)
 CRATES = ["arraystring_base", "arraystring_core", "arraystring"]
-PARTS = ["src", "specs", "proofs"]
 
 
 def due(root):
     """The lines of the record if all is proved."""
-    folders = [root / "crates" / crate / part for crate in CRATES for part in PARTS]
+    folders = [root / "crates" / crate / part for crate in CRATES for part in ("src", "specs", "proofs")]
     files = sorted(it for folder in folders for it in folder.rglob("*") if it.is_file())
     sums = [f"{hashlib.sha256(it.read_bytes()).hexdigest()}  {it.relative_to(root).as_posix()}" for it in files]
     return [f"# logic {repository.logic().strip()}", *sums]
 
 
-def compare(root, lines):
-    """Compares the record with what is due, and names each file or logic that only one of them has so."""
-    changed = {line.partition("  ")[2] or line for line in set(repository.read(root / RECORD).splitlines()) ^ set(lines)}
-    faults = [f"{RECORD}: not as it was proved: {it}" for it in sorted(changed)]
-    print("\n".join(faults) or f"{len(lines) - 1} sources of the Rust crate are as they were proved")
-    return bool(faults)
-
-
-def prove(root, lines):
-    """Proves the crates, and writes the record if all are proved and nothing changed meanwhile."""
+def main(arguments, root):
+    lines, record = due(root), root / RECORD
+    if arguments == ["--check"]:
+        there = repository.read(record).splitlines() if record.exists() else []
+        changed = sorted({line.partition("  ")[2] or line for line in set(there) ^ set(lines)})
+        faults = [f"{RECORD}: not as it was proved: {it}" for it in changed]
+        print("\n".join(faults) or f"{len(lines) - 1} sources of the Rust crate are as they were proved")
+        return bool(faults)
+    if arguments:
+        return "the argument is --check, or none"
     for crate in CRATES:
         is_proved, message = repository.check(root / "crates" / crate)
         print(f"proved {crate}: {'proves' if is_proved else 'REFUSED: ' + message}", flush=True)
@@ -43,12 +42,6 @@ def prove(root, lines):
             return True
     if due(root) != lines:
         return "a source changed while it was proved, so nothing is written"
-    (root / RECORD).write_text("".join(f"{line}\n" for line in lines), encoding="utf-8")
+    record.write_text("".join(f"{line}\n" for line in lines), encoding="utf-8")
     print(f"{len(lines) - 1} sources written to {RECORD}")
     return False
-
-
-def main(arguments, root):
-    if arguments not in ([], ["--check"]):
-        return "the argument is --check, or none"
-    return compare(root, due(root)) if arguments else prove(root, due(root))

@@ -1,7 +1,6 @@
 """The functions of source files, which are laid out as `rt fmt` does."""
 import re
-from collections import Counter
-from dataclasses import dataclass
+from collections import namedtuple
 from functools import cache
 
 from repository import public_types, read, sources
@@ -9,20 +8,9 @@ from repository import public_types, read, sources
 ITEM = re.compile(r"( *)(pub |pub\(\w+\) )?(?:const |unsafe )*(?:fn (\w+)|(impl|trait)\b(.*) \{$)")
 
 
-@dataclass(eq=False)
-class Function:
-    """A function of a source file: its type and trait, and the lines of it or of the impl of a trait that it is in."""
-
-    name: str
-    kind: str
-    trait: str
-    is_asked: bool
-    place: range
-    header: str
-    body: list
-
-    def __post_init__(self):
-        self.words = set(re.findall(r"\w+", "\n".join(self.body)))
+class Function(namedtuple("Function", "name kind trait is_asked place header body words")):
+    """A function of a source file: its type and trait, whether a wrong body is asked for, the lines of it or of the impl of a
+    trait that it is in, what stands before its body, the lines of that and their words."""
 
     def decides(self):
         """Whether the clauses have an equivalence, or it returns a `bool`."""
@@ -32,23 +20,12 @@ class Function:
         """Whether all that it does is one call of another function."""
         return len(self.body) == 1 and bool(re.fullmatch(rf" *(self\.)?{name}\([^{{}}]*\)", self.body[0]))
 
-    def mentions(self, other):
-        """Whether the body has the name of the other function."""
-        return other.name in self.words
-
     def names(self):
         """By what the function can be called, the shortest first: `next`, `Drain.next`, `Drain.Iterator`, `Error.From.Utf8`."""
         trait = re.findall(r"\w+", re.sub(r"^(\w+::)+", "", self.trait))
         yield self.name
         yield from [f"{self.kind}.{self.name}"] * bool(self.kind)
         yield from [f"{self.kind}.{it}" for it in (*trait[:1], ".".join(trait)) if it]
-
-
-def type_and_trait(header):
-    """The names of an impl's type and trait; no trait is the empty name."""
-    header = re.sub(r"^<(?:[^<>]|<[^<>]*>)*>", "", header).strip()
-    trait, _, kind = header.rpartition(" for ")
-    return re.search(r"\w+", kind)[0], re.sub(r"'\w+ ", "", trait)
 
 
 @cache
@@ -63,17 +40,21 @@ def functions_of(text, is_program, public):
         ends = (line if line.endswith("}") else "", f"{indent}}}", f"{indent}{{}}")
         last = next(i for i in range(at, len(lines)) if lines[i] and lines[i] in ends)
         if not name:
-            block, (kind, trait), of_impl = item[4], type_and_trait(item[5]), range(at, last + 1)
+            trait, _, kind = re.sub(r"^<(?:[^<>]|<[^<>]*>)*>", "", item[5]).strip().rpartition(" for ")
+            kind, trait = re.search(r"\w+", kind)[0], re.sub(r"'\w+ ", "", trait)
+            block, of_impl = item[4], range(at, last + 1)
             has_contract = re.search(r"(?m)^ *(ghost (?!use )|ensures )", "\n".join(lines[at:last]))
             continue
         first = next((i + 1 for i in range(at, last) if re.fullmatch(rf"{indent}(\S.* )?\{{", lines[i])), last)
-        header, body = "\n".join(lines[at:first]), [it for it in lines[first:last] if not it.strip().startswith("//")]
-        is_of_trait = bool(indent and trait)
-        while not is_of_trait and lines[at - 1].startswith(f"{indent}#["):
-            at -= 1
-        is_seen = kind in public and has_contract if is_of_trait else visibility == "pub " or is_program and name != "main"
-        place = of_impl if is_of_trait else range(at, last + 1)
-        found.append(Function(name, kind if indent else "", trait if indent else "", bool(body and is_seen), place, header, body))
+        header, body = "\n".join(lines[at:first]), tuple(it for it in lines[first:last] if not it.strip().startswith("//"))
+        if indent and trait:
+            is_seen, place = kind in public and has_contract, of_impl
+        else:
+            while lines[at - 1].startswith(f"{indent}#["):
+                at -= 1
+            is_seen, place = visibility == "pub " or is_program and name != "main", range(at, last + 1)
+        owner, words = (kind, trait) if indent else ("", ""), frozenset(re.findall(r"\w+", " ".join(body)))
+        found.append(Function(name, *owner, bool(body and is_seen), place, header, body, words))
     return found
 
 
@@ -87,9 +68,3 @@ def functions(folder):
 def standing_at(places, functions):
     """The functions, among those of some files, that have one of these lines of a file."""
     return [it for file, line in places for it in functions.get(file, []) if line in it.place]
-
-
-def named(functions):
-    """Some functions by the shortest name that each has alone among them."""
-    counts = Counter(name for function in functions for name in set(function.names()))
-    return {next(name for name in function.names() if counts[name] == 1): function for function in functions}

@@ -18,9 +18,7 @@ echo "${0##*/} $*${RUSTFLAGS:+ with$RUSTFLAGS}${RUSTDOCFLAGS:+ and$RUSTDOCFLAGS}
 
 
 class ScriptTest(PlantedTest):
-    """A script of the copy, with the stand-ins of a folder `bin` before other programs."""
-
-    SCRIPT, PASSED = "", ""
+    """A SCRIPT of the copy, which prints PASSED where all has passed, with the stand-ins of a folder `bin` before other programs."""
 
     def stand_in(self, path, *lines):
         self.write_program(path, "\n".join([STAND_IN, *lines, ""]))
@@ -71,10 +69,12 @@ class Gate(ScriptTest):
                                  f"try {self.PROGRAM}", "check "])
 
     def test_what_does_less_than_it_should_or_fails_at_the_end_is_refused(self):
-        for how, wanted in (({"less": 1}, f"run: {self.due - 1} tests without memory have run, and {self.due} are due"),
-                            ({"program": "true"}, "rt ci has left no new"), ({}, "")):
-            self.proves('[ "$1" != ci ]' if not how else "", **how)
-            self.assert_refused(wanted)
+        self.proves(less=1)
+        self.assert_refused(f"run: {self.due - 1} tests without memory have run, and {self.due} are due")
+        self.proves(program="true")
+        self.assert_refused("rt ci has left no new")
+        self.proves('[ "$1" != ci ]')
+        self.assert_refused("")
         self.proves()
         for lines, wanted in (([f"echo 'try: {CASES - 1} cases, 0 differ'"], f"run: {CASES - 1} cases of the program were tried"),
                               (["echo 'ok       a case'"], "run: no cases of the program were tried"),
@@ -128,24 +128,20 @@ esac"""
             self.assert_refused(wanted)
 
 
-# Answers as the program does, but ends well where a full device or a pipe that nobody reads takes nothing, writes another last line
-# behind 5,000 replies, and a byte on standard output with the usage.
+# Answers as the program does, but ends well where a full device or a pipe that nobody reads takes nothing, writes another last
+# line behind 5,000 replies, and a byte on standard output with the usage.
 NEARLY = """\
 #!/bin/sh
 fail() {
     echo "$2" >&2
     exit "$1"
 }
-usage() {
-    printf x
-    fail 2 'usage: arraystring_run small or cache or max'
-}
-[ $# = 1 ] || usage
+[ $# = 1 ] || set -- none
 case $1 in
     small) capacity=23 ;;
     cache) capacity=63 ;;
     max) capacity=255 ;;
-    *) usage ;;
+    *) printf x && fail 2 'usage: arraystring_run small or cache or max' ;;
 esac
 [ -f /dev/stdin ] || [ -p /dev/stdin ] || fail 4 'read failed'
 [ "$(ulimit -v)" = unlimited ] || [ "$(wc -c < /dev/stdin)" -lt 100000 ] || fail 3 'out of memory'
@@ -167,10 +163,8 @@ class Try(PlantedTest):
         self.write_program("program", program)
         run = subprocess.run([self.root / "crates/arraystring_cli/try", self.root / "program"], stdout=subprocess.PIPE,
                              stderr=subprocess.STDOUT, encoding="utf-8", errors="replace")
-        ok, differing = (len(re.findall(rf"(?m)^{word}  ", run.stdout)) for word in ("ok     ", "DIFFERS"))
-        self.assertTrue(run.stdout.endswith(f"try: {CASES} cases, {differing} differ\n"))
-        self.assertEqual((ok + differing, run.returncode), (CASES, 1 if differing else 0))
-        return differing
+        self.assertEqual(run.returncode, 1)
+        return int(re.search(rf"(?m)^try: {CASES} cases, (\d+) differ$", run.stdout)[1])
 
     def test_a_program_that_does_nothing_or_says_a_byte_more_differs_in_each_case(self):
         self.assertEqual(self.differing("#!/bin/sh\n"), CASES)

@@ -52,15 +52,8 @@ def contracts(tree, source, of_library):
 
 def closure(tree, found):
     """The definitions among some items, and those that they are made of, in order."""
-    reached = closed(found, lambda it: tree.words(it) if it.is_definition else [])
-    return [it for it in tree.items if it.is_definition and it in reached]
-
-
-def reached(tree, public, name):
-    """The definitions that public functions with this name reach, in order."""
-    asked = [it for it in public if it.name == name]
-    models = {f"Model for {word}" for it in asked for word in re.findall(r"\w+", it.signature)}
-    return closure(tree, (word for it in public if it in asked or it.name in models for word in it.words))
+    known = closed(found, lambda it: tree.words(it) if it.is_definition else [])
+    return [it for it in tree.items if it.is_definition and it in known]
 
 
 def faults_of_specs(tree, known):
@@ -98,7 +91,9 @@ def main(arguments, root):
         types = public_types(files) if crate in LIBRARIES else None
         known += [it for file in files for it in contracts(tree, read(file), types)]
     public = [it for it in known if it.is_public]
-    headline, everything = reached(tree, public, "run"), closure(tree, (word for it in public for word in it.words))
+    models = {f"Model for {word}" for it in public if it.name == "run" for word in re.findall(r"\w+", it.signature)}
+    headline = closure(tree, (word for it in public if it.name in {"run", *models} for word in it.words))
+    everything = closure(tree, (word for it in public for word in it.words))
     if arguments == ["--list"]:
         for item in headline + [it for it in everything if it not in headline]:
             print(f"{item}, {len(item.lines)} lines")
