@@ -1,50 +1,24 @@
-"""Fails where no page names a public call of the string, or a trait by which it is called, where a list that stands in two places
-differs, and where a file above arraystring_base names `move_run`, the move without a count: every move goes through `shift`.
+"""Fails where what stands in two places differs, and where a file above arraystring_base names `move_run`, the move without a
+count: every move goes through `shift`.
 
-The calls are each `pub fn` of crates/arraystring, and of the `impl ArrayString` blocks in crates/arraystring_core. Names are the
-words in inline code of LIST, the section of README.md, and of PAGES. A call whose name ends in one of the SUFFIXES is named by
-the suffix rule, inline code such as `.._counted`, too. RUST_LISTS alone name each call of such a block in the Rust crate.
-
-The traits are those that TYPES have by an impl or a derive, in the same crates, but for UNCALLED. LIST alone has to name each,
-and one with arguments whole, such as `From<&str>`.
-
-In two places stand:
-- the calls of `ArrayString` that are safe in Rust, but for those of which PANICS says that they panic as `str` does: PROGRAM
-  makes each, and links only if none can panic;
-- the calls that tables test: the arms in the first of PLAYERS, and the lists in the second, which is that of the Rust crate;
-- the counted calls, in BODIES, a table of README.md;
-- the laws, in PROMISES, and those of the string in SURFACE, which calls each;
-- the words of commands, which LINES reads, in SCRIPTS;
-- the crates but for those of tests, in DRAWING, a section of README.md.
-
-Tests may call `move_run`. The crate that has it has to name it, so that a new name does not pass unseen.
+In two places stand what `places` below lists: public calls of the string and the traits by which it is called, in the sources and
+on the pages that have to name them; the calls that tests, tables and a program without panics make; counted calls, laws, the
+words of commands, and crates. A page names what is in its inline code. A call whose name ends in `_counted` or `_unchecked` is
+named by `.._counted` or `.._unchecked`, too. A trait with arguments is named whole, such as `From<&str>`.
 """
 import re
 
-import pages
-from repository import crates, read, sources
+from repository import crates, inline_code, read, section, sources
 
-LIST = ("README.md", "The calls")
-BODIES = ("README.md", "What a reader checks in the counted calls")
-DRAWING = ("README.md", "The crates, and what is proved")
-PAGES = ["crates/arraystring/CALLING.md", "crates/arraystring/LAWS.md", "crates/bounded_records/CALLING.md"]
-RUST_LISTS = [("rust/arraystring/README.md", heading) for heading in ("What cuts, and what refuses", "The calls")]
-SUFFIXES = ("_counted", "_unchecked")
-TYPES = "ArrayString|CacheString|Drain"
-UNCALLED = {"Model"}  # what contracts see of a type
 STRING_CRATES = ("arraystring_base", "arraystring_core", "arraystring")
-PROGRAM = "rust/no_panic/src/main.rs"
-PANICS = "rust/bench/calls.py"
-PLAYERS = ("crates/arraystring_tests/src/tests/calls.rt", "rust/arraystring/tests/tables/calls.rs")
-PROMISES = "docs/promises.md"
-SURFACE = "crates/arraystring_tests/src/tests/surface.rt"
-LINES, SCRIPTS = "crates/arraystring_run/src/line.rt", "docs/scripts.md"
+TYPES = "ArrayString|CacheString|Drain"
 
 FUNCTION = re.compile(r"(?m)^ *pub (?:const |unsafe )*fn (\w+)")
 HIDDEN = re.compile(r"#\[doc\(hidden\)\][^{]*")  # from the reference of the Rust crate
 STRING = re.compile(r"(?ms)^( *)impl<[^>]*> ArrayString<\w+> \{$.*?^\1\}$")
 IMPL = re.compile(rf"(?m)^impl(?:<[^>]*>)? (?:\w+::)*(\S.*) for (?:{TYPES})\b")
 DERIVE = re.compile(rf"(?m)^#\[derive\((.*)\)\]\n(?:#.*\n)*pub struct (?:{TYPES})\b")
+ARM = re.compile(r'"(\w+)"(?= =>| \|| if)')
 
 
 def source(file):
@@ -52,86 +26,95 @@ def source(file):
     return re.sub(r"//.*", "", read(file))
 
 
-def calls_of(texts):
-    """The names of the public functions in some texts."""
-    return {name for text in texts for name in FUNCTION.findall(HIDDEN.sub("", text))}
+def text_of(root, files):
+    return "\n".join(read(it) for it in sorted(root.glob(files)))
 
 
-def texts_of(folder):
-    """The texts of the files of a crate's src/."""
-    return [read(it) for it in sorted(folder.glob("src/**/*.r[st]"))]
+def calls_of(text):
+    """The names of the public functions in a text."""
+    return set(FUNCTION.findall(HIDDEN.sub("", text)))
 
 
-def string_calls(folder):
-    """The names of the public calls of `ArrayString` in a crate."""
-    return calls_of(block[0] for text in texts_of(folder) for block in STRING.finditer(text))
+def string_calls(text):
+    """Those of `ArrayString`."""
+    return calls_of("\n".join(block[0] for block in STRING.finditer(text)))
 
 
-def traits(root):
-    """The traits of the string types, without lifetimes."""
-    texts = [text for crate in STRING_CRATES[1:] for text in texts_of(root / "crates" / crate)]
-    found = {re.sub(r"'\w+ ", "", name) for text in texts for name in IMPL.findall(text)}
-    return found.union(*(names.split(", ") for text in texts for names in DERIVE.findall(text))) - UNCALLED
+def traits_of(text):
+    """The traits of the string types, without lifetimes, but for what contracts see of a type."""
+    derived = [name for names in DERIVE.findall(text) for name in names.split(", ")]
+    return {re.sub(r"'\w+ ", "", name) for name in IMPL.findall(text)}.union(derived) - {"Model"}
 
 
-def is_named(call, code):
-    """Whether the inline code names a call, or the suffix with which its name ends."""
-    rules = [suffix for suffix in SUFFIXES if f"..{suffix}" in code]
-    return call.endswith(tuple(rules)) or any(call in re.findall(r"\w+", it) for it in code)
+def named(calls, code):
+    """Those of some calls that inline code names, or the suffix with which they end."""
+    words = {word for it in code for word in re.findall(r"\w+", it)}
+    suffixes = tuple(it[2:] for it in code if it in (".._counted", ".._unchecked"))
+    return {it for it in calls if it in words or it.endswith(suffixes)}
 
 
-def section(root, place):
-    """The section of a page, by the page and its heading."""
-    return pages.section(read(root / place[0]), place[1])
-
-
-def first_words(text):
+def first_words(page):
     """The first words of the inline code that begins a row of a table."""
-    return {name for cell in re.findall(r"(?m)^\|(`[^|]*)\|", text) for name in re.findall(r"`(\w+)[^`]*`", cell)}
+    return {name for cell in re.findall(r"(?m)^\|(`[^|]*)\|", page) for name in re.findall(r"`(\w+)[^`]*`", cell)}
 
 
-def arms(text):
-    """The words of the arms of matches."""
-    return set(re.findall(r'"(\w+)"(?= =>| \|| if)', text))
+def places(root):
+    """All that stands in two places: what it is, the one place with the names that it has, and the other with those it has."""
+    readme, rust_page = read(root / "README.md"), read(root / "rust/arraystring/README.md")
+    base, core, string = (text_of(root, f"crates/{it}/src/**/*.rt") for it in STRING_CRATES)
 
+    calls, listed = string_calls(core) | calls_of(string), inline_code(section(readme, "The calls"))
+    code = listed + inline_code(text_of(root, "crates/arraystring/*.md") + text_of(root, "crates/bounded_records/*.md"))
+    yield "public calls", "src/ of the string", calls, "what README.md and the pages for callers name", named(calls, code)
+    traits = traits_of(core + string)
+    yield "traits", "src/ of the string", traits, "the list of calls in README.md", traits.intersection(listed)
 
-def lists(root):
-    """What stands in two places: a place and the names that it has, and the other place with those that it has."""
-    safe = {it for it in string_calls(root / "rust/arraystring") if not it.endswith("_unchecked")}
-    asked = safe - set(re.findall(r'"ArrayString::(\w+)": LIKE_STR', read(root / PANICS)))
-    yield "rust/arraystring/src", asked, PROGRAM, asked.intersection(re.findall(r"\b(\w+)\(", source(root / PROGRAM)))
+    calls = string_calls(text_of(root, "rust/arraystring/src/**/*.rs"))
+    code = [it for heading in ("What cuts, and what refuses", "The calls") for it in inline_code(section(rust_page, heading))]
+    yield "Rust calls", "rust/arraystring/src", calls, "rust/arraystring/README.md", named(calls, code)
+    # (the program links only if none of the calls in it can panic)
+    program = "rust/no_panic/src/main.rs"
+    panicking = set(re.findall(r'"ArrayString::(\w+)": LIKE_STR', read(root / "rust/bench/calls.py")))
+    calls = {it for it in calls - panicking if not it.endswith("_unchecked")}
+    made = calls.intersection(re.findall(r"\b(\w+)\(", source(root / program)))
+    yield "calls without panics", "rust/arraystring/src", calls, program, made
 
-    proved, in_rust = (source(root / it) for it in PLAYERS)
-    played = re.findall(r'(?m)^const \w+: &str =\s*"([^"]*)";', in_rust)
-    yield PLAYERS[0], arms(proved.partition("match call {")[2]), PLAYERS[1], set(re.findall(r"\w+", " ".join(played)))
+    proved, rust = "crates/arraystring_tests/src/tests/calls.rt", "rust/arraystring/tests/tables/calls.rs"
+    arms = set(ARM.findall(source(root / proved).partition("match call {")[2]))
+    played = " ".join(re.findall(r'(?m)^const \w+: &str =\s*"([^"]*)";', source(root / rust)))
+    yield "calls of tables", proved, arms, rust, set(re.findall(r"\w+", played))
 
-    counted = {it for crate in STRING_CRATES for it in calls_of(texts_of(root / "crates" / crate)) if it.endswith("_counted")}
-    yield "src/ of the string", counted, f"the table of bodies in {BODIES[0]}", first_words(section(root, BODIES))
+    counted = {it for it in calls_of(base + core + string) if it.endswith("_counted")}
+    bodies = first_words(section(readme, "What a reader checks in the counted calls"))
+    yield "counted calls", "src/ of the string", counted, "the table of bodies in README.md", bodies
 
-    laws = {file: calls_of([read(file)]) for file in root.glob("crates/*/src/laws.rt")}
-    promised = [re.findall(r"\w+", it)[1:] for it in pages.inline_code(read(root / PROMISES)) if it.startswith("laws::")]
-    yield "crates/*/src/laws.rt", set().union(*laws.values()), PROMISES, set().union(*promised)
+    promises, surface = "docs/promises.md", "crates/arraystring_tests/src/tests/surface.rt"
+    promised = " ".join(it.removeprefix("laws") for it in inline_code(read(root / promises)) if it.startswith("laws::"))
+    laws = calls_of(text_of(root, "crates/*/src/laws.rt"))
+    yield "laws", "crates/*/src/laws.rt", laws, promises, set(re.findall(r"\w+", promised))
+    laws = set().union(*(calls_of(text_of(root, f"crates/{it}/src/laws.rt")) for it in STRING_CRATES))
+    called = set(re.findall(r"\blaws::(\w+)\(", read(root / surface)))
+    yield "laws of the string", "src/laws.rt of the string", laws, surface, called
 
-    of_string = [names for file, names in laws.items() if file.parts[-3] in STRING_CRATES]
-    yield "src/laws.rt of the string", set().union(*of_string), SURFACE, set(re.findall(r"\blaws::(\w+)\(", read(root / SURFACE)))
+    lines, rows = "crates/arraystring_run/src/line.rt", "docs/scripts.md"
+    yield "commands", lines, set(ARM.findall(source(root / lines))), rows, first_words(read(root / rows))
 
-    yield LINES, arms(source(root / LINES)), SCRIPTS, first_words(read(root / SCRIPTS))
-
-    drawn = re.search(r"```text\n([^`]*)|$", section(root, DRAWING))[1] or ""
+    drawn = re.search(r"```text\n([^`]*)|$", section(readme, "The crates, and what is proved"))[1] or ""
     products = {it for it in crates(root) if "test" not in it}
-    yield "crates.txt", products, f"the drawing in {DRAWING[0]}", set(re.findall(r"\w+", drawn))
+    yield "crates", "crates.txt", products, "the drawing in README.md", set(re.findall(r"\w+", drawn))
 
 
-def faults_of_lists(here, these, there, those):
+def faults_of(what, here, these, there, those):
     """What one of two places has and the other has not."""
     yield from (f"{there} lacks {name}, which {here} has" for name in sorted(these - those))
     yield from (f"{here} lacks {name}, which {there} has" for name in sorted(those - these))
     if not these & those:
-        yield f"{here} and {there} have nothing in common"
+        yield f"{here} and {there} have no {what} in common"
 
 
 def faults_of_moves(root):
-    """The files outside of tests that name `move_run` and are not in its crate."""
+    """The files outside of tests that name `move_run` and are not in its crate, which has to name it, so that a new name does
+    not pass unseen."""
     naming = [it for crate in crates(root) for it in sources(root / "crates" / crate) if re.search(r"\bmove_run\b", source(it))]
     above = [it for it in naming if root / "crates" / STRING_CRATES[0] not in it.parents]
     yield from (f"{it.relative_to(root)} names move_run: move by shift" for it in above)
@@ -140,16 +123,8 @@ def faults_of_moves(root):
 
 
 def main(arguments, root):
-    listed = pages.inline_code(section(root, LIST))
-    code = [*listed, *(it for page in PAGES for it in pages.inline_code(read(root / page)))]
-    in_rust = [it for place in RUST_LISTS for it in pages.inline_code(section(root, place))]
-    calls = string_calls(root / "crates/arraystring_core") | calls_of(texts_of(root / "crates/arraystring"))
-    called_by, twice = traits(root), list(lists(root))
-    faults = [f"no page names {call}" for call in sorted(calls) if not is_named(call, code)]
-    rust_calls = string_calls(root / "rust/arraystring")
-    faults += [f"{RUST_LISTS[0][0]} does not name {call}" for call in sorted(rust_calls) if not is_named(call, in_rust)]
-    faults += [f"{LIST[0]} does not name {trait}" for trait in sorted(called_by) if trait not in listed]
-    faults += [fault for places in twice for fault in faults_of_lists(*places)] + list(faults_of_moves(root))
-    counts = f"the pages name {len(calls)} public calls and {len(called_by)} traits"
-    print("\n".join(faults) or f"{counts}, and {sum(len(it[1]) for it in twice)} names stand in two places")
-    return bool(faults) or not calls or not called_by
+    twice = list(places(root))
+    faults = [fault for it in twice for fault in faults_of(*it)] + list(faults_of_moves(root))
+    counts = [f"{len(these)} {what}" for what, _, these, *_ in twice]
+    print("\n".join(faults) or f"{sum(len(it[2]) for it in twice)} names stand in two places: {', '.join(counts)}")
+    return bool(faults)

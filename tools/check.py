@@ -1,8 +1,6 @@
 """What a change has to pass before anything is proved: the tests of the tools; specs/ has definitions alone and the page has
-them; something cites each lemma and uses each import of a proof; the pages are as the files that they quote, name each public
-call and trait of the string; what stands in two lists is the same in both; every move goes through `shift`; a wrong body touches
-each public function and impl; and each control and each source of the Rust crate is as it was when it proved. What a part says
-that it looked at has to be at least what LEAST says.
+them; something cites each lemma; the pages are as the files that they quote; what stands in two places is the same in both; a
+wrong body touches each public function and impl; and each control and each source of the Rust crate is as it was when it proved.
 
 tools/run check             writes nothing
 tools/run check --write     first lays out each crate by `rt fmt`, makes the Rust crate by rust/erase/run where cargo is there,
@@ -14,7 +12,6 @@ import shutil
 import subprocess
 import unittest
 from contextlib import redirect_stdout
-from pathlib import Path
 
 import calls
 import controls
@@ -25,59 +22,50 @@ import quotes
 import repository
 import trusted
 
-# The parts, each with the words of its call.
-PARTS = [
-    (trusted, []), (dead, []), (quotes, []), (calls, []), (evidence, []), (controls, ["--check"]), (proved, ["--check"]),
-]
-# What the parts say that they looked at, and how much that is at least: a search that finds less than there is fails at nothing.
-LEAST = {
-    "{} tests of the tools": 50,
-    "run: {} definitions": 60,
-    "all public contracts: {} definitions": 190,
-    "{} lemmas and laws are cited": 740,
-    "{} blocks are as in the files": 14,
-    "the pages name {} public calls": 58,
-    "public calls and {} traits": 18,
-    "{} names stand in two places": 190,
-    "wrong bodies try {} functions": 189,
-    "{} controls are as they were": 115,
-    "{} sources of the Rust crate are as they were proved": 250,
-}
 
-
-def tests_fail():
-    tests = unittest.defaultTestLoader.discover(str(Path(__file__).parent / "tests"), top_level_dir=str(Path(__file__).parent))
-    result = unittest.TextTestRunner(verbosity=0).run(tests)
+def tests(arguments, root):
+    suite = unittest.defaultTestLoader.discover(str(root / "tools"))
+    result = unittest.TextTestRunner(verbosity=0).run(suite)
     print(f"{result.testsRun} tests of the tools have run")
-    return not result.wasSuccessful() or result.testsRun == 0
+    return not result.wasSuccessful()
+
+
+# The parts, each with the words of its call, and how much it has to say at least that it looked at. A search that finds less than
+# there is fails at nothing else.
+PARTS = [
+    (tests, [], {"{} tests of the tools": 20}),
+    (trusted.main, [], {"run: {} definitions": 60, "all public contracts: {} definitions": 190}),
+    (dead.main, [], {"{} lemmas and laws are cited": 740}),
+    (quotes.main, [], {"{} blocks are as in the files": 14}),
+    (calls.main, [], {"{} names stand in two places": 320, "{} public calls": 58, "{} traits": 18}),
+    (evidence.main, [], {"wrong bodies try {} functions": 189}),
+    (controls.main, ["--check"], {"{} controls are as they were": 115}),
+    (proved.main, ["--check"], {"{} sources of the Rust crate are as they were proved": 250}),
+]
 
 
 def is_written(root):
     """Writes what commands can write; whether none of them fails."""
     commands = [(["rt", "fmt"], root / "crates" / it) for it in repository.crates(root)]
-    if shutil.which("cargo"):
-        commands.append((["rust/erase/run"], root))
+    commands += [(["rust/erase/run"], root)] if shutil.which("cargo") else []
     statuses = [subprocess.run(words, cwd=folder, stdout=subprocess.DEVNULL).returncode for words, folder in commands]
     quotes.main(["--write"], root)
     return not any(statuses)
 
 
-def too_few(said):
-    """What is less than the LEAST, or is not said, in what the parts said."""
-    for words, least in LEAST.items():
-        found = re.search(re.escape(words).replace(r"\{\}", r"(\d+)"), said)
-        if not found or int(found[1]) < least:
-            yield f"{words.format(found[1] if found else 'no')}, where at least {least} are due"
-
-
-def parts_fail(root):
-    return any([tests_fail(), *(command.main(words, root) for command, words in PARTS)])
+def fails(root, part, words, least):
+    """Whether a part fails or looked at too little; prints what it says."""
+    with redirect_stdout(io.StringIO()) as said:
+        failed = part(words, root)
+    print(said.getvalue(), end="")
+    for form, count in least.items() if not failed else []:
+        found = re.search(re.escape(form).replace(r"\{\}", r"(\d+)"), said.getvalue())
+        if not found or int(found[1]) < count:
+            failed = True
+            print(f"{form.format(found[1] if found else 'no')}, where at least {count} are due")
+    return failed
 
 
 def main(arguments, root):
     is_done = arguments != ["--write"] or is_written(root)
-    with redirect_stdout(io.StringIO()) as said:
-        failed = parts_fail(root)
-    faults = [] if failed else list(too_few(said.getvalue()))
-    print(said.getvalue(), *(f"{it}\n" for it in faults), sep="", end="")
-    return failed or bool(faults) or not is_done
+    return any([fails(root, *part) for part in PARTS]) or not is_done

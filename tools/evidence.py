@@ -9,124 +9,109 @@ does not tell them apart, as `Error.Display` and `Error.From.Utf8`. The wrong bo
 which its old text stands, or a function that it names, directly or by others: what breaks in a private function is named for
 the public one.
 
-Two are asked for where a function decides something, so that its contract has an equivalence or it returns a `bool`: one for each
-direction. In the log each wrong body is refused by a goal of src/ in the function of its name or in one that this names, or
-over a stored proof of such a one. Then it has a control, or the prover shows values at which the goal is false. A goal of a
-clause about counts refuses only what is named for a function that counts.
-
 Every public function that has a body is asked for, each function of a trait's impl that has clauses or ghost members and
 whose type is public, and of a program all functions but `main`; tests, what a trait declares and the crates FOR_TESTS are
-not. None is asked for a door to a function that a wrong body touches: at most three lines without a branch, of which the last
-names a function of the crate that is private, or has the same name with `_counted`.
+not. Two are asked for where a function decides something, so that its contract has an equivalence or it returns a `bool`: one
+for each direction. None is asked for a function that only calls the one of its name with `_counted`.
+
+In the log each wrong body is refused by a goal of src/ in the function of its name or in one that this names, or over a stored
+proof of such a one. Then it has a control, or the prover shows values at which the goal is false. A goal of a clause about
+counts refuses only what is named for a function that counts.
 """
 import re
-from collections import Counter, namedtuple
+from collections import Counter
 from pathlib import Path
 
 import edits
 import repository
 import sources
+from repository import closed
 
 FOR_TESTS = {"test_support"}  # only tests call it: a wrong body there is seen by its own tests and theirs
 
-# Laws that borrow what they speak of, so that the prover has the fact. Without the borrow they are as true.
+# They borrow what they speak of, so that the prover has the fact. Without the borrow they are as true.
 LAWS_THAT_BORROW = {"text_fits", "text_spelled", "left_fits"}
-
 # What the prover says before the values at which a goal is false; the log cuts it off somewhere behind.
 VALUES = "the goal does not follow from what it read. All of"
-
 # Of this one `rt` tells a stored proof first, and leaves a goal of src/ open as well. A control would show more.
 STORED_FIRST = {"from_utf16_lossy.reads_a_pair_as_two"}
-
 VERDICT = re.compile(r"must-fail (\w+)/(\S+)\.edit: refused, as it must be: (.*)")
 
 
-# A crate: its folder, its functions by their files and together, and those by name for which a wrong body is asked.
-Crate = namedtuple("Crate", "folder functions everything asked")
+class Crate:
+    """A crate: its edits, its functions by their files and together, and those by name for which a wrong body is asked."""
 
+    def __init__(self, folder):
+        self.folder, self.edits, self.functions = folder, sorted(folder.glob("must-fail/*.edit")), sources.functions(folder)
+        self.everything = [it for of_file in self.functions.values() for it in of_file]
+        asked = [it for it in self.everything if it.is_asked]
+        counts = Counter(name for it in asked for name in set(it.names()))
+        # (by the shortest name that each has alone)
+        self.asked = {next(name for name in it.names() if counts[name] == 1): it for it in asked}
 
-def read_crate(folder):
-    functions = sources.functions(folder)
-    everything = [it for of_file in functions.values() for it in of_file]
-    return Crate(folder, functions, everything, sources.named([it for it in everything if it.is_asked]))
+    def owner(self, edit):
+        """The name of the function for which an edit is named; None where there is none."""
+        return max((it for it in self.asked if edit.name.startswith(f"{it}.")), key=len, default=None)
 
+    def rests_on(self, name):
+        """The function of a name and what it names, directly or by others."""
+        return closed([self.asked[name]], lambda one: [it for it in self.everything if it.name in one.words])
 
-def named_by(edit, crate):
-    """The name of the function for which a wrong body is named, and what that rests on; None and nothing where there is none."""
-    name = max((it for it in crate.asked if edit.startswith(f"{it}.")), key=len, default=None)
-    return name, sources.reached(crate.asked[name], crate.everything) if name else []
-
-
-def lacking(crate, faults):
-    """The functions for which a wrong body is asked, by their names, each with how many are missing; what is wrong with the name
-    or the text of a wrong body goes to the faults."""
-    touched, tried = [], Counter()
-    for edit in sorted(crate.folder.glob("must-fail/*.edit")):
-        try:
-            touches = sources.standing_at(edits.applied(edit, crate.folder)[1], crate.functions)
-        except edits.BadEdit as error:
-            faults.append(f"{edit.name}: {error}")
-            continue
-        touched += touches
-        name, rests_on = named_by(edit.name, crate)
+    def fault_of_name(self, edit):
+        """What is wrong with the name or the text of an edit; None where nothing is."""
+        name = self.owner(edit)
         if not name:
-            faults.append(f"{crate.folder.name} {edit.name}: no public function has this name")
-        elif not any(it in touches for it in rests_on):
-            faults.append(f"{crate.folder.name} {edit.name}: it does not touch {name}, nor what that names")
-        else:
-            tried[name] += 1
-    for _ in range(3):
-        touched += [it for it in crate.everything if it not in touched and any(it.is_door_to(other) for other in touched)]
-    return {name: missing(it, tried[name], touched) for name, it in crate.asked.items() if name not in LAWS_THAT_BORROW}
+            return "no public function has this name"
+        try:
+            touched = sources.standing_at(edits.applied(edit)[1], self.functions)
+        except ValueError as error:
+            return str(error)
+        return None if self.rests_on(name).intersection(touched) else f"it does not touch {name}, nor what that names"
+
+    def lacking(self):
+        """How many wrong bodies of a function are missing, by its name, for each for which they are asked."""
+        tried = Counter(map(self.owner, self.edits))
+        for name, function in self.asked.items():
+            if name not in LAWS_THAT_BORROW:
+                is_tried = tried[name] or tried[f"{name}_counted"] and function.hands_on_to(f"{name}_counted")
+                yield name, max(0, 2 - tried[name]) if function.decides() else int(not is_tried)
+
+    def fault_of_refusal(self, edit, said):
+        """What is wrong with the refusal of a wrong body; None where nothing is."""
+        name = self.owner(edit)
+        rests_on = self.rests_on(name) if name else set()
+        place = re.search(r"\b(src/\S+?):(\d+):\d+: .*?(?:\(`(?:\S+-)?clause-(\w+)`\)|$)", said)
+        if place:
+            at = rests_on.intersection(sources.standing_at([(self.folder / place[1], int(place[2]) - 1)], self.functions))
+            if not at:
+                return f"refused at {place[1]}:{place[2]}, where nothing is that it is named for"
+            counts = rf"(?s)\bensures {place[3]} \{{(?:(?!\n *(?:ensures|requires|where|ghost)\b).)*steps\."
+            is_by_counts = re.search(counts, at.pop().header) and "steps: &mut Steps" not in self.asked[name].header
+            return f"refused by counts, of which {name} is not" if is_by_counts else None
+        stored = re.search(r"\bproofs/(?:\w+/)*(\w+)/\w+\.antt", said)
+        if not stored or not any(it.name == stored[1] for it in rests_on):
+            return f"refused neither by a goal of src/ nor over a stored proof of what it is named for: {said[:100]}"
+        is_shown = VALUES in said or edit.stem in STORED_FIRST or edits.has_control(edit)
+        return None if is_shown else "refused over a stored proof, and has no control"
 
 
-def missing(function, tried, touched):
-    """How many wrong bodies of a function are missing."""
-    if function.is_equivalence():
-        return max(0, 2 - tried)
-    return int(not tried and not (function in touched and function.named()))
-
-
-def speaks_of_counts(function, clause):
-    """Whether the clause of this name is about counts."""
-    found = re.search(rf"(?s)\bensures {clause} \{{(.*?)(?=\n *(?:ensures|requires|where|ghost)\b|$)", function.header)
-    return found and "steps." in found[1]
-
-
-def refusal_fault(crate, name, said):
-    """What is wrong with the refusal of a wrong body; None where nothing is."""
-    owner, rests_on = named_by(f"{name}.edit", crate)
-    place = re.search(r"\b(src/\S+?):(\d+):\d+: .*?(?:\(`(?:\S+-)?clause-(\w+)`\)|$)", said)
-    if place:
-        at = sources.standing_at([(crate.folder / place[1], int(place[2]) - 1)], crate.functions)
-        if not any(it in rests_on for it in at):
-            return f"refused at {place[1]}:{place[2]}, where nothing is that it is named for"
-        counts = place[3] and speaks_of_counts(at[0], place[3]) and "steps: &mut Steps" not in crate.asked[owner].header
-        return f"refused by the counts of {at[0].name}, of which it is not named for" if counts else None
-    stored = re.search(r"\bproofs/(?:\w+/)*(\w+)/\w+\.antt", said)
-    if not stored or not any(it.name == stored[1] for it in rests_on):
-        return f"refused neither by a goal of src/ nor over a stored proof of what it is named for: {said[:100]}"
-    is_shown = VALUES in said or name in STORED_FIRST or edits.has_control(crate.folder / "must-fail" / f"{name}.edit")
-    return None if is_shown else "refused over a stored proof, and has no control"
-
-
-def refusals(crates, log):
-    """What is wrong with the refusals that a log tells."""
-    told = VERDICT.findall(repository.read(Path(log)))
-    found = [(f"{crate} {name}", refusal_fault(crates[crate], name, said)) for crate, name, said in told]
-    yield from (f"{name}: {fault}" for name, fault in found if fault)
-    wanted = {(crate, it.stem) for crate in crates for it in crates[crate].folder.glob("must-fail/*.edit")}
-    untold = sorted(wanted - {it[:2] for it in told})
-    yield from (f"{crate} {name}: the log does not say that it is refused" for crate, name in untold)
+def faults_of(crate, log):
+    """What is wrong with the edits of a crate, and with their refusals in a log, if there is one."""
+    told = {name: said for folder, name, said in VERDICT.findall(log or "") if folder == crate.folder.name}
+    for edit in crate.edits:
+        faults = [crate.fault_of_name(edit)] if crate.folder.name not in FOR_TESTS else []
+        if log is not None:
+            said = told.get(edit.stem)
+            faults.append(crate.fault_of_refusal(edit, said) if said else "the log does not say that it is refused")
+        yield from (f"{crate.folder.name} {edit.stem}: {fault}" for fault in faults if fault)
 
 
 def main(arguments, root):
-    crates, found, faults = {it: read_crate(root / "crates" / it) for it in repository.crates(root)}, {}, []
-    for name in [it for it in crates if it not in FOR_TESTS]:
-        found |= {f"{name} {it}": count for it, count in lacking(crates[name], faults).items()}
-    plural = {1: "no wrong body", 2: "no 2 wrong bodies"}
-    faults += [f"{plural[count]} of {name}" for name, count in found.items() if count]
-    if arguments[:1] == ["--refused"]:
-        faults += refusals(crates, arguments[1])
-    print("\n".join(faults) or f"wrong bodies try {len(found)} functions")
-    return bool(faults) or not found
+    log = repository.read(Path(arguments[1])) if arguments[:1] == ["--refused"] else None
+    crates = [Crate(root / "crates" / it) for it in repository.crates(root)]
+    asked = [it for it in crates if it.folder.name not in FOR_TESTS]
+    lacking = {f"{crate.folder.name} {name}": count for crate in asked for name, count in crate.lacking()}
+    faults = [fault for crate in crates for fault in faults_of(crate, log)]
+    faults += [f"wrong bodies of {name} that are missing: {count}" for name, count in lacking.items() if count]
+    print("\n".join(faults) or f"wrong bodies try {len(lacking)} functions")
+    return bool(faults) or not lacking

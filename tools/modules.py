@@ -1,18 +1,23 @@
 """The modules of specs/ and proofs/, which are laid out as `rt fmt` does: their items, and what the names in them stand for."""
 import re
+from functools import cache
 
-from repository import read
+from repository import crates, read
 
 NAME = r"[^\s(){}\[\];,.]+"
 IMPORT = re.compile(r"(?m)^ *(?:pub |ghost )*use (Rattle[^\s{;]*?)(?:\.\{([^}]*)\})?(?: as ([^\s;]+))?;?$")
 
 
-def lines_of(file):
-    """The lines of a module with their numbers, without its imports, comments and blank lines, and what strings say."""
-    for number, line in enumerate(read(file).split("\n"), 1):
-        line = re.sub(r"(^|\s)--(\s.*)?$", "", re.sub('"[^"]*"', '""', line)).rstrip()
-        if line and not re.match(r"(pub )?(use|mod) ", line):
-            yield number, line
+def imports(text):
+    """What a file imports: by each name the path of a module, and a word of it or nothing."""
+    names = {}
+    for path, listed, alias in IMPORT.findall(text):
+        if not listed:
+            names[alias or path.rpartition(".")[2]] = (path, "")
+        for word in re.findall(r"[^,\s][^,]*", listed):
+            word, _, other = word.partition(" as ")
+            names[other or word] = (path, word)
+    return names
 
 
 def module_of(path):
@@ -26,50 +31,56 @@ class Item:
     def __init__(self, path, number, line, around, names):
         kind, public, other, self.name = re.match(rf"\s*(abbrev |unfoldable )?(pub )?(data |record |ruleset )?({NAME})", line).groups()
         self.path, self.number, self.lines, self.around, self.names = path, number, [line], around, names
-        self.module = module_of(path)
+        self.module, self.crate, self.part = module_of(path), path.parts[1], path.parts[2]
         is_claim = kind and re.search("[≡≢≤<]", line.rpartition("→" if "→" in line else " : ")[2])
         self.is_public = bool(public)
         self.is_definition = bool(kind or other in ("data ", "record ")) and not is_claim
         self.is_data = other == "data "
         self.is_law = self.is_public and not self.is_definition and re.search("(Laws|GhostProofs)$", path.stem)
-        self.is_kept = path.parts[2] == "specs" and path.stem != "GhostProofs"
-
-    def terms(self):
-        """Its lines and those of the blocks around it."""
-        return "\n".join(line for it in [*self.around, self] for line in it.lines)
 
     def __str__(self):
         return f"{self.path}:{self.number}: {self.name}"
 
 
+@cache
+def parsed(path, text):
+    """The items of a module in order, and what the names in it stand for."""
+    items, names, item, around = [], imports(text), None, []
+    for number, line in enumerate(text.split("\n"), 1):
+        # (without comments, and what strings say)
+        line = re.sub(r"(^|\s)--(\s.*)?$", "", re.sub('"[^"]*"', '""', line)).rstrip()
+        if not line or re.match(r"(pub )?(use|mod) ", line):
+            continue
+        indent = len(line) - len(line.lstrip())
+        around = around[: indent // 2]
+        if item and (indent > 2 * len(around) or line.split()[0] in (item.name, "unfolding") or line.lstrip()[0] in ")]}"):
+            item.lines.append(line)
+            case = re.match(rf"\s+({NAME}) :", line)
+            if item.is_data and case:
+                names[case[1]] = item
+            continue
+        item = Item(path, number, line, around, names)
+        if item.name == "module":
+            around = [*around, item]
+        else:
+            items.append(item)
+            names[item.name] = item
+    return items, names
+
+
 class Modules:
-    """Some modules of a repository: all items in order, and by the path of a module what the names in it stand for."""
+    """The modules of a repository in the order in which they are read, that of crates.txt, of specs/Lib.antt, and of their paths:
+    all items, and by the path of a module what the names in it stand for."""
 
-    def __init__(self, root, files):
+    def __init__(self, root):
         self.root, self.items, self.modules = root, [], {}
-        for file in files:
-            self.read_module(file)
-
-    def read_module(self, file):
-        """Takes down the items of a module of specs/ or proofs/, and what the names in it stand for."""
-        path = file.relative_to(self.root)
-        names = self.modules[module_of(path)] = imports(read(file))
-        item, around = None, []
-        for number, line in lines_of(file):
-            indent = len(line) - len(line.lstrip())
-            around = around[: indent // 2]
-            if item and (indent > 2 * len(around) or line.split()[0] in (item.name, "unfolding") or line.lstrip()[0] in ")]}"):
-                item.lines.append(line)
-                case = re.match(rf"\s+({NAME}) :", line)
-                if item.is_data and case:
-                    names[case[1]] = item
-                continue
-            item = Item(path, number, line, around, names)
-            if item.name == "module":
-                around = [*around, item]
-            else:
-                self.items.append(item)
-                names[item.name] = item
+        for folder in [root / "crates" / it for it in crates(root)]:
+            order = "".join(read(it) for it in folder.glob("specs/Lib.antt"))
+            specs = sorted(folder.glob("specs/**/*.antt"), key=lambda it: order.find(f"mod {it.stem}\n"))
+            for file in [*specs, *sorted(folder.glob("proofs/**/*.antt"))]:
+                path = file.relative_to(root)
+                items, self.modules[module_of(path)] = parsed(path, read(file))
+                self.items += items
 
     def resolved(self, names, word):
         """The item of the repository that a word stands for among these names, if it is one."""
@@ -92,17 +103,5 @@ class Modules:
         return found - {None}
 
     def words(self, item):
-        """The items that an item names."""
-        return self.named(item.terms(), item.names)
-
-
-def imports(text):
-    """What a file imports: by each name the path of a module, and a word of it or nothing."""
-    names = {}
-    for path, listed, alias in IMPORT.findall(text):
-        if not listed:
-            names[alias or path.rpartition(".")[2]] = (path, "")
-        for word in re.findall(r"[^,\s][^,]*", listed):
-            word, _, other = word.partition(" as ")
-            names[other or word] = (path, word)
-    return names
+        """The items that an item and the blocks around it name."""
+        return self.named("\n".join(line for it in [*item.around, item] for line in it.lines), item.names)

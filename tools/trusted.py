@@ -1,9 +1,8 @@
 """Says which definitions a reader of the contracts has to agree with, and keeps specs/ to definitions.
 
-tools/run trusted                how many definitions the contract of `run` reaches, and how many lines they have; then the
-                                 same of all public contracts of the LIBRARIES
-tools/run trusted --list [NAME]  first names them in the order in which to read them: those of `run`, and then the others; or
-                                 those of public functions with this name
+tools/run trusted           how many definitions the contract of `run` reaches, and how many lines they have; then the same of all
+                            public contracts of the LIBRARIES
+tools/run trusted --list    first names them in the order in which to read them: those of `run`, and then the others
 
 A definition is an `abbrev`, `unfoldable`, `data` or `record` of a module of specs/, but no `abbrev` of an equation or of a
 comparison. Its lines go from its name to its last clause, without comments and blank lines. What std defines is none, nor what
@@ -32,17 +31,9 @@ FUNCTION = r"(?:pub(?:\(\w+\))? |const |unsafe )*fn "
 Contract = namedtuple("Contract", "name is_public signature words")
 
 
-def modules(root):
-    """The modules of specs/ and those of laws, in the order in which they are read."""
-    for folder in [root / "crates" / it for it in crates(root)]:
-        order = "".join(read(it) for it in folder.glob("specs/Lib.antt"))
-        yield from sorted(folder.glob("specs/**/*.antt"), key=lambda it: order.find(f"mod {it.stem}\n"))
-        yield from sorted(folder.glob("proofs/*Laws.antt"))
-
-
 def contracts(tree, source, of_library):
     """The contracts of a file of src/, laid out as `rt fmt` does; `of_library` are the public types of a library, else None."""
-    source, is_library = re.sub(r'//.*|"[^"\n]*"', "", source), of_library is not None
+    source, imported, is_library = re.sub(r'//.*|"[^"\n]*"', "", source), imports(source), of_library is not None
     for block in re.split(rf"(?m)^(?={FUNCTION}|impl\b)", source)[1:]:
         trait, kind = re.match(r"(?:impl(?:<(?:[^<>]|<[^<>]*>)*>)? (?:(.*) for )?(\w+))?", block).groups("")
         is_public_type = is_library and kind in of_library
@@ -50,33 +41,26 @@ def contracts(tree, source, of_library):
             header = re.split(r"(?m)^ *\{\}?$| \{$", text)[0]
             signature, *clauses = re.split(r"\n *(?=(?:requires|ensures)\b)", header)
             parameters = re.findall(r"(\w+): ", signature)
-            words = {name: it for name, it in imports(source).items() if name not in parameters}
+            words = {name: it for name, it in imported.items() if name not in parameters}
             is_public = is_public_type if trait else is_library and text.startswith("pub ")
             name = re.search(r"fn (\w+)", text)[1]
             yield Contract(name, is_public, f"{kind} {signature}", tree.named("\n".join(clauses), words))
         for member in re.findall(r"(?ms)^ {4}ghost (?!use )(\w+ = \{.*?\});$", block):
             is_public = is_public_type and not member.startswith("inverse")
-            yield Contract(f"{trait} for {kind}", is_public, "", tree.named(member, imports(source)))
+            yield Contract(f"{trait} for {kind}", is_public, "", tree.named(member, imported))
 
 
 def closure(tree, found):
     """The definitions among some items, and those that they are made of, in order."""
-    reached = closed(found, lambda it: tree.words(it) if it.is_definition else [])
-    return [it for it in tree.items if it.is_definition and it in reached]
-
-
-def reached(tree, public, name):
-    """The definitions that public functions with this name reach, in order."""
-    asked = [it for it in public if it.name == name]
-    models = {f"Model for {word}" for it in asked for word in re.findall(r"\w+", it.signature)}
-    return closure(tree, (word for it in public if it in asked or it.name in models for word in it.words))
+    known = closed(found, lambda it: tree.words(it) if it.is_definition else [])
+    return [it for it in tree.items if it.is_definition and it in known]
 
 
 def faults_of_specs(tree, known):
     """What is in specs/ and is no definition, or is none that a contract or a law reaches."""
     laws = [word for it in tree.items if it.is_law for word in tree.words(it)]
     told = closure(tree, [word for it in known for word in it.words] + laws)
-    for item in (it for it in tree.items if it.is_kept):
+    for item in (it for it in tree.items if it.part == "specs" and it.path.stem != "GhostProofs"):
         calls = sorted(TACTICS.intersection(re.findall(NAME, "\n".join(item.lines))))
         if not item.is_definition:
             yield f"{item} is a proof: it belongs in proofs/, or in GhostProofs where a ghost member of src/ cites it"
@@ -101,16 +85,17 @@ def faults_of_page(page, tree, public, headline):
 
 
 def main(arguments, root):
-    tree, known = Modules(root, modules(root)), []
+    tree, known = Modules(root), []
     for crate in crates(root):
         files = sources(root / "crates" / crate)
         types = public_types(files) if crate in LIBRARIES else None
         known += [it for file in files for it in contracts(tree, read(file), types)]
     public = [it for it in known if it.is_public]
-    headline, everything = reached(tree, public, "run"), closure(tree, (word for it in public for word in it.words))
-    if arguments[:1] == ["--list"]:
-        others = [it for it in everything if it not in headline]
-        for item in reached(tree, public, arguments[1]) if arguments[1:] else headline + others:
+    models = {f"Model for {word}" for it in public if it.name == "run" for word in re.findall(r"\w+", it.signature)}
+    headline = closure(tree, (word for it in public if it.name in {"run", *models} for word in it.words))
+    everything = closure(tree, (word for it in public for word in it.words))
+    if arguments == ["--list"]:
+        for item in headline + [it for it in everything if it not in headline]:
             print(f"{item}, {len(item.lines)} lines")
     for name, found in (("run", headline), ("all public contracts", everything)):
         print(f"{name}: {len(found)} definitions, {sum(len(it.lines) for it in found)} lines")

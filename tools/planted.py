@@ -1,0 +1,68 @@
+"""A copy of the repository in which tests plant mistakes, and what the commands say of them."""
+import io
+import re
+import unittest
+from contextlib import contextmanager, redirect_stderr, redirect_stdout
+from unittest import mock
+
+from repository import ROOT, copied, read
+
+
+class PlantedTest(unittest.TestCase):
+    """A test with a copy of the repository, without what programs make."""
+
+    @classmethod
+    def setUpClass(cls):
+        copy = copied(ROOT, "out", "target")
+        cls.root = copy.__enter__()
+        cls.addClassCleanup(copy.__exit__, None, None, None)
+
+    def put(self, where, name, stand_in):
+        """Puts something in the place of what a module has by this name."""
+        patch = mock.patch.object(where, name, stand_in)
+        patch.start()
+        self.addCleanup(patch.stop)
+
+    def write(self, path, text):
+        """Writes a file of the copy, or removes it where the text is None."""
+        file = self.root / path
+        file.parent.mkdir(parents=True, exist_ok=True)
+        if text is None:
+            file.unlink(missing_ok=True)
+        else:
+            file.write_text(text, encoding="utf-8")
+
+    def write_program(self, path, text):
+        self.write(path, text)
+        (self.root / path).chmod(0o755)
+
+    @contextmanager
+    def changed(self, *changes):
+        """Files are changed for as long as it is needed: by a path, an expression and what is put in the place of what it finds,
+        or by a path and the whole text, which is None where there is to be no such file."""
+        kept = [(path, read(self.root / path) if (self.root / path).exists() else None) for path, *_ in changes]
+        try:
+            for path, *texts in changes:
+                if len(texts) == 2:
+                    text, count = re.subn(texts[0], texts[1], read(self.root / path), flags=re.M)
+                    self.assertTrue(count, (path, texts[0]))
+                self.write(path, text if len(texts) == 2 else texts[0])
+            yield
+        finally:
+            for path, text in reversed(kept):
+                self.write(path, text)
+
+    def told(self, command, *words):
+        """Whether a command fails, and what it says."""
+        with redirect_stdout(io.StringIO()) as said, redirect_stderr(said):
+            outcome = command.main(list(words), self.root)
+        return bool(outcome), said.getvalue() + (outcome if isinstance(outcome, str) else "")
+
+    def assert_finds(self, command, *plants, words=()):
+        """Each is what the command has to say of some changes, and these. Of what is no mistake it says nothing new."""
+        before = self.told(command, *words)
+        for wanted, *changes in plants:
+            with self.subTest(wanted, changes=changes), self.changed(*changes):
+                said = self.told(command, *words)
+                is_new = said[0] and wanted in said[1] and wanted not in before[1]
+                self.assertTrue(is_new if wanted else said == before, said[1])
