@@ -63,15 +63,15 @@ def places(root):
     readme, rust_page = read(root / "README.md"), read(root / "rust/arraystring/README.md")
     base, core, string = (text_of(root, f"crates/{it}/src/**/*.rt") for it in STRING_CRATES)
 
-    calls, listed = string_calls(core) | calls_of(string), inline_code(section(readme, "The calls"))
-    code = listed + inline_code(text_of(root, "crates/arraystring/*.md") + text_of(root, "crates/bounded_records/*.md"))
-    yield "public calls", "src/ of the string", calls, "what README.md and the pages for callers name", named(calls, code)
+    calls, pages = string_calls(core) | calls_of(string), section(readme, "The calls") + text_of(root, "crates/*/*.md")
+    listed = [it for heading in ("What cuts, and what refuses", "The calls") for it in inline_code(section(rust_page, heading))]
+    code = listed + inline_code(pages)
+    yield "public calls", "src/ of the string", calls, "what the lists of calls and the pages for callers name", named(calls, code)
     traits = traits_of(core + string)
-    yield "traits", "src/ of the string", traits, "the list of calls in README.md", traits.intersection(listed)
+    yield "traits", "src/ of the string", traits, "rust/arraystring/README.md", traits.intersection(listed)
 
     calls = string_calls(text_of(root, "rust/arraystring/src/**/*.rs"))
-    code = [it for heading in ("What cuts, and what refuses", "The calls") for it in inline_code(section(rust_page, heading))]
-    yield "Rust calls", "rust/arraystring/src", calls, "rust/arraystring/README.md", named(calls, code)
+    yield "Rust calls", "rust/arraystring/src", calls, "rust/arraystring/README.md", named(calls, listed)
     # (the program links only if none of the calls in it can panic)
     program = "rust/no_panic/src/main.rs"
     panicking = set(re.findall(r'"ArrayString::(\w+)": LIKE_STR', read(root / "rust/bench/calls.py")))

@@ -40,7 +40,7 @@ PARTS = [
     (calls.main, [], {"{} names stand in two places": 320, "{} public calls": 58, "{} traits": 18}),
     (evidence.main, [], {"wrong bodies try {} functions": 189}),
     (controls.main, ["--check"], {"{} controls are as they were": 115}),
-    (proved.main, ["--check"], {"{} sources of the Rust crate are as they were proved": 250}),
+    (proved.main, ["--check"], {"{} sources of the Rust crate are as they were proved": 230}),
 ]
 
 

@@ -17,7 +17,7 @@ from repository import read
 BASE, CORE, STRING, USES = (f"crates/arraystring{it}" for it in ("_base", "_core", "", "_uses"))
 TEXT, CUTS, LEMMAS = f"{BASE}/specs/Text.antt", f"{BASE}/proofs/CutLaws.antt", f"{CORE}/proofs/GapLemmas.antt"
 REMOVE, PARTS, ANSWERS = f"{CORE}/src/array_string/remove.rt", f"{USES}/src/parts.rt", f"{CORE}/proofs/array_string/ArrayString"
-PAGE, README, CALLING, LAWS = "docs/definitions.md", "README.md", f"{STRING}/CALLING.md", f"{STRING}/LAWS.md"
+PAGE, README, RUST_PAGE, LAWS = "docs/definitions.md", "README.md", "rust/arraystring/README.md", f"{STRING}/LAWS.md"
 END = r"\Z"  # where something is added to a file
 LEMMA = "\npub {0} : (n : ℕ) → n ≡ n\n{0} n = {1} n\n"
 
@@ -55,6 +55,7 @@ class Checks(PlantedTest):
             (nothing, unused),
             (nothing, (LEMMAS, END, LEMMA.format("unused", "other") + LEMMA.format("other", "unused"))),
             (nothing, unused, (f"{CORE}/proofs/SpanLemmas.antt", r"GapLemmas\.\{", r"\g<0>unused, ")),
+            ("opened_end is cited by nothing", (f"{CORE}/src/array_string.rt", r"^ *#\[.*StoredLaws::opened_end.*\n", "")),
             (nothing, (f"{ANSWERS}/pop_counted/Answers.antt", END, "\nunused : 1 ≤ 2\nunused = omega arith\n")),
             ("chars_empty is cited by nothing", (f"{BASE}/src/utf8.rt", r"^#\[.*(crate::proofs::.*::chars_empty).*", r"// \1")),
             ("its helper go is cited by nothing", (f"{STRING}/proofs/RemovalLaws.antt", r"b, go \(", "b, b, (")),
@@ -74,22 +75,19 @@ class Checks(PlantedTest):
         )
 
     def test_what_a_page_quotes(self):
-        printed, line = re.search("Printed by.*\n\n```text\n([^`]*)", read(self.root / PAGE))[1], r"^\|`width c`\|\d+"
+        printed = re.search("Printed by.*\n\n```text\n([^`]*)", read(self.root / PAGE))[1]
         self.put(quotes, "printed", lambda root, command: printed)
         self.assert_finds(
             quotes,
             ("does not have these lines", (f"{USES}/src/greeting.rt", r"greeting\.push_str", "greeting.push")),
             ("does not define widths", (PAGE, r"^\|`width c`", "|`widths c`")),
             ("does not define size", (PAGE, "^(### Texts: .*)Text.antt`", r"\1Counts.antt`")),
-            ("would write: |`width c`|", (PAGE, line, "|`width c`|9999")),
             ("would write: run: ", (PAGE, r"^run: \d+", "run: 5")),
-            ("and the module differ in boundary", (CALLING, "`boundary`, `IsPrefix`", "`IsPrefix`")),
-            ("and the module differ in more", (TEXT, END, "\nabbrev pub more : ℕ\nmore = 3\n")),
             ("no wrong body is named pop.drops_all", (README, END, "\nSee `pop.drops_all`, and `*_counted.counts_nothing`.\n")),
         )
-        with self.changed((PAGE, line, "|`width c`|9999")):
+        with self.changed((PAGE, r"^run: \d+", "run: 5")):
             self.told(quotes, "--write")
-            self.assertNotIn("9999", read(self.root / PAGE))
+            self.assertNotIn("run: 5", read(self.root / PAGE))
 
     def test_what_stands_in_two_places(self):
         surface, proved_calls = (f"crates/arraystring_tests/src/tests/{it}.rt" for it in ("surface", "calls"))
@@ -99,12 +97,13 @@ class Checks(PlantedTest):
         lacks = "{} lacks {}, which {} has\n"
         self.assert_finds(
             calls,
-            (f" lacks {upper}, which src/", (README, f"`{upper}`", "`upper`")),
+            (f" lacks {upper}, which src/", (RUST_PAGE, f"`{upper}`", "`upper`")),
+            (" lacks to_value, which src/", (README, "`to_value`", "`value`")),
             (" lacks popped, which src/ of the string has", (REMOVE, "pub fn pop\\(", "pub fn popped(")),
-            (" lacks FusedIterator, which src/", (README, "`FusedIterator`", "`Fused`")),
-            (" lacks Add<&str>, which src/", (README, "`Add<&str>`", "`Add`")),
+            (" lacks FusedIterator, which src/", (RUST_PAGE, "`FusedIterator`", "`Fused`")),
+            (" lacks Add<&str>, which src/", (RUST_PAGE, "`Add<&str>`", "`Add`")),
             (" lacks Zeroable, which src/", (f"{STRING}/src/cache_string.rt", r"Copy, Debug\)", "Copy, Debug, Zeroable)")),
-            (" lacks is_full, which rust/", ("rust/arraystring/README.md", "`is_full`", "`is`")),
+            (" lacks is_full, which rust/", (RUST_PAGE, "`is_full`", "`is`")),
             (lacks.format(program, "popped", in_rust), (rust_remove, r"pub fn pop\(", "pub fn popped(")),
             (lacks.format(program, "pop", in_rust), (program, r"string\.pop\(\)", "// string.pop()")),
             (lacks.format(program, upper, in_rust), ("rust/bench/calls.py", f"ArrayString::{upper}", "none")),

@@ -76,7 +76,7 @@ def faults_of_specs(tree, known):
 
 def faults_of_page(page, tree, public, headline):
     """What the tables of PAGE lack; they begin with the definitions of the headline."""
-    rows = re.findall(r"(?m)^\|(`.*?`)\|\d", page)
+    rows = re.findall(r"(?m)^\|(`.*?`)\|", page)
     told = [name for row in rows for name in re.findall(r"`([^\s`]+)[^`]*`", row)]
     other = [f"{PAGE} has {name} in the place of {it}" for it, name in zip(headline, told) if it.name != name]
     yield from other[:1]
