@@ -93,13 +93,15 @@ fn changed() -> Vec<String> {
     );
     let known: Vec<_> = KNOWN.iter().map(|(call, _)| *call).collect();
     items.push(item(&quoted(&known), "a clause of each is told to rustc at the start of its body"));
-    let mut wider = BTreeMap::<_, Vec<&str>>::new();
+    let mut wider = BTreeMap::<_, usize>::new();
     for rule in WIDER {
-        wider.entry((rule.from, rule.to, rule.generics)).or_default().push(rule.call);
+        *wider.entry((rule.from, rule.to, rule.generics)).or_default() += 1;
     }
     for ((from, to, generics), calls) in wider {
         let of = if generics.is_empty() { String::new() } else { format!(" of `{generics}`") };
-        items.push(item(&quoted(&calls), &format!("`{to}`{of} in place of `{from}`, asked once before it is used")));
+        let plural = if calls == 1 { "call" } else { "calls" };
+        items
+            .push(item(&format!("`{from}` of {calls} {plural}"), &format!("`{to}`{of}, asked once before it is used")));
     }
     items
 }
@@ -173,7 +175,12 @@ mod tests {
         assert_eq!([line("a", "f"), line("a `b` c", "f")], ["`a` in `f`", "``a `b` c`` in `f`"]);
         ADDED.iter().for_each(|rule| has(&format!("`{}`: {}.", rule.head, rule.why)));
         LEFT_OUT.iter().for_each(|rule| has(&format!("- `{}` is left out: {}.", rule.name, rule.why)));
-        WIDER.iter().for_each(|rule| has(&format!("`{}`", rule.call)));
+        for rule in WIDER {
+            let calls =
+                WIDER.iter().filter(|it| (it.from, it.to, it.generics) == (rule.from, rule.to, rule.generics)).count();
+            has(&format!("`{}` of {calls} call", rule.from));
+            has(&format!(": `{}`", rule.to));
+        }
         for here in BODIES.iter().map(|rule| rule.here).chain(BY_STD.iter().map(|rule| rule.here)) {
             has(&format!(": {here}."));
         }
