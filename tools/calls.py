@@ -66,7 +66,7 @@ def places(root):
     calls, pages = string_calls(core) | calls_of(string), section(readme, "The calls") + text_of(root, "crates/*/*.md")
     listed = [it for heading in ("What cuts, and what refuses", "The calls") for it in inline_code(section(rust_page, heading))]
     code = listed + inline_code(pages)
-    yield "public calls", "src/ of the string", calls, "what the lists of calls and the pages for callers name", named(calls, code)
+    yield "public calls", "src/ of the string", calls, "what lists of calls and pages for callers name", named(calls, code)
     traits = traits_of(core + string)
     yield "traits", "src/ of the string", traits, "rust/arraystring/README.md", traits.intersection(listed)
 

@@ -29,7 +29,8 @@ class Item:
     """An item of a module: its lines, and the blocks `module _ .. where` that it is in."""
 
     def __init__(self, path, number, line, around, names):
-        kind, public, other, self.name = re.match(rf"\s*(abbrev |unfoldable )?(pub )?(data |record |ruleset )?({NAME})", line).groups()
+        form = rf"\s*(abbrev |unfoldable )?(pub )?(data |record |ruleset )?({NAME})"
+        kind, public, other, self.name = re.match(form, line).groups()
         self.path, self.number, self.lines, self.around, self.names = path, number, [line], around, names
         self.module, self.crate, self.part = module_of(path), path.parts[1], path.parts[2]
         is_claim = kind and re.search("[≡≢≤<]", line.rpartition("→" if "→" in line else " : ")[2])

@@ -3,12 +3,13 @@
 tools/run quotes            looks at all pages of the repository
 tools/run quotes --write    first writes what commands print
 
-Four things are compared:
+Five things are compared:
 - a block after a line that ends in "From `PATH`:". Its lines stand in the file one after the other;
 - a block after a line that ends in "Printed by `tools/run COMMAND`:" is what that prints;
 - a table below a heading with the path of a file of specs/ has in its first column what that file defines;
 - inline code such as `pop.drops_nothing`, which ends in a word with an underscore, is the name of a wrong body; a `*` stands for
-  any text.
+  any text;
+- functions of which a sentence says that they have "goals of this form" have answers.
 """
 import re
 import subprocess
@@ -21,6 +22,7 @@ PRINTED = re.compile(r"(Printed by `(tools/run [^`]+)`:\n+```\w+\n)((?:.*\n)*?)`
 SECTION = re.compile(r"(?m)^#.*`(crates/\S+/specs/\S+\.antt)`.*((?:\n(?!#).*)*)")
 DEFINITION = re.compile(r"(?m)^ *(?:(?:abbrev|unfoldable)(?: pub)?|(?:pub )?(?:data|record)) (\S+)\s")
 WRONG_BODY = re.compile(r"[\w.*]*\.[a-z]+_\w+")
+ANSWERED = re.compile(r"((?:`\w+`,?\s(?:and\s)?)+)have goals of this form")
 
 
 def printed(root, command):
@@ -34,8 +36,8 @@ def as_due(root, text):
 
 
 def faults_of(root, text):
-    """The blocks of a page that are not in the files that they quote, the definitions that are not where it says, and the wrong
-    bodies that it names and that are none."""
+    """The blocks of a page that are not in the files that they quote, the definitions that are not where it says, the wrong
+    bodies that it names and that are none, and the functions without the answers that it says they have."""
     for source, block in BLOCK.findall(text):
         if f"\n{block}\n" not in "\n" + read(root / source):
             yield f"{source} does not have these lines: {block.splitlines()[0]} .."
@@ -46,6 +48,9 @@ def faults_of(root, text):
     for name in filter(WRONG_BODY.fullmatch, inline_code(text)):
         if not any(root.glob(f"crates/*/must-fail/{name}.edit")):
             yield f"no wrong body is named {name}"
+    for name in re.findall(r"\w+(?=`)", " ".join(ANSWERED.findall(text))):
+        if not any(root.glob(f"crates/*/proofs/**/{name}/Answers.antt")):
+            yield f"{name} has no answers"
 
 
 def main(arguments, root):

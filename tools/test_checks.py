@@ -83,6 +83,8 @@ class Checks(PlantedTest):
             ("does not define widths", (PAGE, r"^\|`width c`", "|`widths c`")),
             ("does not define size", (PAGE, "^(### Texts: .*)Text.antt`", r"\1Counts.antt`")),
             ("would write: run: ", (PAGE, r"^run: \d+", "run: 5")),
+            ("pop has no answers", ("CONTRIBUTING.md", "`pop_counted` have goals", "`pop` have goals")),
+            ("drop_leading has no answers", ("CONTRIBUTING.md", "`drop_leading_decoded` and", "`drop_leading` and")),
             ("no wrong body is named pop.drops_all", (README, END, "\nSee `pop.drops_all`, and `*_counted.counts_nothing`.\n")),
         )
         with self.changed((PAGE, r"^run: \d+", "run: 5")):
