@@ -18,7 +18,7 @@ echo "${0##*/} $*${RUSTFLAGS:+ with$RUSTFLAGS}${RUSTDOCFLAGS:+ and$RUSTDOCFLAGS}
 
 
 class ScriptTest(PlantedTest):
-    """A SCRIPT of the copy, which prints PASSED where all has passed, with the stand-ins of a folder `bin` before other programs."""
+    """A SCRIPT of the copy, which prints PASSED where all has passed. A folder `bin` with stand-ins is before other programs."""
 
     def stand_in(self, path, *lines):
         self.write_program(path, "\n".join([STAND_IN, *lines, ""]))
