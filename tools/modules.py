@@ -26,12 +26,13 @@ def module_of(path):
 
 
 class Item:
-    """An item of a module: its lines, and the blocks `module _ .. where` that it is in."""
+    """An item of a module: the comment directly above, its lines, and the blocks `module _ .. where` that it is in."""
 
-    def __init__(self, path, number, line, around, names):
+    def __init__(self, path, number, line, comment, around, names):
         form = rf"\s*(abbrev |unfoldable )?(pub )?(data |record |ruleset )?({NAME})"
         kind, public, other, self.name = re.match(form, line).groups()
         self.path, self.number, self.lines, self.around, self.names = path, number, [line], around, names
+        self.comment = comment
         self.module, self.crate, self.part = module_of(path), path.parts[1], path.parts[2]
         is_claim = kind and re.search("[≡≢≤<]", line.rpartition("→" if "→" in line else " : ")[2])
         self.is_public = bool(public)
@@ -46,8 +47,10 @@ class Item:
 @cache
 def parsed(path, text):
     """The items of a module in order, and what the names in it stand for."""
-    items, names, item, around = [], imports(text), None, []
+    items, names, item, around, above = [], imports(text), None, [], []
     for number, line in enumerate(text.split("\n"), 1):
+        comment = re.match(r"\s*-- (.*)", line)
+        above, told = [*above, comment[1]] if comment else [], above
         # (without comments, and what strings say)
         line = re.sub(r"(^|\s)--(\s.*)?$", "", re.sub('"[^"]*"', '""', line)).rstrip()
         if not line or re.match(r"(pub )?(use|mod) ", line):
@@ -60,7 +63,7 @@ def parsed(path, text):
             if item.is_data and case:
                 names[case[1]] = item
             continue
-        item = Item(path, number, line, around, names)
+        item = Item(path, number, line, " ".join(told), around, names)
         if item.name == "module":
             around = [*around, item]
         else:

@@ -30,10 +30,10 @@ class Checks(PlantedTest):
     def test_what_a_reader_has_to_agree_with_is_on_the_page_in_order(self):
         self.assert_finds(
             trusted,
-            (": IsWholeOrRefused", (PAGE, r"^\|`IsWholeOrRefused`.*\n", "")),
+            ("has None in the place of first_tight_from", (PAGE, r"^\|`first_tight_from.*\n", "")),
+            ("has utf8 in the place of None", (PAGE, END, "|`utf8 c`|UTF-8 of a character\n")),
             ("has cap in the place of", (PAGE, r"^(\|`size t`.*\n)(\|`cap N`.*\n)", r"\2\1")),
             ("in the place of", (f"{CORE}/specs/Lib.antt", "(pub mod Stored\n)(pub mod Layout\n)", r"\2\1")),
-            (": dropping", (f"{CORE}/specs/Edits.antt", r"\bpopping\b", "dropping"), (REMOVE, r"\bpopping\b", "dropping")),
         )
 
     def test_specs_have_definitions_alone(self):
@@ -46,6 +46,7 @@ class Checks(PlantedTest):
             ("width calls a tactic: search", (TEXT, "^width c = .*", "width c = search rules")),
             ("Text imports from proofs: Rattle.x.proofs.Order", (TEXT, r"^use Rattle.std", r"use Rattle.x.proofs.Order\n\g<0>")),
             ("unused is reached by no contract and no law", (TEXT, END, "\nabbrev pub unused : ℕ → ℕ\nunused n = n\n")),
+            ("IsWholeOrRefused has no comment", (f"{CORE}/specs/Construct.antt", r"^-- the whole text t.*\n", "")),
         )
 
     def test_what_nothing_cites(self):

@@ -2,7 +2,8 @@
 
 tools/run trusted           how many definitions the contract of `run` reaches, and how many lines they have; then the same of all
                             public contracts of the LIBRARIES
-tools/run trusted --list    first names them in the order in which to read them: those of `run`, and then the others
+tools/run trusted --list    first prints them with their comments in the order in which to read them: those of `run`, and then the
+                            others
 
 A definition is an `abbrev`, `unfoldable`, `data` or `record` of a module of specs/, but no `abbrev` of an equation or of a
 comparison. Its lines go from its name to its last clause, without comments and blank lines. What std defines is none, nor what
@@ -13,12 +14,13 @@ words, and so on, and those of the `Model` of each type in its signature. Proofs
 of comes before it.
 
 It fails at what is no definition in specs/, at a call of a tactic and at an import of a proof there, but in modules named
-GhostProofs; at a definition that no contract and no law reaches, where a law is what is `pub` in a module `..Laws`; and where
-the tables of PAGE do not begin with the definitions of `run` in order, or lack one that a public contract names.
+GhostProofs; at a definition that no contract and no law reaches, where a law is what is `pub` in a module `..Laws`; where the
+tables of PAGE are not of the definitions of `run` in order; and at another definition that has no comment.
 """
 import re
 import sys
 from collections import namedtuple
+from itertools import zip_longest
 
 from modules import NAME, Modules, imports
 from repository import closed, crates, public_types, read, sources
@@ -74,14 +76,14 @@ def faults_of_specs(tree, known):
             yield f"{path} imports from proofs: {', '.join(proofs)}"
 
 
-def faults_of_page(page, tree, public, headline):
-    """What the tables of PAGE lack; they begin with the definitions of the headline."""
+def faults_of_page(page, tree, headline):
+    """Where the tables of PAGE are not of the definitions of the headline; and other definitions without a comment."""
     rows = re.findall(r"(?m)^\|(`.*?`)\|", page)
     told = [name for row in rows for name in re.findall(r"`([^\s`]+)[^`]*`", row)]
-    other = [f"{PAGE} has {name} in the place of {it}" for it, name in zip(headline, told) if it.name != name]
-    yield from other[:1]
-    cited = {it for contract in public for it in contract.words if it.is_definition}
-    yield from (f"{PAGE} does not name {it}" for it in tree.items if it in cited and it.name not in told)
+    both = zip_longest([it.name for it in headline], told)
+    yield from [f"{PAGE} has {name} in the place of {it}" for it, name in both if it != name][:1]
+    others = (it for it in tree.items if it.part == "specs" and it.is_definition and it not in headline)
+    yield from (f"{it} has no comment" for it in others if not it.comment)
 
 
 def main(arguments, root):
@@ -96,9 +98,9 @@ def main(arguments, root):
     everything = closure(tree, (word for it in public for word in it.words))
     if arguments == ["--list"]:
         for item in headline + [it for it in everything if it not in headline]:
-            print(f"{item}, {len(item.lines)} lines")
+            print(f"{item}, {len(item.lines)} lines{': ' if item.comment else ''}{item.comment}")
     for name, found in (("run", headline), ("all public contracts", everything)):
         print(f"{name}: {len(found)} definitions, {sum(len(it.lines) for it in found)} lines")
-    faults = [*faults_of_specs(tree, known), *faults_of_page(read(root / PAGE), tree, public, headline)]
+    faults = [*faults_of_specs(tree, known), *faults_of_page(read(root / PAGE), tree, headline)]
     print("\n".join(faults), end="\n" if faults else "", file=sys.stderr)
     return bool(faults)

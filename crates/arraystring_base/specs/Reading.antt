@@ -3,10 +3,11 @@ use Rattle.std.specs.Prelude.{ℕ, Bool, ◌+◌, ◌-◌, ◌*◌, List, [], �
 use Rattle.arraystring_base.specs.declared.utf16.Unit16.{Unit16}
 use Rattle.arraystring_base.specs.declared.utf16.Unit16.TheVariants.{Char, Lone}
 
--- the tests of a high and of a low surrogate
+-- whether a unit is a high surrogate
 abbrev pub is_high : ℕ → Bool
 is_high unit = nat_le 0xD800 unit && nat_lt unit 0xDC00
 
+-- whether a unit is a low surrogate
 abbrev pub is_low : ℕ → Bool
 is_low unit = nat_le 0xDC00 unit && nat_lt unit 0xE000
 
@@ -25,7 +26,7 @@ read_before unit (Char c ∷ items) = single_item unit ∷ Char c ∷ items
 read_before unit (Lone next ∷ items) =
     if is_high unit && is_low next then Char (pair_character unit next) ∷ items else single_item unit ∷ Lone next ∷ items
 
--- the reading of the units
+-- the reading of the units, found from the last on
 abbrev pub reading : List ℕ → List Unit16
 reading [] = []
 reading (unit ∷ units) = read_before unit (reading units)

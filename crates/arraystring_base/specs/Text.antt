@@ -1,11 +1,11 @@
--- Texts, which are lists of characters, and their UTF-8. Numbers have no upper bound here.
+-- Texts, which are lists of characters, and their UTF-8 (Unicode Standard, section 3.9). Numbers have no upper bound here.
 use Rattle.std.specs.Prelude.{◌≡◌, ℕ, ◌+◌, ◌-◌, ◌/◌, ◌%◌, ◌<◌, ◌≤◌, ◌⊎◌, ◌==◌, ⊤, Bool, min, List, [], ◌∷◌, ◌++◌, if◌then◌else◌, nat_lt, nat_le}
 
--- a Unicode scalar value: any code point but a surrogate
+-- a Unicode scalar value: any code point but a surrogate (3.9)
 abbrev pub IsScalarValue : ℕ → Type 0
 IsScalarValue c = (c < 0xD800) ⊎ ((0xE000 ≤ c) × (c < 0x11_0000))
 
--- a text: each of its characters is a scalar value
+-- a text: each of its characters is a scalar value, as in every `&str` (`borrowed_text`)
 abbrev pub IsText : List ℕ → Type 0
 IsText [] = ⊤
 IsText (c ∷ cs) = IsScalarValue c × IsText cs
@@ -18,7 +18,7 @@ width c = if nat_lt c 0x80 then 1 else if nat_lt c 0x800 then 2 else if nat_lt c
 abbrev pub continuation : ℕ → ℕ
 continuation bits = 0x80 + bits % 64
 
--- the UTF-8 of a character, by the four ranges of its width
+-- the UTF-8 of a character, by the four ranges of its width (3.9, table 3-6)
 unfoldable pub utf8 : ℕ → List ℕ
 utf8 c =
     if nat_lt c 0x80 then c ∷ [] else
@@ -31,12 +31,12 @@ abbrev pub size : List ℕ → ℕ
 size [] = 0
 size (c ∷ cs) = width c + size cs
 
--- the UTF-8 of a text
+-- the UTF-8 of a text, which no other text has (`one_text`)
 abbrev pub bytes : List ℕ → List ℕ
 bytes [] = []
 bytes (c ∷ cs) = utf8 c ++ bytes cs
 
--- well-formed UTF-8: the bytes of some text
+-- well-formed UTF-8: the bytes of some text (3.9)
 abbrev pub IsWellFormed : List ℕ → Type 0
 IsWellFormed bs = (t : List ℕ) × (IsText t × (bytes t ≡ bs))
 
@@ -72,7 +72,8 @@ pub record IsLongestFitting (p t : List ℕ) (n : ℕ) : Type 0 where
   pub fits : size p ≤ n
   pub longest : (q : List ℕ) → IsPrefix q t → size q ≤ n → IsPrefix q p
 
--- a comes before b: b goes on where a ends, or has the greater character where they first differ
+-- a comes before b: b goes on where a ends, or has the greater character where they first differ, which is the order of `str`
+-- (`order_of_bytes`, `order_of_texts`)
 abbrev pub IsBefore : List ℕ → List ℕ → Type 0
 IsBefore a b =
     ((c : ℕ) × (rest : List ℕ) × (b ≡ a ++ c ∷ rest))

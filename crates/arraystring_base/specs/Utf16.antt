@@ -1,19 +1,20 @@
--- UTF-16: how units are read, where a reading stops, and the units of a text. Numbers have no upper bound here.
+-- UTF-16 (Unicode Standard, sections 3.8 and 3.9): how units are read, where a reading stops, and the units of a text. Numbers
+-- have no upper bound here.
 use Rattle.std.specs.Prelude.{◌≡◌, ℕ, ◌+◌, ◌-◌, ◌/◌, ◌%◌, ◌<◌, ◌≤◌, List, [], ◌∷◌, ◌++◌, map, nat_lt, nat_le, if◌then◌else◌}
 use Rattle.std.specs.List.{All}
 use Rattle.arraystring_base.specs.Text.{IsScalarValue, width, size}
 use Rattle.arraystring_base.specs.declared.utf16.Unit16.{Unit16}
 use Rattle.arraystring_base.specs.declared.utf16.Unit16.TheVariants.{Char, Lone}
 
--- a surrogate that begins a pair
+-- a high surrogate, which begins a pair (3.8)
 abbrev pub IsHigh : ℕ → Type 0
 IsHigh unit = (0xD800 ≤ unit) × (unit < 0xDC00)
 
--- a surrogate that ends a pair
+-- a low surrogate, which ends a pair (3.8)
 abbrev pub IsLow : ℕ → Type 0
 IsLow unit = (0xDC00 ≤ unit) × (unit < 0xE000)
 
--- the UTF-16 of a character: one unit up to FFFF, and a high and a low surrogate above
+-- the UTF-16 of a character: one unit up to FFFF, and a high and a low surrogate above (3.9, table 3-5)
 abbrev pub utf16 : ℕ → List ℕ
 utf16 c =
     if nat_lt c 0x1_0000 then c ∷ [] else (0xD800 + (c - 0x1_0000) / 0x400) ∷ (0xDC00 + (c - 0x1_0000) % 0x400) ∷ []
@@ -43,7 +44,8 @@ abbrev pub NoPairApart : List Unit16 → Type 0
 NoPairApart items =
     (before after : List Unit16) (high low : ℕ) → items ≡ before ++ Lone high ∷ Lone low ∷ after → IsHigh high → IsLow low → ⊥
 
--- the items are a reading of the units
+-- the items are a reading of the units: theirs are the units, joined, and no pair is read as two (3.9); there is one
+-- (`only_reading`, `text_reading`)
 pub record IsReading (units : List ℕ) (items : List Unit16) : Type 0 where
   pub each_unit : All (λ unit. unit < 0x1_0000) units
   pub each_item : All IsItem items
@@ -70,7 +72,7 @@ stop_behind c (End prefix) = End (c ∷ prefix)
 stop_behind c (Fault prefix) = Fault (c ∷ prefix)
 stop_behind c (Full prefix) = Full (c ∷ prefix)
 
--- the first stop of the items at n bytes
+-- the stop of the items after the longest prefix of characters that fits into n bytes (`one_stop`, `units_read_back`)
 abbrev pub first_stop : List Unit16 → ℕ → Stop
 first_stop [] n = End []
 first_stop (Lone unit ∷ items) n = Fault []
@@ -81,6 +83,6 @@ abbrev pub shown : Unit16 → ℕ
 shown (Char c) = c
 shown (Lone unit) = 0xFFFD
 
--- the items as a text
+-- the items as a text, each lone surrogate as U+FFFD (3.9)
 abbrev pub lossy_text : List Unit16 → List ℕ
 lossy_text items = map shown items

@@ -5,7 +5,7 @@ use Rattle.arraystring_base.specs.declared.error.Error.{Error}
 use Rattle.arraystring_core.specs.Stored.{Stored}
 use Rattle.arraystring_core.specs.Edits.{first_of, last_of, all_but_last}
 
--- the characters that are left, those that were given from the front, and numbers that no public clause names
+-- the characters that are left (`left_fits`), those that were given from the front, and numbers that no public clause names
 pub record Drained : Type 0 where
   pub left : List ℕ
   pub yielded : List ℕ
@@ -35,16 +35,17 @@ pub record Walked : Type 0 where
   pub left : List ℕ
   pub backs : List ℕ
 
--- a walk that gave these first
+-- a walk that gave this first from the front
 abbrev pub from_front : Option ℕ → Walked → Walked
 from_front None w = w
 from_front (Some c) w = record { fronts = c ∷ w.fronts; left = w.left; backs = w.backs }
 
+-- a walk that gave this first from the back
 abbrev pub from_back : Option ℕ → Walked → Walked
 from_back None w = w
 from_back (Some c) w = record { fronts = w.fronts; left = w.left; backs = c ∷ w.backs }
 
--- t walked by one end after the other: each gives its character, if there is one, and leaves the others
+-- t walked by one end after the other: each gives its character, if there is one, and leaves the others (`walks`)
 abbrev pub walked : List End → List ℕ → Walked
 walked [] t = record { fronts = []; left = t; backs = [] }
 walked (Front ∷ ends) t = from_front (first_of t) (walked ends (drop 1 t))

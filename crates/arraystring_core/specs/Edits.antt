@@ -47,12 +47,12 @@ abbrev pub first_cause : List Test → Option Cause
 first_cause [] = None
 first_cause (test ∷ rest) = if test.holds then Some test.cause else first_cause rest
 
--- the same said of the tests in turn: none of them holds
+-- none of the tests holds
 abbrev pub NoneHolds : List Test → Type 0
 NoneHolds [] = ⊤
 NoneHolds (test ∷ rest) = (test.holds ≡ false) × NoneHolds rest
 
--- the cause is that of the first that holds
+-- the cause is that of the first test that holds
 abbrev pub FirstHolds : List Test → Cause → Type 0
 FirstHolds [] found = ⊥
 FirstHolds (test ∷ rest) found = ((test.holds ≡ true) × (found ≡ test.cause)) ⊎ ((test.holds ≡ false) × FirstHolds rest found)

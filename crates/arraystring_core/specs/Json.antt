@@ -6,7 +6,7 @@ use Rattle.arraystring_base.specs.Text.{bytes, cut, size}
 use Rattle.arraystring_core.specs.declared.integration.ValueError.{ValueError}
 use Rattle.arraystring_core.specs.declared.integration.ValueError.TheVariants.{NotText, OutOfBounds}
 
--- the JSON text with the characters of t
+-- the JSON text with the characters of t, which are read back (`json_reads_back`, `json_reads_whole`)
 abbrev pub json_text : List ℕ → Data
 json_text t = string (bytes t)
 
@@ -23,7 +23,7 @@ abbrev pub IsWhyRefused : Option (List ℕ) → ℕ → ValueError → Type 0
 IsWhyRefused given n NotText = given ≡ None
 IsWhyRefused given n OutOfBounds = IsSomeAnd given (λ t. n < size t)
 
--- the names under which the refusals are printed
+-- the name of the case of a refusal
 abbrev pub value_error_name : ValueError → List ℕ
 value_error_name NotText = codes "NotText"
 value_error_name OutOfBounds = codes "OutOfBounds"

@@ -21,9 +21,10 @@ pub record IsDrained (array_size : ℕ) (array : List ℕ) (start n i : ℕ) : T
   pub in_array : IsStored array_size array start n
   pub at : IsTrue (boundary (stored array start n).text i)
 
--- the start and the array, given back
+-- the start offset of a value, given back
 abbrev pub start_of : Stored → ℕ
 start_of v = slice_index v.spare 0
 
+-- its array, given back
 abbrev pub array_of : Stored → List ℕ
 array_of v = take (start_of v) (drop 1 v.spare) ++ (bytes v.text ++ drop (start_of v) (drop 1 v.spare))

@@ -12,13 +12,14 @@ pub record OfReturnedBounds {R : Type 0} (has : R → Type 0) (start_of end_of :
   pub returned : has range → (start ≡ start_of range) × (end ≡ end_of range)
   pub holds : claim start end
 
--- the ends as `drain` and `replace_range` read them: sums stop at 255
+-- the start as `drain` and `replace_range` read it: one more for an excluded one, at most 255; the other calls read std's
+-- `start_index` and `end_index`, without that limit
 abbrev pub saturated_start : Bound ℕ → ℕ
 saturated_start (Included a) = a
 saturated_start (Excluded a) = min (a + 1) 255
 saturated_start Unbounded = 0
 
--- in a text of `len` bytes
+-- the end as they read it in a text of `len` bytes: one more for an included one, at most 255
 abbrev pub saturated_end : Bound ℕ → ℕ → ℕ
 saturated_end (Included b) len = min (b + 1) 255
 saturated_end (Excluded b) len = b

@@ -9,10 +9,11 @@ abbrev pub joined : List (List ℕ) → List ℕ
 joined [] = []
 joined (t ∷ ts) = t ++ joined ts
 
--- the text of a borrowed piece, and of pieces, one after the other
+-- the text of a borrowed piece
 abbrev pub piece_text : Bor (List ℕ) → List ℕ
 piece_text piece = chars piece.now
 
+-- the texts of borrowed pieces, one after the other (`pieces_make_one_text`)
 abbrev pub joined_pieces : List (Bor (List ℕ)) → List ℕ
 joined_pieces pieces = joined (map piece_text pieces)
 
@@ -27,7 +28,7 @@ module _ {U T A : Type 0} (becomes : U → T → Type 0) (steps : T → Option A
   abbrev pub TakesAll : U → List A → Type 0
   TakesAll iter items = (it : T) × becomes iter it × Drains steps it items
 
-  -- the items are all that come, and fit into the room, or all up to the first that no longer fits
+  -- the items are all that come, and fit into the room, or all up to the first that no longer fits (`what_comes_past_the_room`)
   abbrev pub Takes : (List A → List ℕ) → U → ℕ → List A → Type 0
   Takes spelled iter room items = (it : T) × becomes iter it
       × ((Drains steps it items × (size (spelled items) ≤ room)) ⊎ ((rest : T) × Yields steps it items rest × IsFirstPast spelled room items))

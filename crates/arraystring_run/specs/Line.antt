@@ -10,6 +10,7 @@ pub data Argument : Type 0 where
   Character : ℕ → Argument
   Text : List ℕ → Argument
 
+-- the word of a command
 abbrev pub word : Command → List ℕ
 word (command.TryPush c) = codes "try_push"
 word (command.TryPushStr given) = codes "try_push_str"
@@ -35,7 +36,7 @@ word command.Len = codes "len"
 word command.Capacity = codes "capacity"
 word command.AsStr = codes "as_str"
 
--- a character or a text comes last, and is the whole rest of the line
+-- the arguments of a command; a character or a text comes last, and is the whole rest of the line
 abbrev pub arguments : Command → List Argument
 arguments (command.TryPush c) = Character c ∷ []
 arguments (command.TryPushStr given) = Text given.now ∷ []
@@ -72,6 +73,7 @@ pub record IsNumber (bs : List ℕ) (n : ℕ) : Type 0 where
   pub value : n ≡ value_after 0 bs
   pub small : n ≤ 255
 
+-- the bytes spell an argument: a number's digits, the UTF-8 of a character, or a text as it is
 abbrev pub IsSpelled : List ℕ → Argument → Type 0
 IsSpelled bs (Number n) = IsNumber bs n
 IsSpelled bs (Character c) = IsScalarValue c × (bs ≡ utf8 c)
@@ -81,12 +83,12 @@ IsSpelled bs (Text given) = IsWellFormed given × (bs ≡ given)
 abbrev pub space : ℕ
 space = 0x20
 
--- each argument after one space, and nothing else
+-- the bytes spell each argument after one space, and nothing else
 abbrev pub AreSpelled : List ℕ → List Argument → Type 0
 AreSpelled bs [] = bs ≡ []
 AreSpelled bs (a ∷ rest) = (first : List ℕ) × (others : List ℕ) × (bs ≡ space ∷ (first ++ others)) × IsSpelled first a × AreSpelled others rest
 
--- the bytes of a line are those of a command
+-- the bytes are a line of a command: its word, and then its arguments (docs/scripts.md, Lines)
 abbrev pub IsLineOf : List ℕ → Command → Type 0
 IsLineOf bs c = (rest : List ℕ) × (bs ≡ word c ++ rest) × AreSpelled rest (arguments c)
 
@@ -96,15 +98,16 @@ spelling (Number n) = decimal n
 spelling (Character c) = utf8 c
 spelling (Text given) = given
 
+-- the bytes of arguments, each after one space
 abbrev pub spellings : List Argument → List ℕ
 spellings [] = []
 spellings (a ∷ rest) = space ∷ (spelling a ++ spellings rest)
 
--- a line of a command
+-- the line of a command, without leading zeros (`each_command_has_a_line`)
 abbrev pub line_of : Command → List ℕ
 line_of c = word c ++ spellings (arguments c)
 
--- numbers up to 255, characters and texts
+-- a script can give these arguments: numbers up to 255, scalar values and well-formed texts
 abbrev pub AreArguments : List Argument → Type 0
 AreArguments [] = ⊤
 AreArguments (Number n ∷ rest) = (n ≤ 255) × AreArguments rest

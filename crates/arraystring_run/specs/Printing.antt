@@ -16,12 +16,12 @@ printed NoText = codes "no text"
 printed (Number n) = codes "number " ++ decimal n
 printed (Refused e) = codes "refused " ++ error_name e
 
--- a line for each reply
+-- the lines of replies
 abbrev pub replies_printed : List Said → List ℕ
 replies_printed [] = []
 replies_printed (r ∷ rs) = ended (printed r) ++ replies_printed rs
 
--- and one for the last text
+-- the lines of replies, and one of the last text
 abbrev pub all_printed : List Said → List ℕ → List ℕ
 all_printed rs t = replies_printed rs ++ ended (codes "final " ++ bytes t)
 

@@ -16,7 +16,7 @@ capacity_named (Some word) =
     if pointwise nat_eq word.now (codes "cache") then Some 63 else
     if pointwise nat_eq word.now (codes "max") then Some 255 else None
 
--- the exit status of a script that was played, or not
+-- the exit status of a script that was played, or not (docs/scripts.md, Exit status, standard error)
 abbrev pub status_of : {A : Type 0} → Result A PlayFault → ℕ
 status_of (Ok _) = 0
 status_of (Err (BadLine k)) = 2

@@ -7,19 +7,21 @@ use Rattle.arraystring_run.specs.declared.commands.Command.{Command}
 abbrev pub line_feed : ℕ
 line_feed = 0x0A
 
--- a line with its end
+-- a line with its line feed
 abbrev pub ended : List ℕ → List ℕ
 ended bs = bs ++ line_feed ∷ []
 
+-- lines with their line feeds, joined
 abbrev pub all_ended : List (List ℕ) → List ℕ
 all_ended [] = []
 all_ended (line ∷ rest) = ended line ++ all_ended rest
 
--- no byte ends a line
+-- no byte is a line feed
 abbrev pub IsOneLine : List ℕ → Type 0
 IsOneLine [] = ⊤
 IsOneLine (b ∷ bs) = (b ≢ line_feed) × IsOneLine bs
 
+-- no line has a line feed
 abbrev pub AreOneLine : List (List ℕ) → Type 0
 AreOneLine [] = ⊤
 AreOneLine (line ∷ rest) = IsOneLine line × AreOneLine rest
@@ -29,19 +31,20 @@ abbrev pub first_byte : ℕ → List (List ℕ) → List (List ℕ)
 first_byte b [] = (b ∷ []) ∷ []
 first_byte b (line ∷ rest) = (b ∷ line) ∷ rest
 
--- the lines of an input, without their ends; the last may lack its end, and no bytes have no lines
+-- the lines of an input, without their line feeds (`lines_of_input`); the last may lack its own, no bytes have no lines, and a line
+-- feed alone is one empty line
 abbrev pub lines : List ℕ → List (List ℕ)
 lines [] = []
 lines (b ∷ bs) = if b == line_feed then [] ∷ lines bs else first_byte b (lines bs)
 
--- each line is that of the command beside it
+-- each line is that of the command beside it (`one_reading`)
 abbrev pub AreLinesOf : List (List ℕ) → List Command → Type 0
 AreLinesOf [] [] = ⊤
 AreLinesOf [] (c ∷ cs) = ⊥
 AreLinesOf (line ∷ rest) [] = ⊥
 AreLinesOf (line ∷ rest) (c ∷ cs) = IsLineOf line c × AreLinesOf rest cs
 
--- the lines before line k, from 1, are those of commands, and line k is that of no command
+-- the lines before line k, from 1, are those of commands, and line k is that of no command (`one_bad_line`)
 pub record IsBadAt (all : List (List ℕ)) (k : ℕ) : Type 0 where
   pub front : List (List ℕ)
   pub commands : List Command

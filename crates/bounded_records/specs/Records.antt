@@ -21,33 +21,39 @@ pub record IsRecord (record_bytes username role : List ℕ) : Type 0 where
   pub role_fits : size role ≤ 5
   pub same : record_bytes ≡ record_of username role
 
--- the two fields of 27 bytes
+-- the first field of 27 bytes: 21 of them
 abbrev pub username_field : List ℕ → List ℕ
 username_field bs = take 21 bs
 
+-- the second field: the other six
 abbrev pub role_field : List ℕ → List ℕ
 role_field bs = drop 21 bs
 
--- the count of a field, the bytes that it counts, and the bytes after those
+-- the count of a field: its first byte
 abbrev pub count : List ℕ → ℕ
 count field = slice_index field 0
 
+-- the bytes of a field that it counts
 abbrev pub counted : List ℕ → List ℕ
 counted field = take (count field) (drop 1 field)
 
+-- the bytes of a field after those
 abbrev pub padding : List ℕ → List ℕ
 padding field = drop (1 + count field) field
 
--- the four tests
+-- the first of four tests: there are 27 bytes
 abbrev pub HasLength : List ℕ → Type 0
 HasLength bs = length bs ≡ 27
 
+-- the second: each count is at most the room of its field
 abbrev pub CountsFit : List ℕ → Type 0
 CountsFit bs = (count (username_field bs) ≤ 20) × (count (role_field bs) ≤ 5)
 
+-- the third: the counted bytes are UTF-8
 abbrev pub AreWellFormed : List ℕ → Type 0
 AreWellFormed bs = IsWellFormed (counted (username_field bs)) × IsWellFormed (counted (role_field bs))
 
+-- the fourth: the bytes after them are zero
 abbrev pub ArePadded : List ℕ → Type 0
 ArePadded bs = All (λ b. b ≡ 0) (padding (username_field bs)) × All (λ b. b ≡ 0) (padding (role_field bs))
 

@@ -8,14 +8,16 @@ use Rattle.bounded_records.specs.declared.user.User.{User}
 use Rattle.bounded_records.specs.Users.{texts}
 
 module _ {A B : Type 0} (view : A → B) where
+  -- each run of `next` gives what was left, seen by `view`, in order
   abbrev pub GivesInOrder : Type 0
   GivesInOrder = EveryRun (YieldsFirstBy view (λ left. left)) (λ run. ItemsMapTo run view run.from)
 
+  -- each run of `next_back` gives it in reverse
   abbrev pub GivesInReverse : Type 0
   GivesInReverse = EveryRun (YieldsLastBy view (λ left. left)) (λ run. ItemsMapToReversed run view run.from)
 
--- a whole run of `next`, each of whose items is copied out of its reference, gives what was left in order
 module _ {A B : Type 0} (view : A → B) where
+  -- a whole run of `next`, each of whose items is copied out of its reference, gives what was left in order
   abbrev pub GivesCopiesInOrder : Type 0
   GivesCopiesInOrder =
       EveryRun (YieldsFirstBy (λ (item : Bor A). view item.now) (λ left. left))
@@ -25,9 +27,10 @@ module _ {A B : Type 0} (view : A → B) where
 abbrev pub stored_text : Stored → List ℕ
 stored_text name = name.text
 
--- the texts of a borrowed username, and of a borrowed user
+-- the text of a borrowed username
 abbrev pub name_text : Bor Stored → List ℕ
 name_text name = name.now.text
 
+-- the texts of a borrowed user
 abbrev pub user_texts : Bor User → List ℕ × List ℕ
 user_texts user = texts user.now
