@@ -1,6 +1,7 @@
-"""What a change has to pass before anything is proved: the tests of the tools; specs/ has definitions alone and the page has
-them; something cites each lemma; the pages are as the files that they quote; what stands in two places is the same in both; a
-wrong body touches each public function and impl; and each control and each source of the Rust crate is as it was when it proved.
+"""What a change has to pass before anything is proved: the tests of the tools; specs/ has definitions alone, with comments, and
+the page has those of `run`; something cites each lemma; the pages are as the files that they quote; what stands in two places is
+the same in both; a wrong body touches each public function and impl; and each control and each source of the Rust crate is as it
+was when it proved.
 
 tools/run check             writes nothing
 tools/run check --write     first lays out each crate by `rt fmt`, makes the Rust crate by rust/erase/run where cargo is there,

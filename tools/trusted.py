@@ -1,9 +1,9 @@
 """Says which definitions a reader of the contracts has to agree with, and keeps specs/ to definitions.
 
 tools/run trusted           how many definitions the contract of `run` reaches, and how many lines they have; then the same of all
-                            public contracts of the LIBRARIES
-tools/run trusted --list    first prints them with their comments in the order in which to read them: those of `run`, and then the
-                            others
+                            public contracts of the LIBRARIES, and of all that there are
+tools/run trusted --list    also prints them with their comments in the order in which to read them: those of `run`, the others of
+                            public contracts, and those that laws and inner contracts alone name
 
 A definition is an `abbrev`, `unfoldable`, `data` or `record` of a module of specs/, but no `abbrev` of an equation or of a
 comparison. Its lines go from its name to its last clause, without comments and blank lines. What std defines is none, nor what
@@ -14,8 +14,8 @@ words, and so on, and those of the `Model` of each type in its signature. Proofs
 of comes before it.
 
 It fails at what is no definition in specs/, at a call of a tactic and at an import of a proof there, but in modules named
-GhostProofs; at a definition that no contract and no law reaches, where a law is what is `pub` in a module `..Laws`; where the
-tables of PAGE are not of the definitions of `run` in order; and at another definition that has no comment.
+GhostProofs; at a definition that has no comment, or that no contract and no law reaches, where a law is what is `pub` in a module
+`..Laws`; and where the tables of PAGE are not of the definitions of `run` in order.
 """
 import re
 import sys
@@ -70,20 +70,20 @@ def faults_of_specs(tree, known):
             yield f"{item} calls a tactic: {', '.join(calls)}"
         elif item not in told:
             yield f"{item} is reached by no contract and no law"
+        if not item.comment:
+            yield f"{item} has no comment"
     for path, names in tree.modules.items():
         proofs = sorted({it[0] for it in names.values() if isinstance(it, tuple) and ".proofs." in it[0]})
         if ".specs." in path and proofs and not path.endswith(".GhostProofs"):
             yield f"{path} imports from proofs: {', '.join(proofs)}"
 
 
-def faults_of_page(page, tree, headline):
-    """Where the tables of PAGE are not of the definitions of the headline; and other definitions without a comment."""
+def faults_of_page(page, headline):
+    """Where the tables of PAGE are not of the definitions of the headline."""
     rows = re.findall(r"(?m)^\|(`.*?`)\|", page)
     told = [name for row in rows for name in re.findall(r"`([^\s`]+)[^`]*`", row)]
     both = zip_longest([it.name for it in headline], told)
     yield from [f"{PAGE} has {name} in the place of {it}" for it, name in both if it != name][:1]
-    others = (it for it in tree.items if it.part == "specs" and it.is_definition and it not in headline)
-    yield from (f"{it} has no comment" for it in others if not it.comment)
 
 
 def main(arguments, root):
@@ -96,11 +96,12 @@ def main(arguments, root):
     models = {f"Model for {word}" for it in public if it.name == "run" for word in re.findall(r"\w+", it.signature)}
     headline = closure(tree, (word for it in public if it.name in {"run", *models} for word in it.words))
     everything = closure(tree, (word for it in public for word in it.words))
-    if arguments == ["--list"]:
-        for item in headline + [it for it in everything if it not in headline]:
-            print(f"{item}, {len(item.lines)} lines{': ' if item.comment else ''}{item.comment}")
-    for name, found in (("run", headline), ("all public contracts", everything)):
+    all_of_them, listed = [it for it in tree.items if it.part == "specs" and it.is_definition], []
+    for name, found in (("run", headline), ("all public contracts", everything), ("all of specs/", all_of_them)):
         print(f"{name}: {len(found)} definitions, {sum(len(it.lines) for it in found)} lines")
-    faults = [*faults_of_specs(tree, known), *faults_of_page(read(root / PAGE), tree, headline)]
+        if arguments == ["--list"]:
+            print("".join(f"{it}: {it.comment}\n" for it in found if it not in listed))
+        listed += found
+    faults = [*faults_of_specs(tree, known), *faults_of_page(read(root / PAGE), headline)]
     print("\n".join(faults), end="\n" if faults else "", file=sys.stderr)
     return bool(faults)

@@ -44,8 +44,8 @@ abbrev pub NoPairApart : List Unit16 → Type 0
 NoPairApart items =
     (before after : List Unit16) (high low : ℕ) → items ≡ before ++ Lone high ∷ Lone low ∷ after → IsHigh high → IsLow low → ⊥
 
--- the items are a reading of the units: theirs are the units, joined, and no pair is read as two (3.9); there is one
--- (`only_reading`, `text_reading`)
+-- the items are a reading of the units: the items' units, joined, are these, and no pair is read as two lone surrogates (3.9);
+-- units below 10000 have one reading (`only_reading`), those of a text its characters (`text_reading`)
 pub record IsReading (units : List ℕ) (items : List Unit16) : Type 0 where
   pub each_unit : All (λ unit. unit < 0x1_0000) units
   pub each_item : All IsItem items

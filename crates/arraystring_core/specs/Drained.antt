@@ -5,7 +5,8 @@ use Rattle.arraystring_base.specs.declared.error.Error.{Error}
 use Rattle.arraystring_core.specs.Stored.{Stored}
 use Rattle.arraystring_core.specs.Edits.{first_of, last_of, all_but_last}
 
--- the characters that are left (`left_fits`), those that were given from the front, and numbers that no public clause names
+-- what a contract sees of a `Drain`: the characters that are left (`left_fits`), and what no public clause names: those that were
+-- given from the front, and numbers
 pub record Drained : Type 0 where
   pub left : List ℕ
   pub yielded : List ℕ
@@ -19,7 +20,7 @@ drained removed i = record { left = back removed.text i; yielded = front removed
 abbrev pub removed_of : Drained → Stored
 removed_of d = record { text = d.yielded ++ d.left; spare = d.spare }
 
--- the result of `drain`, seen as what is left
+-- the result of `drain` as `Makes` takes it: by the characters that are left
 abbrev pub with_left : Result Drained Error → Result (List ℕ) Error
 with_left (Ok d) = Ok d.left
 with_left (Err e) = Err e
@@ -35,12 +36,12 @@ pub record Walked : Type 0 where
   pub left : List ℕ
   pub backs : List ℕ
 
--- a walk that gave this first from the front
+-- a walk, with this character, if there is one, as the first that it gave from the front
 abbrev pub from_front : Option ℕ → Walked → Walked
 from_front None w = w
 from_front (Some c) w = record { fronts = c ∷ w.fronts; left = w.left; backs = w.backs }
 
--- a walk that gave this first from the back
+-- a walk, with this character, if there is one, as the first that it gave from the back
 abbrev pub from_back : Option ℕ → Walked → Walked
 from_back None w = w
 from_back (Some c) w = record { fronts = w.fronts; left = w.left; backs = c ∷ w.backs }

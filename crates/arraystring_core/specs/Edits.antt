@@ -12,6 +12,7 @@ pub data Cause : Type 0 where
   Room : Cause
   Inside : Cause
 
+-- the error of a refusal: `Utf8` for an index inside a character, else `OutOfBounds`
 abbrev pub error_of : Cause → Error
 error_of Past = error.OutOfBounds
 error_of Room = error.OutOfBounds
@@ -42,7 +43,7 @@ inside t i = record { holds = nat_lt i (size t) && not (boundary t i); cause = I
 abbrev pub no_room : ℕ → ℕ → Test
 no_room result_size n = record { holds = nat_lt n result_size; cause = Room }
 
--- the first that holds decides
+-- the cause of the first test that holds
 abbrev pub first_cause : List Test → Option Cause
 first_cause [] = None
 first_cause (test ∷ rest) = if test.holds then Some test.cause else first_cause rest
@@ -63,59 +64,63 @@ pub record Edit (A : Type 0) : Type 0 where
   pub result : A
   pub after : List ℕ
 
+-- the error of the cause, or the value if there is none
 abbrev pub ok_unless : {A : Type 0} → Option Cause → A → Result A Error
 ok_unless None value = Ok value
 ok_unless (Some cause) value = Err (error_of cause)
 
+-- the result of the edit, or the error of the first cause that holds
 abbrev pub result_of : {A : Type 0} → Edit A → Result A Error
 result_of edit = ok_unless (first_cause edit.tests) edit.result
 
--- the text that the edit leaves of t
+-- the text that the edit leaves of t: t itself if a cause holds
 abbrev pub text_of : {A : Type 0} → Edit A → List ℕ → List ℕ
 text_of edit t = if is_none (first_cause edit.tests) then edit.after else t
 
--- the result is the row's, the text after it is the row's, and after a refusal t stays
+-- the result is the row's, or the error of its first cause; the text after is the row's, or t after a refusal
 pub record Makes {A : Type 0} (edit : Edit A) (t : List ℕ) (result : Result A Error) (new : List ℕ) : Type 0 where
   pub returns : result ≡ result_of edit
   pub ok : OnOk result (new ≡ edit.after)
   pub err : OnErr result (new ≡ t)
 
--- the result of a call that has `OutOfBounds` as its one error
+-- a result as `Makes` takes it, of a call that has `OutOfBounds` as its one error
 abbrev pub from_out_of_bounds : {A E : Type 0} → Result A E → Result A Error
 from_out_of_bounds (Ok value) = Ok value
 from_out_of_bounds (Err e) = Err error.OutOfBounds
 
--- the result of a call that has `Utf8` as its one error
+-- a result as `Makes` takes it, of a call that has `Utf8` as its one error
 abbrev pub from_utf8_error : {A E : Type 0} → Result A E → Result A Error
 from_utf8_error (Ok value) = Ok value
 from_utf8_error (Err e) = Err error.Utf8
 
--- the result of a call that returns a string
+-- a result as `Makes` takes it, of a call that returns a string: by its text
 abbrev pub with_text : Result Stored Error → Result (List ℕ) Error
 with_text (Ok s) = Ok s.text
 with_text (Err e) = Err e
 
--- the first character of a text
+-- the first character of a text, if any
 abbrev pub first_of : List ℕ → Option ℕ
 first_of [] = None
 first_of (c ∷ cs) = Some c
 
--- the last character of a text, and those before it
+-- the last character of a text, if any
 abbrev pub last_of : List ℕ → Option ℕ
 last_of [] = None
 last_of (c ∷ []) = Some c
 last_of (c ∷ d ∷ ds) = last_of (d ∷ ds)
 
+-- the characters before the last
 abbrev pub all_but_last : List ℕ → List ℕ
 all_but_last [] = []
 all_but_last (c ∷ []) = []
 all_but_last (c ∷ d ∷ ds) = c ∷ all_but_last (d ∷ ds)
 
--- a text without the characters at its start that pass, and without those at its end
+-- a text without the characters at its start that pass
 abbrev pub without_leading : (ℕ → Bool) → List ℕ → List ℕ
 without_leading passes [] = []
 without_leading passes (c ∷ cs) = if passes c then without_leading passes cs else c ∷ cs
 
+-- a text without the characters at its end that pass
 abbrev pub without_trailing : (ℕ → Bool) → List ℕ → List ℕ
 without_trailing passes t = reverse (without_leading passes (reverse t))
 
@@ -127,16 +132,16 @@ part t start end = back (front t end) start
 abbrev pub part_in : List ℕ → ℕ → ℕ → Option (List ℕ)
 part_in t start end = if nat_le start end && (boundary t start && boundary t end) then Some (part t start end) else None
 
--- the space, U+0020
+-- whether c is the space, U+0020
 abbrev pub is_space : ℕ → Bool
 is_space c = c == 0x20
 
--- c is in one of these ranges, each given by its first and its last character
+-- whether c is in one of these ranges, each given by its first and its last character
 abbrev pub in_ranges : List (ℕ × ℕ) → ℕ → Bool
 in_ranges [] c = false
 in_ranges ((first, last) ∷ ranges) c = (nat_le first c && nat_le c last) || in_ranges ranges c
 
--- the characters with the property White_Space of the Unicode Standard (UAX #44, file PropList.txt), and no others
+-- whether c has the property White_Space of the Unicode Standard (UAX #44, file PropList.txt)
 unfoldable pub is_white_space : ℕ → Bool
 is_white_space = in_ranges (
     (0x0009, 0x000D) ∷ (0x0020, 0x0020) ∷ (0x0085, 0x0085) ∷ (0x00A0, 0x00A0) ∷ (0x1680, 0x1680)
@@ -145,15 +150,19 @@ is_white_space = in_ranges (
 
 -- the table
 
+-- all of `given` is put at the end
 abbrev pub addition : List ℕ → List ℕ → ℕ → Edit (Unit {0})
 addition t given n = record { tests = no_room (size t + size given) n ∷ []; result = tt; after = t ++ given }
 
+-- what fits of `given` is put at the end
 abbrev pub addition_of_cut : List ℕ → List ℕ → ℕ → Edit (Unit {0})
 addition_of_cut t given n = record { tests = []; result = tt; after = t ++ cut given (n - size t) }
 
+-- the last character is taken out and returned, if there is one
 abbrev pub popping : List ℕ → Edit (Option ℕ)
 popping t = record { tests = []; result = last_of t; after = all_but_last t }
 
+-- all of `given` is put at i
 abbrev pub insertion : List ℕ → ℕ → List ℕ → ℕ → Edit (Unit {0})
 insertion t i given n = record {
   tests = past t i ∷ no_room (size t + size given) n ∷ inside t i ∷ [];
@@ -161,6 +170,7 @@ insertion t i given n = record {
   after = front t i ++ (given ++ back t i);
 }
 
+-- what fits of `given` is put at i
 abbrev pub insertion_of_cut : List ℕ → ℕ → List ℕ → ℕ → Edit (Unit {0})
 insertion_of_cut t i given n = record {
   tests = past t i ∷ inside t i ∷ [];
@@ -168,6 +178,7 @@ insertion_of_cut t i given n = record {
   after = front t i ++ (cut given (n - size t) ++ back t i);
 }
 
+-- the part from i on is dropped; nothing is if i is past the text
 abbrev pub truncation : List ℕ → ℕ → Edit (Unit {0})
 truncation t i = record { tests = inside t i ∷ []; result = tt; after = front t i }
 
@@ -175,7 +186,7 @@ truncation t i = record { tests = inside t i ∷ []; result = tt; after = front 
 abbrev pub trimming : (ℕ → Bool) → List ℕ → Edit (Unit {0})
 trimming passes t = record { tests = []; result = tt; after = without_leading passes (without_trailing passes t) }
 
--- the character that begins at i is taken out
+-- the character that begins at i is taken out and returned
 abbrev pub removal : List ℕ → ℕ → Edit ℕ
 removal t i = record {
   tests = at_end t i ∷ inside t i ∷ [];
@@ -183,20 +194,23 @@ removal t i = record {
   after = front t i ++ drop 1 (back t i);
 }
 
+-- all of the text is dropped
 abbrev pub clearing : Edit (Unit {0})
 clearing = record { tests = []; result = tt; after = [] }
 
--- the part from i on is returned
+-- the part from i on is taken out and returned
 abbrev pub split : List ℕ → ℕ → Edit (List ℕ)
 split t i = record { tests = past t i ∷ inside t i ∷ []; result = back t i; after = front t i }
 
--- a..z become A..Z, and A..Z become a..z
+-- a to z become A to Z
 abbrev pub uppercase : List ℕ → Edit (Unit {0})
 uppercase t = record { tests = []; result = tt; after = map to_ascii_uppercase t }
 
+-- A to Z become a to z
 abbrev pub lowercase : List ℕ → Edit (Unit {0})
 lowercase t = record { tests = []; result = tt; after = map to_ascii_lowercase t }
 
+-- the part between two boundaries is taken out and returned
 abbrev pub draining : List ℕ → ℕ → ℕ → Edit (List ℕ)
 draining t start end = record {
   tests = crossed start end ∷ past t end ∷ inside t start ∷ inside t end ∷ [];
@@ -204,6 +218,7 @@ draining t start end = record {
   after = front t start ++ back t end;
 }
 
+-- the part between two boundaries is replaced by `given`; the size of the text after is to fit
 abbrev pub replacement : List ℕ → ℕ → ℕ → List ℕ → ℕ → Edit (Unit {0})
 replacement t start end given n = record {
   tests = crossed start end ∷ past t end ∷ no_room (size t - (end - start) + size given) n ∷ inside t start ∷ inside t end ∷ [];

@@ -8,13 +8,14 @@ use Rattle.arraystring_base.specs.declared.utf16.Unit16.{Unit16}
 use Rattle.arraystring_base.specs.declared.utf16.Unit16.TheVariants.{Char, Lone}
 use Rattle.arraystring_core.specs.Stored.{Stored}
 
--- the whole text, or why there is none: a fault, or a character that does not fit, whichever comes first
+-- what the strict constructor returns: the whole text, or why there is none: a fault, or a character that does not fit, whichever
+-- comes first
 abbrev pub GivesWhole : Stop → Result Stored Error → Type 0
 GivesWhole (End prefix) result = IsOkAnd result (λ string. string.text ≡ prefix)
 GivesWhole (Fault prefix) result = IsErrAnd result (λ e. e ≡ error.Utf16)
 GivesWhole (Full prefix) result = IsErrAnd result (λ e. e ≡ error.OutOfBounds)
 
--- the prefix that fits, unless a fault comes after it
+-- what the cutting constructor returns: the prefix that fits, but an error if a fault comes directly after it
 abbrev pub GivesPrefix : Stop → Result Stored Utf16 → Type 0
 GivesPrefix (End prefix) result = IsOkAnd result (λ string. string.text ≡ prefix)
 GivesPrefix (Fault prefix) result = IsErr result

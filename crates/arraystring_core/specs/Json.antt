@@ -6,15 +6,15 @@ use Rattle.arraystring_base.specs.Text.{bytes, cut, size}
 use Rattle.arraystring_core.specs.declared.integration.ValueError.{ValueError}
 use Rattle.arraystring_core.specs.declared.integration.ValueError.TheVariants.{NotText, OutOfBounds}
 
--- the JSON text with the characters of t, which are read back (`json_reads_back`, `json_reads_whole`)
+-- the JSON string of t, from which t is read back (`json_reads_back`, `json_reads_whole`)
 abbrev pub json_text : List ℕ → Data
 json_text t = string (bytes t)
 
--- the characters of a JSON text, cut to n bytes; none if the value is not a text
+-- the text of a JSON string, cut to n bytes; none if the value is no string
 abbrev pub text_within : Data → ℕ → Option (List ℕ)
 text_within value n = option_map (λ given. cut (chars given) n) (as_str value)
 
--- the characters of a JSON text, all of them; none if the value is not a text
+-- the text of a JSON string, all of it; none if the value is no string
 abbrev pub whole_text : Data → Option (List ℕ)
 whole_text value = option_map chars (as_str value)
 

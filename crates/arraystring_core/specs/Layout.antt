@@ -10,21 +10,22 @@ stored array start n = record {
   spare = start ∷ (take start array ++ drop n (drop start array));
 }
 
--- an array of `array_size` bytes, of which the n from `start` on are UTF-8 and end within the capacity
+-- what holds of every string: an array of `array_size` bytes, of which the n from `start` on are UTF-8 and end within the capacity
 pub record IsStored (array_size : ℕ) (array : List ℕ) (start n : ℕ) : Type 0 where
   pub within : start + n ≤ cap array_size
   pub length : length array ≡ array_size
   pub utf8 : ∥ IsUtf8 (take n (drop start array)) ∥₁
 
--- the n bytes of the array from `start` on are the text that was removed, and i is a boundary of it
+-- what holds of every `Drain`: the n bytes of the array from `start` on are the removed text, without what was given from the
+-- back, and i is a boundary of it
 pub record IsDrained (array_size : ℕ) (array : List ℕ) (start n i : ℕ) : Type 0 where
   pub in_array : IsStored array_size array start n
   pub at : IsTrue (boundary (stored array start n).text i)
 
--- the start offset of a value, given back
+-- the start offset of a string, read back from what a contract sees of it
 abbrev pub start_of : Stored → ℕ
 start_of v = slice_index v.spare 0
 
--- its array, given back
+-- its array, put together again from that
 abbrev pub array_of : Stored → List ℕ
 array_of v = take (start_of v) (drop 1 v.spare) ++ (bytes v.text ++ drop (start_of v) (drop 1 v.spare))

@@ -3,8 +3,8 @@ use Rattle.std.specs.Prelude.{◌≡◌, ℕ, ◌+◌, min}
 use Rattle.std.specs.declared.ops.Bound.{Bound}
 use Rattle.std.specs.declared.ops.Bound.TheVariants.{Included, Excluded, Unbounded}
 
--- The claim holds of the bounds that the range's methods return: its own if it has bounds, and else some.
--- (An inclusive range that was iterated to its end has none, nor has a range type that does not say which it has.)
+-- a claim holds of the bounds that the methods of a range return: its own if it `has_bounds`, else unknown ones (an inclusive range
+-- that was iterated to its end has none, nor has a range type that does not say which it has)
 pub record OfReturnedBounds {R : Type 0} (has : R → Type 0) (start_of end_of : R → Bound ℕ) (range : R)
     (claim : Bound ℕ → Bound ℕ → Type 0) : Type 0 where
   pub start : Bound ℕ

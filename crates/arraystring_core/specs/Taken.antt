@@ -28,7 +28,8 @@ module _ {U T A : Type 0} (becomes : U → T → Type 0) (steps : T → Option A
   abbrev pub TakesAll : U → List A → Type 0
   TakesAll iter items = (it : T) × becomes iter it × Drains steps it items
 
-  -- the items are all that come, and fit into the room, or all up to the first that no longer fits (`what_comes_past_the_room`)
+  -- the items are all that come, and fit into the room, or all up to the first that no longer fits, and with it
+  -- (`what_comes_past_the_room`)
   abbrev pub Takes : (List A → List ℕ) → U → ℕ → List A → Type 0
   Takes spelled iter room items = (it : T) × becomes iter it
       × ((Drains steps it items × (size (spelled items) ≤ room)) ⊎ ((rest : T) × Yields steps it items rest × IsFirstPast spelled room items))

@@ -14,7 +14,7 @@ abbrev pub Agrees : Command → Said → Said → Type 0
 Agrees command.Capacity r s = ⊤
 Agrees _ r s = r ≡ s
 
--- the replies to each of the commands agree, which come first in both lists
+-- the replies to each of the commands agree; both lists begin with these replies, and may have more
 abbrev pub AllAgree : List Command → List Said → List Said → Type 0
 AllAgree [] rs ss = ⊤
 AllAgree (c ∷ cs) [] ss = ⊥

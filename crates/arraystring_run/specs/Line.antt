@@ -107,7 +107,7 @@ spellings (a ∷ rest) = space ∷ (spelling a ++ spellings rest)
 abbrev pub line_of : Command → List ℕ
 line_of c = word c ++ spellings (arguments c)
 
--- a script can give these arguments: numbers up to 255, scalar values and well-formed texts
+-- each number is at most 255, each character a scalar value, each text well formed (a line feed in it is not excluded)
 abbrev pub AreArguments : List Argument → Type 0
 AreArguments [] = ⊤
 AreArguments (Number n ∷ rest) = (n ≤ 255) × AreArguments rest

@@ -8,7 +8,7 @@ use Rattle.arraystring_run.specs.declared.commands.Command.{Command}
 use Rattle.arraystring_run.specs.declared.player.PlayFault.{PlayFault}
 use Rattle.arraystring_run.specs.declared.player.PlayFault.TheVariants.{BadLine}
 
--- what a fault says if it is a bad line
+-- a claim on k if the fault is `BadLine(k)`, and no claim on another fault
 abbrev pub IfBadLine : PlayFault → (ℕ → Type 0) → Type 0
 IfBadLine (BadLine k) P = P k
 IfBadLine _ P = ⊤

@@ -6,7 +6,7 @@ use Rattle.arraystring_run.specs.Runs.{after, Said, Done, Char, NoChar, Text, No
 use Rattle.arraystring_run.specs.ScriptLines.{ended}
 use Rattle.arraystring_run.specs.declared.commands.Command.{Command}
 
--- the line of a reply
+-- the line of a reply, without its line feed
 abbrev pub printed : Said → List ℕ
 printed Done = codes "done"
 printed (Char c) = codes "char " ++ utf8 c
@@ -16,12 +16,12 @@ printed NoText = codes "no text"
 printed (Number n) = codes "number " ++ decimal n
 printed (Refused e) = codes "refused " ++ error_name e
 
--- the lines of replies
+-- the lines of replies, each with its line feed
 abbrev pub replies_printed : List Said → List ℕ
 replies_printed [] = []
 replies_printed (r ∷ rs) = ended (printed r) ++ replies_printed rs
 
--- the lines of replies, and one of the last text
+-- the lines of replies, and then that of the last text, each with its line feed
 abbrev pub all_printed : List Said → List ℕ → List ℕ
 all_printed rs t = replies_printed rs ++ ended (codes "final " ++ bytes t)
 

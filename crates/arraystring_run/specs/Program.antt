@@ -16,7 +16,7 @@ capacity_named (Some word) =
     if pointwise nat_eq word.now (codes "cache") then Some 63 else
     if pointwise nat_eq word.now (codes "max") then Some 255 else None
 
--- the exit status of a script that was played, or not (docs/scripts.md, Exit status, standard error)
+-- the exit status of a script that was played, or not (docs/scripts.md, Exit status)
 abbrev pub status_of : {A : Type 0} → Result A PlayFault → ℕ
 status_of (Ok _) = 0
 status_of (Err (BadLine k)) = 2
@@ -28,7 +28,7 @@ status_of (Err Write) = 4
 abbrev pub usage_line : List ℕ
 usage_line = ended (codes "usage: arraystring_run small or cache or max")
 
--- the line of a fault
+-- the line of a fault (docs/scripts.md, Exit status)
 abbrev pub fault_line : PlayFault → List ℕ
 fault_line (BadLine k) = ended (codes "bad line " ++ decimal k)
 fault_line Memory = ended (codes "out of memory")
@@ -40,8 +40,8 @@ abbrev pub report_of : {A : Type 0} → Result A PlayFault → List ℕ
 report_of (Ok _) = []
 report_of (Err e) = fault_line e
 
--- what a program did that was given a word: the bytes of its input, those of its output and of its errors before and after,
--- whether each of the three is as it was, and the exit status
+-- what a program did that was given a word, by the exit status: what was written to its output and its errors, and which of input,
+-- output and errors are as before
 pub record IsServed (word : Option (Bor (List ℕ))) (given old new errors_old errors_new : Option (List ℕ))
     (SameInput SameOutput SameErrors : Type 0) (status : ℕ) : Type 0 where
   pub other_word : capacity_named word ≡ None → (status ≡ 2) × SameInput × SameOutput × AppendsPrefix errors_old errors_new usage_line

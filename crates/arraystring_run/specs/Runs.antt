@@ -9,7 +9,7 @@ use Rattle.arraystring_run.specs.declared.commands.Command.TheVariants as comman
 use Rattle.arraystring_run.specs.declared.commands.Reply.{Reply}
 use Rattle.arraystring_run.specs.declared.commands.Reply.TheVariants as reply
 
--- a reply, with a string seen as its text
+-- a reply as contracts see it: a string in it by its text
 pub data Said : Type 0 where
   Done : Said
   Char : ℕ → Said
@@ -19,6 +19,7 @@ pub data Said : Type 0 where
   Number : ℕ → Said
   Refused : Error → Said
 
+-- what contracts see of a reply
 abbrev pub said : {N : ℕ} → Reply N → Said
 said reply.Done = Done
 said (reply.Char c) = Char c
@@ -33,10 +34,11 @@ pub record Edited : Type 0 where
   pub reply : Said
   pub text : List ℕ
 
+-- this reply, and this text that is left
 abbrev pub leaves : Said → List ℕ → Edited
 leaves r t = record { reply = r; text = t }
 
--- a result as a reply
+-- the reply of a result: of its value, or `Refused` with its error
 abbrev pub reply_of : {A : Type 0} → (A → Said) → Result A Error → Said
 reply_of say (Ok value) = say value
 reply_of say (Err e) = Refused e
@@ -49,10 +51,12 @@ made say row t = leaves (reply_of say (result_of row)) (text_of row t)
 abbrev pub done : Edit (Unit {0}) → List ℕ → Edited
 done row t = made (λ _. Done) row t
 
+-- the reply `Char`, or `NoChar` if there is none
 abbrev pub char_or_none : Option ℕ → Said
 char_or_none None = NoChar
 char_or_none (Some c) = Char c
 
+-- the reply `Text`, or `NoText` if there is none
 abbrev pub text_or_none : Option (List ℕ) → Said
 text_or_none None = NoText
 text_or_none (Some t) = Text t
@@ -96,14 +100,16 @@ abbrev pub is_out_of_bounds : {A : Type 0} → Result A Error → Bool
 is_out_of_bounds (Err OutOfBounds) = true
 is_out_of_bounds _ = false
 
--- whether the first cause that holds is `Room`
+-- whether a cause is `Room`
 abbrev pub is_room : Option Cause → Bool
 is_room (Some Room) = true
 is_room _ = false
 
+-- whether the first cause of a row that holds is `Room`
 abbrev pub lacks_room : {A : Type 0} → Edit A → Bool
 lacks_room row = is_room (first_cause row.tests)
 
+-- whether no cause of a row holds
 abbrev pub is_made : {A : Type 0} → Edit A → Bool
 is_made row = is_none (first_cause row.tests)
 
@@ -127,6 +133,7 @@ pub record Ran : Type 0 where
   pub replies : List Said
   pub text : List ℕ
 
+-- the replies of a run of commands at the capacity n, and the text that it leaves of t
 abbrev pub after : List Command → List ℕ → ℕ → Ran
 after [] t n = record { replies = []; text = t }
 after (c ∷ cs) t n =

@@ -31,8 +31,8 @@ abbrev pub first_byte : ℕ → List (List ℕ) → List (List ℕ)
 first_byte b [] = (b ∷ []) ∷ []
 first_byte b (line ∷ rest) = (b ∷ line) ∷ rest
 
--- the lines of an input, without their line feeds (`lines_of_input`); the last may lack its own, no bytes have no lines, and a line
--- feed alone is one empty line
+-- the lines of an input, without their line feeds (`lines_of_input`); the last may lack its own, an empty input has no line, and a
+-- line feed alone is one empty line
 abbrev pub lines : List ℕ → List (List ℕ)
 lines [] = []
 lines (b ∷ bs) = if b == line_feed then [] ∷ lines bs else first_byte b (lines bs)
@@ -44,7 +44,7 @@ AreLinesOf [] (c ∷ cs) = ⊥
 AreLinesOf (line ∷ rest) [] = ⊥
 AreLinesOf (line ∷ rest) (c ∷ cs) = IsLineOf line c × AreLinesOf rest cs
 
--- the lines before line k, from 1, are those of commands, and line k is that of no command (`one_bad_line`)
+-- line k, counted from 1, is that of no command, and the lines before it are those of commands (`one_bad_line`)
 pub record IsBadAt (all : List (List ℕ)) (k : ℕ) : Type 0 where
   pub front : List (List ℕ)
   pub commands : List Command

@@ -2,7 +2,7 @@
 use Rattle.std.specs.Prelude.{◌≡◌, ℕ, List, ◌++◌, Option}
 use Rattle.std.specs.Io.KnownBytes.{Appends}
 
--- some prefix of bs was appended
+-- some prefix of bs was appended, perhaps none of it or all
 pub record AppendsPrefix (old new : Option (List ℕ)) (bs : List ℕ) : Type 0 where
   pub done : List ℕ
   pub later : List ℕ

@@ -12,7 +12,7 @@ fault_name Count = codes "Count"
 fault_name Utf8 = codes "Utf8"
 fault_name Padding = codes "Padding"
 
--- the name of why two texts are no user
+-- the name of the case of a user fault, which says why two texts are no user
 abbrev pub user_fault_name : UserFault → List ℕ
 user_fault_name Username = codes "Username"
 user_fault_name Role = codes "Role"

@@ -9,7 +9,7 @@ use Rattle.bounded_records.specs.declared.record.RecordFault.TheVariants.{Length
 abbrev pub field_of : ℕ → List ℕ → List ℕ
 field_of room text = size text ∷ (bytes text ++ replicate (room - size text) 0)
 
--- the record of a user: the username in a field for 20 bytes, the role in one for 5
+-- the record of a user: the username in a field for 20 bytes, the role in one for 5 (CALLING.md, The record)
 abbrev pub record_of : List ℕ → List ℕ → List ℕ
 record_of username role = field_of 20 username ++ field_of 5 role
 
@@ -21,11 +21,11 @@ pub record IsRecord (record_bytes username role : List ℕ) : Type 0 where
   pub role_fits : size role ≤ 5
   pub same : record_bytes ≡ record_of username role
 
--- the first field of 27 bytes: 21 of them
+-- the field of the username: the first 21 of 27 bytes
 abbrev pub username_field : List ℕ → List ℕ
 username_field bs = take 21 bs
 
--- the second field: the other six
+-- the field of the role: the other six
 abbrev pub role_field : List ℕ → List ℕ
 role_field bs = drop 21 bs
 
@@ -33,15 +33,15 @@ role_field bs = drop 21 bs
 abbrev pub count : List ℕ → ℕ
 count field = slice_index field 0
 
--- the bytes of a field that it counts
+-- the bytes of a field that are counted: so many as its first byte says, after it
 abbrev pub counted : List ℕ → List ℕ
 counted field = take (count field) (drop 1 field)
 
--- the bytes of a field after those
+-- the bytes of a field after the counted ones
 abbrev pub padding : List ℕ → List ℕ
 padding field = drop (1 + count field) field
 
--- the first of four tests: there are 27 bytes
+-- the first of the four tests of `decode`: there are 27 bytes
 abbrev pub HasLength : List ℕ → Type 0
 HasLength bs = length bs ≡ 27
 

@@ -14,7 +14,7 @@ texts user = (user.username.text, user.role.text)
 abbrev pub names_of : List (List ℕ × List ℕ) → List (List ℕ)
 names_of users = map (λ user. user.0) users
 
--- the entries of a map from strings to users, by the texts of both
+-- the entries of a map from strings to users, by the texts of both, as contracts see a `Directory`
 abbrev pub by_text : List (Stored × User) → List (List ℕ × (List ℕ × List ℕ))
 by_text entries = map (λ e. (e.0.text, texts e.1)) entries
 

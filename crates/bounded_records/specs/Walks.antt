@@ -8,16 +8,16 @@ use Rattle.bounded_records.specs.declared.user.User.{User}
 use Rattle.bounded_records.specs.Users.{texts}
 
 module _ {A B : Type 0} (view : A → B) where
-  -- each run of `next` gives what was left, seen by `view`, in order
+  -- the items of each run of `next`, seen by `view`, are the first of what was left, in order; all, if the run went on to `None`
   abbrev pub GivesInOrder : Type 0
   GivesInOrder = EveryRun (YieldsFirstBy view (λ left. left)) (λ run. ItemsMapTo run view run.from)
 
-  -- each run of `next_back` gives it in reverse
+  -- the items of each run of `next_back`, seen by `view`, are the last of what was left, in reverse; all, if it went on to `None`
   abbrev pub GivesInReverse : Type 0
   GivesInReverse = EveryRun (YieldsLastBy view (λ left. left)) (λ run. ItemsMapToReversed run view run.from)
 
 module _ {A B : Type 0} (view : A → B) where
-  -- a whole run of `next`, each of whose items is copied out of its reference, gives what was left in order
+  -- the items of a whole run of `next`, copied out of their references and seen by `view`, are what was left, in order
   abbrev pub GivesCopiesInOrder : Type 0
   GivesCopiesInOrder =
       EveryRun (YieldsFirstBy (λ (item : Bor A). view item.now) (λ left. left))
