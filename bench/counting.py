@@ -1,9 +1,7 @@
-"""Counts the instructions of calls by callgrind, for both benches: that of the proved build, and that of the Rust crate."""
-import argparse
+"""Counts the instructions of calls by callgrind: those of the port, which is the proved build, of the Rust crate, and of peers."""
 import os
 import re
 import subprocess
-import tempfile
 from pathlib import Path
 
 BENCH = Path(__file__).resolve().parent
@@ -58,19 +56,9 @@ ROWS = [
     ("`Hash`", "hash", "middle"),
 ]
 LOOKUPS = ["found", "missed"]
-
-
-def arguments(says, folder, *flags):
-    """What a bench is told to do: one of the flags or `--curves NAMES`, and the folder to build in."""
-    parser = argparse.ArgumentParser(description=says, formatter_class=argparse.RawDescriptionHelpFormatter)
-    what = parser.add_mutually_exclusive_group()
-    for flag in flags:
-        what.add_argument(flag, action="store_true")
-    what.add_argument("--curves", metavar="NAMES", type=lambda names: [] if names == "all" else names.split(","))
-    parser.add_argument("folder", nargs="?", type=Path, default=Path(tempfile.gettempdir()) / f"{folder}-{os.getuid()}")
-    given = parser.parse_args()
-    given.folder = given.folder.resolve()
-    return given
+# The sides of a table, and the peers of those that are ours. (The kit's arrayvec is proved, as the port is.)
+SIDES = ["port", "crate", "String", "arrayvec", "kit"]
+PEERS = {"port": ["String", "arrayvec", "kit", "plain", "by parts"], "crate": ["String", "arrayvec"]}
 
 
 def written(*command):
@@ -121,39 +109,54 @@ def is_more(counted, best):
     return counted > best * 1.1 + 3
 
 
+def best(counts, side):
+    """The least count of the peers of a side, or None."""
+    return min((counts[it] for it in PEERS.get(side, []) if counts.get(it) is not None), default=None)
+
+
+def is_behind(counts, side):
+    return None not in (counts.get(side), best(counts, side)) and is_more(counts[side], best(counts, side))
+
+
 def cell(counts):
-    """Counts side by side, the first bold where it is more than the least of the others. None is no count."""
-    first, *others = ["–" if it is None else str(it) for it in counts]
-    is_behind = counts[0] is not None and is_more(counts[0], min(it for it in counts[1:] if it is not None))
-    return "/".join([f"**{first}**" if is_behind else first, *others])
+    """The counts of sides, side by side, bold where a side is behind its peers. None is no count."""
+    marks = {side: "**" * is_behind(counts, side) for side in counts}
+    return "/".join("–" if it is None else f"{marks[side]}{it}{marks[side]}" for side, it in counts.items()) or "–"
 
 
-def table(title, columns, rows, behind=""):
-    """Prints a table, and in how many cells the first side is behind, as they say by bold type, if it is said behind what."""
+def table(title, columns, rows):
     print(f"\n|{title}|" + "|".join(map(str, columns)) + "|")
     print("|---|" + "---|" * len(columns))
     for name, cells in rows:
-        print(f"|{name}|" + "|".join(cells) + "|")
-    made = [it for _, cells in rows for it in cells if it != "–"]
-    if behind:
-        print(f"\nBehind {behind}: {sum(it.startswith('**') for it in made)} of {len(made)} cells.")
+        print(f"|{name}|" + "|".join(map(str, cells)) + "|")
 
 
-class Sides:
-    """The sides of a bench, of which the first is compared with the others. `marks` has for each what a line of callgrind has
-    that names one of its functions. Others may have a mark too, and none in the tables."""
+def table_of_counts(title, columns, rows):
+    """Prints a table whose cells are counts by side, and in how many of them the sides that are ours are behind."""
+    table(title, columns, [(name, map(cell, cells)) for name, cells in rows])
+    made = [it for _, cells in rows for it in cells if it]
+    tell_behind({side: sum(is_behind(it, side) for it in made) for side in PEERS if side in made[0]}, f"{len(made)} cells")
 
-    def __init__(self, names, marks):
-        self.names, self.marks = names, marks
+
+def tell_behind(numbers, all_of_them, more="a tenth and three instructions"):
+    told = ", ".join(f"the {side} in {number}" for side, number in numbers.items())
+    print(f"\nBehind the best peer, {more}: {told} of {all_of_them}.")
+
+
+class Drive:
+    """A program that makes the calls. `marks` has for each side what a line of callgrind has that names one of its functions."""
+
+    def __init__(self, program, folder, marks):
+        self.program, self.folder, self.marks = program, folder, marks
 
     def of(self, line):
         """Whose function a line of callgrind names."""
         return next(side for side, mark in self.marks.items() if mark in line)
 
-    def count(self, drive, folder, capacity, text, place):
+    def count(self, capacity, text, place):
         """The instructions of one call, all that it calls included, by side and name."""
-        command = ["--compress-strings=no", "--compress-pos=no", drive, str(capacity), text, place, str(TIMES)]
-        out, log = folder / "callgrind.out", folder / "valgrind.log"
+        command = ["--compress-strings=no", "--compress-pos=no", self.program, str(capacity), text, place, str(TIMES)]
+        out, log = self.folder / "callgrind.out", self.folder / "valgrind.log"
         return least([self.counted(under("callgrind", out, log, command, place=it)) for it in STACK_PLACES])
 
     def counted(self, told):
@@ -173,21 +176,21 @@ class Sides:
                 callee, calls = None, 0
         return {key: round(total / calls) for key, (calls, total) in counts.items()}
 
-    def count_titled(self, drive, folder, capacity, mode, times=TIMES, names=()):
+    def count_titled(self, capacity, mode, times=TIMES, names=()):
         """The instructions of each edge, of each short text, of each length or of a lookup, by side and title."""
-        words = [drive, str(capacity), "ascii", mode]
+        words = [self.program, str(capacity), "ascii", mode]
         titles = written(*words, "1", *names).splitlines()
         command = ["--compress-strings=no", "--compress-pos=no", "--dump-before=*::next_edge*", *words, str(times), *names]
-        return least([self.by_title(folder, mode, titles, command, place) for place in STACK_PLACES])
+        return least([self.by_title(mode, titles, command, place) for place in STACK_PLACES])
 
-    def by_title(self, folder, mode, titles, command, place):
+    def by_title(self, mode, titles, command, place):
         """The same at a place of the stack."""
-        out = folder / f"{mode}.out"
-        for part in folder.glob(f"{out.name}*"):
+        out = self.folder / f"{mode}.out"
+        for part in self.folder.glob(f"{out.name}*"):
             part.unlink()
-        under("callgrind", out, folder / "valgrind.log", command, place=place)
+        under("callgrind", out, self.folder / "valgrind.log", command, place=place)
         # (the first part is what comes before the first edge, and the last one has no number)
-        parts = [*(folder / f"{out.name}.{number}" for number in range(2, len(titles) + 1)), out]
+        parts = [*(self.folder / f"{out.name}.{number}" for number in range(2, len(titles) + 1)), out]
         return {
             (side, title): count
             for title, part in zip(titles, parts)
@@ -196,7 +199,7 @@ class Sides:
             if name != "remove" or mode != "short"
         }
 
-    def cell(self, counted, name):
-        """The counts of all sides; – where the first has none."""
-        counts = [counted.get((side, name)) for side in self.names]
-        return "–" if counts[0] is None else cell(counts)
+
+def by_side(counted, name, sides):
+    """The counts of a call by side; nothing where the first side has none."""
+    return {it: counted.get((it, name)) for it in sides} if (sides[0], name) in counted else {}

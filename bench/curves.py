@@ -1,8 +1,7 @@
-"""Counts calls at each length, for both benches, and draws that. A curve is what the sides take for a call at a capacity: by side
-and length."""
+"""Counts calls at each length, and draws that. A curve is what the sides take for a call at a capacity: by side and length."""
 import statistics
 
-from counting import CAPACITIES, is_more, table
+from counting import CAPACITIES, PEERS, SIDES, best, cell, is_behind, table, tell_behind
 
 TIMES = 5
 
@@ -15,21 +14,23 @@ CALLS = [
 CAPACITY = 255
 WIDTH, HEIGHT, MARGIN, LEFT, TOP = 250, 170, 14, 40, 34
 FOOT = HEIGHT - 24
-LINES = [("#0b5cad", ""), ("#b3541e", "5 3"), ("#2c7a3f", "2 2"), ("#777777", "8 3 2 3")]
+LINES = dict(zip(SIDES, [("#0b5cad", ""), ("#6fa8dc", ""), ("#b3541e", "5 3"), ("#2c7a3f", "2 2"), ("#777777", "8 3 2 3")]))
 
 
-def curves(sides, drive, folder, names=()):
-    """The curves of the calls of these names, or of all, by title and capacity. All lengths are put into FOLDER/curves.txt."""
+def curves(drives, folder, names=()):
+    """The curves of the calls of these names, or of all, by title and capacity, of the sides that the drives have. What two of them
+    have is the last one's. All lengths are put into FOLDER/curves.txt."""
     found = {}
-    for capacity in CAPACITIES:
-        for (side, title), count in sides.count_titled(drive, folder, capacity, "curves", TIMES, names).items():
-            call, size = title.split("|")
-            found.setdefault(call, {}).setdefault(capacity, {}).setdefault(side, {})[int(size)] = count
+    for drive in drives:
+        for capacity in CAPACITIES:
+            for (side, title), count in drive.count_titled(capacity, "curves", TIMES, names).items():
+                call, size = title.split("|")
+                found.setdefault(call, {}).setdefault(capacity, {}).setdefault(side, {})[int(size)] = count
     with (folder / "curves.txt").open("w") as out:
         for call, capacity, curve in each(found):
-            for size, pair in pairs(sides, curve).items():
-                told = "/".join(str(curve[it][size]) for it in sides.names if it in curve)
-                print(f"{call} at {capacity}, {size}: {told}{' behind' * is_more(*pair)}", file=out)
+            for size, counts in by_length(curve).items():
+                late = "".join(f" {side} behind" for side in PEERS if is_behind(counts, side))
+                print(f"{call} at {capacity}, {size}: {'/'.join(map(str, counts.values()))}{late}", file=out)
     return found
 
 
@@ -37,33 +38,41 @@ def each(found):
     return [(call, capacity, curve) for call, by_capacity in found.items() for capacity, curve in by_capacity.items()]
 
 
-def pairs(sides, curve):
-    """What the first side and the best of the others take, by length."""
-    first, *others = sides.names
-    peers = [curve[it] for it in others if it in curve]
-    return {size: (count, min(it[size] for it in peers)) for size, count in curve[first].items()}
+def by_length(curve):
+    """The counts of the sides that have the call, by length."""
+    sides = [it for it in SIDES if it in curve]
+    return {size: {it: curve[it][size] for it in sides} for size in curve[sides[0]]}
 
 
-def behind(sides, curve):
-    """How many lengths the first side is behind at."""
-    return sum(is_more(*pair) for pair in pairs(sides, curve).values())
+def means(curve, sides):
+    return {it: round(statistics.mean(curve[it].values())) if it in curve else None for it in sides}
 
 
-def cell(sides, curve):
-    """The means of all sides, the length at which the first is worst beside the best of the others, and where it is behind."""
-    means = {(side, "mean"): round(statistics.mean(counts.values())) for side, counts in curve.items()}
-    both, late = pairs(sides, curve), behind(sides, curve)
-    size, (count, best) = max(both.items(), key=lambda it: it[1][0] / it[1][1])
-    return f"{sides.cell(means, 'mean')} {count / best:.2f}@{size}{f' ({late})' if late else ''}"
+def worst(curve, side):
+    """The greatest ratio of a side to the best of its peers, and its length."""
+    ratio, size = max(((it[side] / best(it, side)), -size) for size, it in by_length(curve).items())
+    return f"{ratio:.2f}@{-size}"
 
 
-def tell_curves(sides, found):
-    table("Mean: " + "/".join(sides.names) + " worst@length (behind)", CAPACITIES, [
-        (call, [cell(sides, by_capacity[capacity]) for capacity in CAPACITIES]) for call, by_capacity in found.items()
-    ])
-    late = sum(behind(sides, curve) for *_, curve in each(found))
-    lengths = sum(len(curve[sides.names[0]]) for *_, curve in each(found))
-    print(f"\nBehind the best peer, a tenth and three instructions: {late} of {lengths} lengths.")
+def behind(curve, side):
+    """How many lengths a side is behind at."""
+    return sum(is_behind(it, side) for it in by_length(curve).values())
+
+
+def tell_curves(found):
+    """For each call the means, and of our sides where they are worst and how often they are behind."""
+    sides = [it for it in SIDES if any(it in curve for *_, curve in each(found))]
+    ours = [it for it in PEERS if it in sides]
+
+    def row(by_capacity):
+        curves = [by_capacity[it] for it in CAPACITIES]
+        late = ["/".join(f"{behind(curve, it)}" for it in ours) for curve in curves]
+        return [*(cell(means(it, sides)) for it in curves), *("/".join(worst(it, side) for side in ours) for it in curves), *late]
+
+    columns = [*CAPACITIES, *(f"{what} {it}" for what in ["worst", "behind"] for it in CAPACITIES)]
+    table(f"Mean: {'/'.join(sides)}", columns, [(call, row(by_capacity)) for call, by_capacity in found.items()])
+    lengths = sum(len(by_length(curve)) for *_, curve in each(found))
+    tell_behind({side: sum(behind(curve, side) for *_, curve in each(found)) for side in ours}, f"{lengths} lengths")
 
 
 def text(across, down, words, more=""):
@@ -92,19 +101,19 @@ def panel(title, sides):
     return "".join([text(LEFT, 18, title.replace("`", ""), ' font-weight="bold"'), axes, *ticks, *scale, *drawn])
 
 
-def drawing(names, found):
-    """The drawing, as SVG: a panel for each call, with the sides of these names."""
+def drawing(found):
+    """The drawing, as SVG: a panel for each call."""
     panels = []
     for place, title in enumerate(CALLS):
-        counts = found[title][CAPACITY]
-        sides = [(line, counts[name]) for line, name in zip(LINES, names) if name in counts]
+        curve = found[title][CAPACITY]
+        sides = [(line, curve[name]) for name, line in LINES.items() if name in curve]
         where = f"translate({WIDTH * (place % 3)},{30 + HEIGHT * (place // 3)})"
         panels.append(f'<g transform="{where}">{panel(title, sides)}</g>\n')
     head = text(LEFT, 18, f"Instructions of a call by length, at {CAPACITY} bytes:")
     keys = "".join(
-        text(330 + 100 * place, 18, name, f' fill="{colour}"')
-        + f'<path d="M{330 + 100 * place},24 h60" stroke="{colour}" stroke-width="2" stroke-dasharray="{dashes}"/>'
-        for place, ((colour, dashes), name) in enumerate(zip(LINES, names))
+        text(330 + 80 * place, 18, name, f' fill="{colour}"')
+        + f'<path d="M{330 + 80 * place},24 h50" stroke="{colour}" stroke-width="2" stroke-dasharray="{dashes}"/>'
+        for place, (name, (colour, dashes)) in enumerate(LINES.items())
     )
     size = f'width="{3 * WIDTH}" height="{30 + HEIGHT * len(CALLS) // 3}"'
     return (

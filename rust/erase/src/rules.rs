@@ -456,7 +456,7 @@ pub const GIVEN_UP: &[&str] = &[
 pub const WRITES: &[&str] = &["make_ascii_uppercase", "make_ascii_lowercase"];
 
 /// The clauses that stand at the start of a body as known, by their function and their name, if they have one. An access needs
-/// none, since it has no test. This one is for cells of rust/bench/cells.md at 255: without it `try_insert`, `try_insert_str`,
+/// none, since it has no test. This one is for cells of docs/speed.md at 255: without it `try_insert`, `try_insert_str`,
 /// `replace_range` and `remove` in the middle take some twenty instructions more.
 pub const KNOWN: &[(&str, &str)] = &[("moves::move_pairs", "source")];
 
@@ -468,7 +468,7 @@ pub struct Once {
 }
 
 /// Workers that are large stand once where code is made small, which takes a quarter of its bytes there. They have no
-/// `#[inline]` either, since at `s` that counts as much as at 3. Three more cells of rust/bench/cells.md are behind so, all at
+/// `#[inline]` either, since at `s` that counts as much as at 3. Three more cells of docs/speed.md are behind so, all at
 /// 255; without `always` elsewhere, too, there are more. `shift` only counts, and calls one.
 pub const ONCE: &[Once] = &[Once { file: "arraystring_base/src/moves.rt", but: &["shift"] }];
 
