@@ -264,7 +264,7 @@ pub fn short_cases(capacity: usize) -> Vec<(String, u8, Case)> {
             if size > 0 {
                 add("first", front, format!("z{}", &text[1..]));
                 add("last", front, format!("{}z", &text[..size - 1]));
-                add("behind", behind, format!("{}z", &text[..size - 1]));
+                add("end", behind, format!("{}z", &text[..size - 1]));
             }
         }
     }

@@ -104,9 +104,9 @@ def least(counts):
     return {key: min(it[key] for it in counts) for key in counts[0]}
 
 
-def is_more(counted, best):
+def is_more(counted, other):
     """Whether a count is more than another, a tenth and three instructions."""
-    return counted > best * 1.1 + 3
+    return counted > other * 1.1 + 3
 
 
 def best(counts, side):
@@ -138,9 +138,9 @@ def table_of_counts(title, columns, rows):
     tell_behind({side: sum(is_behind(it, side) for it in made) for side in PEERS if side in made[0]}, f"{len(made)} cells")
 
 
-def tell_behind(numbers, all_of_them, more="a tenth and three instructions"):
+def tell_behind(numbers, all_of_them):
     told = ", ".join(f"the {side} in {number}" for side, number in numbers.items())
-    print(f"\nBehind the best peer, {more}: {told} of {all_of_them}.")
+    print(f"\nBehind the best peer: {told} of {all_of_them}.")
 
 
 class Drive:

@@ -1,5 +1,6 @@
 """Counts calls at each length, and draws that. A curve is what the sides take for a call at a capacity: by side and length."""
 import statistics
+import sys
 
 from counting import CAPACITIES, PEERS, SIDES, best, cell, is_behind, table, tell_behind
 
@@ -26,6 +27,8 @@ def curves(drives, folder, names=()):
             for (side, title), count in drive.count_titled(capacity, "curves", TIMES, names).items():
                 call, size = title.split("|")
                 found.setdefault(call, {}).setdefault(capacity, {}).setdefault(side, {})[int(size)] = count
+    if not found:
+        sys.exit(f"no call has one of these names: {', '.join(names)}")
     with (folder / "curves.txt").open("w") as out:
         for call, capacity, curve in each(found):
             for size, counts in by_length(curve).items():
@@ -61,7 +64,7 @@ def behind(curve, side):
 
 def tell_curves(found):
     """For each call the means, and of our sides where they are worst and how often they are behind."""
-    sides = [it for it in SIDES if any(it in curve for *_, curve in each(found))]
+    sides = [it for it in SIDES if it == "arrayvec" or any(it in curve for *_, curve in each(found))]
     ours = [it for it in PEERS if it in sides]
 
     def row(by_capacity):
