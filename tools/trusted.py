@@ -3,7 +3,7 @@
 tools/run trusted           how many definitions the contract of `run` reaches, and how many lines they have; then the same of all
                             public contracts of the LIBRARIES, and of all that there are
 tools/run trusted --list    also prints them with their comments in the order in which to read them: those of `run`, the others of
-                            public contracts, and those that laws and inner contracts alone name
+                            public contracts of the LIBRARIES, and the rest
 
 A definition is an `abbrev`, `unfoldable`, `data` or `record` of a module of specs/, but no `abbrev` of an equation or of a
 comparison. Its lines go from its name to its last clause, without comments and blank lines. What std defines is none, nor what
