@@ -1,11 +1,9 @@
 // Made from crates/arraystring/src/lib.rt by rust/erase. A change goes there.
-//! `ArrayString`, a string of bounded size in an array inside the value, under all its paths.
-//! Its tests are in `tests`, beside `src`.
-//!
-//! The calls are those of [`ArrayString`]. What is proved of each folds out under *Contract*: [`contracts`] says how to read it, and
-//! [`trust`] what it rests on.
-//!
 #![doc = include_str!("../README.md")]
+//!
+//! # Pages
+//!
+//! [`contracts`] says how to read a contract, and [`trust`] what is proved and what has to be trusted.
 #![no_std]
 #![deny(unsafe_op_in_unsafe_fn, missing_docs)]
 

@@ -31,13 +31,13 @@ pub const BY_HAND: &[(&str, &str)] = &[
     ("by_hand/count_tests.rs", "tests"),
 ];
 
-/// What the Rust crate begins with, behind the documentation of its root.
+/// What the Rust crate begins with, in place of the documentation of its root, which speaks of the proved crate.
 pub const ROOT: &str = "\
-//!
-//! The calls are those of [`ArrayString`]. What is proved of each folds out under *Contract*: [`contracts`] says how to read it, and
-//! [`trust`] what it rests on.
-//!
 #![doc = include_str!(\"../README.md\")]
+//!
+//! # Pages
+//!
+//! [`contracts`] says how to read a contract, and [`trust`] what is proved and what has to be trusted.
 #![no_std]
 #![deny(unsafe_op_in_unsafe_fn, missing_docs)]
 
@@ -770,13 +770,6 @@ pub const REPLACED: &[Replaced] = &[
         to: "pub use crate::moves::{shift, write_over};",
         here: None,
         why: "nothing of the crate moves without a count, and no program reaches it",
-    },
-    Replaced {
-        file: "arraystring/src/lib.rt",
-        from: "//! Its tests are in `crates/arraystring_tests`.",
-        to: "//! Its tests are in `tests`, beside `src`.",
-        here: None,
-        why: "the Rust crate has tests of its own",
     },
     Replaced {
         file: "arraystring_base/src/steps.rt",

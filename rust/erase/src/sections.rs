@@ -174,7 +174,7 @@ impl File<'_, '_> {
         Some(format!("crate::{of}::{name}"))
     }
 
-    /// Puts the attributes and modules of the root behind its documentation.
+    /// Puts what the Rust crate begins with in place of the documentation of the root.
     pub fn root(&mut self) -> Result<(), Fault> {
         if self.source.path != "arraystring/src/lib.rt" {
             return Ok(());
@@ -183,7 +183,7 @@ impl File<'_, '_> {
         if end == 0 {
             return Err(Fault::new(0, "a root without documentation"));
         }
-        self.edits.insert(end, ROOT);
+        self.edits.replace(0..end, ROOT);
         Ok(())
     }
 }

@@ -234,14 +234,12 @@ fn a_function_that_gives_up_a_clause_keeps_its_tests_unless_a_rule_has_it() {
 }
 
 #[test]
-fn the_root_has_its_modules_behind_its_documentation() {
+fn the_root_has_the_page_of_the_rust_crate_in_place_of_its_own_documentation() {
     let source = "//! The root.\n//! Its tests are in `crates/arraystring_tests`.\n\nmod cache_string;\n";
-    let parts = [
-        "//! The root.\n//! Its tests are in `tests`, beside `src`.\n//!\n//! The calls are those of",
-        "//!\n#![doc = include_str!",
-        "#![no_std]\n",
-    ];
+    let parts = ["#![doc = include_str!", "#![no_std]\n", "\nmod cache_string;\n"];
     has("arraystring/src/lib.rt", source, &parts);
+    let made = made_as("arraystring/src/lib.rt", source).unwrap();
+    assert!(!made.contains("The root.") && !made.contains("Its tests"), "{made}");
     let why = made_as("arraystring/src/lib.rt", &source.replace("//! The root.\n", "\n")).unwrap_err();
     assert_eq!(why, "a root without documentation");
 }

@@ -1,0 +1,10 @@
+//! The program that both pages begin with. A comment says what a line prints.
+
+use arraystring::ArrayString;
+
+fn main() {
+    let mut name = ArrayString::<8>::from("Zoé"); // `é` takes two bytes
+    println!("{:?}", name.try_push_str(" Amélie")); // prints: Err(OutOfBounds)
+    name.push_str(" Amélie"); // keeps the whole characters that fit
+    println!("{name} has {} bytes", name.len()); // prints: Zoé Am has 7 bytes
+}
