@@ -99,12 +99,7 @@ impl<const N: usize> ArrayString<N> {
         ensures { OfReturnedBounds R.has_bounds R.start_bound R.end_bound range (λ start end. let t = self.old.text in
             Makes (draining t (saturated_start start) (saturated_end end (size t))) t (with_left result) self.new.text) }
     {
-        let (start, end) = saturating_ends(range, self.len());
-        self.check_part(start, end)?;
-        // Made here, and not in a function that both calls share: each one would copy the array once more.
-        let removed = Drain::new(self.array, self.start + start, end - start);
-        self.take_out(start as usize, end as usize, &mut Steps::new());
-        Ok(removed)
+        self.drain_counted(range, &mut Steps::new())
     }
 
     /// Drains as `drain` does, with the bytes that it moves counted in `steps`. They are no more than
