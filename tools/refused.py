@@ -18,8 +18,8 @@ from concurrent.futures import ThreadPoolExecutor
 from pathlib import Path
 from typing import NamedTuple
 
-# How many builds there are at a time; each takes one processor and {MEMORY}.
-JOBS = 2
+# How many builds there are at a time; each takes 750 MB, and a processor for half a minute.
+JOBS = 3
 
 
 class Answer(NamedTuple):

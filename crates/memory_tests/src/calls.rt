@@ -67,13 +67,12 @@ fn make_value(rt: &(impl Print + AllocGlobal), text: &str) -> io::Result<()> {
 fn make_directory(rt: &(impl Print + AllocGlobal)) -> io::Result<()> {
     let mut users = Directory::new(rt.alloc());
     for letter in 'a'..='x' {
-        let user = user_of(letter);
-        if users.insert(user).is_err() {
+        if users.insert(user_of(letter)).is_err() {
             println!(rt;
                 "insert: {letter} is refused, the users are {}",
                 listed(&users)
             )?;
-            if users.insert(user).is_err() {
+            if users.insert(user_of(letter)).is_err() {
                 println!(rt; "insert: {letter} is refused again")?;
             }
         }
