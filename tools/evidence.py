@@ -27,7 +27,8 @@ import repository
 import sources
 from repository import closed
 
-FOR_TESTS = {"test_support"}  # only tests call it: a wrong body there is seen by its own tests and theirs
+# Only tests call test_support, and memory_tests is one: what is wrong there its own tests and theirs see, or `tools/run refused`.
+FOR_TESTS = {"test_support", "memory_tests"}
 
 # They borrow what they speak of, so that the prover has the fact. Without the borrow they are as true.
 LAWS_THAT_BORROW = {"text_fits", "text_spelled", "left_fits"}
