@@ -2,6 +2,8 @@
 
 A line `# right: TEXT` behind a `new:` has the text that a control of the edit has there. Where there is none, a control has the
 new text too. `rt must-fail` takes the line for a comment.
+
+A long line is put in piece by piece: a `new:` text ends in the word MORE, which is the `old:` text of the next pair.
 """
 import re
 import shutil

@@ -34,8 +34,6 @@ FOR_TESTS = {"test_support", "memory_tests"}
 LAWS_THAT_BORROW = {"text_fits", "text_spelled", "left_fits"}
 # What the prover says before the values at which a goal is false; the log cuts it off somewhere behind.
 VALUES = "the goal does not follow from what it read. All of"
-# Of this one `rt` tells a stored proof first, and leaves a goal of src/ open as well. A control would show more.
-STORED_FIRST = {"from_utf16_lossy.reads_a_pair_as_two"}
 VERDICT = re.compile(r"must-fail (\w+)/(\S+)\.edit: refused, as it must be: (.*)")
 
 
@@ -92,7 +90,7 @@ class Crate:
         stored = re.search(r"\bproofs/(?:\w+/)*(\w+)/\w+\.antt", said)
         if not stored or not any(it.name == stored[1] for it in rests_on):
             return f"refused neither by a goal of src/ nor over a stored proof of what it is named for: {said[:100]}"
-        is_shown = VALUES in said or edit.stem in STORED_FIRST or edits.has_control(edit)
+        is_shown = VALUES in said or edits.has_control(edit)
         return None if is_shown else "refused over a stored proof, and has no control"
 
 

@@ -82,9 +82,8 @@ fn character_at_front(first: u8, second: u8, third: u8, fourth: u8) -> usize
 /// Whether a byte may be the second one of a character that takes more than one, as the rows of that table say.
 #[inline(always)]
 fn is_second(first: u8, second: u8) -> bool
-    ensures later { IsTrue result → (0x80 ≤ second) × (second ≤ 0xBF) }
-    ensures least { IsTrue result → (first ≡ 0xE0 → 0xA0 ≤ second) × (first ≡ 0xF0 → 0x90 ≤ second) }
-    ensures greatest { IsTrue result → (first ≡ 0xED → second ≤ 0x9F) × (first ≡ 0xF4 → second ≤ 0x8F) }
+    ensures { IsTrue result ↔ ((0x80 ≤ second) × (second ≤ 0xBF) × (first ≡ 0xE0 → 0xA0 ≤ second) × (first ≡ 0xED → second ≤ 0x9F)
+        × (first ≡ 0xF0 → 0x90 ≤ second) × (first ≡ 0xF4 → second ≤ 0x8F)) }
 {
     match first {
         0xE0 => matches!(second, 0xA0..=0xBF),
@@ -98,7 +97,7 @@ fn is_second(first: u8, second: u8) -> bool
 /// Whether a byte may be the third or fourth one of a character.
 #[inline(always)]
 fn is_later(byte: u8) -> bool
-    ensures { IsTrue result → (0x80 ≤ byte) × (byte ≤ 0xBF) }
+    ensures { IsTrue result ↔ ((0x80 ≤ byte) × (byte ≤ 0xBF)) }
 {
     matches!(byte, 0x80..=0xBF)
 }
