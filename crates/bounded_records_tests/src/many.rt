@@ -53,13 +53,12 @@ fn check_all(rt: &impl Abort, directory: &Directory) {
 fn more_users_than_two_bytes_count(rt: HostRuntime) {
     let mut users = Directory::new(rt.alloc());
     for turn in 0..USERS {
-        agree(&rt, users.insert(at_turn(turn)), Ok(None));
+        let given = at_turn(turn);
+        agree(&rt, users.insert(given), Ok(None));
+        finds(&rt, &users, &given);
         agree(&rt, users.len(), turn as usize + 1);
     }
     check_all(&rt, &users);
-    for turn in 0..USERS {
-        finds(&rt, &users, &at_turn(turn));
-    }
     let role = user("", "new").role;
     for turn in 0..SOME {
         let wanted = at_turn(turn);
@@ -71,7 +70,6 @@ fn more_users_than_two_bytes_count(rt: HostRuntime) {
         );
         agree(&rt, users.len(), USERS as usize);
     }
-    check_all(&rt, &users);
     for turn in 0..SOME {
         let wanted = at_turn(turn);
         agree(&rt, users.remove(&wanted.username), Some(wanted));
