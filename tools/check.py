@@ -1,7 +1,8 @@
 """What a change has to pass before anything is proved: the tests of the tools; specs/ has definitions alone, with comments, and
-the page has those of `run`; something cites each lemma; the pages are as the files that they quote; what stands in two places is
-the same in both; a wrong body touches each public function and impl; and each control and each source of the Rust crate is as it
-was when it proved.
+the page has those of `run`; something cites each lemma; callers are told of each law that crates above the string import; `==`
+is derived, and tested, where it is not listed as written by hand; the pages are as the files that they quote; what stands in two
+places is the same in both; a wrong body touches each public function and impl; and each control and each source of the Rust crate
+is as it was when it proved.
 
 tools/run check             writes nothing
 tools/run check --write     first lays out each crate by `rt fmt`, makes the Rust crate by rust/erase/run where cargo is there,
@@ -17,7 +18,9 @@ from contextlib import redirect_stdout
 import calls
 import controls
 import dead
+import equality
 import evidence
+import imported
 import proved
 import quotes
 import repository
@@ -37,6 +40,8 @@ PARTS = [
     (tests, [], {"{} tests of the tools": 20}),
     (trusted.main, [], {"run: {} definitions": 60, "all public contracts: {} definitions": 190}),
     (dead.main, [], {"{} lemmas and laws are cited": 740}),
+    (imported.main, ["--check"], {"{} laws that crates above import": 37}),
+    (equality.main, [], {"{} types have == by a derive": 14, "and {} by hand": 3}),
     (quotes.main, [], {"{} blocks are as in the files": 14}),
     (calls.main, [], {"{} names stand in two places": 320, "{} public calls": 58, "{} traits": 18}),
     (evidence.main, [], {"wrong bodies try {} functions": 189}),

@@ -46,7 +46,7 @@ def names_of(page):
 
 class Callers:
     """What callers of a crate can cite: `passed_on` are the laws that its proofs/ pass on, each behind the module that does so,
-    and `laws` are those and its own; its pages cite those in `named`, by themselves or by their family."""
+    and `laws` are those and its own; its pages cite those in `named`."""
 
     def __init__(self, tree, crate):
         laws, self.passed_on, self.folder = [it for it in tree.items if it.is_law], [], tree.root / "crates" / crate
@@ -55,11 +55,15 @@ class Callers:
                 passed = [it for it in laws if it.module == path and word in ("", it.name)]
                 self.passed_on += [(f"Rattle.{crate}.proofs.{file.stem}", it) for it in passed]
         self.laws = {it for it in laws if it.crate == crate}.union(it for _, it in self.passed_on)
-        names = {name for page in self.folder.glob("*.md") for name in names_of(page)}
+        self.named = self.named_on(tree, self.folder.glob("*.md"))
+
+    def named_on(self, tree, pages):
+        """The laws that some pages name, by themselves or by their family."""
+        names = {name for page in pages for name in names_of(page)}
         ends = {name.partition("-")[2] for name in names}
         rows = {it.name for it in tree.items if it.is_definition and ROW.search(it.lines[0])}
         families = {f"{row}-{end}" for row in rows for end in ends}
-        self.named = {it for it in self.laws if it.name in names | families}
+        return {it for it in self.laws if it.name in names | families}
 
     def faults(self, tree):
         """The laws that are passed on by their names, though no page names them and nothing imports them from there; and the

@@ -1,7 +1,8 @@
 //! Tests of `arraystring_run`: what no contract says of commands, runs and scripts, on values worked out
 //! by hand. A module is named as the module that it tests. `capacities`, `devices`, `kinds` and `memory`
 //! play scripts at each capacity, on devices that fail, with errors of each kind, and with refused memory.
-//! `words` are arguments that nearly name a capacity. `printing` prints for who writes code.
+//! `words` are arguments that nearly name a capacity. `equality` compares by `==`. `printing` prints for
+//! who writes code.
 #![tactic(auto)]
 
 #[cfg(test)]
@@ -10,6 +11,8 @@ mod buffered;
 mod capacities;
 #[cfg(test)]
 mod devices;
+#[cfg(test)]
+mod equality;
 #[cfg(test)]
 mod kinds;
 #[cfg(test)]

@@ -1,12 +1,13 @@
 //! What no contract says, on values worked out by hand. A module is named as the module that it tests, or
 //! else for what varies in it: `texts` and `start_offset` go through all calls. `calls` makes the calls of a
-//! table, whose columns `table` reads.
+//! table, whose columns `table` reads. `equality` compares by `==`.
 
 mod array_string;
 mod cache_string;
 mod calls;
 mod construct;
 mod drain;
+mod equality;
 mod error;
 mod examples;
 mod find;

@@ -33,6 +33,21 @@ fn a_greeting_is_cut(rt: HostRuntime) -> Result<(), Fail> {
     Ok(())
 }
 
+/// A test that compares levels says nothing if `==` finds two of them equal.
+#[test]
+fn each_level_is_equal_to_itself_alone(rt: HostRuntime) {
+    let levels = [Level::Info, Level::Warning, Level::Failure];
+    for (at, one) in levels.iter().enumerate() {
+        for (place, other) in levels.iter().enumerate() {
+            agree(
+                &rt,
+                (one == other, one != other),
+                (at == place, at != place),
+            );
+        }
+    }
+}
+
 #[test]
 fn a_long_line_is_marked(rt: HostRuntime) {
     agree(&rt, log_line(Level::Info, "ready").as_str(), "info: ready");

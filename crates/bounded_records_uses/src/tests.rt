@@ -6,6 +6,7 @@ use std::alloc::AllocError;
 use std::fmt::Debug;
 use std::process::Abort;
 use std::test::Fail;
+use test_support::equality::first_mistaken;
 use test_support::memory::{ScarceMemory, TIMES};
 
 /// Asserts that two values are equal. An `assert_eq!` costs the proof of a test three times as much as
@@ -18,6 +19,13 @@ fn agree<T: PartialEq + Debug + Drop>(rt: &impl Abort, gave: T, wanted: T) {
 fn check_users(rt: &(impl Abort + AllocGlobal), users: &Directory, wanted: &[User]) {
     let all = dump(users, rt.alloc()).expect(rt, "memory for the users");
     agree(rt, all.as_slice(), wanted);
+}
+
+/// A test that compares refusals says nothing if `==` finds two of them equal.
+#[test]
+fn each_refusal_is_equal_to_itself_alone(rt: HostRuntime) {
+    let refusals = [NotRenamed::Missing, NotRenamed::Taken, NotRenamed::Memory];
+    agree(&rt, first_mistaken(&refusals), None);
 }
 
 #[test]

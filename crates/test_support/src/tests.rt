@@ -1,4 +1,5 @@
-//! How tables are read, and that all memory is taken but for what is left.
+//! How tables are read, which values are told apart, and that all memory is taken but for what is left.
+use crate::equality::first_mistaken;
 use crate::memory::ScarceMemory;
 use crate::table::{LETTERS, column, rows};
 use std::test::Fail;
@@ -23,6 +24,14 @@ fn rows_and_columns_are_read(rt: HostRuntime) {
     );
     assert_eq!(rt; lines.next(), None);
     assert_eq!(rt; (LETTERS.len(), LETTERS.trim_matches('x')), (256, ""));
+}
+
+#[test]
+fn the_first_two_that_are_not_told_apart(rt: HostRuntime) {
+    assert_eq!(rt; first_mistaken(&[1u8, 2, 3]), None);
+    assert_eq!(rt; first_mistaken(&[1u8, 2, 3, 2]), Some((1, 3)));
+    // no number is equal to this one, so it is not to itself
+    assert_eq!(rt; first_mistaken(&[0.0, f64::NAN]), Some((1, 1)));
 }
 
 #[test]

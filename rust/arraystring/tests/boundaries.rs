@@ -1,0 +1,39 @@
+//! Whether an index is a boundary, beside `str`: each index in and past a string of each size, the greatest of both too.
+
+use arraystring::ArrayString;
+use arraystring::utils::is_char_boundary;
+
+/// A text of so many bytes that ends with as many of a character as fit into it.
+fn text_of(ch: char, size: usize) -> String {
+    "x".repeat(size % ch.len_utf8()) + &String::from(ch).repeat(size / ch.len_utf8())
+}
+
+/// Asserts it of the string of a text, and of one that was drained to it. Returns how many indices there are.
+fn compare<const N: usize>(text: &str) -> usize {
+    let string = ArrayString::<N>::try_from_str(text).unwrap();
+    let room = 255 - string.len();
+    let mut drained = ArrayString::<N>::from(&*"y".repeat(room.into())) + text;
+    drained.drain(..room).unwrap();
+    assert_eq!((string.as_str(), drained.as_str()), (text, text));
+    for index in 0..=255 {
+        let wanted = text.is_char_boundary(index.into());
+        assert_eq!(is_char_boundary(&string, index).is_ok(), wanted, "{index} of {text:?}");
+        assert_eq!(is_char_boundary(&drained, index).is_ok(), wanted, "{index} of {text:?}, drained");
+    }
+    256
+}
+
+#[test]
+fn each_index_of_each_size() {
+    let mut compared = 0;
+    for ch in ['a', 'é', '€', '🤔'] {
+        for size in 0..=255 {
+            let text = text_of(ch, size);
+            assert_eq!(text.len(), size);
+            compared += compare::<255>(&text) + compare::<256>(&text) + compare::<300>(&text);
+        }
+    }
+    assert_eq!(compared, 4 * 256 * 3 * 256);
+    let full = ArrayString::<255>::from(&*text_of('a', 255));
+    assert_eq!((full.len(), is_char_boundary(&full, 255), is_char_boundary(&full, 254)), (255, Ok(()), Ok(())));
+}
