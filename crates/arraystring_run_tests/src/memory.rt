@@ -5,10 +5,11 @@ use super::runs::text_of;
 use super::table::agree;
 use arraystring::ArrayString;
 use arraystring_run::program::serve_buffered;
-use arraystring_run::{Command, PlayFault, play, run, run_both, serve};
+use arraystring_run::{Command, PlayFault, Reply, play, run, run_both, serve};
 use std::alloc::Global;
 use std::io;
 use std::io::{Read, Write};
+use std::mem::size_of;
 use std::process::Abort;
 use std::test::Fail;
 use test_support::memory::{ScarceMemory, TIMES};
@@ -348,5 +349,73 @@ fn want_of_memory_leaves_both_texts(rt: HostRuntime) -> Result<(), Fail> {
     assert!(rt; 1 <= refused_second && refused_second < refused_first && refused_first < refused);
     assert_eq!(rt; made, 300);
     assert_eq!(rt; (first.len(), second.as_str()), (23, "abcc"));
+    Ok(())
+}
+
+/// How many bytes the lists of replies have together, but for less than two replies.
+const LISTS: usize = 50000;
+
+/// How much more memory than that is enough, and how much less is not.
+const MARGIN: usize = 4000;
+
+/// Whether there is memory for a run whose list of replies has `LISTS` bytes.
+fn is_made<const N: usize>(rt: &impl Abort, alloc: Global, commands: &[Command<'_>]) -> bool {
+    let count = LISTS.checked_div(size_of::<Reply<N>>()).unwrap_or(0);
+    let commands = commands.get(..count).unwrap_or(&[]);
+    agree(rt, "the commands", commands.len(), count);
+    let mut text = ArrayString::<N>::new();
+    match run(alloc, &mut text, commands) {
+        Ok(outcome) => outcome.replies.len() == count,
+        Err(_) => false,
+    }
+}
+
+/// Whether there is memory for a run on two strings whose lists of replies have `LISTS` bytes together.
+fn are_made<const N: usize, const M: usize>(
+    rt: &impl Abort,
+    alloc: Global,
+    commands: &[Command<'_>],
+) -> bool {
+    let size = size_of::<Reply<N>>().saturating_add(size_of::<Reply<M>>());
+    let count = LISTS.checked_div(size).unwrap_or(0);
+    let commands = commands.get(..count).unwrap_or(&[]);
+    agree(rt, "the commands", commands.len(), count);
+    let (mut first, mut second) = (ArrayString::<N>::new(), ArrayString::<M>::new());
+    match run_both(alloc, &mut first, &mut second, commands) {
+        Ok(outcomes) => outcomes.1.replies.len() == count,
+        Err(_) => false,
+    }
+}
+
+/// For how many of the runs there is memory: at five capacities, and at two pairs of capacities.
+fn count_made(rt: &impl Abort, alloc: Global, commands: &[Command<'_>]) -> usize {
+    let made = [
+        is_made::<0>(rt, alloc, commands),
+        is_made::<4>(rt, alloc, commands),
+        is_made::<23>(rt, alloc, commands),
+        is_made::<63>(rt, alloc, commands),
+        is_made::<255>(rt, alloc, commands),
+        are_made::<23, 63>(rt, alloc, commands),
+        are_made::<255, 4>(rt, alloc, commands),
+    ];
+    made.iter().filter(|is_made| **is_made).count()
+}
+
+/// A run takes one block of memory, for as many replies as there are commands, and one on two strings
+/// takes two.
+#[test]
+fn a_run_takes_the_memory_of_its_replies(rt: HostRuntime) -> Result<(), Fail> {
+    let alloc = rt.alloc();
+    // a reply has eight bytes or more
+    let commands = Vec::from_elem(alloc, Command::AsStr, LISTS / 8)?;
+    let Some(mut scarce) = ScarceMemory::take(&rt)? else {
+        return Ok(());
+    };
+    scarce.leave(alloc, LISTS - MARGIN)?;
+    let made_of_less = count_made(&rt, alloc, &commands);
+    scarce.leave(alloc, LISTS + MARGIN)?;
+    let made_of_enough = count_made(&rt, alloc, &commands);
+    drop(scarce);
+    assert_eq!(rt; (made_of_less, made_of_enough), (0, 7));
     Ok(())
 }
