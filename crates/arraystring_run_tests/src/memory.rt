@@ -358,64 +358,80 @@ const LISTS: usize = 50000;
 /// How much more memory than that is enough, and how much less is not.
 const MARGIN: usize = 4000;
 
-/// Whether there is memory for a run whose list of replies has `LISTS` bytes.
-fn is_made<const N: usize>(rt: &impl Abort, alloc: Global, commands: &[Command<'_>]) -> bool {
-    let count = LISTS.checked_div(size_of::<Reply<N>>()).unwrap_or(0);
-    let commands = commands.get(..count).unwrap_or(&[]);
-    agree(rt, "the commands", commands.len(), count);
+/// As many commands as there are replies in `LISTS` bytes, of which each has so many.
+fn commands_for<'a>(commands: &'a [Command<'a>], size: usize) -> &'a [Command<'a>] {
+    let count = LISTS.checked_div(size).unwrap_or(0);
+    commands.get(..count).unwrap_or(&[])
+}
+
+/// Whether there is memory for a run whose replies have `size` bytes each.
+fn is_made<const N: usize>(alloc: Global, commands: &[Command<'_>], size: usize) -> bool {
+    let commands = commands_for(commands, size);
     let mut text = ArrayString::<N>::new();
     match run(alloc, &mut text, commands) {
-        Ok(outcome) => outcome.replies.len() == count,
+        Ok(outcome) => outcome.replies.len() > 100,
         Err(_) => false,
     }
 }
 
-/// Whether there is memory for a run on two strings whose lists of replies have `LISTS` bytes together.
+/// Whether there is memory for a run on two strings whose replies have `size` bytes together.
 fn are_made<const N: usize, const M: usize>(
-    rt: &impl Abort,
     alloc: Global,
     commands: &[Command<'_>],
+    size: usize,
 ) -> bool {
-    let size = size_of::<Reply<N>>().saturating_add(size_of::<Reply<M>>());
-    let count = LISTS.checked_div(size).unwrap_or(0);
-    let commands = commands.get(..count).unwrap_or(&[]);
-    agree(rt, "the commands", commands.len(), count);
+    let commands = commands_for(commands, size);
     let (mut first, mut second) = (ArrayString::<N>::new(), ArrayString::<M>::new());
     match run_both(alloc, &mut first, &mut second, commands) {
-        Ok(outcomes) => outcomes.1.replies.len() == count,
+        Ok(outcomes) => outcomes.1.replies.len() > 100,
         Err(_) => false,
     }
 }
 
-/// For how many of the runs there is memory: at five capacities, and at two pairs of capacities.
-fn count_made(rt: &impl Abort, alloc: Global, commands: &[Command<'_>]) -> usize {
+/// For how many of the runs there is memory: at three capacities, and at two pairs of capacities. A reply
+/// has `SIZES` bytes at 23, 63 and 255.
+fn count_made(alloc: Global, commands: &[Command<'_>]) -> u32 {
+    let [small, cache, max] = SIZES;
     let made = [
-        is_made::<0>(rt, alloc, commands),
-        is_made::<4>(rt, alloc, commands),
-        is_made::<23>(rt, alloc, commands),
-        is_made::<63>(rt, alloc, commands),
-        is_made::<255>(rt, alloc, commands),
-        are_made::<23, 63>(rt, alloc, commands),
-        are_made::<255, 4>(rt, alloc, commands),
+        is_made::<23>(alloc, commands, small),
+        is_made::<63>(alloc, commands, cache),
+        is_made::<255>(alloc, commands, max),
+        are_made::<23, 63>(alloc, commands, small + cache),
+        are_made::<255, 23>(alloc, commands, max + small),
     ];
-    made.iter().filter(|is_made| **is_made).count()
+    let mut count = 0u32;
+    for is_made in made {
+        if is_made {
+            count = count.saturating_add(1);
+        }
+    }
+    count
 }
+
+/// How many bytes a reply has at 23, 63 and 255: the text with its size and its start, a byte that says
+/// which reply it is, and what is lacking to a multiple of four, since a character may stand there.
+const SIZES: [usize; 3] = [28, 68, 260];
 
 /// A run takes one block of memory, for as many replies as there are commands, and one on two strings
 /// takes two.
 #[test]
 fn a_run_takes_the_memory_of_its_replies(rt: HostRuntime) -> Result<(), Fail> {
     let alloc = rt.alloc();
-    // a reply has eight bytes or more
-    let commands = Vec::from_elem(alloc, Command::AsStr, LISTS / 8)?;
+    let sizes = [
+        size_of::<Reply<23>>(),
+        size_of::<Reply<63>>(),
+        size_of::<Reply<255>>(),
+    ];
+    assert_eq!(rt; sizes, SIZES);
+    let commands = Vec::from_elem(alloc, Command::AsStr, 2000)?;
     let Some(mut scarce) = ScarceMemory::take(&rt)? else {
         return Ok(());
     };
     scarce.leave(alloc, LISTS - MARGIN)?;
-    let made_of_less = count_made(&rt, alloc, &commands);
+    let made_of_less = count_made(alloc, &commands);
     scarce.leave(alloc, LISTS + MARGIN)?;
-    let made_of_enough = count_made(&rt, alloc, &commands);
+    let made_of_enough = count_made(alloc, &commands);
     drop(scarce);
-    assert_eq!(rt; (made_of_less, made_of_enough), (0, 7));
+    assert_eq!(rt; (made_of_less, made_of_enough), (0, 5));
     Ok(())
 }
