@@ -1,5 +1,7 @@
 //! Memory that is refused, at each growth: of the script, of the list of commands, of each list of
 //! replies.
+ghost use Rattle.std.specs.Prelude.{◌≤◌};
+
 use super::player::{EXAMPLE, EXAMPLE_OUTPUT};
 use super::runs::text_of;
 use super::table::agree;
@@ -365,7 +367,9 @@ fn commands_for<'a>(commands: &'a [Command<'a>], size: usize) -> &'a [Command<'a
 }
 
 /// Whether there is memory for a run whose replies have `size` bytes each.
-fn is_made<const N: usize>(alloc: Global, commands: &[Command<'_>], size: usize) -> bool {
+fn is_made<const N: usize>(alloc: Global, commands: &[Command<'_>], size: usize) -> bool
+    requires { N ≤ 300 }
+{
     let commands = commands_for(commands, size);
     let mut text = ArrayString::<N>::new();
     match run(alloc, &mut text, commands) {
@@ -379,7 +383,10 @@ fn are_made<const N: usize, const M: usize>(
     alloc: Global,
     commands: &[Command<'_>],
     size: usize,
-) -> bool {
+) -> bool
+    requires small { N ≤ 300 }
+    requires large { M ≤ 300 }
+{
     let commands = commands_for(commands, size);
     let (mut first, mut second) = (ArrayString::<N>::new(), ArrayString::<M>::new());
     match run_both(alloc, &mut first, &mut second, commands) {
