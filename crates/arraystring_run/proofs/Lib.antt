@@ -2,3 +2,4 @@ mod RunLemmas
 mod CommandLemmas
 mod LineLemmas
 mod PrintLemmas
+mod ServeLemmas

@@ -7,6 +7,8 @@ use Rattle.arraystring_run.specs.ScriptLines.{ended, lines, IsBadAt}
 use Rattle.arraystring_run.specs.Writing.{AppendsPrefix}
 use Rattle.arraystring_run.specs.declared.player.PlayFault.{PlayFault}
 use Rattle.arraystring_run.specs.declared.player.PlayFault.TheVariants.{BadLine, Memory, Read, Write}
+use Rattle.arraystring_run.specs.declared.program.Capacity.{Capacity}
+use Rattle.arraystring_run.specs.declared.program.Capacity.TheVariants.{Small, Cache, Max}
 
 -- the capacity that a word names
 abbrev pub capacity_named : Option (Bor (List ℕ)) → Option ℕ
@@ -15,6 +17,12 @@ capacity_named (Some word) =
     if pointwise nat_eq word.now (codes "small") then Some 23 else
     if pointwise nat_eq word.now (codes "cache") then Some 63 else
     if pointwise nat_eq word.now (codes "max") then Some 255 else None
+
+-- how many bytes a capacity has room for
+abbrev pub bytes_of : Capacity → ℕ
+bytes_of Small = 23
+bytes_of Cache = 63
+bytes_of Max = 255
 
 -- the exit status of a script that was played, or not (docs/scripts.md, Exit status)
 abbrev pub status_of : {A : Type 0} → Result A PlayFault → ℕ

@@ -26,8 +26,7 @@ pub(crate) fn write_all_replies<const N: usize, O: Write>(
     for reply in replies {
         write_reply(output, reply)?;
     }
-    put_line(output, "final ", last.as_str())?;
-    output.flush()
+    put_line(output, "final ", last.as_str())
 }
 
 /// Writes the line of a reply.

@@ -1,13 +1,14 @@
 //! What a program's `main` calls: a script is played at the capacity of the word that it was given, with
 //! or without a buffer before the output.
-ghost use Rattle.std.specs.Prelude.{◌≡◌, ◌≢◌, is_some, Some, ℕ, List, [], None, vec_capacity};
+ghost use Rattle.std.specs.Prelude.{◌≡◌, ◌≢◌, is_some, option_map, ℕ, List, [], None, OnOk, vec_capacity};
 ghost use Rattle.arraystring_run.specs.Writing.{AppendsPrefix};
-ghost use Rattle.arraystring_run.specs.Program.{IsServed, capacity_named, status_of, report_of};
+ghost use Rattle.arraystring_run.specs.Player.{IsOutcome};
+ghost use Rattle.arraystring_run.specs.Program.{IsServed, bytes_of, capacity_named, status_of, report_of, usage_line};
 ghost use Rattle.std.specs.Io.KnownBytes.{append_known};
 
 pub use crate::arguments::{Arguments, given_word};
 use crate::buffered::Buffered;
-use crate::player::{PlayFault, play};
+use crate::player::{PlayFault, play_unflushed};
 use crate::printing::put_shown;
 use crate::writing::put;
 use std::alloc::Global;
@@ -30,10 +31,7 @@ enum Capacity {
 
 /// The capacity that a word names.
 fn capacity_of(word: Option<&str>) -> Option<Capacity>
-    ensures small { result ≡ Some Capacity.Small → capacity_named word.entry ≡ Some 23 }
-    ensures cache { result ≡ Some Capacity.Cache → capacity_named word.entry ≡ Some 63 }
-    ensures max { result ≡ Some Capacity.Max → capacity_named word.entry ≡ Some 255 }
-    ensures none { result ≡ None → capacity_named word.entry ≡ None }
+    ensures { option_map bytes_of result ≡ capacity_named word.entry }
 {
     match word {
         Some("small") => Some(Capacity::Small),
@@ -59,15 +57,70 @@ pub fn serve<I: Read, O: Write, E: Write>(
     ensures { IsServed word.entry (I.remaining input.old) (O.contents output.old) (O.contents output.new) (E.contents errors.old) (E.contents errors.new)
         (input.new ≡ input.old) (output.new ≡ output.old) (errors.new ≡ errors.old) result }
 {
-    match capacity_of(word) {
-        Some(Capacity::Small) => report(play::<23, I, O>(alloc, input, output), errors),
-        Some(Capacity::Cache) => report(play::<63, I, O>(alloc, input, output), errors),
-        Some(Capacity::Max) => report(play::<255, I, O>(alloc, input, output), errors),
-        None => {
-            let _ = put(errors, "usage: arraystring_run small or cache or max\n");
-            2
-        }
+    let Some(capacity) = capacity_of(word) else {
+        return report_usage(errors);
+    };
+    report(play_into(alloc, capacity, input, output), errors)
+}
+
+/// Plays a script at a capacity, and flushes the writer.
+fn play_into<I: Read, O: Write>(
+    alloc: Global,
+    capacity: Capacity,
+    input: &mut I,
+    output: &mut O,
+) -> Result<(), PlayFault>
+    ensures { IsOutcome (bytes_of capacity) (I.remaining input.old) (O.contents output.old) (O.contents output.new) (output.new ≡ output.old) result }
+{
+    play_at(alloc, capacity, input, output)?;
+    match output.flush() {
+        Ok(()) => Ok(()),
+        Err(_) => Err(PlayFault::Write),
     }
+}
+
+/// Plays a script at a capacity into a buffer, and flushes that. If this succeeds, nothing waits.
+fn play_into_buffer<I: Read, O: Write>(
+    alloc: Global,
+    capacity: Capacity,
+    input: &mut I,
+    buffered: &mut Buffered<O>,
+) -> Result<(), PlayFault>
+    ensures played { IsOutcome (bytes_of capacity) (I.remaining input.old)
+        (append_known (O.contents buffered.old.output) buffered.old.waiting.items) (append_known (O.contents buffered.new.output) buffered.new.waiting.items)
+        (buffered.new ≡ buffered.old) result }
+    ensures sent { OnOk result (buffered.new.waiting.items ≡ []) }
+{
+    play_at(alloc, capacity, input, buffered)?;
+    match buffered.flush() {
+        Ok(()) => Ok(()),
+        Err(_) => Err(PlayFault::Write),
+    }
+}
+
+/// Plays a script at a capacity, and does not flush the writer.
+fn play_at<I: Read, O: Write>(
+    alloc: Global,
+    capacity: Capacity,
+    input: &mut I,
+    output: &mut O,
+) -> Result<(), PlayFault>
+    ensures { IsOutcome (bytes_of capacity) (I.remaining input.old) (O.contents output.old) (O.contents output.new) (output.new ≡ output.old) result }
+{
+    match capacity {
+        Capacity::Small => play_unflushed::<23, I, O>(alloc, input, output),
+        Capacity::Cache => play_unflushed::<63, I, O>(alloc, input, output),
+        Capacity::Max => play_unflushed::<255, I, O>(alloc, input, output),
+    }
+}
+
+/// Writes how a program is called, and returns the status.
+fn report_usage<E: Write>(errors: &mut E) -> u8
+    ensures status { result ≡ 2 }
+    ensures line { AppendsPrefix (E.contents errors.old) (E.contents errors.new) usage_line }
+{
+    let _ = put(errors, "usage: arraystring_run small or cache or max\n");
+    2
 }
 
 /// Writes the line of a fault, and returns the status.
@@ -117,11 +170,14 @@ pub fn serve_buffered<I: Read, O: Write + Drop, E: Write>(
 {
     let waiting = buffer(alloc, word);
     let mut buffered = Buffered { output, waiting };
-    let status = serve(alloc, word, input, &mut buffered, errors);
-    let Buffered { output, waiting } = buffered;
-    // `serve` flushes what it played, which no contract of a writer says.
-    let is_whole = waiting.is_empty();
-    (if status == 0 && !is_whole { 4 } else { status }, output)
+    let status = match capacity_of(word) {
+        Some(capacity) => {
+            let played = play_into_buffer(alloc, capacity, input, &mut buffered);
+            report(played, errors)
+        }
+        None => report_usage(errors),
+    };
+    (status, buffered.output)
 }
 
 /// The room before the output: none for a word that names no capacity, or if there is no memory. A list

@@ -2,7 +2,8 @@
 //! by hand. A module is named as the module that it tests. `capacities`, `devices`, `kinds` and `memory`
 //! play scripts at each capacity, on devices that fail, with errors of each kind, and with refused memory.
 //! `words` are arguments that nearly name a capacity. `equality` compares by `==`. `printing` prints for
-//! who writes code.
+//! who writes code. `sizes` has scripts and runs of many commands, and `writes` counts the writes of the
+//! program.
 #![tactic(auto)]
 
 #[cfg(test)]
@@ -28,8 +29,12 @@ mod program;
 #[cfg(test)]
 mod runs;
 #[cfg(test)]
+mod sizes;
+#[cfg(test)]
 mod surface;
 #[cfg(test)]
 mod table;
 #[cfg(test)]
 mod words;
+#[cfg(test)]
+mod writes;

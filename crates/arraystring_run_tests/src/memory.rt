@@ -1,14 +1,17 @@
 //! Memory that is refused, at each growth: of the script, of the list of commands, of each list of
 //! replies.
+ghost use Rattle.std.specs.Prelude.{◌≤◌};
+
 use super::player::{EXAMPLE, EXAMPLE_OUTPUT};
 use super::runs::text_of;
 use super::table::agree;
 use arraystring::ArrayString;
 use arraystring_run::program::serve_buffered;
-use arraystring_run::{Command, PlayFault, play, run, run_both, serve};
+use arraystring_run::{Command, PlayFault, Reply, play, run, run_both, serve};
 use std::alloc::Global;
 use std::io;
 use std::io::{Read, Write};
+use std::mem::size_of;
 use std::process::Abort;
 use std::test::Fail;
 use test_support::memory::{ScarceMemory, TIMES};
@@ -348,5 +351,94 @@ fn want_of_memory_leaves_both_texts(rt: HostRuntime) -> Result<(), Fail> {
     assert!(rt; 1 <= refused_second && refused_second < refused_first && refused_first < refused);
     assert_eq!(rt; made, 300);
     assert_eq!(rt; (first.len(), second.as_str()), (23, "abcc"));
+    Ok(())
+}
+
+/// How many bytes the lists of replies have together, but for less than two replies.
+const LISTS: usize = 50000;
+
+/// How much more memory than that is enough, and how much less is not.
+const MARGIN: usize = 4000;
+
+/// As many commands as there are replies in `LISTS` bytes, of which each has so many.
+fn commands_for<'a>(commands: &'a [Command<'a>], size: usize) -> &'a [Command<'a>] {
+    let count = LISTS.checked_div(size).unwrap_or(0);
+    commands.get(..count).unwrap_or(&[])
+}
+
+/// Whether there is memory for a run whose replies have `size` bytes each.
+fn is_made<const N: usize>(alloc: Global, commands: &[Command<'_>], size: usize) -> bool
+    requires { N ≤ 300 }
+{
+    let commands = commands_for(commands, size);
+    let mut text = ArrayString::<N>::new();
+    match run(alloc, &mut text, commands) {
+        Ok(outcome) => outcome.replies.len() > 100,
+        Err(_) => false,
+    }
+}
+
+/// Whether there is memory for a run on two strings whose replies have `size` bytes together.
+fn are_made<const N: usize, const M: usize>(
+    alloc: Global,
+    commands: &[Command<'_>],
+    size: usize,
+) -> bool
+    requires small { N ≤ 300 }
+    requires large { M ≤ 300 }
+{
+    let commands = commands_for(commands, size);
+    let (mut first, mut second) = (ArrayString::<N>::new(), ArrayString::<M>::new());
+    match run_both(alloc, &mut first, &mut second, commands) {
+        Ok(outcomes) => outcomes.1.replies.len() > 100,
+        Err(_) => false,
+    }
+}
+
+/// For how many of the runs there is memory: at three capacities, and at two pairs of capacities. A reply
+/// has `SIZES` bytes at 23, 63 and 255.
+fn count_made(alloc: Global, commands: &[Command<'_>]) -> u32 {
+    let [small, cache, max] = SIZES;
+    let made = [
+        is_made::<23>(alloc, commands, small),
+        is_made::<63>(alloc, commands, cache),
+        is_made::<255>(alloc, commands, max),
+        are_made::<23, 63>(alloc, commands, small + cache),
+        are_made::<255, 23>(alloc, commands, max + small),
+    ];
+    let mut count = 0u32;
+    for is_made in made {
+        if is_made {
+            count = count.saturating_add(1);
+        }
+    }
+    count
+}
+
+/// How many bytes a reply has at 23, 63 and 255: the text with its size and its start, a byte that says
+/// which reply it is, and what is lacking to a multiple of four, since a character may stand there.
+const SIZES: [usize; 3] = [28, 68, 260];
+
+/// A run takes one block of memory, for as many replies as there are commands, and one on two strings
+/// takes two.
+#[test]
+fn a_run_takes_the_memory_of_its_replies(rt: HostRuntime) -> Result<(), Fail> {
+    let alloc = rt.alloc();
+    let sizes = [
+        size_of::<Reply<23>>(),
+        size_of::<Reply<63>>(),
+        size_of::<Reply<255>>(),
+    ];
+    assert_eq!(rt; sizes, SIZES);
+    let commands = Vec::from_elem(alloc, Command::AsStr, 2000)?;
+    let Some(mut scarce) = ScarceMemory::take(&rt)? else {
+        return Ok(());
+    };
+    scarce.leave(alloc, LISTS - MARGIN)?;
+    let made_of_less = count_made(alloc, &commands);
+    scarce.leave(alloc, LISTS + MARGIN)?;
+    let made_of_enough = count_made(alloc, &commands);
+    drop(scarce);
+    assert_eq!(rt; (made_of_less, made_of_enough), (0, 5));
     Ok(())
 }

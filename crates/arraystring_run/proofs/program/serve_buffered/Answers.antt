@@ -1,15 +1,15 @@
-use Rattle.std.proofs.Common.{◌≡◌, ◌==◌, ℕ, List, [], refl, ap, sym, subst, ◌∙◌, arith, inl, inr, Option, None, Some}
-use Rattle.std.proofs.KnownBytes.{Appends-nil, Keeps-refl}
+use Rattle.std.proofs.Common.{◌≡◌, ◌≢◌, ℕ, List, [], refl, ap, subst, ◌∙◌, inl, inr, Option, None, Some, Result, Ok, Err, IfErr, OnOk}
 use Rattle.std.proofs.lemmas.List.{append-nil}
 use Rattle.std.proofs.lemmas.Option.{IfSome_then}
 use Rattle.std.specs.Borrow.{Bor}
 use Rattle.std.specs.Io.KnownBytes.{append_known}
-use Rattle.arraystring_run.specs.Program.{IsServed, capacity_named}
+use Rattle.arraystring_run.specs.Program.{IsServed, bytes_of, capacity_named, status_of}
 use Rattle.arraystring_run.specs.declared.buffered.Buffered.{Buffered}
-use Rattle.arraystring_run.proofs.PrintLemmas.{front-all, front-kept}
-use Rattle.arraystring_run.proofs.RunLemmas.{is_empty-none}
+use Rattle.arraystring_run.specs.declared.player.PlayFault.{PlayFault}
+use Rattle.arraystring_run.specs.declared.player.PlayFault.TheVariants.{Write}
+use Rattle.arraystring_run.proofs.ServeLemmas.{served, not-served, named-some, named-none}
+use Rattle.arraystring_run.proofs.program.serve_buffered.Goals.{in-None, in-Some}
 use Rattle.arraystring_run.proofs.program.serve_buffered.Goals as goal
-use Rattle.arraystring_run.proofs.program.serve_buffered.Goals.{then-status-eq0+then-not-is_whole, else-status-eq0, else-status-eq0-via-then-status-eq0+else-not-is_whole, else-status-eq0-via-else-status-eq0}
 
 append-nothing : (known : Option (List ℕ)) → append_known known [] ≡ known
 append-nothing None = refl
@@ -35,47 +35,31 @@ module _ {word : Option (Bor (List ℕ))} {given old new errors_old errors_new :
         known = s.known;
       }
 
-  -- if all is played and some of it waits, that much was not written
-  served-cut : (SameErrors → errors_new ≡ errors_old)
-      → IsServed word given old new errors_old errors_new SameInput SameOutput SameErrors 0
-      → IsServed word given old new errors_old errors_new SameInput SameOutput SameErrors 4
-  served-cut quiet s = record {
-    other_word = λ e. absurd (omega (arith, (s.other_word e).0));
-    played = IfSome_then (capacity_named word) s.played (λ n p e. absurd (omega arith));
-    bad_line = IfSome_then (capacity_named word) s.played (λ n p e. absurd (omega arith));
-    no_memory = λ e. absurd (omega arith);
-    failed = IfSome_then (capacity_named word) s.played (λ n p e. inr (
-      IfSome_then given (p refl) (λ input q. (q.0, q.1, front-all old new _ q.2)),
-      rw (quiet (s.quiet refl)) (front-kept _ _ _ _ [] _ refl (Appends-nil _) (Keeps-refl _)),
-    ));
-    quiet = λ e. absurd (omega arith);
-    unwritten = λ a b. absurd (b refl);
-    known = (omega arith, λ e. absurd (omega arith));
-  }
+-- what holds after a flush that succeeded, and where nothing was written, holds unless a write failed
+unless-failed : {Same Sent : Type 0} (played : Result (Unit {0}) PlayFault) → OnOk played Sent → IfErr played (λ e. e ≢ Write → Same)
+    → (Same → Sent) → status_of played ≢ 4 → Sent
+unless-failed (Ok _) sent same back ne = sent
+unless-failed (Err Write) sent same back ne = absurd (ne refl)
+unless-failed (Err e) sent same back ne = back (same (λ f. cc))
 
 pub returns : goal.returns
-returns g c =
-    let buffered = c.serve-status.new.output in
-    let waiting = buffered.waiting in
-    let through = served-through {SameOutput = buffered.output ≡ c.args.output}
-    (λ e. ap (λ (b : Buffered g.row.O.Denot). b.output) {x = buffered} e)
-    c.buffer-waiting.ensures.empty c.serve-status.ensures in
-    elim c.if-status-eq0.branch [
-      | then-status-eq0+then-not-is_whole w ↦ (
-        waiting.items,
-        λ other. absurd (other w.result-is),
-        rw w.result-is (served-cut (ap g.E.Write.contents) (rw w.if-status-eq0.true at through)),
+returns g c = elim c.match-capacity_of.branch [
+  | in-None w ↦
+      let usage = w.report_usage-status.ensures in
+      let named = named-none _ _ c.capacity_of.ensures w.in-None.is in
+      rw (w.input-is, w.errors-is, w.buffered-is, w.status-is, usage.status)
+      ([], λ _. refl, not-served named (refl {a = c.args.input.now}) (refl {a = c.args.output}) usage.line)
+  | in-Some w ↦
+      let played = w.play_into_buffer-played.ensures in
+      let report = w.report-status.ensures in
+      let buffered = w.play_into_buffer-played.new.buffered in
+      let named = named-some _ _ _ c.capacity_of.ensures w.in-Some.is in
+      let given = c.buffer-waiting.ensures.empty in
+      rw (w.errors-is, w.buffered-is, w.status-is) (
+        buffered.waiting.items,
+        λ other. unless-failed w.play_into_buffer-played.result played.sent played.played.unwritten
+            (λ same. ap (λ (b : Buffered g.row.O.Denot). b.waiting.items) same ∙ given) (λ e. other (report.status ∙ e)),
+        served-through (λ same. ap (λ (b : Buffered g.row.O.Denot). b.output) same) given
+            (served (bytes_of w.in-Some.capacity) w.play_into_buffer-played.result named played.played report.status report.line report.quiet),
       )
-      | else-status-eq0 w ↦ (
-        waiting.items,
-        λ other. elim w.else-status-eq0.branch [
-          | else-status-eq0-via-then-status-eq0+else-not-is_whole v ↦
-              is_empty-none waiting.items (sym v.if-not-is_whole.false ∙ c.is_empty-is_whole.ensures ∙ ap (λ n. n == 0) waiting.ok.0)
-          | else-status-eq0-via-else-status-eq0 v ↦
-              ap (λ (b : Buffered g.row.O.Denot). b.waiting.items) {x = buffered}
-              (c.serve-status.ensures.unwritten v.if-status-eq0.false (λ e. other (w.result-is ∙ e)))
-              ∙ c.buffer-waiting.ensures.empty
-        ],
-        rw w.result-is through,
-      )
-    ]
+]

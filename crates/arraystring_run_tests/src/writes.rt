@@ -1,0 +1,82 @@
+//! How many writes a script takes: one for each block of the buffer's size, and one for the rest.
+use super::program::WORDS;
+use super::table::agree;
+use arraystring_run::program::{BUFFER, serve_buffered};
+use std::io;
+use std::process::Abort;
+
+/// Takes all, and counts the writes and the bytes that they take.
+#[derive(Drop)]
+struct CountingWriter {
+    writes: usize,
+    bytes: usize,
+}
+
+impl io::Write for CountingWriter {
+    fn write(&mut self, buf: &[u8]) -> io::Result<usize> {
+        self.writes = self.writes.saturating_add(1);
+        self.bytes = self.bytes.saturating_add(buf.len());
+        Ok(buf.len())
+    }
+
+    fn flush(&mut self) -> io::Result<()> {
+        Ok(())
+    }
+}
+
+/// Serves a script of which so many bytes are printed, and says how many writes that may take.
+fn takes_few_writes(rt: &(impl Abort + AllocGlobal), word: &str, script: &str, bytes: usize) {
+    let mut input = script.as_bytes();
+    let mut errors = Vec::new(rt.alloc());
+    let output = CountingWriter {
+        writes: 0,
+        bytes: 0,
+    };
+    let (status, output) = serve_buffered(rt.alloc(), Some(word), &mut input, output, &mut errors);
+    agree(rt, word, (status, output.bytes), (0, bytes));
+    let (writes, most) = (output.writes, bytes / BUFFER + 1);
+    assert!(rt; writes <= most, "{word}: {writes} writes of {bytes} bytes");
+}
+
+/// 5,000 lines `number 0` and `final ` have 45,007 bytes, which are written by six writes at most.
+#[test]
+fn a_script_of_5000_lines_takes_six_writes(rt: HostRuntime) {
+    let script = "len\n".repeat(rt.alloc(), 5000).expect(&rt, "memory");
+    agree(&rt, "the most", 45007 / BUFFER + 1, 6);
+    for word in WORDS {
+        takes_few_writes(&rt, word, &script, 45007);
+    }
+}
+
+/// Each number of bytes from ten before a multiple of the buffer's size to ten behind it. Of letters that
+/// are pushed, fewer than ten, `done`, a line `number` of nine bytes for each `len`, and `final` are printed.
+#[test]
+fn outputs_of_each_size_take_few_writes(rt: HostRuntime) {
+    for blocks in 1..=4usize {
+        for more in 0..=20usize {
+            let bytes = (blocks * BUFFER + more).saturating_sub(10);
+            let printed = bytes.saturating_sub("done\nfinal \n".len());
+            let letters = "abcdefgh".get(..printed % 9).unwrap_or("none");
+            let lines = "len\n"
+                .repeat(rt.alloc(), printed / 9)
+                .expect(&rt, "memory");
+            let script = format!(in rt.alloc(); "push_str {letters}\n{lines}").expect(
+                &rt, "memory",
+            );
+            takes_few_writes(&rt, "small", &script, bytes);
+        }
+    }
+}
+
+/// A text of each size is printed 200 times: its line, which is longer than it by six bytes, is written in
+/// three pieces.
+#[test]
+fn texts_of_each_size_take_few_writes(rt: HostRuntime) {
+    let asks = "as_str\n".repeat(rt.alloc(), 200).expect(&rt, "memory");
+    for size in 0..=255usize {
+        let text = "a".repeat(rt.alloc(), size).expect(&rt, "memory");
+        let script = format!(in rt.alloc(); "push_str {text}\n{asks}").expect(&rt, "memory");
+        let bytes = 5 + 200 * (size + 6) + 7 + size;
+        takes_few_writes(&rt, "max", &script, bytes);
+    }
+}
