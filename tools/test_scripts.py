@@ -12,7 +12,7 @@ from repository import ROOT, read
 
 CALLED = ROOT / "tools" / "scripts.txt"
 # How many cases the program is tried on, as .ci/run asks for.
-CASES = 405
+CASES = 494
 
 # Writes down what it is given, and fails if that is the call number $FAULT. No other program is run for that, so that it is quick.
 STAND_IN = """\
