@@ -1,5 +1,5 @@
-"""Fails at a lemma or law of proofs/ that nothing cites, at an import there that its file does not use, at a law that is passed on
-for nobody, and where LAWS.md of a crate names a law that callers of the crate can't cite.
+"""Fails at a lemma or law of proofs/ that nothing cites, at an import there that its file does not use, at a law that is passed
+on for nobody, and where LAWS.md of a crate names a law that callers of the crate can't cite.
 
 A lemma is cited if one of these reaches it, directly or by other lemmas: an answer, which is what is `pub` in the folder of
 a function, since the check calls it by the name of a goal; what stands in specs/; a file of src/; a page for callers. What a

@@ -107,9 +107,10 @@ class Tests(TreeTest):
             (not_run("test_sums.Sums.test_b") + all_run(1), skipped),
             # (a name that stands twice, a class that is no test, a file of another name, a class that goes by a rule of its own)
             (not_run("test_sums.Sums.test_a") + all_run(1), (file, "test_b", "test_a")),
-            (not_run("test_sums.Sums.test_a") + not_run("test_sums.Sums.test_b") + all_run(0), (file, r"\(unittest.TestCase\)", "")),
+            (not_run("test_sums.Sums.test_a") + not_run("test_sums.Sums.test_b") + all_run(0),
+             (file, r"\(unittest.TestCase\)", "")),
             (not_run("sums.Sums.test_a") + all_run(2), ("tools/sums.py", CLASS + TEST.format("a", 2))),
-            (not_run("test_sums.Sums.test_b") + all_run(2), (file, END, "\n\nclass Other(Sums):\n    test_b = None\n\n\ndel Sums.test_b\n")),
+            (not_run("test_sums.Sums.test_b") + all_run(1), (file, END, "\n\ndel Sums.test_b\n")),
         ):
             with self.subTest(told), self.changed(*changes):
                 self.assertEqual(self.ran(), (True, told))

@@ -78,7 +78,8 @@ class Dead(TreeTest):
             ("half_odd is cited by nothing", (FILE, END, "\n-- as half_odd\n" + DEAD.replace("half-odd", "half_odd")),
              (SOURCE, r"\A", "// by crate::proofs::HalfLemmas::half_odd\n")),
             *((f"{it} is cited by nothing", (FILE, END, DEAD.replace("half-odd", it))) for it in ("half-ev", "half-even-too")),
-            ("odd is cited by nothing", (FILE, LEMMAS.replace("= refl", "= record { odd = n.odd }") + DEAD.replace("half-odd", "odd"))),
+            ("odd is cited by nothing", (FILE, "= refl", "= record { odd = n.odd }"),
+             (FILE, END, DEAD.replace("half-odd", "odd"))),
             (odd, (FILE, END, DEAD), (ANSWER, "c.args.n", '"half-odd"')),
             # (nor does an import)
             (odd, (FILE, END, DEAD), (ANSWER, r"\{half-even\}", "{half-even, half-odd}")),
@@ -87,8 +88,9 @@ class Dead(TreeTest):
 
     def test_a_source_and_a_spec_cite(self):
         lemma, path = (FILE, END, DEAD.replace("half-odd", "half_odd")), "crate::proofs::HalfLemmas::half_odd"
+        imported = "ghost use Rattle.numbers.proofs.HalfLemmas.{half_odd};\n"
         for cites in ((SOURCE, r"\A", f"#[tactic(auto, using({path}))]\n"),
-                      (SOURCE, r"\A", "ghost use Rattle.numbers.proofs.HalfLemmas.{half_odd};\n#[tactic(auto, using(half_odd))]\n"),
+                      (SOURCE, r"\A", f"{imported}#[tactic(auto, using(half_odd))]\n"),
                       (SOURCE, r"\A", f"#[tactic(auto, using({path.replace('crate', 'numbers')}))]\n"),
                       (f"{FOLDER}/specs/GhostProofs.antt",
                        "use Rattle.numbers.proofs.HalfLemmas.{half_odd}\n\npub mine : 1 ≤ 2\nmine = half_odd\n")):
@@ -99,7 +101,7 @@ class Dead(TreeTest):
 
     def test_an_import_that_its_file_does_not_use_is_told(self):
         unused = f"{{}} imports {{}} and does not use it\n".format
-        more = (FILE, "ℕ, refl", "ℕ, refl, ◌∙◌")
+        more, by_module = (FILE, "ℕ, refl", "ℕ, refl, ◌∙◌"), (ANSWER, r"HalfLemmas\.\{half-even\}", "HalfLemmas as half")
         self.assert_finds(
             dead,
             (unused(FILE, "◌∙◌"), more),
@@ -108,13 +110,13 @@ class Dead(TreeTest):
             (unused(FILE, "refl"), (FILE, "= refl", '= "refl"')),
             (unused(FILE, "other"), (FILE, "refl}", "refl as other}"), (FILE, "= refl", "= tt")),
             (unused(FILE, "[]"), (FILE, "refl}", "refl, []}")),
-            (unused(ANSWER, "half"), (ANSWER, r"HalfLemmas\.\{half-even\}", "HalfLemmas as half"), (FILE, LEMMAS.replace("pub ", ""))),
+            (unused(ANSWER, "half"), by_module),
             (unused(ANSWER, "goal"), (ANSWER, r"goal\.returns$", "other")),
         )
         for changes in ([more, (FILE, "= refl", "= refl ∙ refl")],
                         [(FILE, "refl}", "refl as other}"), (FILE, "= refl", "= other")],
                         [(FILE, "refl}", "refl, []}"), (FILE, "= refl", "= refl []")],
-                        [(ANSWER, r"HalfLemmas\.\{half-even\}", "HalfLemmas as half"), (ANSWER, "= half-even", "= half.half-even")],
+                        [by_module, (ANSWER, "= half-even", "= half.half-even")],
                         [(f"{FOLDER}/proofs/Lib.antt", "mod HalfLemmas\nuse Rattle.numbers.specs.Numbers\n")],
                         [(FILE, r"\A", "pub use Rattle.numbers.specs.Numbers.{other}\n")]):
             with self.subTest(changes), self.changed(*changes):
@@ -140,7 +142,8 @@ class Dead(TreeTest):
                      "`halving-` and `doubling-` with\n`made t i`\n", "`halving-made n m`\n"):
             self.laws(page)
             self.assert_passes()
-        for page in ("halving-made\n\n```antt\n`doubling-made` `halving-made`\n```\n", "`halving-` and `doubling-`, also `made t`\n"):
+        for page in ("halving-made\n\n```antt\n`doubling-made` `halving-made`\n```\n",
+                     "`halving-` and `doubling-`, also `made t`\n"):
             self.laws(page)
             self.assert_fails("doubling-made is cited by nothing")
         # (the row is no row of an edit)

@@ -21,8 +21,10 @@ class Edits(TreeTest):
         """The texts of an edit of this text by their paths, and its places."""
         self.write(EDIT, text)
         texts, places = edits.applied(self.root / EDIT, is_right)
-        folder = self.root / FOLDER
-        return {str(it.relative_to(folder)): text for it, text in texts.items()}, [(str(it.relative_to(folder)), at) for it, at in places]
+        def path(file):
+            return str(file.relative_to(self.root / FOLDER))
+
+        return {path(file): text for file, text in texts.items()}, [(path(file), line) for file, line in places]
 
     def assert_bad(self, wanted, text):
         with self.subTest(text), self.assertRaises(ValueError) as bad:

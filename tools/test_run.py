@@ -17,7 +17,8 @@ class Door(unittest.TestCase):
             status, said = self.called(*words)
             self.assertEqual(status, 2)
             commands = re.search(r"The commands are (.*)\.", said)[1].split(", ")
-            self.assertLessEqual({"check", "trusted", "dead", "quotes", "calls", "evidence", "controls", "proved", "cost"}, {*commands})
+            wanted = {"check", "trusted", "dead", "quotes", "calls", "evidence", "controls", "proved", "cost"}
+            self.assertLessEqual(wanted, {*commands})
 
     def test_each_command_says_what_it_does(self):
         for command in re.search(r"The commands are (.*)\.", self.called()[1])[1].split(", "):
@@ -29,7 +30,8 @@ class Door(unittest.TestCase):
             self.assertEqual(self.called(*words), (1, f"tools/run {words[0]}: no crate is named {words[1]}\n"))
 
     def test_a_reader_that_has_seen_enough_is_told_nothing(self):
-        for words in (["trusted", "--list"], ["trusted"], ["calls"]):
+        # (the first writes much, and the second so little that all of it waits for the end)
+        for words in (["trusted", "--list"], ["calls"]):
             reader, writer = os.pipe()
             os.close(reader)
             run = subprocess.run([ROOT / "tools/run", *words], stdout=writer, stderr=subprocess.PIPE, encoding="utf-8")

@@ -14,7 +14,7 @@ CALLED = ROOT / "tools" / "scripts.txt"
 # How many cases the program is tried on, as .ci/run asks for.
 CASES = 494
 
-# Writes down what it is given, and fails if that is the call number $FAULT. No other program is run for that, so that it is quick.
+# Writes down what it is given, and fails if that is the call number $FAULT. It is quick, since it runs no other program for that.
 STAND_IN = """\
 #!/bin/sh
 words=
@@ -177,7 +177,9 @@ class RustCheck(ScriptTest):
 case $1 in
     doc) mkdir -p "$CARGO_TARGET_DIR/doc/arraystring"; echo '{}' > "$CARGO_TARGET_DIR/doc/arraystring/struct.ArrayString.html" ;;
     pkgid) echo 'path#arraystring@0.1.0' ;;
-    test) mkdir -p "$CARGO_TARGET_DIR"; case "$*" in *erase*) cat ../erased ;; *serde*) cat ../served ;; *) cat ../tested ;; esac ;;
+    test)
+        mkdir -p "$CARGO_TARGET_DIR"
+        case "$*" in *erase*) cat ../erased ;; *serde*) cat ../served ;; *) cat ../tested ;; esac ;;
 esac"""
     CONSTRUCTORS = 'id="method.new" id="method.try_from_str" id="method.len"'
     TEST, RUNNING = "#[test]\nfn {}() {{\n    fn other() {{}}\n}}\n", "     Running {} (path)\n\nrunning tests\n"
@@ -340,7 +342,8 @@ class OtherMachines(ScriptTest):
     def called(self, *words, **more):
         shutil.rmtree(self.root / "arraystring-machines-1000", ignore_errors=True)
         failed, said, calls = super().called(*words, **more)
-        return failed, said, [it.replace("ROOT/usr/", "/usr/").replace("ROOT/arraystring-machines-1000", "FOLDER") for it in calls]
+        calls = [it.replace("ROOT/usr/", "/usr/").replace("ROOT/arraystring-machines-1000", "FOLDER") for it in calls]
+        return failed, said, calls
 
     def test_calls(self):
         self.assert_calls()
@@ -358,7 +361,8 @@ class OtherMachines(ScriptTest):
             with self.subTest(path), self.changed((path, None)):
                 failed, said, _ = self.called()
                 self.assertFalse(failed)
-                self.assertIn(f"6 tests passed, 4 builds passed and 0 failed, skipped: {skipped}", said.replace(str(self.root), ""))
+                said = said.replace(str(self.root), "")
+                self.assertIn(f"6 tests passed, 4 builds passed and 0 failed, skipped: {skipped}", said)
         self.stand_in("bin/cargo", "echo 'test result: ok. 0 passed; 0 failed'")
         self.assert_refused("0 tests passed, 6 builds passed and 0 failed")
         self.stand_in("bin/cargo", "[ $3 != --release ] || exit 1", self.TESTED)

@@ -1,5 +1,5 @@
-"""That the commands read the files of this repository as they are laid out: mistakes of several kinds are planted in one copy of it,
-and each is told. All other tests of the commands have small trees."""
+"""That the commands read the files of this repository as they are laid out: mistakes of several kinds are planted in one copy of
+it, and each is told. All other tests of the commands have small trees."""
 import re
 
 import calls
@@ -96,14 +96,15 @@ class Tree(PlantedTest):
     def test_evidence(self):
         new = "\n{} is_even(value: u8) -> {} {{\n    if value > 1 {{ 1 }} else {{ value }}\n}}\n"
         shown = "\nimpl Display for Drain<4> {\n    ghost output = { 0 };\n    fn fmt() {\n        1\n    }\n}\n"
-        split, missing = f"{self.FOLDER}/split_off.returns_the_empty_string.edit", "wrong bodies of {} that are missing: {}\n"
+        split = read(self.root / self.FOLDER / "split_off.returns_the_empty_string.edit")
+        missing = "wrong bodies of {} that are missing: {}\n"
         self.assert_finds_all(
             evidence,
             (missing.format("arraystring_uses is_even", 2), (PARTS, END, new.format("pub fn", "bool"))),
             (missing.format("arraystring_core Drain.fmt", 1), (f"{CORE}/src/drain/traits.rt", END, shown)),
             (missing.format("arraystring_cli is_even", 1), ("crates/arraystring_cli/src/main.rt", END, new.format("fn", "u8"))),
             (missing.format("arraystring_core remove", 1), (REMOVE, r"^( *)self\.remove_counted\(", r"\1let it = 1;\n\g<0>")),
-            ("trim.drops: it does not touch trim, nor what that names", (f"{self.FOLDER}/trim.drops.edit", read(self.root / split))),
+            ("trim.drops: it does not touch trim, nor what that names", (f"{self.FOLDER}/trim.drops.edit", split)),
             ("remove.rt does not have this once", (REMOVE, r"self.as_str\(\), steps\)\?", "self.as_str())?")),
         )
         self.write("log", "must-fail arraystring_core/pop.takes_two.edit: refused, as it must be: the machine stopped\n")
@@ -113,7 +114,11 @@ class Tree(PlantedTest):
 
     def test_controls_and_what_was_proved(self):
         stale = "ArrayString.as_str.borrows_from_offset_0: not as it was when it proved"
-        self.assert_finds_all(controls, (stale, (self.CONTROLLED, "^# right: ", "# right:  ")),
-                              ("there is no such control", (controls.RECORD, END, "arraystring_core/none 0\n")), words=["--check"])
+        self.assert_finds_all(
+            controls,
+            (stale, (self.CONTROLLED, "^# right: ", "# right:  ")),
+            ("there is no such control", (controls.RECORD, END, "arraystring_core/none 0\n")),
+            words=["--check"],
+        )
         plants = [(f"not as it was proved: {it}\n", (it, END, " ")) for it in (REMOVE, TEXT, LEMMAS)]
         self.assert_finds_all(proved, *plants, words=["--check"])

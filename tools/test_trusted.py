@@ -97,7 +97,8 @@ class Trusted(TreeTest):
             rows = ROWS.replace("Words.{IsShort}", imported).replace("short : IsShort", f"short : {named}")
             with self.subTest(imported), self.changed(("crates/base/specs/Rows.antt", rows)):
                 self.assertEqual(self.reached(of_run=True), IN_ORDER)
-            with self.subTest(imported), self.changed(("crates/base/specs/Rows.antt", rows.replace(f"short : {named}", "short : Other"))):
+            other = rows.replace(f"short : {named}", "short : Other")
+            with self.subTest(imported), self.changed(("crates/base/specs/Rows.antt", other)):
                 self.assertEqual(self.reached(of_run=True), ["rest_of"])
 
     def test_a_definition_that_another_crate_passes_on_is_reached(self):
@@ -124,7 +125,8 @@ class Trusted(TreeTest):
                            (r"text\.now \}", "text.now.limit }"), (r"text\.now \}", "record { limit = 0 } }"),
                            (r"text\.now \}", "record { other = 0; limit = 0 } }"), (r"now \}", "now (let limit = 0 in 0) }"),
                            (r"now \}", 'now } // limit'), (r"now \}", 'now "limit" }')):
-                with self.subTest(change), self.changed((RUN, "    ensures", "    requires { 0 ≡ 0 }\n    ensures"), (RUN, *change)):
+                required = (RUN, "    ensures", "    requires { 0 ≡ 0 }\n    ensures")
+                with self.subTest(change), self.changed(required, (RUN, *change)):
                     self.assertEqual(self.reached(), ["rest_of"])
             for change in ((r"text\.now \}", "limit }"), (r"text\.now \}", "record { other = limit } }")):
                 with self.subTest(change), self.changed((RUN, *change)):
@@ -144,7 +146,7 @@ class Trusted(TreeTest):
             trusted,
             (f"{FILE}:12: none is a proof: it belongs in proofs/", (FILE, END, f"\n{claim}")),
             ("none is a proof: it belongs in proofs/", (FILE, END, f"\n-- none\nabbrev {claim}")),
-            ("none is a proof: it belongs in proofs/", (FILE, END, f"\n-- none\nabbrev pub none : limit < 3 → limit ≤ 3\nnone c = c\n")),
+            ("none is a proof: it belongs", (FILE, END, "\n-- none\nabbrev pub none : limit < 3 → limit ≤ 3\nnone c = c\n")),
             ("", ("crates/base/specs/GhostProofs.antt", f"use Rattle.base.proofs.Order.{{total}}\n\n-- none\n{claim}")),
             ("Rattle.base.specs.Words imports from proofs: Rattle.base.proofs.Order",
              (FILE, "^use Rattle.std", r"use Rattle.base.proofs.Order.{total}\n\g<0>")),
@@ -160,7 +162,8 @@ class Trusted(TreeTest):
         tactics = ("rw", "simp", "search", "assumption", "cc", "omega", "grind", "hlevel")
         self.assert_finds(trusted, *((f"{FILE}:9: limit calls a tactic: {it}\n", (FILE, "^limit = 3", f"limit = {it} rules"))
                                      for it in tactics))
-        self.assert_finds(trusted, ("limit calls a tactic: cc, omega", (FILE, "^limit = 3", "limit = first_of (omega arith, cc)")))
+        several = (FILE, "^limit = 3", "limit = first_of (omega arith, cc)")
+        self.assert_finds(trusted, ("limit calls a tactic: cc, omega", several))
         self.assert_finds(trusted, *(("", (FILE, "^limit = 3", f"limit = {it}")) for it in ("omega2", '"omega"', "3 -- omega")))
 
     def test_the_page_has_the_definitions_of_run_in_order(self):
@@ -214,6 +217,6 @@ class Modules(TreeTest):
 
     def test_an_item_has_its_lines_and_the_comment_above_it(self):
         items, _ = modules.parsed((self.root / FILE).relative_to(self.root), read(self.root / FILE))
-        self.assertEqual([(it.name, it.comment, it.is_definition) for it in items],
-                         [("IsShort", "a text is short", True), ("limit", "how long a short text is at most", True), ("Kind", "", True)])
-        self.assertEqual([len(it.lines) for it in items], [2, 2, 3])
+        told = [("IsShort", "a text is short", 2), ("limit", "how long a short text is at most", 2), ("Kind", "", 3)]
+        self.assertEqual([(it.name, it.comment, len(it.lines)) for it in items], told)
+        self.assertTrue(all(it.is_definition for it in items))
