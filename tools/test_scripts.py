@@ -6,7 +6,6 @@ import shutil
 import subprocess
 import unittest
 
-import repository
 from planted import TreeTest
 from repository import ROOT, read
 
@@ -373,5 +372,9 @@ class OtherMachines(ScriptTest):
 class Hosts(unittest.TestCase):
     def test_no_script_names_a_host(self):
         """Packages come from where this machine has them from."""
-        for script in (Gate.SCRIPT, RustCheck.SCRIPT, Links.SCRIPT, OtherMachines.SCRIPT, "tools/run", "bench/run"):
-            self.assertNotRegex(read(repository.ROOT / script), "://", script)
+        files = [it for folder in (".ci", "rust", "rust/*", "bench", "tools", "crates/*") for it in ROOT.glob(f"{folder}/*")]
+        scripts = [it for it in files if it.is_file() and it.read_bytes().startswith(b"#!")]
+        found = {str(it.relative_to(ROOT)) for it in scripts}
+        self.assertLessEqual({it.SCRIPT for it in (Gate, RustCheck, Links, OtherMachines)}, found)
+        for script in scripts:
+            self.assertNotIn("://", read(script), script)
