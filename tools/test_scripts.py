@@ -268,8 +268,11 @@ esac"""
                 self.assert_refused(f"< {line} 5\n")
 
     def test_a_test_that_fails_is_told_with_what_it_said(self):
-        with self.changed(("bin/cargo", "cat ../erased ;;", "echo 'test tests::erases ... FAILED'; exit 101 ;;")):
-            self.assert_refused("test tests::erases ... FAILED")
+        # (the status counts, even where each test is told to be ok)
+        for does, last in (("echo 'test tests::erases ... FAILED'; exit 101", "test tests::erases ... FAILED"),
+                           ("cat ../erased; exit 101", "test result: ok. 1 passed")):
+            with self.subTest(does), self.changed(("bin/cargo", "cat ../erased ;;", f"{does} ;;")):
+                self.assertEqual(self.assert_refused(last).splitlines()[-1], last)
 
     def test_unproved_sources_are_taken_by_a_flag_alone(self):
         failed, _, calls = self.called(words=["--unproved"])
