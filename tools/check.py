@@ -62,7 +62,7 @@ PARTS = [
     (trusted.main, [], {"run: {} definitions": 65, "all public contracts: {} definitions": 200}),
     (dead.main, [], {"{} lemmas and laws are cited": 760}),
     (imported.main, ["--check"], {"{} laws that crates above import": 37}),
-    (equality.main, [], {"{} types have == by a derive": 14, "and {} by hand": 3}),
+    (equality.main, [], {"{} types have == by a derive": 14}),
     (quotes.main, [], {"{} blocks are as in the files": 15}),
     (calls.main, [], {"{} names stand in two places": 325, "{} public calls": 58, "{} traits": 18}),
     (evidence.main, [], {"wrong bodies try {} functions": 190}),
