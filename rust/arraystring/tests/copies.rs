@@ -27,6 +27,7 @@ fn copied(copy: Copy, from: usize, to: usize) -> String {
 }
 
 #[test]
+#[cfg_attr(miri, ignore = "Miri has no library of C")]
 fn memcpy_and_memmove_are_those_of_the_environment() {
     assert_eq!([copied(memcpy, 0, 5), copied(memcpy, 5, 0)], ["abcdeabc", "fghdefgh"]);
     assert_eq!([copied(memmove, 0, 1), copied(memmove, 1, 0)], ["aabcefgh", "bcddefgh"]);
