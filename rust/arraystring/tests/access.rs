@@ -168,6 +168,7 @@ fn it_is_tested_with_debug_assertions_or_checked_alone() {
 /// What panics where it is tested.
 #[cfg(any(debug_assertions, feature = "checked"))]
 mod tested {
+    use std::hint::black_box;
     use std::panic::catch_unwind;
 
     use super::{MOST, bytes};
@@ -187,7 +188,7 @@ mod tested {
     /// Asserts that a call on `len` bytes gives something at the last place that is within, if there is one, and panics at each of
     /// some that are not.
     fn ends(len: usize, within: Option<usize>, not_within: &[usize], call: fn(&mut [u8], usize) -> u8) {
-        let run = |at: usize| catch_unwind(|| call(&mut bytes(len), at)).is_ok();
+        let run = |at: usize| catch_unwind(|| black_box(call)(&mut bytes(len), at)).is_ok();
         if let Some(at) = within {
             assert!(run(at), "{at} of {len}");
         }
@@ -292,7 +293,9 @@ mod tested {
 
     #[test]
     fn a_clause_that_does_not_hold_panics() {
+        // (Numbers that the compiler can't see, as it would leave out a test that it finds undefined.)
         fn is_passed(part: usize, more: usize, most: usize) -> Option<String> {
+            let (part, more, most) = black_box((part, more, most));
             panic_of(|| {
                 known!(source: part + more <= most);
             })
@@ -320,32 +323,38 @@ mod tested {
             }
         }
         let why = "internal error: entered unreachable code".to_string();
-        assert_eq!([panic_of(|| reached(false)), panic_of(|| reached(true))], [None, Some(why)]);
+        assert_eq!([false, true].map(|is_it| panic_of(|| reached(black_box(is_it)))), [None, Some(why)]);
     }
 }
 
 /// What panics with the feature alone: no index shows that a number is no character, or that bytes are no text.
 #[cfg(feature = "checked")]
 mod checked {
+    use std::hint::black_box;
     use std::panic::catch_unwind;
 
     use super::access;
 
     #[test]
     fn a_number_that_is_no_character_panics() {
-        // SAFETY: a number that is none panics.
-        let made = |number: u32| catch_unwind(|| unsafe { access::char::from_u32_unchecked(number) }).ok();
-        let edges = [0, 0xD7FF, 0xE000, 0x10_FFFF].map(|number| (number, true));
-        let others = [0xD800, 0xDBFF, 0xDC00, 0xDFFF, 0x11_0000, 0x20_0000, u32::MAX].map(|number| (number, false));
-        for (number, is_character) in edges.into_iter().chain(others) {
-            assert_eq!(made(number).map(u32::from), is_character.then_some(number), "{number:X}");
+        // What is made is not compared: a place for none in an `Option` is a number that is no character.
+        let is_made = |number: u32| {
+            let number = black_box(number);
+            // SAFETY: a number that is none panics.
+            catch_unwind(|| _ = black_box(unsafe { access::char::from_u32_unchecked(number) })).is_ok()
+        };
+        for number in [0, 0xD7FF, 0xE000, 0x10_FFFF] {
+            assert!(is_made(number), "{number:X}");
+        }
+        for number in [0xD800, 0xDBFF, 0xDC00, 0xDFFF, 0x11_0000, 0x11_0001, 0x20_0000, u32::MAX] {
+            assert!(!is_made(number), "{number:X}");
         }
     }
 
     /// Whether bytes are taken for a text.
     fn is_taken(bytes: &[u8]) -> bool {
         // SAFETY: bytes that are no text panic.
-        catch_unwind(|| unsafe { access::str::from_utf8_unchecked(bytes) }.len()).is_ok()
+        catch_unwind(|| unsafe { access::str::from_utf8_unchecked(black_box(bytes)) }.len()).is_ok()
     }
 
     /// Each byte at which the rules for the bytes of a character change, in each place of a character, behind each length.

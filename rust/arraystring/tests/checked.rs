@@ -1,6 +1,7 @@
 //! What the feature `checked` tests: a call whose precondition is broken panics, at the call or where the text is read then.
 #![cfg(feature = "checked")]
 
+use std::hint::black_box;
 use std::panic::{AssertUnwindSafe, catch_unwind};
 
 use arraystring::utils::{Steps, encode, shift};
@@ -104,6 +105,7 @@ fn a_move_past_the_array_panics_at_each_length() {
 fn a_clause_that_is_told_to_the_compiler_is_tested_first() {
     let moved = |from: usize, len: usize| {
         let (mut array, mut steps) = ([7; 255], Steps::new());
+        let (from, len) = black_box((from, len));
         // SAFETY: the run ends in the array, or one past it, and then the call has to end before it could do harm.
         let run = catch_unwind(AssertUnwindSafe(|| unsafe { shift(&mut array, from, 0, len, &mut steps) }));
         run.err().map(|why| why.downcast_ref::<&str>().expect("a text").to_string())

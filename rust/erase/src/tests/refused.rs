@@ -1,6 +1,8 @@
 //! A sample for each refusal, with its line and its words. Last come sources that say something else than they seem to: clauses
 //! that hold more than what Rust does without, and functions that only have the name of one that a rule knows.
 
+use std::sync::atomic::{AtomicUsize, Ordering};
+
 use crate::names::laws_change_nothing;
 use crate::rules::{GIVEN_UP, NAMED, NO_FACTS, PROOFS_ALONE};
 
@@ -136,7 +138,9 @@ fn a_word_of_proofs_that_is_left_is_refused() {
 
 /// Whether a file that is made is as it was found, where rustfmt is there and where it is not.
 fn compared(found: &str, made: &str) -> [bool; 2] {
-    let folder = std::env::temp_dir().join(format!("erase-compared-{}-{}", std::process::id(), line!()));
+    static NUMBER: AtomicUsize = AtomicUsize::new(0);
+    let name = format!("erase-compared-{}-{}", std::process::id(), NUMBER.fetch_add(1, Ordering::Relaxed));
+    let folder = std::env::temp_dir().join(name);
     std::fs::create_dir_all(folder.join("by_hand")).unwrap();
     std::fs::write(folder.join("a.rs"), found).unwrap();
     std::fs::write(folder.join("by_hand/room.rs"), "").unwrap();
