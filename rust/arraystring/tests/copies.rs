@@ -50,14 +50,11 @@ fn bytes<const N: usize>() -> [u8; N] {
 /// Moves a run by `shift`, and asserts that it lies where it was to go, and that all else is as it was.
 fn is_moved<const N: usize>(from: usize, to: usize, len: usize) {
     let before = bytes::<N>();
-    let (mut array, mut steps) = (before, Steps::new());
+    let (mut array, mut wanted, mut steps) = (before, before, Steps::new());
     // SAFETY: both runs lie in the array.
     unsafe { shift(&mut array, from, to, len, &mut steps) };
-    for at in 0..N {
-        let is_target = (to..to + len).contains(&at);
-        let wanted = if is_target { before[at - to + from] } else { before[at] };
-        assert_eq!(array[at], wanted, "{len} bytes from {from} to {to} of {N}, at {at}");
-    }
+    wanted[to..to + len].copy_from_slice(&before[from..from + len]);
+    assert!(array == wanted, "{len} bytes from {from} to {to} of {N}: {array:?}");
     assert_eq!(steps.moved(), if from == to { 0 } else { len as u64 });
 }
 
