@@ -71,6 +71,21 @@ fn one_byte_from_80_on_at_each_place_of_ascii() {
 }
 
 #[test]
+fn one_byte_from_80_on_at_each_place_of_long_ascii() {
+    // Around each block of 32 bytes behind those of the test above, and the longest.
+    let lengths: Vec<usize> =
+        (MOST + 1..=520).filter(|len| len % 32 <= 1 || len % 32 == 31 || len % 100 == 0).collect();
+    let count =
+        each_below(lengths.len(), |at| one_fault_in_ascii(lengths[at], false) + as_std(&cut_short(lengths[at])));
+    assert_eq!(count, lengths.iter().map(|len| 1 + 3 * len + 1).sum());
+}
+
+/// So many bytes of ASCII, of which the last is the first of a wider character.
+fn cut_short(len: usize) -> Vec<u8> {
+    [&ascii(len - 1)[..], &[0xC3]].concat()
+}
+
+#[test]
 fn each_width_at_each_place_of_ascii() {
     let count = each_below(MOST + 1, |len| {
         let mut count = 0;

@@ -244,6 +244,32 @@ fn drains_and_cache_strings_are_ordered_alike() {
     assert_eq!(count, 3 * 2016 + 3 * 1953 + 3 * 1891 + 2 * 1830);
 }
 
+/// A drain of all of a text.
+fn drained(text: &str) -> Drain<255> {
+    let mut string = ArrayString::<255>::from(text);
+    string.drain(..).expect("all of it")
+}
+
+#[test]
+fn drains_are_ordered_at_each_length() {
+    let mut count = 0;
+    for len in 1..=255 {
+        let text = letters(len);
+        let mut places = vec![0, 31, 63, 64, 127, 128, 191, len / 2, len - 1];
+        places.extend(len.checked_sub(2));
+        places.retain(|place| *place < len);
+        for place in places {
+            let texts = (&*with(&text, place, '\0'), &*with(&text, place, '\u{7F}'));
+            are_ordered(&drained(texts.0), &drained(texts.1), texts);
+            are_ordered(&drained(texts.0), &drained(texts.0), (texts.0, texts.0));
+            are_ordered(&drained(&text[..place]), &drained(texts.0), (&text[..place], texts.0));
+            count += 1;
+        }
+    }
+    // Of the places three are in each text, or two in that of one byte, and the others in those that are longer.
+    assert_eq!(count, 3 * 255 + 254 + [31, 63, 64, 127, 128, 191].map(|place| 255 - place).iter().sum::<usize>());
+}
+
 /// The texts of a size that differ from the first in one place, by a character of one to four bytes.
 fn short_texts(size: usize) -> Vec<String> {
     let mut texts = vec!["m".repeat(size)];
