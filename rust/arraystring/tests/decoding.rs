@@ -5,6 +5,9 @@ use std::thread;
 
 use arraystring::error::Utf8;
 use arraystring::{ArrayString, CacheString, Error};
+use inputs::cut;
+
+mod inputs;
 
 /// How many bytes the texts have at most: more than any string takes.
 const MOST: usize = 300;
@@ -18,8 +21,7 @@ fn as_std(bytes: &[u8]) -> usize {
         assert_eq!((made, whole), (Err(Utf8), Err(Error::Utf8)), "{bytes:x?}");
         return 1;
     };
-    let end = (0..=text.len().min(255)).rev().find(|end| text.is_char_boundary(*end));
-    let cut = &text[..end.expect("the start")];
+    let cut = cut(text, 255);
     assert_eq!(made.as_ref().map(|made| made.as_bytes()), Ok(cut.as_bytes()), "{bytes:x?}");
     match whole {
         Ok(whole) => assert_eq!((whole.as_bytes(), text.len()), (bytes, cut.len()), "{bytes:x?}"),
@@ -199,11 +201,6 @@ const BEHIND: [&[u16]; 14] = [
     &[0xDD14, 0x61],
     &[0xDD14, 0xD83E],
 ];
-
-/// The longest prefix of whole characters that fits.
-fn cut(text: &str, capacity: usize) -> &str {
-    &text[..(0..=text.len().min(capacity)).rev().find(|&at| text.is_char_boundary(at)).unwrap_or(0)]
-}
 
 fn check<const N: usize>(units: &[u16]) {
     let capacity = N.min(255);

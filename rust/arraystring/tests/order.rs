@@ -2,11 +2,13 @@
 //! differ, of bytes below and above 80. Short texts: each size with each, at each offset in the array.
 
 use std::cmp::Ordering;
-use std::collections::hash_map::DefaultHasher;
-use std::hash::{Hash, Hasher};
+use std::hash::Hash;
 use std::thread;
 
 use arraystring::{ArrayString, CacheString, Drain};
+use inputs::{behind, hash_of, letters};
+
+mod inputs;
 
 /// Two characters of one width, the lesser first: bytes below 80, bytes on both sides of the middle of their range, bytes that
 /// differ in the first, a middle or the last place.
@@ -32,21 +34,6 @@ const WIDTHS: &[(char, char)] = &[
     ('\u{7FF}', '\u{FFFF}'),
     ('\u{FFFF}', '\u{10000}'),
 ];
-
-/// A string with a text that begins at some offset of its array.
-fn behind<const N: usize>(offset: usize, text: &str) -> ArrayString<N> {
-    let mut string = ArrayString::<N>::from("x".repeat(offset).as_str());
-    string.push_str(text);
-    assert!(string.drain(..offset as u8).is_ok());
-    assert_eq!(string.as_str(), text);
-    string
-}
-
-fn hash_of<T: Hash + ?Sized>(value: &T) -> u64 {
-    let mut state = DefaultHasher::new();
-    value.hash(&mut state);
-    state.finish()
-}
 
 /// Asserts that two values are ordered by their texts, both ways.
 fn are_ordered<T: Ord + Hash>(one: &T, other: &T, texts: (&str, &str)) {
@@ -97,11 +84,6 @@ fn each_length(test: impl Fn(usize) -> usize + Sync) -> usize {
         let threads = [0, 1, 2, 3].map(some);
         threads.into_iter().map(|thread| thread.join().expect("no panic")).sum()
     })
-}
-
-/// So many bytes of ASCII.
-fn letters(len: usize) -> String {
-    (0..len).map(|at| (b'!' + (at * 5 % 90) as u8) as char).collect()
 }
 
 /// A text with a character at a place.

@@ -59,20 +59,20 @@ macro_rules! makers_ask_once {
 fn additions_ask_once<const N: usize>(before: &str, text: &str) {
     let string = ArrayString::<N>::from(before);
     let counts = [
-        times(text, |given| { string.clone() }.push_str(given)),
-        times(text, |given| _ = { string.clone() }.try_push_str(given)),
-        times(text, |given| { string.clone() }.extend_strs([given])),
-        times(text, |given| _ = { string.clone() }.try_insert_str(0, given)),
-        times(text, |given| _ = { string.clone() }.insert_str(0, given)),
-        times(text, |given| _ = { string.clone() }.replace_range(.., given)),
+        times(text, |given| { string }.push_str(given)),
+        times(text, |given| _ = { string }.try_push_str(given)),
+        times(text, |given| { string }.extend_strs([given])),
+        times(text, |given| _ = { string }.try_insert_str(0, given)),
+        times(text, |given| _ = { string }.insert_str(0, given)),
+        times(text, |given| _ = { string }.replace_range(.., given)),
     ];
     assert_eq!(counts, [1; 6], "{before:?} and {text:?}");
     if before.len() + text.len() <= N {
         // SAFETY: the text fits.
         let counts = unsafe {
             [
-                times(text, |given| { string.clone() }.push_str_unchecked(given)),
-                times(text, |given| { string.clone() }.insert_str_unchecked(0, given)),
+                times(text, |given| { string }.push_str_unchecked(given)),
+                times(text, |given| { string }.insert_str_unchecked(0, given)),
             ]
         };
         assert_eq!(counts, [1; 2], "{before:?} and {text:?}");

@@ -12,26 +12,40 @@ fn all_given() -> impl Iterator<Item = String> {
     GIVEN.flat_map(texts_of)
 }
 
+/// Asserts what was made of a text at a capacity: by the calls that cut it, and by those that refuse it.
+fn are_made(cuts: [&str; 4], wholes: [Result<&str, OutOfBounds>; 3], given: &str, capacity: usize) {
+    let kept = cut(given, capacity);
+    let whole = if given.len() <= capacity { Ok(given) } else { Err(OutOfBounds) };
+    assert_eq!((cuts, wholes), ([kept; 4], [whole; 3]), "{given:?} at {capacity}");
+}
+
 #[test]
 fn strings_are_made_of_a_text_of_each_length() {
     fn at<const N: usize>() {
         for given in all_given() {
-            let kept = cut(&given, capacity::<N>());
-            let whole = if given.len() <= capacity::<N>() { Ok(kept) } else { Err(OutOfBounds) };
             let text = given.as_str();
-            let cuts: [ArrayString<N>; 3] =
-                [text.into(), ArrayString::from_str_truncate(text), ArrayString::new() + text];
-            assert_eq!(cuts.each_ref().map(|made| made.as_str()), [kept; 3], "{N} {given:?}");
-            let wholes: [Result<ArrayString<N>, _>; 2] = [text.parse(), ArrayString::try_from_str(text)];
-            assert_eq!(
-                wholes.each_ref().map(|made| made.as_ref().map(|made| made.as_str())),
-                [whole.as_ref().copied(); 2]
-            );
-            let bytes = [ArrayString::<N>::from_utf8(text).ok(), ArrayString::try_from_utf8(text).ok()];
-            assert_eq!(bytes.each_ref().map(|made| made.as_ref().map(|made| made.as_str())), [Some(kept), whole.ok()]);
+            let cuts: [ArrayString<N>; 4] = [
+                text.into(),
+                ArrayString::from_str_truncate(text),
+                ArrayString::new() + text,
+                ArrayString::from_utf8(text).expect("a text"),
+            ];
+            let wholes: [Result<ArrayString<N>, OutOfBounds>; 3] = [
+                text.parse(),
+                ArrayString::try_from_str(text),
+                ArrayString::try_from_utf8(text).map_err(|_| OutOfBounds),
+            ];
+            let wholes =
+                wholes.each_ref().map(|made| made.as_ref().map(|made| made.as_str()).map_err(|refusal| *refusal));
+            are_made(cuts.each_ref().map(|made| made.as_str()), wholes, text, capacity::<N>());
         }
     }
     at_capacities!(at);
+}
+
+/// What std's `try_from` makes, which is over `from`, and so never fails.
+fn tried<'a, T: TryFrom<&'a str>>(text: &'a str) -> Option<T> {
+    text.try_into().ok()
 }
 
 #[test]
@@ -41,32 +55,43 @@ fn a_cache_string_is_made_of_a_text_of_each_length() {
         let text = given.as_str();
         let cuts: [CacheString; 3] = [text.into(), CacheString::from_str_truncate(text), CacheString::new() + text];
         assert_eq!(cuts.each_ref().map(|made| made.as_str()), [kept; 3], "{given:?}");
-        let Ok(cut) = CacheString::try_from(text);
-        assert_eq!(cut.as_str(), kept);
+        assert_eq!(tried::<CacheString>(text), Some(cuts[0]));
         let whole: Result<CacheString, _> = text.parse();
         assert_eq!(whole.is_ok(), given.len() <= 63);
-        assert!(whole.is_err() || cut == whole.expect("a text that fits").as_str());
+        assert!(whole.is_err() || whole == Ok(cuts[0]));
         for len in edges(61) {
             let mut string = CacheString(behind::<63>((63 - len) / 2, &letters(len)));
             string += text;
-            assert_eq!(string.as_str(), letters(len) + self::cut(text, 63 - len), "{given:?}");
+            assert_eq!(string.as_str(), letters(len) + cut(text, 63 - len), "{given:?}");
         }
     }
 }
 
-/// Asserts what is left of a text after something of each length is added, by the calls that cut and by those that refuse.
+/// Asserts what a string has after a text is added, by the calls that cut and by those that refuse.
 fn is_added<const N: usize>(before: &str, given: &str) {
     let room = capacity::<N>() - before.len();
     let string = behind::<N>(room / 2, before);
-    let cuts = before.to_string() + cut(given, room);
-    let whole = if given.len() <= room { cuts.as_str() } else { before };
     let (mut by_sign, mut by_call, mut refused, mut written) = (string, string, string, string);
     by_sign += given;
     by_call.push_str(given);
-    assert_eq!((by_sign.as_str(), by_call.as_str()), (&*cuts, &*cuts), "{N} {before:?} {given:?}");
-    assert_eq!(refused.try_push_str(given).is_ok(), given.len() <= room, "{N} {before:?} {given:?}");
-    assert_eq!(written.try_write(format_args!("{given}")).is_ok(), given.len() <= room, "{N} {before:?} {given:?}");
-    assert_eq!((refused.as_str(), written.as_str()), (whole, whole), "{N} {before:?} {given:?}");
+    let returned = [refused.try_push_str(given).is_ok(), written.try_write(format_args!("{given}")).is_ok()];
+    are_left(
+        [by_sign.as_str(), by_call.as_str()],
+        [refused.as_str(), written.as_str()],
+        returned,
+        (before, given),
+        room,
+    );
+}
+
+/// Asserts what is left of a text and what is returned where there was so much room.
+fn are_left(cuts: [&str; 2], wholes: [&str; 2], returned: [bool; 2], (before, given): (&str, &str), room: usize) {
+    let fits = given.len() <= room;
+    let added = cut(given, room);
+    assert!(cuts.iter().all(|left| left.strip_prefix(before) == Some(added)), "{before:?} and {given:?}");
+    let added = if fits { given } else { "" };
+    assert!(wholes.iter().all(|left| left.strip_prefix(before) == Some(added)), "{before:?} and {given:?}");
+    assert_eq!(returned, [fits; 2], "{before:?} and {given:?}");
 }
 
 #[test]

@@ -32,37 +32,24 @@ fn kinds<'a>(chars: &'a [char], pieces: &'a [&'a str]) -> Vec<Items<'a>> {
     ]
 }
 
-/// The string that a type collects of items by `FromIterator`, and how many of these it takes.
-macro_rules! collected {
-    ($string:ty, $items:expr, $hint:expr) => {{
+/// An iterator by its items alone: so what takes them is compiled once for each kind of item.
+type Any<'a, T> = &'a mut dyn Iterator<Item = T>;
+
+/// Calls something with items, which tell so much of their number, and returns what it returns, and how many of these it took.
+macro_rules! with_items {
+    ($items:expr, $hint:expr, $call:expr) => {{
         let (hint, mut count): (Hint, usize) = ($hint, 0);
         let taken = &mut count;
-        let string: $string = match $items {
-            Items::Chars(chars) => Told { items: chars.iter().copied(), hint, taken }.collect(),
-            Items::CharRefs(chars) => Told { items: chars.iter(), hint, taken }.collect(),
-            Items::Texts(pieces) => Told { items: pieces.iter().copied(), hint, taken }.collect(),
-            #[cfg(feature = "alloc")]
-            Items::Owned(pieces) => Told { items: pieces.iter().map(|piece| piece.to_string()), hint, taken }.collect(),
-        };
-        (string, count)
-    }};
-}
-
-/// Extends a string by items, and returns how many of these it takes.
-macro_rules! extended {
-    ($string:expr, $items:expr, $hint:expr) => {{
-        let (hint, mut count): (Hint, usize) = ($hint, 0);
-        let (string, taken) = ($string, &mut count);
-        match $items {
-            Items::Chars(chars) => Extend::extend(string, Told { items: chars.iter().copied(), hint, taken }),
-            Items::CharRefs(chars) => Extend::extend(string, Told { items: chars.iter(), hint, taken }),
-            Items::Texts(pieces) => Extend::extend(string, Told { items: pieces.iter().copied(), hint, taken }),
+        let returned = match $items {
+            Items::Chars(chars) => $call(Told { items: &mut chars.iter().copied() as Any<char>, hint, taken }),
+            Items::CharRefs(chars) => $call(Told { items: &mut chars.iter() as Any<&char>, hint, taken }),
+            Items::Texts(pieces) => $call(Told { items: &mut pieces.iter().copied() as Any<&str>, hint, taken }),
             #[cfg(feature = "alloc")]
             Items::Owned(pieces) => {
-                Extend::extend(string, Told { items: pieces.iter().map(|piece| piece.to_string()), hint, taken })
+                $call(Told { items: &mut pieces.iter().map(|piece| piece.to_string()) as Any<String>, hint, taken })
             }
-        }
-        count
+        };
+        (returned, count)
     }};
 }
 
@@ -90,12 +77,21 @@ fn texts<'a>(items: Items<'a>) -> Vec<Cow<'a, str>> {
 fn is_collected<const N: usize>(items: Items, texts: &[Cow<str>]) {
     let wanted = kept(texts.iter().map(|text| &**text), capacity::<N>());
     for hint in hints(texts.len()) {
-        let (string, taken) = collected!(ArrayString<N>, items, hint);
+        let (string, taken) = with_items!(items, hint, ArrayString::<N>::from_iter);
         assert_eq!((string.as_str(), taken), (&*wanted.0, wanted.1), "{N} {hint:?}");
-        if N == 63 {
-            let (string, taken) = collected!(CacheString, items, hint);
-            assert_eq!((string.as_str(), taken), (&*wanted.0, wanted.1), "{hint:?}");
-        }
+    }
+    if N == 63 {
+        is_collected_by_a_cache_string(items, texts.len(), &wanted);
+    }
+}
+
+fn is_collected_by_a_cache_string(items: Items, count: usize, wanted: &(String, usize)) {
+    for hint in hints(count) {
+        let (string, taken) = with_items!(items, hint, CacheString::from_iter);
+        assert_eq!((string.as_str(), taken), (&*wanted.0, wanted.1), "{hint:?}");
+        let mut string = CacheString::new();
+        let ((), taken) = with_items!(items, hint, |items| string.extend(items));
+        assert_eq!((string.as_str(), taken), (&*wanted.0, wanted.1), "{hint:?}");
     }
 }
 
@@ -105,7 +101,7 @@ fn is_extended<const N: usize>(string: &ArrayString<N>, items: Items, texts: &[C
     let wanted = string.to_string() + &added;
     for hint in hints(texts.len()) {
         let mut tried = *string;
-        let count = extended!(&mut tried, items, hint);
+        let ((), count) = with_items!(items, hint, |items| tried.extend(items));
         assert_eq!((tried.as_str(), count), (&*wanted, taken), "{N} {hint:?}");
     }
 }

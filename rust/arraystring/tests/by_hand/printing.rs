@@ -56,6 +56,17 @@ impl<'a> Row<'a> {
         (text, noted)
     }
 
+    /// Asserts what was returned, what is left in a string of a capacity, and what each write returned, where the row is taken
+    /// whole or not at all, or piece by piece.
+    fn left(&self, returned: fmt::Result, left: &str, before: &str, capacity: usize, is_one: bool) {
+        let (added, noted) = self.taken(capacity - before.len());
+        let is_whole = noted.iter().all(|fits| *fits);
+        let added = if is_one && !is_whole { "" } else { &*added };
+        assert_eq!(left.strip_prefix(before), Some(added), "{before:?} and {self:?}");
+        assert_eq!(returned.is_ok(), is_whole || !is_one && !self.keeps_errors, "{before:?} and {self:?}");
+        assert_eq!(*self.noted.borrow(), noted, "{before:?} and {self:?}");
+    }
+
     /// Notes what a write returned, and says whether it is kept.
     fn after(&self, written: fmt::Result) -> fmt::Result {
         self.noted.borrow_mut().push(written.is_ok());
@@ -81,17 +92,11 @@ impl Display for Row<'_> {
 macro_rules! is_printed {
     ($string:expr, $capacity:expr, $row:expr) => {{
         let (string, row): (_, &Row) = ($string, $row);
-        let before = string.as_str().to_string();
-        let (added, noted) = row.taken($capacity - before.len());
-        let is_whole = noted.iter().all(|fits| *fits);
-        let after = before.clone() + &added;
         let (mut tried, mut written) = (string, string);
-        assert_eq!(tried.try_write(format_args!("{row}")).is_ok(), is_whole, "{before:?} and {row:?}");
-        assert_eq!(tried.as_str(), if is_whole { &*after } else { &*before }, "{row:?}");
-        assert_eq!(*row.noted.borrow(), noted, "{before:?} and {row:?}");
-        assert_eq!(write!(written, "{row}").is_ok(), is_whole || !row.keeps_errors, "{before:?} and {row:?}");
-        assert_eq!(written.as_str(), after, "{row:?}");
-        assert_eq!(*row.noted.borrow(), noted, "{before:?} and {row:?}");
+        let returned = tried.try_write(format_args!("{row}"));
+        row.left(returned, tried.as_str(), string.as_str(), $capacity, true);
+        let returned = written.write_fmt(format_args!("{row}"));
+        row.left(returned, written.as_str(), string.as_str(), $capacity, false);
     }};
 }
 
@@ -130,7 +135,8 @@ fn pieces_of_each_length() {
             // (two of these lengths with each text)
             for before in [len % 2, [capacity::<N>() / 2, capacity::<N>()][len / 2 % 2]] {
                 let string = behind::<N>(0, &letters(before.min(capacity::<N>())));
-                let way = WAYS[(len / 4 + before) % 3];
+                // What is far too long is refused at its first character as at each other one, so one way will do.
+                let way = if len > capacity::<N>() + 16 { By::Format } else { WAYS[(len / 4 + before) % 3] };
                 let pieces = [(By::Str, "a"), (way, text.as_str()), (By::Chars, "é")];
                 is_printed!(string, capacity::<N>(), &Row::new(&pieces, way != By::Str && len % 2 == 0));
             }

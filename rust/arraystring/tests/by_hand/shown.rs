@@ -3,39 +3,43 @@
 use std::borrow::Borrow;
 use std::collections::{BTreeMap, HashMap};
 
-use arraystring::{ArrayString, CacheString};
+use arraystring::{ArrayString, CacheString, MaxString};
 
 use crate::inputs::{at_capacities, behind, capacity, cut, edges, hash_of, letters, mixed, some_offsets, texts_of};
 
 /// Asserts what a string lends of its text, of so many bytes at most.
 macro_rules! lends {
     ($string:expr, $text:expr, $capacity:expr) => {{
-        let (string, text): (_, &str) = ($string, $text);
-        assert_eq!((string.as_str(), string.as_bytes()), (text, text.as_bytes()));
-        assert_eq!((AsRef::<str>::as_ref(string), AsRef::<[u8]>::as_ref(string)), (text, text.as_bytes()));
-        assert_eq!((Borrow::<str>::borrow(string), string.chars().as_str()), (text, text));
-        assert_eq!(
-            (string.trim_start_matches('\0').len(), string.len() as usize),
-            (text.trim_start_matches('\0').len(), text.len())
-        );
-        let room: usize = $capacity - text.len();
-        assert_eq!((string.remaining_capacity() as usize, string.is_full()), (room, room == 0));
+        let (string, capacity): (_, usize) = ($string, $capacity);
+        let texts = [string.as_str(), string.as_ref(), string.borrow(), string.chars().as_str()];
+        let room = (string.remaining_capacity(), string.is_full());
+        are_lent(texts, [string.as_bytes(), string.as_ref()], (string.len(), room), $text, capacity);
     }};
 }
 
-/// Asserts what is made of a string: a hash, a key that is found, and a printed text.
+/// Asserts that what is lent is a text. It is compiled once for all capacities.
+fn are_lent(texts: [&str; 4], bytes: [&[u8]; 2], told: (u8, (u8, bool)), text: &str, capacity: usize) {
+    assert_eq!((texts, bytes), ([text; 4], [text.as_bytes(); 2]));
+    let room = capacity - text.len();
+    assert_eq!(told, (text.len() as u8, (room as u8, room == 0)), "{text:?} at {capacity}");
+}
+
+/// Asserts what is made of a string: a hash, a printed text, and with the feature `alloc` a `String`.
 macro_rules! shows {
     ($string:expr, $text:expr) => {{
         let (string, text): (_, &str) = ($string, $text);
-        assert_eq!((hash_of(&string), string.to_string().as_str()), (hash_of(text), text));
-        let found = (HashMap::from([(string, 1)]).get(text).copied(), BTreeMap::from([(string, 2)]).get(text).copied());
-        assert_eq!(found, (Some(1), Some(2)), "{text:?}");
+        are_shown([hash_of(&string), hash_of(string.as_str())], &string.to_string(), text);
         #[cfg(feature = "alloc")]
-        assert_eq!(
-            (String::from(string), string == text.to_string(), text.to_string() == string),
-            (text.into(), true, true)
-        );
+        {
+            let owned = text.to_string();
+            assert!(string == owned && owned == string && String::from(string) == owned, "{text:?}");
+        }
     }};
+}
+
+/// Asserts that what is shown is of a text.
+fn are_shown(hashes: [u64; 2], printed: &str, text: &str) {
+    assert_eq!((hashes, printed), ([hash_of(text); 2], text));
 }
 
 #[test]
@@ -81,16 +85,33 @@ fn a_cache_string_shows_the_same() {
     }
 }
 
+#[test]
+fn a_key_of_each_length_is_found() {
+    for text in (0..=255).flat_map(texts_of) {
+        let string = MaxString::from(text.as_str());
+        assert_eq!(HashMap::from([(string, 1)]).get(text.as_str()), Some(&1));
+        assert_eq!(BTreeMap::from([(string, 2)]).get(text.as_str()), Some(&2));
+        if text.len() <= 63 {
+            let cached = CacheString::from(text.as_str());
+            assert_eq!(HashMap::from([(cached, 1)]).get(text.as_str()), Some(&1));
+            assert_eq!(BTreeMap::from([(cached, 2)]).get(text.as_str()), Some(&2));
+        }
+    }
+}
+
 /// Asserts that a part is that of the text, by `get`, and where there is one, by the index and by `slice`.
 macro_rules! is_part {
     ($string:expr, $text:expr, $range:expr, $wide:expr) => {{
         let (string, text): (_, &str) = ($string, $text);
         let part = text.get($wide);
-        assert_eq!(string.get($range), part, "{:?} of {text:?}", $wide);
-        if let Some(part) = part {
-            assert_eq!((&string[$range], string.slice($range)), (part, part), "{:?} of {text:?}", $wide);
-        }
+        let indexed = part.map(|_| (&string[$range], string.slice($range)));
+        are_parts(string.get($range), indexed, part, text);
     }};
+}
+
+/// Asserts that parts are that of a text.
+fn are_parts(got: Option<&str>, indexed: Option<(&str, &str)>, part: Option<&str>, text: &str) {
+    assert_eq!((got, indexed), (part, part.map(|part| (part, part))), "a part of {text:?}");
 }
 
 /// Asserts the parts of each kind of range between two places.

@@ -2,6 +2,7 @@
 //! their items; and the plain rules by which a text is cut. Each test takes of it what it needs.
 #![allow(dead_code, unused_imports, unused_macros)]
 
+use std::cmp::Ordering;
 use std::collections::hash_map::DefaultHasher;
 use std::hash::{Hash, Hasher};
 
@@ -77,8 +78,9 @@ pub fn edges(capacity: usize) -> Vec<usize> {
     lengths
 }
 
-/// A string whose text begins behind so many bytes of its array.
+/// A string whose text begins behind so many bytes of its array, where there is room for them.
 pub fn behind<const N: usize>(offset: usize, text: &str) -> ArrayString<N> {
+    let offset = offset.min(capacity::<N>() - text.len());
     let mut string = ArrayString::<N>::from("~".repeat(offset).as_str());
     string.try_push_str(text).expect("room");
     assert_eq!(string.drain(..offset as u8).expect("a part").as_str().len(), offset);
@@ -167,21 +169,29 @@ pub fn kept<'a>(pieces: impl IntoIterator<Item = &'a str>, room: usize) -> (Stri
 macro_rules! is_beside {
     ($string:expr, $text:expr, $other:expr) => {{
         let (string, text, other): (_, &str, &str) = ($string, $text, $other);
-        assert_eq!(
-            (*string == *other, *string == other, *other == *string, other == *string),
-            (text == other, text == other, text == other, text == other),
-            "{text:?} and {other:?}"
+        $crate::inputs::are_signs(
+            [*string == *other, *string == other, *other == *string, other == *string],
+            [*string != *other, *string != other, *other != *string, other != *string],
+            [*string < *other, *string <= *other, *string > *other, *string >= *other],
+            [*string < other, *string <= other, *string > other, *string >= other],
+            [string.partial_cmp(other), string.partial_cmp(&other)],
+            (text, other),
         );
-        assert_eq!(
-            (*string != *other, *string != other, *other != *string, other != *string),
-            (text != other, text != other, text != other, text != other),
-            "{text:?} and {other:?}"
-        );
-        assert_eq!((*string < *other, *string < other), (text < other, text < other), "{text:?} and {other:?}");
-        assert_eq!((*string <= *other, *string <= other), (text <= other, text <= other), "{text:?} and {other:?}");
-        assert_eq!((*string > *other, *string > other), (text > other, text > other), "{text:?} and {other:?}");
-        assert_eq!((*string >= *other, *string >= other), (text >= other, text >= other), "{text:?} and {other:?}");
-        assert_eq!([string.partial_cmp(other), string.partial_cmp(&other)], [Some(text.cmp(other)); 2]);
     }};
 }
 pub(crate) use is_beside;
+
+/// Asserts that signs are those between two texts. It is compiled once for all capacities.
+pub fn are_signs(
+    equal: [bool; 4],
+    unequal: [bool; 4],
+    ordered: [bool; 4],
+    ordered_by_reference: [bool; 4],
+    orders: [Option<Ordering>; 2],
+    (text, other): (&str, &str),
+) {
+    assert_eq!((equal, unequal), ([text == other; 4], [text != other; 4]), "{text:?} and {other:?}");
+    let wanted = [text < other, text <= other, text > other, text >= other];
+    assert_eq!([ordered, ordered_by_reference], [wanted; 2], "{text:?} and {other:?}");
+    assert_eq!(orders, [Some(text.cmp(other)); 2], "{text:?} and {other:?}");
+}
