@@ -60,7 +60,8 @@ fn strings_and_texts_are_compared() {
             }
         }
     }
-    at_capacities!(at);
+    // The texts are the same from 17 on, so not at all capacities of the table.
+    at_capacities!(at: 0 1 2 3 4 7 8 16 23 63 64 127 254 255 256 300);
 }
 
 #[test]

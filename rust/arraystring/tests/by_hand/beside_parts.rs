@@ -1,8 +1,11 @@
-//! A string beside parts of itself: those have its address, and another length, or its end, and another start.
+//! A string beside parts of itself, which have its address, and another length, or its end, and another start; and beside texts of
+//! each length.
 
 use arraystring::CacheString;
+#[cfg(feature = "alloc")]
+use arraystring::MaxString;
 
-use crate::inputs::{MOST, at_capacities, behind, capacity, is_beside, letters, mixed, some_offsets};
+use crate::inputs::{GIVEN, MOST, at_capacities, behind, capacity, is_beside, letters, mixed, some_offsets};
 
 /// Each part of a text that has its start, its end, or its middle.
 fn parts(text: &str) -> impl Iterator<Item = (usize, usize)> {
@@ -63,6 +66,39 @@ fn a_string_beside_parts_of_a_copy() {
         let string = behind::<300>(MOST - len, &text);
         for (start, end) in parts(&text) {
             is_beside!(&string, &text, &other[start..end]);
+        }
+    }
+}
+
+#[test]
+fn a_string_of_each_length_beside_texts_of_each_length() {
+    // All are prefixes of one text, so that their lengths alone tell them apart: also those by which a byte is the same.
+    let text = letters(520);
+    for len in 0..=MOST {
+        let string = behind::<300>(MOST - len, &text[..len]);
+        for given in GIVEN {
+            is_beside!(&string, &text[..len], &text[..given]);
+        }
+    }
+    for (len, given) in (0..=63).flat_map(|len| GIVEN.map(move |given| (len, given))) {
+        is_beside!(&CacheString::from(&text[..len]), &text[..len], &text[..given]);
+    }
+}
+
+#[cfg(feature = "alloc")]
+#[test]
+fn a_string_of_each_length_beside_owned_ones_of_each_length() {
+    let text = letters(520);
+    for given in GIVEN {
+        let owned = text[..given].to_string();
+        for len in 0..=MOST {
+            let string = MaxString::from(&text[..len]);
+            assert_eq!((string == owned, owned == string), (len == given, len == given), "{len} and {given}");
+            assert_eq!((string != owned, owned != string), (len != given, len != given), "{len} and {given}");
+        }
+        for len in 0..=63 {
+            let string = CacheString::from(&text[..len]);
+            assert_eq!((string == owned, owned == string), (len == given, len == given), "{len} and {given}");
         }
     }
 }

@@ -24,12 +24,14 @@ const WAYS: [By; 3] = [By::Str, By::Chars, By::Format];
 struct Row<'a> {
     pieces: &'a [(By, &'a str)],
     keeps_errors: bool,
+    /// Whether it fails behind its pieces, where all of them may have been taken.
+    fails: bool,
     noted: RefCell<Vec<bool>>,
 }
 
 impl<'a> Row<'a> {
     fn new(pieces: &'a [(By, &'a str)], keeps_errors: bool) -> Self {
-        Row { pieces, keeps_errors, noted: RefCell::default() }
+        Row { pieces, keeps_errors, fails: false, noted: RefCell::default() }
     }
 
     /// The texts that are written, each whole or not.
@@ -60,10 +62,14 @@ impl<'a> Row<'a> {
     /// whole or not at all, or piece by piece.
     fn left(&self, returned: fmt::Result, left: &str, before: &str, capacity: usize, is_one: bool) {
         let (added, noted) = self.taken(capacity - before.len());
-        let is_whole = noted.iter().all(|fits| *fits);
+        let is_whole = noted.iter().all(|fits| *fits) && !self.fails;
         let added = if is_one && !is_whole { "" } else { &*added };
         assert_eq!(left.strip_prefix(before), Some(added), "{before:?} and {self:?}");
-        assert_eq!(returned.is_ok(), is_whole || !is_one && !self.keeps_errors, "{before:?} and {self:?}");
+        assert_eq!(
+            returned.is_ok(),
+            is_whole || !is_one && !self.keeps_errors && !self.fails,
+            "{before:?} and {self:?}"
+        );
         assert_eq!(*self.noted.borrow(), noted, "{before:?} and {self:?}");
     }
 
@@ -84,7 +90,7 @@ impl Display for Row<'_> {
                 By::Format => self.after(f.write_fmt(format_args!("{piece}")))?,
             }
         }
-        Ok(())
+        if self.fails { Err(fmt::Error) } else { Ok(()) }
     }
 }
 
@@ -159,6 +165,23 @@ fn pieces_that_fill_the_room() {
         }
     }
     at_capacities!(at: 0 1 2 3 4 7 8 16 23 64 128 255 256 1000);
+}
+
+#[test]
+fn a_row_that_fails_behind_its_pieces() {
+    fn at<const N: usize>() {
+        for len in 0..=capacity::<N>() {
+            let string = behind::<N>((capacity::<N>() - len) / 2, &letters(len));
+            for given in [0, 1, capacity::<N>() - len, capacity::<N>() - len + 1] {
+                let text = letters(given);
+                for (by, keeps_errors) in [(By::Str, true), (By::Str, false), (By::Format, false)] {
+                    let pieces = [(by, text.as_str())];
+                    is_printed!(string, capacity::<N>(), &Row { fails: true, ..Row::new(&pieces, keeps_errors) });
+                }
+            }
+        }
+    }
+    at_capacities!(at);
 }
 
 #[test]
