@@ -143,5 +143,6 @@ fn texts_of_each_type_are_given() {
             }
         }
     }
-    at_capacities!(at);
+    // What is given does not depend on the capacity, and each type is compiled at each, so not at all of the table.
+    at_capacities!(at: 0 1 4 8 63 255 300);
 }

@@ -168,12 +168,24 @@ fn empty_items_are_taken_and_end_nothing() {
                         let before = capacity::<N>().saturating_sub(len).min(3);
                         is_extended(&behind::<N>(0, &letters(before)), items, &texts(items));
                     }
-                    is_added_by_the_calls::<N>(&pieces);
                 }
             }
         }
     }
     at_capacities!(at);
+}
+
+#[test]
+fn empty_items_are_taken_by_the_calls() {
+    fn at<const N: usize>() {
+        for text in edges(capacity::<N>()).into_iter().flat_map(texts_of) {
+            for pieces in with_empty_ones(&pieces_of(&text, 2)) {
+                is_added_by_the_calls::<N>(&pieces);
+            }
+        }
+    }
+    // The calls are those of the proved sources, and the types of their items are compiled at each capacity.
+    at_capacities!(at: 0 1 2 4 8 23 63 255 300);
 }
 
 /// Asserts what the calls make of pieces that the impls of the traits stand on, also of lent and owned ones among each other.
@@ -203,5 +215,5 @@ fn items_without_an_end_are_cut() {
         string.extend(std::iter::repeat("é"));
         assert_eq!(string.as_str(), filled);
     }
-    at_capacities!(at);
+    at_capacities!(at: 0 1 2 3 4 8 23 63 255 300);
 }
