@@ -31,8 +31,8 @@ macro_rules! shows {
         are_shown([hash_of(&string), hash_of(string.as_str())], &string.to_string(), text);
         #[cfg(feature = "alloc")]
         {
-            let owned = text.to_string();
-            assert!(string == owned && owned == string && String::from(string) == owned, "{text:?}");
+            let (owned, made) = (text.to_string(), String::from(string));
+            assert!(string == owned && owned == string && made == owned, "{text:?}");
         }
     }};
 }
