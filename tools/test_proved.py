@@ -133,7 +133,8 @@ class Proved(TreeTest):
 
     def test_a_line_that_is_no_checksum_and_path_is_named(self):
         for junk in ("", " ", "# a comment", "some junk", "some  junk", f"{ABC}  ", f"{ABC} HANDLES", f"{ABC} *HANDLES",
-                     f" {ABC}  HANDLES", f"\\{ABC}  HANDLES", f"{ABC.upper()}  HANDLES", f"{ABC[1:]}  HANDLES", f"{ABC}0  HANDLES"):
+                     f" {ABC}  HANDLES", f"\\{ABC}  HANDLES", f"{ABC.upper()}  HANDLES", f"{ABC[1:]}  HANDLES",
+                     f"{ABC}0  HANDLES"):
             why = f": no checksum and path of a file: `{junk}`"
             self.assert_refuses(DUE.replace(LOGIC, f"{LOGIC}\n{junk}"), f":2{why}")
             self.assert_refuses(f"{DUE}{junk}\n", f":9{why}")

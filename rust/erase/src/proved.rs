@@ -31,9 +31,9 @@ pub fn told(made: &mut Made, root: &Path, is_unproved_allowed: bool) -> Result<S
             made.values_mut().for_each(|text| text.insert_str(0, MARK));
             Ok(format!("NOT PROVED, as the first line of each file says: {why}"))
         }
-        Err(why) => {
-            Err(format!("{why}. `tools/run proved` proves the sources and writes the record; --unproved takes them as they are"))
-        }
+        Err(why) => Err(format!(
+            "{why}. `tools/run proved` proves the sources and writes the record; --unproved takes them as they are"
+        )),
         told => told,
     }
 }
@@ -259,8 +259,7 @@ mod tests {
         }
         let first = record.lines().nth(1).unwrap();
         repository.write(RECORD, &record.replace(LOGIC, ""));
-        repository
-            .assert_differs(&format!("rust/proved.txt:1: no `# logic` of 16 hexadecimal digits: `{first}`"));
+        repository.assert_differs(&format!("rust/proved.txt:1: no `# logic` of 16 hexadecimal digits: `{first}`"));
     }
 
     #[test]
@@ -275,8 +274,7 @@ mod tests {
         repository.write(RECORD, &record);
         for page in ["", "# A page\n", "The kit is `a-kit`.\n", "The kit is `a-kit logic 0a1b2c3d4e5f6789"] {
             repository.write(KIT, page);
-            repository
-                .assert_differs("README.md: it does not name the kit, as \"The kit is `NAME logic LOGIC`\"");
+            repository.assert_differs("README.md: it does not name the kit, as \"The kit is `NAME logic LOGIC`\"");
         }
     }
 
@@ -323,9 +321,8 @@ mod tests {
             repository.assert_differs(&why(13));
         }
         repository.write(RECORD, &record.replace('\n', "\r\n"));
-        repository.assert_differs(
-            "rust/proved.txt:1: no `# logic` of 16 hexadecimal digits: `# logic 0a1b2c3d4e5f6789\r`",
-        );
+        repository
+            .assert_differs("rust/proved.txt:1: no `# logic` of 16 hexadecimal digits: `# logic 0a1b2c3d4e5f6789\r`");
         for shorter in ["", record.trim_end()] {
             repository.write(RECORD, shorter);
             repository.assert_differs("rust/proved.txt: its last line has no end");
