@@ -225,6 +225,9 @@ mod tests {
             repository.write(RECORD, &record.replace(&format!("{line}\n"), ""));
             repository.assert_differs(&format!("{path} is not as in rust/proved.txt"));
             repository.write(RECORD, &record);
+            if FILES.contains(&path) {
+                continue;
+            }
             fs::remove_file(repository.0.join(path)).unwrap();
             repository.assert_differs(&format!("{path} is in rust/proved.txt, and is not there"));
             repository.write(path, text);
@@ -234,6 +237,16 @@ mod tests {
             fs::remove_file(repository.0.join(&other)).unwrap();
         }
         assert!(repository.told(false).0.is_ok());
+    }
+
+    #[test]
+    fn a_file_at_the_top_that_is_not_there_is_named() {
+        for path in FILES {
+            let repository = Repository::new(&format!("without-{path}"));
+            fs::remove_file(repository.0.join(path)).unwrap();
+            let why = repository.told(false).0.unwrap_err();
+            assert!(why.starts_with(&format!("{path}: No such file")), "{why}");
+        }
     }
 
     #[test]

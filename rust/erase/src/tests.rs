@@ -23,6 +23,9 @@ arraystring_base::sample::f
     a::put: by the test above
     steps::look_unchecked: by the test above
 
+arraystring_core::sample::f
+    steps::look_unchecked: by the test above
+
 arraystring_base::sample::first
     accesses: by the test above
     steps::look_unchecked: by the test above
@@ -48,7 +51,7 @@ arraystring_base::sample::put
 arraystring_base::steps::look_unchecked
     accesses: by the test above
 
-arraystring_core::array_string::remove::retain_at (whatever the closure answers)
+arraystring_core::sample::remove::retain_at (whatever the closure answers)
     accesses: by the test above
 
 arraystring_base::sample::Text::put
@@ -59,10 +62,10 @@ arraystring_base::sample::Text::put
 arraystring_base::sample::Number::fmt
     steps::look_unchecked: by the test above
 
-arraystring_core::array_string::sample::ArrayString::push_str
+arraystring_base::sample::ArrayString::push_str
     ArrayString::put: by the test above
 
-arraystring_core::array_string::ascii::ArrayString::make_ascii_uppercase_in (so no caller shows it)
+arraystring_core::ascii::ArrayString::make_ascii_uppercase_in (so no caller shows it)
     ArrayString::uppercase_between: the index above panics else
 ";
 
