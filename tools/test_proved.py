@@ -10,8 +10,11 @@ from repository import read
 # (the checksums of the two texts are those of FIPS 180-4)
 EMPTY = "e3b0c44298fc1c149afbf4c8996fb92427ae41e4649b934ca495991b7852b855"
 ABC = "ba7816bf8f01cfea414140de5dae2223b00361a396177a9cb410ff61f20015ad"
+LOGIC = "# logic 0a1b2c3d4e5f6789"
 DUE = f"""\
-# logic 0a1b
+{LOGIC}
+{ABC}  HANDLES
+{EMPTY}  crates.txt
 {ABC}  crates/arraystring/src/lib.rt
 {EMPTY}  crates/arraystring_base/proofs/f/Answers.antt
 {ABC}  crates/arraystring_base/specs/Lib.antt
@@ -25,6 +28,8 @@ NOT_AS_IT_WAS = f"{proved.RECORD}: not as it was proved: {{}}\n".format
 
 class Proved(TreeTest):
     FILES = {
+        "HANDLES": "abc",
+        "crates.txt": "",
         "crates/arraystring/src/lib.rt": "abc",
         "crates/arraystring_base/proofs/f/Answers.antt": "",
         "crates/arraystring_base/specs/Lib.antt": "abc",
@@ -39,7 +44,7 @@ class Proved(TreeTest):
 
     def setUp(self):
         super().setUp()
-        self.put(repository, "logic", lambda: "0a1b\n")
+        self.put(repository, "logic", lambda: "0a1b2c3d4e5f6789\n")
         self.checked = []
         self.prove_where(lambda folder: True)
 
@@ -51,14 +56,15 @@ class Proved(TreeTest):
 
     def test_what_three_green_checks_have_proved_is_recorded(self):
         failed, said = self.told(proved)
-        self.assertEqual((failed, said.splitlines()[-1]), (False, "5 sources written to rust/proved.txt"))
+        self.assertEqual((failed, said.splitlines()[-1]), (False, "7 sources written to rust/proved.txt"))
         self.assertEqual((self.record(), self.checked), (DUE, ["arraystring_base", "arraystring_core", "arraystring"]))
-        self.assertEqual(self.told(proved, "--check"), (False, "5 sources of the Rust crate are as they were proved\n"))
+        self.assertEqual(self.told(proved, "--check"), (False, "7 sources of the Rust crate are as they were proved\n"))
 
     def test_sha256sum_reads_the_record(self):
         self.told(proved)
-        words = [shutil.which("sha256sum"), "--check", "--strict", proved.RECORD]
-        said = subprocess.run(words, cwd=self.root, check=True, stdout=subprocess.PIPE, encoding="utf-8").stdout
+        words = [shutil.which("sha256sum"), "--check", "--strict", "--warn", proved.RECORD]
+        said = subprocess.run(words, cwd=self.root, check=True, stdout=subprocess.PIPE, stderr=subprocess.STDOUT,
+                              encoding="utf-8").stdout
         self.assertEqual(said, "".join(f"{it}: OK\n" for it in PATHS))
 
     def test_nothing_is_recorded_where_a_crate_is_not_proved(self):
@@ -81,22 +87,79 @@ class Proved(TreeTest):
         self.write(proved.RECORD, DUE)
         for path in PATHS:
             text = self.FILES[path]
-            plants = [(path, text + " "), (path, text.replace("c", "d")), (path, text[1:]), (path, None)]
+            plants = [(path, text + " "), (path, text.replace("c", "d")), (path, text[1:])]
             plants = [it for it in plants if it[1] != text] + [(proved.RECORD, rf"^.*  {path}\n", "")]
             self.assert_finds(proved, *((NOT_AS_IT_WAS(path), it) for it in plants), words=["--check"])
-            self.assert_finds(proved, (NOT_AS_IT_WAS(f"{path}.more"), (f"{path}.more", "")), words=["--check"])
+            if path in proved.FILES:
+                self.assert_finds(proved, (f"{path} is not there", (path, None)), words=["--check"])
+            else:
+                self.assert_finds(proved, (NOT_AS_IT_WAS(path), (path, None)), words=["--check"])
+                self.assert_finds(proved, (NOT_AS_IT_WAS(f"{path}.more"), (f"{path}.more", "")), words=["--check"])
         self.assert_finds(proved, ("", ("crates/arraystring_core/must-fail/f.edit", "d")), words=["--check"])
         self.assertEqual((self.told(proved, "--check")[0], self.checked), (False, []))
 
-    def test_another_logic_or_no_record_is_named(self):
-        self.write(proved.RECORD, DUE)
-        self.assert_finds(
-            proved,
-            (NOT_AS_IT_WAS("# logic 0a1b") + NOT_AS_IT_WAS("# logic 0a1c"), (proved.RECORD, "0a1b", "0a1c")),
-            (NOT_AS_IT_WAS("# logic 0a1b"), (proved.RECORD, "^# logic.*\n", "")),
-            ("".join(map(NOT_AS_IT_WAS, ["# logic 0a1b", *PATHS])), (proved.RECORD, None)),
-            words=["--check"],
-        )
+    def assert_refuses(self, text, *wanted):
+        """A record of this text is refused, and this is all that is said of it."""
+        with self.subTest(text), self.changed((proved.RECORD, text)):
+            what_to_do = "`tools/run proved` proves the sources and writes the record"
+            said = "".join(f"{it}\n" for it in [*(f"{proved.RECORD}{it}" for it in wanted), what_to_do])
+            self.assertEqual(self.told(proved, "--check"), (True, said))
+
+    def test_no_record_or_one_without_an_end_is_named(self):
+        self.assert_refuses(None, ": it is not there")
+        missing = [f": not as it was proved: {it}" for it in PATHS]
+        self.assert_refuses("", ": its last line has no end", *missing)
+        self.assert_refuses(DUE[:-1], ": its last line has no end", missing[-1])
+
+    def test_a_logic_that_is_not_that_of_the_kit_is_named(self):
+        for other in ("0000000000000000", "0a1b2c3d4e5f6788"):
+            self.assert_refuses(DUE.replace(LOGIC, f"# logic {other}"),
+                                f":1: the record has `# logic {other}`, and `rt version` names `{LOGIC}`")
+
+    def test_the_first_line_is_a_logic_and_nothing_else(self):
+        for first in ("# logic ", "# logic", "#", "", "# anything", "# logic 0A1B2C3D4E5F6789", LOGIC[:-1], f"{LOGIC}0",
+                      f"{LOGIC} ", LOGIC[2:]):
+            self.assert_refuses(DUE.replace(LOGIC, first), f":1: no `# logic` of 16 hexadecimal digits: `{first}`")
+        self.assert_refuses(DUE.replace(f"{LOGIC}\n", ""), f":1: no `# logic` of 16 hexadecimal digits: `{ABC}  HANDLES`")
+
+    def test_a_second_logic_is_named(self):
+        stale = "# logic 0000000000000000"
+        self.assert_refuses(f"{stale}\n{DUE}", f":2: a second logic: `{LOGIC}`",
+                            f":1: the record has `{stale}`, and `rt version` names `{LOGIC}`")
+        self.assert_refuses(f"{LOGIC}\n{DUE}", f":2: a second logic: `{LOGIC}`")
+        for second in (stale, LOGIC, "# logic", "# logic "):
+            self.assert_refuses(DUE.replace(LOGIC, f"{LOGIC}\n{second}"), f":2: a second logic: `{second}`")
+            self.assert_refuses(f"{DUE}{second}\n", f":9: a second logic: `{second}`")
+
+    def test_a_line_that_is_no_checksum_and_path_is_named(self):
+        for junk in ("", " ", "# a comment", "some junk", "some  junk", f"{ABC}  ", f"{ABC} HANDLES", f"{ABC} *HANDLES",
+                     f" {ABC}  HANDLES", f"\\{ABC}  HANDLES", f"{ABC.upper()}  HANDLES", f"{ABC[1:]}  HANDLES",
+                     f"{ABC}0  HANDLES"):
+            why = f": no checksum and path of a file: `{junk}`"
+            self.assert_refuses(DUE.replace(LOGIC, f"{LOGIC}\n{junk}"), f":2{why}")
+            self.assert_refuses(f"{DUE}{junk}\n", f":9{why}")
+
+    def test_lines_that_end_as_on_other_systems_are_named(self):
+        self.write(proved.RECORD, None)
+        (self.root / proved.RECORD).write_bytes(DUE.replace("\n", "\r\n").encode())
+        failed, said = self.told(proved, "--check")
+        self.assertTrue(failed)
+        self.assertIn(f"{proved.RECORD}:1: no `# logic` of 16 hexadecimal digits: `{LOGIC}\r`\n", said)
+
+    def test_a_file_that_is_there_twice_or_in_another_place_is_named(self):
+        first, second = DUE.splitlines()[1:3]
+        self.assert_refuses(DUE.replace(first, f"{first}\n{first}"), ":3: HANDLES is there twice")
+        self.assert_refuses(DUE.replace(first, f"{EMPTY}  HANDLES\n{first}"), ":3: HANDLES is there twice",
+                            ": not as it was proved: HANDLES")
+        self.assert_refuses(DUE.replace(f"{first}\n{second}", f"{second}\n{first}"), ": its lines are in another order")
+
+    def test_a_kit_that_names_its_logic_in_another_way_is_refused(self):
+        for named in ("", "0a1b\n", "0a1b2c3d4e5f6789 ff\n"):
+            self.put(repository, "logic", lambda named=named: named)
+            for words in ([], ["--check"]):
+                failed, said = self.told(proved, *words)
+                self.assertEqual((failed, said, self.checked),
+                                 (True, f"`rt version` names no logic of 16 hexadecimal digits: `# logic {named.strip()}`", []))
 
     def test_other_words_are_refused(self):
         for words in (["--chek"], ["arraystring"], ["--check", "--check"]):

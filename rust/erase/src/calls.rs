@@ -22,6 +22,8 @@ pub struct Here<'a> {
     pub owner: &'a str,
     /// The name of its function behind that.
     pub call: &'a str,
+    /// Its crate, modules, type and name, by which its reasons are found.
+    pub whole_path: &'a str,
     /// Whether Rust gives up a clause of the function itself.
     pub gives_up: bool,
     /// Whether what is proved in it is a fact in Rust: no clause that its proof may need is given up.
@@ -31,27 +33,27 @@ pub struct Here<'a> {
 impl Here<'_> {
     /// Why what a worker requires is true in the body, at the call of it with this number. The accesses of the body are one, too.
     fn reason(&self, worker: &str, number: usize, at: usize, tally: &mut Tally) -> Result<String, Fault> {
-        let call = self.call;
-        let reasons = tally.reasons.iter().find(|reasons| reasons.of == call);
+        let path = self.whole_path;
+        let reasons = tally.reasons.iter().find(|reasons| reasons.of == path);
         let whys = reasons.into_iter().flat_map(|reasons| &reasons.calls).filter(|(of, _)| *of == worker);
         let whys: Vec<_> = whys.map(|(_, why)| *why).collect();
         let number = if whys.len() == 1 { 0 } else { number };
         let (Some(why), Some(reasons)) = (whys.get(number), reasons) else {
-            let why = format!("`{call}`: src/reasons.txt does not say why what `{worker}` requires is true there");
+            let why = format!("`{path}`: src/reasons.txt does not say why what `{worker}` requires is true there");
             return Err(Fault::new(at, why));
         };
-        tally.used.insert(format!("reason {call} {worker} {number}"));
-        let needs_more = if worker == ACCESSES { tally.contracts.is_given_up(call) } else { self.gives_up };
+        tally.used.insert(format!("reason {path} {worker} {number}"));
+        let needs_more = if worker == ACCESSES { tally.contracts.is_given_up(self.call) } else { self.gives_up };
         if !needs_more {
             return Ok(why.to_string());
         }
         if reasons.anyway.is_empty() {
             let why = format!(
-                "`{call}`: Rust gives up a clause of it, and src/reasons.txt does not say why `{worker}` needs none"
+                "`{path}`: Rust gives up a clause of it, and src/reasons.txt does not say why `{worker}` needs none"
             );
             return Err(Fault::new(at, why));
         }
-        tally.used.insert(format!("anyway {call}"));
+        tally.used.insert(format!("anyway {path}"));
         Ok(format!("{why}, {}", reasons.anyway))
     }
 }

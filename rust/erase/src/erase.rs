@@ -36,6 +36,8 @@ pub struct Tally {
     pub contracts: Contracts,
     /// Why what workers require is true.
     pub reasons: &'static [Reasons],
+    /// Where each function with reasons stands in its file, by its whole path.
+    pub places: BTreeMap<String, usize>,
 }
 
 impl Tally {

@@ -22,6 +22,8 @@ use crate::sentences::sentences;
 struct Function {
     /// Its name, behind that of its type or file.
     call: String,
+    /// Its whole path, by which its reasons are found.
+    path: String,
     is_public: bool,
     /// From `fn` to the last sign before its clauses and its body.
     head: Range<usize>,
@@ -98,9 +100,17 @@ impl<'a> File<'a, '_> {
         if gives_up && !function.tokens.is_empty() {
             self.tally.contracts.note_given_up(&function.call);
         }
-        let reasons = self.tally.reasons.iter().find(|reasons| reasons.of == function.call);
+        let reasons = self.reasons(function)?;
         let proves = reasons.is_some_and(Reasons::are_of_accesses) || !self.tally.contracts.is_given_up(&function.call);
-        let here = Here { krate, path, owner: inside.owner, call: &function.call, gives_up, proves };
+        let here = Here {
+            krate,
+            path,
+            owner: inside.owner,
+            call: &function.call,
+            whole_path: &function.path,
+            gives_up,
+            proves,
+        };
         // (behind `fn` and its name)
         self.are_meant(&self.tokens(function.head.clone())[2..])?;
         self.are_meant(&function.tokens)?;
@@ -108,6 +118,17 @@ impl<'a> File<'a, '_> {
             return Ok(());
         }
         calls::rewrite(self.text, &function.tokens, &here, &mut self.edits, self.tally)
+    }
+
+    /// The reasons of a function, if it has some. Two functions of one path would share them: those of two impls in one file.
+    fn reasons(&mut self, function: &Function) -> Result<Option<&'static Reasons>, Fault> {
+        let reasons = self.tally.reasons.iter().find(|reasons| reasons.of == function.path);
+        let (path, place) = (&function.path, function.head.start);
+        if reasons.is_some() && *self.tally.places.entry(path.clone()).or_insert(place) != place {
+            let why = format!("`{path}`: a function above has this path and its reasons in src/reasons.txt, too");
+            return Err(Fault::new(place, why));
+        }
+        Ok(reasons)
     }
 
     /// Whether std does what the file does, so that its bodies go.
@@ -135,12 +156,13 @@ impl<'a> File<'a, '_> {
             return Err(Fault::new(word.at.start, "a function without its name"));
         };
         let call = format!("{}::{}", inside.owner, cursor.text(&name));
+        let whole_path = self.whole_path(inside, cursor.text(&name));
         let head = self.up_to(cursor, word.at.start, &["{", "requires", "ensures"])?;
         cursor.at = head.end;
         let (clauses, preconditions) = self.clauses(cursor)?;
         let body = cursor.at;
         let tokens = self.block(cursor, body)?;
-        Ok(Function { call, is_public, head, clauses, preconditions, body, end: cursor.at, tokens })
+        Ok(Function { call, path: whole_path, is_public, head, clauses, preconditions, body, end: cursor.at, tokens })
     }
 
     /// Reads the clauses of a function up to its body, whose bracket is taken. Returns where they are, and the
@@ -267,7 +289,8 @@ impl<'a> File<'a, '_> {
         let head = self.text[function.head.clone()].replacen(rule.call, rule.twin, 1);
         let call = rule.of.replace(rule.call, rule.twin);
         self.tally.contracts.note(&call, &head, &function.preconditions);
-        let here = Here { krate, path, owner: "", call: &call, gives_up: false, proves: true };
+        let whole_path = function.path.replace(rule.of, &call);
+        let here = Here { krate, path, owner: "", call: &call, whole_path: &whole_path, gives_up: false, proves: true };
         calls::rewrite(body, &tokens, &here, &mut edits, self.tally)?;
         self.edits.insert(
             function.end,

@@ -51,6 +51,8 @@ pub struct File<'a, 't> {
     pub others: Vec<&'static str>,
     /// The functions that rules know by their names, and that it imports or defines.
     pub named: Vec<&'static str>,
+    /// The modules within the file around what is read.
+    pub around: Vec<&'a str>,
     /// The modules that have a file of their own.
     pub modules: Vec<String>,
     /// Those that were dropped.
@@ -60,8 +62,8 @@ pub struct File<'a, 't> {
 impl<'a, 't> File<'a, 't> {
     /// Reads a whole file.
     pub fn read(source: &'a Source<'a>, text: &'a str, tally: &'t mut Tally) -> Result<Self, Fault> {
-        let (edits, others, named, modules, dropped) = Default::default();
-        let mut file = File { source, text, edits, tally, others, named, modules, dropped };
+        let (edits, others, named, around, modules, dropped) = Default::default();
+        let mut file = File { source, text, edits, tally, others, named, around, modules, dropped };
         let name = source.path.rsplit('/').next().unwrap_or(source.path);
         let owner = name.strip_suffix(".rt").unwrap_or(name);
         file.items(&mut Cursor::new(text), &Inside { owner, of_trait: false, is_block: false })?;
@@ -330,7 +332,9 @@ impl<'a, 't> File<'a, 't> {
         let text = cursor.text(&name);
         if cursor.peek_code()? == "{" {
             cursor.expect("{")?;
+            self.around.push(text);
             self.items(cursor, &Inside { owner: text, of_trait: false, is_block: true })?;
+            self.around.pop();
             return Ok(());
         }
         cursor.expect(";")?;

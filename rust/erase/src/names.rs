@@ -53,6 +53,19 @@ pub fn laws_change_nothing(read: impl Fn(&str) -> Result<String, String>) -> Res
 }
 
 impl File<'_, '_> {
+    /// The path of the file's module, which begins with its crate.
+    fn module_path(&self) -> String {
+        let module = self.source.path.trim_end_matches(".rt").replacen("/src/", "::", 1).replace('/', "::");
+        module.trim_end_matches("::lib").to_string()
+    }
+
+    /// The whole path of a function: its crate, its modules, its type if it has one, and its name.
+    pub fn whole_path(&self, inside: &Inside, name: &str) -> String {
+        let of_type = inside.is_type().then_some(inside.owner);
+        let parts = self.around.iter().copied().chain(of_type).chain([name]);
+        parts.fold(self.module_path(), |path, part| path + "::" + part)
+    }
+
     /// Reads the names of an import. A private one gets the twin of what panics.
     pub fn import(&mut self, at: Range<usize>) -> Result<(), Fault> {
         let import = &self.text[at.clone()];
@@ -81,8 +94,7 @@ impl File<'_, '_> {
     /// Reads the name of a function, which is behind its `fn` at `at`.
     pub fn define(&mut self, name: &str, inside: &Inside, at: usize) -> Result<(), Fault> {
         let Some(named) = entry(name).filter(|_| !inside.is_type()) else { return Ok(()) };
-        let module = self.source.path.trim_end_matches(".rt").replacen("/src/", "::", 1).replace('/', "::");
-        if inside.is_block || format!("{module}::{name}") != named.paths[0] {
+        if inside.is_block || format!("{}::{name}", self.module_path()) != named.paths[0] {
             return Err(Fault::new(at, format!("`{name}` is `{}`, and another one is defined", named.paths[0])));
         }
         self.named.push(named.name);

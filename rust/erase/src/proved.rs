@@ -11,6 +11,12 @@ use crate::rules::CRATES;
 /// The record, which `tools/run proved` writes: the logic of the kit, and the checksum of each file that a proof is made of.
 const RECORD: &str = "rust/proved.txt";
 
+/// The page that names the kit, since the eraser can't ask it.
+const KIT: &str = "README.md";
+
+/// The files at the top that each proof is made of, too: what a crate may use, and which handles.
+const FILES: [&str; 2] = ["HANDLES", "crates.txt"];
+
 /// The folders of a crate that its proof is made of.
 const PARTS: [&str; 3] = ["src", "specs", "proofs"];
 
@@ -25,34 +31,77 @@ pub fn told(made: &mut Made, root: &Path, is_unproved_allowed: bool) -> Result<S
             made.values_mut().for_each(|text| text.insert_str(0, MARK));
             Ok(format!("NOT PROVED, as the first line of each file says: {why}"))
         }
-        Err(why) => {
-            Err(format!("{why}. `tools/run proved` proves and records the sources; --unproved takes them as they are"))
-        }
+        Err(why) => Err(format!(
+            "{why}. `tools/run proved` proves the sources and writes the record; --unproved takes them as they are"
+        )),
         told => told,
     }
 }
 
-/// How many sources are as in the record; the first that is not is an error.
+/// How many files are as in the record; the first that is not is an error.
 fn as_recorded(root: &Path) -> Result<String, String> {
-    let record = read(&root.join(RECORD))?;
-    let (logic, lines) = record.split_once('\n').unwrap_or((&record, ""));
-    let logic = logic.strip_prefix("# ").ok_or(format!("{RECORD}:1: no logic that proved the sources"))?;
-    let mut left: BTreeMap<_, _> =
-        lines.lines().filter_map(|line| line.split_once("  ")).map(|(sum, path)| (path, sum)).collect();
+    let text = read(&root.join(RECORD))?;
+    let (logic, mut left) = recorded(&text)?;
+    let of_kit = logic_of_kit(root)?;
+    if logic != of_kit {
+        return Err(format!("{RECORD}:1: the logic is `{logic}`, and {KIT} names `{of_kit}`"));
+    }
     let count = left.len();
-    for folder in CRATES.iter().flat_map(|krate| PARTS.map(|part| format!("crates/{krate}/{part}"))) {
-        for file in sources(&root.join(&folder))? {
-            let path = format!("{folder}/{file}");
-            let bytes = fs::read(root.join(&path)).map_err(|error| format!("{path}: {error}"))?;
-            if left.remove(path.as_str()) != Some(&sha256(&bytes)) {
-                return Err(format!("{path} is not as in {RECORD}"));
-            }
+    for path in due(root)? {
+        let bytes = fs::read(root.join(&path)).map_err(|error| format!("{path}: {error}"))?;
+        if left.remove(path.as_str()) != Some(&sha256(&bytes)) {
+            return Err(format!("{path} is not as in {RECORD}"));
         }
     }
     match left.first_key_value() {
         Some((path, _)) => Err(format!("{path} is in {RECORD}, and is not there")),
-        None => Ok(format!("{count:5} sources are as in {RECORD}, proved by {logic}")),
+        None => Ok(format!("{count:5} files are as in {RECORD}, proved by logic {logic}")),
     }
+}
+
+/// The paths that the record has to have.
+fn due(root: &Path) -> Result<Vec<String>, String> {
+    let mut paths: Vec<_> = FILES.map(String::from).into();
+    for folder in CRATES.iter().flat_map(|krate| PARTS.map(|part| format!("crates/{krate}/{part}"))) {
+        paths.extend(sources(&root.join(&folder))?.iter().map(|file| format!("{folder}/{file}")));
+    }
+    Ok(paths)
+}
+
+/// What a record says: its logic, and the checksum of each file by its path. It has no line of another form, and none twice, so that
+/// each of its lines is one that is compared.
+fn recorded(text: &str) -> Result<(&str, BTreeMap<&str, &str>), String> {
+    // (`lines` would also take lines that end as on other systems, and a last line without its end)
+    let Some(lines) = text.strip_suffix('\n') else { return Err(format!("{RECORD}: its last line has no end")) };
+    let mut lines = lines.split('\n').enumerate().map(|(at, line)| (at + 1, line));
+    let first = lines.next().map_or("", |(_, line)| line);
+    let logic = first.strip_prefix("# logic ").filter(|logic| is_hexadecimal(logic, 16));
+    let logic = logic.ok_or(format!("{RECORD}:1: no `# logic` of 16 hexadecimal digits: `{first}`"))?;
+    let mut sums = BTreeMap::new();
+    for (number, line) in lines {
+        let of_file = line.split_once("  ").filter(|(sum, path)| is_hexadecimal(sum, 64) && !path.is_empty());
+        let Some((sum, path)) = of_file else {
+            let what = if line.starts_with("# logic") { "a second logic" } else { "no checksum and path of a file" };
+            return Err(format!("{RECORD}:{number}: {what}: `{line}`"));
+        };
+        if sums.insert(path, sum).is_some() {
+            return Err(format!("{RECORD}:{number}: {path} is there twice"));
+        }
+    }
+    Ok((logic, sums))
+}
+
+/// Whether a text is a number of so many digits, as `sha256sum` writes it.
+fn is_hexadecimal(text: &str, count: usize) -> bool {
+    text.len() == count && text.bytes().all(|digit| matches!(digit, b'0'..=b'9' | b'a'..=b'f'))
+}
+
+/// The logic of the kit, as the page names both.
+fn logic_of_kit(root: &Path) -> Result<String, String> {
+    let page = read(&root.join(KIT))?;
+    let kit = page.split_once("The kit is `").and_then(|(_, rest)| rest.split_once('`'));
+    let logic = kit.and_then(|(kit, _)| kit.split_once(" logic ")).map(|(_, logic)| logic.to_string());
+    logic.ok_or(format!("{KIT}: it does not name the kit, as \"The kit is `NAME logic LOGIC`\""))
 }
 
 #[cfg(test)]
@@ -67,8 +116,14 @@ mod tests {
     const EMPTY: &str = "e3b0c44298fc1c149afbf4c8996fb92427ae41e4649b934ca495991b7852b855";
     const ABC: &str = "ba7816bf8f01cfea414140de5dae2223b00361a396177a9cb410ff61f20015ad";
 
-    /// The sources of the small repository, one in each part of each crate.
-    const SOURCES: [(&str, &str); 9] = [
+    /// What the page of the small repository says of the kit, and its record.
+    const PAGE: &str = "# A page\n\nThe kit is `a-kit logic 0a1b2c3d4e5f6789`, as `rt version` prints.\n";
+    const LOGIC: &str = "# logic 0a1b2c3d4e5f6789\n";
+
+    /// The sources of the small repository: the files at the top, and one in each part of each crate.
+    const SOURCES: [(&str, &str); 11] = [
+        ("HANDLES", "abc"),
+        ("crates.txt", ""),
         ("crates/arraystring_base/src/lib.rt", "abc"),
         ("crates/arraystring_base/specs/Lib.antt", ""),
         ("crates/arraystring_base/proofs/f/Answers.antt", "abc"),
@@ -87,7 +142,8 @@ mod tests {
         /// One whose sources are as in its record.
         fn new(name: &str) -> Self {
             let repository = Repository(std::env::temp_dir().join(format!("erase-{name}-{}", std::process::id())));
-            let mut record = "# a logic\n".to_string();
+            repository.write(KIT, PAGE);
+            let mut record = LOGIC.to_string();
             for (path, text) in SOURCES {
                 repository.write(path, text);
                 record += &format!("{}  {path}\n", if text.is_empty() { EMPTY } else { ABC });
@@ -140,7 +196,7 @@ mod tests {
         let repository = Repository::new("as-recorded");
         repository.write("crates/arraystring_core/must-fail/f.edit", "no part of the proof");
         repository.write("crates/arraystring_run/src/lib.rt", "no source of the Rust crate");
-        let due = "    9 sources are as in rust/proved.txt, proved by a logic".to_string();
+        let due = "   11 files are as in rust/proved.txt, proved by logic 0a1b2c3d4e5f6789".to_string();
         for is_unproved_allowed in [false, true] {
             assert_eq!(repository.told(is_unproved_allowed), (Ok(due.clone()), "fn f() {}\n".to_string()));
         }
@@ -169,6 +225,9 @@ mod tests {
             repository.write(RECORD, &record.replace(&format!("{line}\n"), ""));
             repository.assert_differs(&format!("{path} is not as in rust/proved.txt"));
             repository.write(RECORD, &record);
+            if FILES.contains(&path) {
+                continue;
+            }
             fs::remove_file(repository.0.join(path)).unwrap();
             repository.assert_differs(&format!("{path} is in rust/proved.txt, and is not there"));
             repository.write(path, text);
@@ -181,12 +240,115 @@ mod tests {
     }
 
     #[test]
-    fn a_record_that_names_no_logic_is_refused() {
+    fn a_file_at_the_top_that_is_not_there_is_named() {
+        for path in FILES {
+            let repository = Repository::new(&format!("without-{path}"));
+            fs::remove_file(repository.0.join(path)).unwrap();
+            let why = repository.told(false).0.unwrap_err();
+            assert!(why.starts_with(&format!("{path}: No such file")), "{why}");
+        }
+    }
+
+    #[test]
+    fn the_first_line_is_a_logic_and_nothing_else() {
         let repository = Repository::new("no-logic");
         let record = repository.record();
-        for first in ["", "a logic\n", "\n"] {
-            repository.write(RECORD, &record.replace("# a logic\n", first));
-            repository.assert_differs("rust/proved.txt:1: no logic that proved the sources");
+        for first in [
+            "# logic ",
+            "# logic",
+            "#",
+            "",
+            "# anything",
+            "# logic 0A1B2C3D4E5F6789",
+            "# logic 0a1b2c3d4e5f678",
+            "# logic 0a1b2c3d4e5f67890",
+            "# logic 0a1b2c3d4e5f6789 ",
+            "#  logic 0a1b2c3d4e5f6789",
+            "logic 0a1b2c3d4e5f6789",
+        ] {
+            repository.write(RECORD, &record.replace(LOGIC, &format!("{first}\n")));
+            let why = format!("rust/proved.txt:1: no `# logic` of 16 hexadecimal digits: `{first}`");
+            repository.assert_differs(&why);
+        }
+        let first = record.lines().nth(1).unwrap();
+        repository.write(RECORD, &record.replace(LOGIC, ""));
+        repository.assert_differs(&format!("rust/proved.txt:1: no `# logic` of 16 hexadecimal digits: `{first}`"));
+    }
+
+    #[test]
+    fn a_logic_that_is_not_that_of_the_kit_is_refused() {
+        let repository = Repository::new("other-logic");
+        let record = repository.record();
+        for other in ["0000000000000000", "0a1b2c3d4e5f6788"] {
+            repository.write(RECORD, &record.replace("0a1b2c3d4e5f6789", other));
+            let names = "README.md names `0a1b2c3d4e5f6789`";
+            repository.assert_differs(&format!("rust/proved.txt:1: the logic is `{other}`, and {names}"));
+        }
+        repository.write(RECORD, &record);
+        for page in ["", "# A page\n", "The kit is `a-kit`.\n", "The kit is `a-kit logic 0a1b2c3d4e5f6789"] {
+            repository.write(KIT, page);
+            repository.assert_differs("README.md: it does not name the kit, as \"The kit is `NAME logic LOGIC`\"");
+        }
+    }
+
+    #[test]
+    fn a_second_logic_is_refused() {
+        let repository = Repository::new("second-logic");
+        let record = repository.record();
+        let right = LOGIC.trim_end();
+        for stale in ["# logic 0000000000000000", right, "# logic", "# logic "] {
+            if stale.len() == right.len() {
+                repository.write(RECORD, &format!("{stale}\n{record}"));
+                repository.assert_differs(&format!("rust/proved.txt:2: a second logic: `{right}`"));
+            }
+            repository.write(RECORD, &record.replace(LOGIC, &format!("{LOGIC}{stale}\n")));
+            repository.assert_differs(&format!("rust/proved.txt:2: a second logic: `{stale}`"));
+            repository.write(RECORD, &format!("{record}{stale}\n"));
+            repository.assert_differs(&format!("rust/proved.txt:13: a second logic: `{stale}`"));
+        }
+    }
+
+    #[test]
+    fn a_line_that_is_no_checksum_and_path_is_refused() {
+        let repository = Repository::new("junk");
+        let record = repository.record();
+        for junk in [
+            "".to_string(),
+            " ".to_string(),
+            "# a comment".to_string(),
+            "some junk".to_string(),
+            "some  junk".to_string(),
+            format!("{ABC}  "),
+            format!("{ABC} HANDLES"),
+            format!("{ABC} *HANDLES"),
+            format!(" {ABC}  HANDLES"),
+            format!("\\{ABC}  HANDLES"),
+            format!("{}  HANDLES", ABC.to_uppercase()),
+            format!("{}  HANDLES", &ABC[1..]),
+            format!("{ABC}0  HANDLES"),
+        ] {
+            let why = |number: usize| format!("rust/proved.txt:{number}: no checksum and path of a file: `{junk}`");
+            repository.write(RECORD, &record.replace(LOGIC, &format!("{LOGIC}{junk}\n")));
+            repository.assert_differs(&why(2));
+            repository.write(RECORD, &format!("{record}{junk}\n"));
+            repository.assert_differs(&why(13));
+        }
+        repository.write(RECORD, &record.replace('\n', "\r\n"));
+        repository
+            .assert_differs("rust/proved.txt:1: no `# logic` of 16 hexadecimal digits: `# logic 0a1b2c3d4e5f6789\r`");
+        for shorter in ["", record.trim_end()] {
+            repository.write(RECORD, shorter);
+            repository.assert_differs("rust/proved.txt: its last line has no end");
+        }
+    }
+
+    #[test]
+    fn a_file_that_is_there_twice_is_refused() {
+        let repository = Repository::new("twice");
+        let record = repository.record();
+        for sum in [ABC, EMPTY] {
+            repository.write(RECORD, &record.replace(LOGIC, &format!("{LOGIC}{sum}  HANDLES\n")));
+            repository.assert_differs("rust/proved.txt:3: HANDLES is there twice");
         }
     }
 

@@ -1,8 +1,10 @@
 //! Why what workers require is true, as `reasons.txt` says.
 
+use crate::rules::CRATES;
+
 /// The reasons of a function.
 pub struct Reasons {
-    /// Its name, behind that of its type or file.
+    /// Its whole path: its crate, modules and type, and its name. Functions of one name share no reason.
     pub of: &'static str,
     /// Why none needs a clause that Rust gives up, where it gives one up of the function or of what that calls. Else `""`.
     pub anyway: &'static str,
@@ -25,8 +27,10 @@ pub fn read(page: &'static str) -> Result<&'static [Reasons], String> {
         let fault = |why: &str| Err(format!("rust/erase/src/reasons.txt:{}: {why}: `{line}`", at + 1));
         match (line.strip_prefix("    "), all.last_mut()) {
             (Some(reason), Some(last)) => match reason.split_once(": ") {
-                Some(reason) => last.calls.push(reason),
-                None => return fault("a worker without a reason"),
+                Some((worker, why)) if !worker.trim().is_empty() && !why.trim().is_empty() => {
+                    last.calls.push((worker, why));
+                }
+                _ => return fault("a worker without a reason"),
             },
             (Some(_), None) => return fault("a worker of no function"),
             (None, _) => {
@@ -35,6 +39,12 @@ pub fn read(page: &'static str) -> Result<&'static [Reasons], String> {
                     None if line.contains(' ') => return fault("neither a function nor a worker"),
                     None => (line, ""),
                 };
+                if !is_whole(of) {
+                    return fault("no whole path of a function (crate, modules, type and name)");
+                }
+                if line != of && anyway.trim().is_empty() {
+                    return fault("brackets without a reason");
+                }
                 if all.iter().any(|reasons| reasons.of == of) {
                     return fault("a function that has reasons above");
                 }
@@ -43,6 +53,12 @@ pub fn read(page: &'static str) -> Result<&'static [Reasons], String> {
         }
     }
     Ok(all.leak())
+}
+
+/// Whether a path begins with a crate, as a whole one does.
+fn is_whole(path: &str) -> bool {
+    let (krate, rest) = path.split_once("::").unwrap_or((path, ""));
+    CRATES.contains(&krate) && rest.split("::").all(|part| !part.is_empty())
 }
 
 impl Reasons {
@@ -66,9 +82,12 @@ mod tests {
     #[test]
     fn a_page_is_read() {
         let reasons =
-            read("# A page.\n\na::f (whatever it is)\n    a::g: so it is: yes\n\nB::h\n    a::g: no\n").unwrap();
+            read("# A page.\n\narraystring_base::a::f (whatever it is)\n    a::g: so it is: yes\n\narraystring::a::B::h\n    a::g: no\n").unwrap();
         let told: Vec<_> = reasons.iter().map(|reasons| (reasons.of, reasons.anyway, &reasons.calls[..])).collect();
-        let wanted = [("a::f", "whatever it is", &[("a::g", "so it is: yes")][..]), ("B::h", "", &[("a::g", "no")])];
+        let wanted = [
+            ("arraystring_base::a::f", "whatever it is", &[("a::g", "so it is: yes")][..]),
+            ("arraystring::a::B::h", "", &[("a::g", "no")]),
+        ];
         assert_eq!(told, wanted);
         assert!(all().is_ok());
     }
@@ -77,12 +96,42 @@ mod tests {
     fn a_line_that_is_no_reason_is_refused() {
         for (page, why) in [
             ("    a::g: so it is\n", "1: a worker of no function: `    a::g: so it is`"),
-            ("a::f\n    a::g\n", "2: a worker without a reason: `    a::g`"),
-            ("# It.\na::f\n  a::g: so it is\n", "3: neither a function nor a worker: `  a::g: so it is`"),
-            ("a::f whatever it is\n", "1: neither a function nor a worker: `a::f whatever it is`"),
-            ("a::f\n\na::f (anyway)\n", "3: a function that has reasons above: `a::f (anyway)`"),
+            ("arraystring::a::f\n    a::g\n", "2: a worker without a reason: `    a::g`"),
+            ("arraystring::a::f\n    a::g:\n", "2: a worker without a reason: `    a::g:`"),
+            ("arraystring::a::f\n    a::g: \n", "2: a worker without a reason: `    a::g: `"),
+            ("arraystring::a::f\n    a::g:  \n", "2: a worker without a reason: `    a::g:  `"),
+            ("arraystring::a::f\n    : so it is\n", "2: a worker without a reason: `    : so it is`"),
+            ("arraystring::a::f ()\n    a::g: so it is\n", "1: brackets without a reason: `arraystring::a::f ()`"),
+            ("arraystring::a::f ( )\n    a::g: so it is\n", "1: brackets without a reason: `arraystring::a::f ( )`"),
+            ("# It.\narraystring::a::f\n  a::g: it is\n", "3: neither a function nor a worker: `  a::g: it is`"),
+            ("arraystring::a::f so it is\n", "1: neither a function nor a worker: `arraystring::a::f so it is`"),
+            (
+                "arraystring::a::f\n\narraystring::a::f (anyway)\n",
+                "3: a function that has reasons above: `arraystring::a::f (anyway)`",
+            ),
         ] {
             assert_eq!(read(page).err(), Some(format!("rust/erase/src/reasons.txt:{why}")));
+        }
+    }
+
+    #[test]
+    fn a_path_that_is_not_whole_is_refused() {
+        for path in [
+            "f",
+            "a::f",
+            "B::f",
+            "a::B::f",
+            "other::a::B::f",
+            "arraystring",
+            "arraystring::",
+            "arraystring::::f",
+            "::a::f",
+        ] {
+            for line in [path.to_string(), format!("{path} (anyway)")] {
+                let page = format!("# It.\n\n{line}\n    a::g: so it is\n").leak();
+                let why = format!("3: no whole path of a function (crate, modules, type and name): `{line}`");
+                assert_eq!(read(page).err(), Some(format!("rust/erase/src/reasons.txt:{why}")));
+            }
         }
     }
 }

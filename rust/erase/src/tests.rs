@@ -17,52 +17,55 @@ mod ruled;
 
 /// Why what is called in samples may be called there.
 const REASONS: &str = "\
-sample::f
+arraystring_base::sample::f
     accesses: by the test above
     sample::put: by the test above
     a::put: by the test above
     steps::look_unchecked: by the test above
 
-sample::first
+arraystring_core::sample::f
+    steps::look_unchecked: by the test above
+
+arraystring_base::sample::first
     accesses: by the test above
     steps::look_unchecked: by the test above
 
-sample::second
+arraystring_base::sample::second
     accesses: by the test above
     sample::third: by the test above
 
-sample::third
+arraystring_base::sample::third
     accesses: by the test above
 
-sample::twice
+arraystring_base::sample::twice
     sample::put: it is the first
     sample::put: it is the last
 
-sample::counted (whatever was counted)
+arraystring_base::sample::counted (whatever was counted)
     sample::put: by the test above
     steps::look_unchecked: by the test above
 
-sample::put
+arraystring_base::sample::put
     accesses: by the test above
 
-steps::look_unchecked
+arraystring_base::steps::look_unchecked
     accesses: by the test above
 
-remove::retain_at (whatever the closure answers)
+arraystring_core::sample::remove::retain_at (whatever the closure answers)
     accesses: by the test above
 
-Text::put
+arraystring_base::sample::Text::put
     sample::shift: by the test above
     Text::push: it is short
     Text::spelled: it is a text
 
-Number::fmt
+arraystring_base::sample::Number::fmt
     steps::look_unchecked: by the test above
 
-ArrayString::push_str
+arraystring_base::sample::ArrayString::push_str
     ArrayString::put: by the test above
 
-ArrayString::make_ascii_uppercase_in (so no caller shows it)
+arraystring_core::ascii::ArrayString::make_ascii_uppercase_in (so no caller shows it)
     ArrayString::uppercase_between: the index above panics else
 ";
 

@@ -137,8 +137,7 @@ fn {worker}(all: &mut [u8], at: usize)
         )
     };
     let given_up = "steps.old.moved ≤ 2 ^ 63";
-    let why =
-        "`sample::f`: Rust gives up a clause of it, and src/reasons.txt does not say why `sample::put` needs none";
+    let why = "`arraystring_base::sample::f`: Rust gives up a clause of it, and src/reasons.txt does not say why `sample::put` needs none";
     assert_eq!(made(&source("f", "put", given_up)).unwrap_err(), format!("4: {why}"));
     assert!(made(&source("f", "put", "0 < 3")).unwrap().contains("unsafe { put(all, 0) };"));
     let listed = made(&source("counted", "put", given_up)).unwrap();
@@ -158,7 +157,9 @@ fn calling(name: &str, count: usize) -> String {
 fn a_call_of_a_worker_has_a_reason_or_stops_the_eraser() {
     let made_of = |name: &str, count: usize| made(&calling(name, count));
     let missing = |name: &str| {
-        format!("`sample::{name}`: src/reasons.txt does not say why what `sample::put` requires is true there")
+        format!(
+            "`arraystring_base::sample::{name}`: src/reasons.txt does not say why what `sample::put` requires is true there"
+        )
     };
     assert_eq!(made_of("without", 1).unwrap_err(), format!("2: {}", missing("without")));
     let one = made_of("f", 3).unwrap();
@@ -181,9 +182,46 @@ fn an_access_has_a_reason_or_stops_the_eraser() {
                 *get_unchecked_mut!(all, at) = 1;\n    *get_unchecked_mut!(all, 0) = 2;\n";
     let listed = made(&source("f", "")).unwrap();
     assert!(listed.contains(line), "{listed}");
-    let why = "`sample::without`: src/reasons.txt does not say why what `accesses` requires is true there";
+    let why =
+        "`arraystring_base::sample::without`: src/reasons.txt does not say why what `accesses` requires is true there";
     assert_eq!(made(&source("without", "")).unwrap_err(), format!("3: {why}"));
     assert_eq!(made(&source("without", "    requires { at < length all.old }\n")).unwrap_err(), format!("4: {why}"));
     let not_reached = made("fn f() {\n    unreachable!();\n}\n").unwrap();
     assert!(not_reached.contains("    // SAFETY: this is not reached: by the test above.\n"), "{not_reached}");
+}
+
+#[test]
+fn a_reason_is_that_of_one_function_by_its_whole_path() {
+    let access = |name: &str| format!("fn {name}(all: &mut [u8]) {{\n    all[0] = 1;\n}}\n");
+    let missing =
+        |path: &str| format!("`{path}`: src/reasons.txt does not say why what `accesses` requires is true there");
+    let of = |path: &str, text: &str| made_as(path, text);
+    let at = "arraystring_base/src/sample.rt";
+    assert!(of(at, &access("f")).is_ok());
+    for (path, text, whole) in [
+        ("arraystring_base/src/sample/sample.rt", access("f"), "arraystring_base::sample::sample::f"),
+        ("arraystring_base/src/other/sample.rt", access("f"), "arraystring_base::other::sample::f"),
+        ("arraystring_core/src/sample.rt", access("f"), "arraystring_core::sample::f"),
+        (at, format!("mod sample {{\n{}}}\n", access("f")), "arraystring_base::sample::sample::f"),
+        (at, format!("mod a {{\nmod b {{\n{}}}\n}}\n", access("f")), "arraystring_base::sample::a::b::f"),
+        (at, format!("impl Text {{\n{}}}\n", access("f")), "arraystring_base::sample::Text::f"),
+        (at, format!("mod a {{\nimpl Text {{\n{}}}\n}}\n", access("put")), "arraystring_base::sample::a::Text::put"),
+        ("arraystring_base/src/lib.rt", access("f"), "arraystring_base::f"),
+    ] {
+        let told = of(path, &text).unwrap_err();
+        assert!(told.ends_with(&missing(whole)), "{told}");
+    }
+    // What stands behind a module is in the file again.
+    assert!(of(at, &format!("mod a {{\nfn g() {{}}\n}}\n\n{}", access("f"))).is_ok());
+}
+
+#[test]
+fn two_functions_of_one_path_share_no_reason() {
+    let of_trait = |name: &str| format!("impl {name} for Number {{\n    fn fmt(&self) {{}}\n}}\n");
+    let two = of_trait("Shown") + "\n" + &of_trait("Told");
+    let why = "`arraystring_base::sample::Number::fmt`: a function above has this path and its reasons in \
+               src/reasons.txt, too";
+    assert_eq!(made(&two).unwrap_err(), format!("6: {why}"));
+    assert!(made(&of_trait("Shown")).is_ok());
+    assert!(made(&two.replace("fmt", "show")).is_ok());
 }

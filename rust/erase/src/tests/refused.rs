@@ -223,7 +223,8 @@ fn a_clause_is_given_up_as_a_whole_alone() {
         assert_eq!(made(&requiring(clause)).unwrap_err(), why, "{clause}");
     };
     for given_up in GIVEN_UP {
-        let listed = "`sample::first`: Rust gives up a clause of it, and src/reasons.txt does not say why";
+        let listed =
+            "`arraystring_base::sample::first`: Rust gives up a clause of it, and src/reasons.txt does not say why";
         let private = requiring(given_up).replace("pub fn", "fn");
         let broken = private.replace(given_up, &given_up.replace(' ', "\n        "));
         for source in [private, broken] {
@@ -253,7 +254,10 @@ fn a_clause_is_given_up_as_a_whole_alone() {
 fn a_look_is_without_a_test_where_a_clause_is_given_up_only_by_its_rule() {
     let source = requiring("steps.old.looked ≤ 2 ^ 63").replace("pub fn", "fn");
     let why = "src/reasons.txt does not say why `steps::look_unchecked` needs none";
-    assert_eq!(made(&source).unwrap_err(), format!("7: `sample::first`: Rust gives up a clause of it, and {why}"));
+    assert_eq!(
+        made(&source).unwrap_err(),
+        format!("7: `arraystring_base::sample::first`: Rust gives up a clause of it, and {why}")
+    );
     let made = made(&source.replace("fn first", "fn counted")).unwrap();
     assert!(made.contains("unsafe { look_unchecked(all, at, steps) }"), "{made}");
 }
