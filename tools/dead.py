@@ -1,10 +1,10 @@
-"""Fails at a lemma or law of proofs/ that nothing cites, at a law that is passed on for nobody, and where LAWS.md of a crate
-names a law that callers of the crate can't cite.
+"""Fails at a lemma or law of proofs/ that nothing cites, at an import there that its file does not use, at a law that is passed
+on for nobody, and where LAWS.md of a crate names a law that callers of the crate can't cite.
 
 A lemma is cited if one of these reaches it, directly or by other lemmas: an answer, which is what is `pub` in the folder of
 a function, since the check calls it by the name of a goal; what stands in specs/; a file of src/; a page for callers. What a
 comment names is not cited, nor what cites itself alone. A helper below a `where` is cited if its lemma names it elsewhere than
-where a clause of the helper begins.
+in the helper's own lines.
 
 Callers of a crate cite its laws, and those of other crates that its proofs/ pass on by `pub use`. What is passed on by its name
 has to be imported from there, or named by a page for callers, which is a Markdown file of a crate. A page cites the laws that its
@@ -14,7 +14,7 @@ inline code names, and families:
 """
 import re
 
-from modules import NAME, Modules, imports
+from modules import IMPORT, NAME, Modules, imports
 from repository import closed, crates, inline_code, prose, read
 
 ROW = re.compile(r"[→:] Edit [^→]*$")
@@ -79,11 +79,23 @@ class Callers:
 
 
 def dead_helpers(item):
-    """The helpers below a `where` of an item that it names nowhere but where their own clauses begin."""
-    above, where, below = re.match(r"(?ms)(.*?)(^ *(?:\] )?where$|\Z)(.*)", "\n".join(item.lines)).groups()
-    for name in re.findall(rf"(?m)^ +({NAME}) : ", below) if where else []:
-        if name not in re.findall(NAME, above + re.sub(rf"(?m)^ *{re.escape(name)} ", "", below)):
-            yield f"{item}: its helper {name} is cited by nothing"
+    """The helpers below a `where` of an item that it names nowhere but in their own lines."""
+    for at in (number for number, line in enumerate(item.lines) if re.fullmatch(r" *(\] )?where", line)):
+        indent = re.match(" *", item.lines[at + 1])[0]
+        end = next((i for i in range(at + 1, len(item.lines)) if not item.lines[i].startswith(indent)), len(item.lines))
+        begins = [i for i in range(at + 1, end) if re.match(rf"{indent}{NAME} : ", item.lines[i])]
+        for first, last in zip(begins, [*begins[1:], end]):
+            name = item.lines[first].split()[0]
+            if name not in re.findall(NAME, "\n".join(item.lines[:first] + item.lines[last:])):
+                yield f"{item}: its helper {name} is cited by nothing"
+
+
+def unused_imports(text):
+    """What a module imports and neither uses nor passes on. An operator is used by its signs, `◌∙◌` by `∙`."""
+    without_comments = re.sub(r"(?m)(^|\s)--(\s.*)?$", "", re.sub('"[^"]*"', '""', text))
+    words = set(re.findall(rf"\[\]|{NAME}", IMPORT.sub("", without_comments)))
+    names = imports(re.sub(r"(?m)^pub use .*", "", text))
+    return [it for it in names if not words.issuperset(filter(None, it.split("◌")))]
 
 
 def main(arguments, root):
@@ -96,5 +108,8 @@ def main(arguments, root):
     faults = [f"{it} is cited by nothing" for it in lemmas if it not in cited]
     faults += [fault for it in tree.items for fault in dead_helpers(it)]
     faults += [fault for it in callers for fault in it.faults(tree)]
+    for file in (it for crate in crates(root) for it in sorted((root / "crates" / crate).glob("proofs/**/*.antt"))):
+        if file.stem != "Lib":
+            faults += [f"{file.relative_to(root)} imports {it} and does not use it" for it in unused_imports(read(file))]
     print("\n".join(faults) or f"{len(lemmas)} lemmas and laws are cited")
     return bool(faults) or not lemmas

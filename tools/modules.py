@@ -15,7 +15,7 @@ def imports(text):
         if not listed:
             names[alias or path.rpartition(".")[2]] = (path, "")
         for word in re.findall(r"[^,\s][^,]*", listed):
-            word, _, other = word.partition(" as ")
+            word, _, other = word.strip().partition(" as ")
             names[other or word] = (path, word)
     return names
 

@@ -1,21 +1,27 @@
-"""A copy of the repository in which tests plant mistakes, and what the commands say of them."""
+"""Trees in which tests plant mistakes, and what the commands say of them: small ones of a few files, and a copy of the
+repository."""
 import io
 import re
+import tempfile
 import unittest
 from contextlib import contextmanager, redirect_stderr, redirect_stdout
+from pathlib import Path
 from unittest import mock
 
 from repository import ROOT, copied, read
 
 
-class PlantedTest(unittest.TestCase):
-    """A test with a copy of the repository, without what programs make."""
+class TreeTest(unittest.TestCase):
+    """A test with a small repository of its own, which begins with FILES: texts by their paths."""
 
-    @classmethod
-    def setUpClass(cls):
-        copy = copied(ROOT, "out", "target")
-        cls.root = copy.__enter__()
-        cls.addClassCleanup(copy.__exit__, None, None, None)
+    FILES = {}
+
+    def setUp(self):
+        room = tempfile.TemporaryDirectory(prefix="arraystring-")
+        self.addCleanup(room.cleanup)
+        self.root = Path(room.name).resolve()
+        for path, text in self.FILES.items():
+            self.write(path, text)
 
     def put(self, where, name, stand_in):
         """Puts something in the place of what a module has by this name."""
@@ -24,7 +30,7 @@ class PlantedTest(unittest.TestCase):
         self.addCleanup(patch.stop)
 
     def write(self, path, text):
-        """Writes a file of the copy, or removes it where the text is None."""
+        """Writes a file of the tree, or removes it where the text is None."""
         file = self.root / path
         file.parent.mkdir(parents=True, exist_ok=True)
         if text is None:
@@ -66,3 +72,17 @@ class PlantedTest(unittest.TestCase):
                 said = self.told(command, *words)
                 is_new = said[0] and wanted in said[1] and wanted not in before[1]
                 self.assertTrue(is_new if wanted else said == before, said[1])
+
+
+class PlantedTest(TreeTest):
+    """A test with a copy of the repository, without what programs make. It is for what depends on how the files of the repository
+    are laid out; all else is tested in a small tree."""
+
+    @classmethod
+    def setUpClass(cls):
+        copy = copied(ROOT, "out", "target")
+        cls.root = copy.__enter__()
+        cls.addClassCleanup(copy.__exit__, None, None, None)
+
+    def setUp(self):
+        pass

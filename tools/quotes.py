@@ -3,10 +3,12 @@
 tools/run quotes            looks at all pages of the repository
 tools/run quotes --write    first writes what commands print
 
-Five things are compared:
+Six things are compared:
 - a block after a line that ends in "From `PATH`:". Its lines stand in the file one after the other;
 - a block after a line that ends in "Printed by `tools/run COMMAND`:" is what that prints;
 - a table below a heading with the path of a file of specs/ has in its first column what that file defines;
+- an item of a list that begins with the name of a module of specs/ and ends in "which are all that it has" names what is `pub`
+  there, and nothing else;
 - inline code such as `pop.drops_nothing`, which ends in a word with an underscore, is the name of a wrong body; a `*` stands for
   any text;
 - functions of which a sentence says that they have "goals of this form" have answers.
@@ -21,6 +23,8 @@ PRINTED = re.compile(r"(Printed by `(tools/run [^`]+)`:\n+```\w+\n)((?:.*\n)*?)`
 # A heading with the path of a file of specs/ and what stands below it.
 SECTION = re.compile(r"(?m)^#.*`(crates/\S+/specs/\S+\.antt)`.*((?:\n(?!#).*)*)")
 DEFINITION = re.compile(r"(?m)^ *(?:(?:abbrev|unfoldable)(?: pub)?|(?:pub )?(?:data|record)) (\S+)\s")
+WHOLE = re.compile(r"(?m)^- `(\w+)`:((?:(?!^- )[\s\S])*?),? which are all that it has\.")
+PUBLIC = re.compile(r"(?m)^(?:(?:abbrev|unfoldable) )?pub (?:data |record )?(\S+)")
 WRONG_BODY = re.compile(r"[\w.*]*\.[a-z]+_\w+")
 ANSWERED = re.compile(r"((?:`\w+`,?\s(?:and\s)?)+)have goals of this form")
 
@@ -36,15 +40,20 @@ def as_due(root, text):
 
 
 def faults_of(root, text):
-    """The blocks of a page that are not in the files that they quote, the definitions that are not where it says, the wrong
-    bodies that it names and that are none, and the functions without the answers that it says they have."""
+    """The blocks of a page that are not in the files that they quote, the definitions that are not where it says, what lists that
+    are to be whole leave out or name besides, the wrong bodies that it names and that are none, and the functions without the
+    answers that it says they have."""
     for source, block in BLOCK.findall(text):
-        if f"\n{block}\n" not in "\n" + read(root / source):
+        if not (root / source).is_file() or f"\n{block}\n" not in "\n" + read(root / source):
             yield f"{source} does not have these lines: {block.splitlines()[0]} .."
     for file, below in SECTION.findall(text):
         defined = DEFINITION.findall(read(root / file)) if (root / file).exists() else []
         for row in re.findall(r"(?m)^\|(`.*?`)\|", below):
             yield from (f"{file} does not define {it}" for it in re.findall(r"`([^\s`]+)[^`]*`", row) if it not in defined)
+    for module, listed in WHOLE.findall(text):
+        there = {name for it in root.glob(f"crates/*/specs/{module}.antt") for name in PUBLIC.findall(read(it))}
+        for name in sorted(there ^ set(re.findall(r"`([^`\s]+)`", listed))):
+            yield f"the list of {module} and the module differ in {name}"
     for name in filter(WRONG_BODY.fullmatch, inline_code(text)):
         if not any(root.glob(f"crates/*/must-fail/{name}.edit")):
             yield f"no wrong body is named {name}"

@@ -2,6 +2,7 @@
 import re
 import shutil
 import subprocess
+import sys
 import tempfile
 from contextlib import contextmanager
 from pathlib import Path
@@ -65,6 +66,9 @@ def closed(items, following):
 @contextmanager
 def copied(root, *but):
     """A copy of the repository among the temporary files, for as long as it is needed; some names are left out."""
+    temporary = Path(tempfile.gettempdir()).resolve()
+    if root.resolve() in (temporary, *temporary.parents):
+        sys.exit(f"the folder for temporary files is inside the repository, so a copy would copy itself: {temporary}")
     with tempfile.TemporaryDirectory(prefix="arraystring-") as room:
         ignored = shutil.ignore_patterns(".git", *but)
         yield Path(shutil.copytree(root, Path(room, "copy"), ignore=ignored, symlinks=True))

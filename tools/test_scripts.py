@@ -1,178 +1,383 @@
-"""What .ci/run, rust/check and the try of the program refuse: the scripts themselves, over stand-ins for what they call."""
+"""What .ci/run, rust/check, rust/no_panic/links and rust/other_machines call, and what they refuse: the scripts themselves, over
+stand-ins for what they call. CALLED has all calls, word for word."""
 import os
 import re
+import shutil
 import subprocess
+import unittest
 
-from planted import PlantedTest
+from planted import TreeTest
 from repository import ROOT, read
 
-# How many cases .ci/run wants of the try.
-CASES = int(re.search(r'(\d+) "cases of the program', read(ROOT / ".ci/run"))[1])
+CALLED = ROOT / "tools" / "scripts.txt"
+# How many cases the program is tried on, as .ci/run asks for.
+CASES = 494
 
-# Writes down how it is called, and fails if that is the call number $FAULT.
+# Writes down what it is given, and fails if that is the call number $FAULT. It is quick, since it runs no other program for that.
 STAND_IN = """\
 #!/bin/sh
-echo "${0##*/} $*${RUSTFLAGS:+ with$RUSTFLAGS}${RUSTDOCFLAGS:+ and$RUSTDOCFLAGS}" >> "$CALLS"
-[ "$(wc -l < "$CALLS")" != "$FAULT" ] || exit 3
+words=
+for word; do
+    case $word in '' | *' '*) word="'$word'" ;; esac
+    words="$words $word"
+done
+{ export -p && echo "in $PWD" && echo "call $0$words"; } >> "$CALLS"
+read -r count < "$CALLS.count"
+count=$((count + 1))
+echo $count > "$CALLS.count"
+[ $count != "$FAULT" ] || exit 3
 """
 
 
-class ScriptTest(PlantedTest):
-    """A SCRIPT of the copy, which prints PASSED where all has passed. A folder `bin` with stand-ins is before other programs."""
+def due(script):
+    """The lines of CALLED about a script."""
+    found = re.search(rf"(?m)^{re.escape(script)}\n((?:    .*\n)+)", re.sub(r" \\\n +", " ", read(CALLED)))
+    return [it.removeprefix("    ") for it in found[1].splitlines()]
+
+
+def is_call(line):
+    """Whether a line is a call, and says neither where nor with which settings the next ones are made."""
+    return not line.startswith(("in ", "with ", "without ", "  "))
+
+
+class ScriptTest(TreeTest):
+    """A tree with a copy of a SCRIPT, which prints PASSED where all has passed. Its PATH has the stand-ins in the folder `bin`,
+    these PROGRAMS, and NOTED, of which each call is written down, too."""
+
+    SCRIPT = PASSED = ""
+    PROGRAMS, NOTED = "bash sh dirname cat wc sed tee mktemp rm mkdir ls sleep", ""
+
+    def setUp(self):
+        super().setUp()
+        self.write_program(self.SCRIPT, read(ROOT / self.SCRIPT))
+        (self.root / "bin").mkdir(exist_ok=True)
+        for name in self.PROGRAMS.split():
+            (self.root / "bin" / name).symlink_to(shutil.which(name))
+        for name in self.NOTED.split():
+            self.stand_in(f"bin/{name}", f'exec {shutil.which(name)} "$@"')
+        self.write_program("bin/id", "#!/bin/sh\necho 1000\n")
 
     def stand_in(self, path, *lines):
+        (self.root / path).unlink(missing_ok=True)
         self.write_program(path, "\n".join([STAND_IN, *lines, ""]))
 
-    def called(self, fault=0, words=()):
-        """Whether the script fails if the call with this number does, what it says, and the calls that it made."""
+    def called(self, fault=0, words=(), **more):
+        """Whether the script fails if the call with this number does, what it says, and what it called, as in CALLED."""
         self.write("calls", "")
-        settings = {"PATH": f"{self.root}/bin:{os.environ['PATH']}", "CALLS": f"{self.root}/calls", "FAULT": str(fault)}
-        run = subprocess.run(["bash", self.SCRIPT, *words], cwd=self.root, env={**settings, "TMPDIR": str(self.root)},
+        self.write("calls.count", "0\n")
+        settings = {"PATH": f"{self.root}/bin", "CALLS": f"{self.root}/calls", "FAULT": str(fault), "TMPDIR": str(self.root)}
+        run = subprocess.run(["bash", self.SCRIPT, *words], cwd=self.root, env={**settings, **more}, stdin=subprocess.DEVNULL,
                              stdout=subprocess.PIPE, stderr=subprocess.STDOUT, encoding="utf-8")
-        return run.returncode != 0, run.stdout, read(self.root / "calls").splitlines()
+        return run.returncode != 0, run.stdout, list(self.read_calls({*settings, *more, "PWD", "OLDPWD", "SHLVL", "_"}))
 
-    def calls(self, but=()):
-        """The calls of the script, each of which is enough to fail, but for some."""
+    def read_calls(self, known):
+        """What the stand-ins wrote, as CALLED has it: a folder and settings where they are others than before."""
+        text = read(self.root / "calls").replace(f"{self.root}/bin/", "").replace(str(self.root), "ROOT")
+        text = re.sub(r"ROOT/tmp\.\w+", "TEMPORARY", text)
+        place, before, settings = "in ROOT", {}, {}
+        for line in text.splitlines():
+            setting = re.fullmatch(r"(?:export|declare -x) (\w+)(?:=['\"](.*)['\"])?", line)
+            if setting and setting[1] not in known:
+                settings[setting[1]] = setting[2]
+            elif line.startswith("call "):
+                yield from (f"with {it}='{value}'" for it, value in sorted(settings.items()) if before.get(it) != value)
+                yield from (f"without {it}" for it in sorted(before.keys() - settings))
+                yield line.removeprefix("call ")
+                before, settings = settings, {}
+            elif line.startswith("in "):
+                yield from [line] * (line != place)
+                place = line
+            elif not setting:
+                yield f"  {line}"
+
+    def assert_calls(self, but=()):
+        """The calls are those of CALLED, and each that a stand-in answers is enough to fail, but for some."""
         failed, said, calls = self.called()
         self.assertEqual((failed, self.PASSED in said), (False, True), said)
-        for number, call in enumerate(calls, 1):
-            failed, said, _ = self.called(number)
-            self.assertEqual((failed, self.PASSED in said), (call not in but, False), call)
-        return calls
+        self.assertEqual(calls, due(self.SCRIPT))
+        for number, call in enumerate(filter(is_call, calls), 1):
+            if call.split()[0] not in self.NOTED.split():
+                failed, said, _ = self.called(number)
+                self.assertEqual((failed, failed and self.PASSED in said), (call not in but, False), call)
 
-    def assert_refused(self, wanted):
-        failed, said, _ = self.called()
-        self.assertTrue(failed)
+    def assert_refused(self, wanted, **more):
+        failed, said, _ = self.called(**more)
+        self.assertTrue(failed, said)
         self.assertIn(wanted, said)
+        return said
 
 
 class Gate(ScriptTest):
-    SCRIPT, PASSED, PROGRAM = ".ci/run", "run: all passed", "crates/arraystring_cli/out/arraystring_cli"
-    TRIED = f"echo 'try: {CASES} cases, 0 differ'"
+    SCRIPT, PASSED, NOTED = ".ci/run", "run: all passed", "grep"
+    PROGRAMS = f"{ScriptTest.PROGRAMS} sha256sum"
+    PROGRAM, SERDE = "crates/arraystring_cli/out/arraystring_cli", "librust-serde-dev librust-serde-json-dev"
+    TRIED, RAN = f"echo 'try: {CASES} cases, 0 differ'", "echo '    run: all memory is taken'"
+    FILES = {"crates/numbers_tests/src/lib.rt": "let a = ScarceMemory::take(&rt)?;\nlet b = ScarceMemory::take(&rt)?;\n"}
 
     def setUp(self):
+        super().setUp()
         self.write(self.PROGRAM, "of an earlier run")
         os.utime(self.root / self.PROGRAM, (0, 0))
-        self.due = sum(read(it).count("ScarceMemory::take(&rt)") for it in self.root.glob("crates/**/*.rt"))
-        self.proves()
-        for path in ("tools/run", "rust/check", "bin/cargo"):
+        self.proves(self.RAN, self.RAN)
+        for path in ("tools/run", "bin/cargo"):
             self.stand_in(path)
+        self.checks("0 skipped")
         self.stand_in("crates/arraystring_cli/try", self.TRIED)
 
-    def proves(self, *lines, less=0, program="sleep 0.02; echo a program >"):
-        """`rt ci` does this, runs some tests without memory less than there are, and leaves a program."""
-        self.stand_in("bin/rt", f"{program} {self.PROGRAM}", *["echo 'run: all memory is taken'"] * (self.due - less), *lines)
+    def proves(self, *lines, program=f"sleep 0.02; echo a program > {PROGRAM}"):
+        """`rt ci` does this, and leaves a program."""
+        self.stand_in("bin/rt", program, *lines)
 
-    def test_each_call_is_enough_to_fail(self):
-        calls = [re.sub("(?<=--refused ).*", "LOG", it) for it in self.calls()]
-        self.assertEqual(calls, ["run check", "rt ci", "run proved --check", "rt must-fail", "run evidence --refused LOG",
-                                 f"try {self.PROGRAM}", "check "])
+    def checks(self, skipped):
+        self.stand_in("rust/check", f"echo 'rust/check: 12 passed, {skipped}'")
+
+    def test_calls(self):
+        self.assert_calls()
 
     def test_what_does_less_than_it_should_or_fails_at_the_end_is_refused(self):
-        self.proves(less=1)
-        self.assert_refused(f"run: {self.due - 1} tests without memory have run, and {self.due} are due")
-        self.proves(program="true")
-        self.assert_refused("rt ci has left no new")
-        self.proves('[ "$1" != ci ]')
-        self.assert_refused("")
+        self.proves(self.RAN, "echo '    not run: the checker of addresses of `rt try` has memory set aside'")
+        self.assert_refused("run: 1 tests without memory have run, and 2 are due")
         self.proves()
+        self.assert_refused("run: 0 tests without memory have run, and 2 are due")
+        self.proves(self.RAN, self.RAN, program="true")
+        self.assert_refused(f"rt ci has left no new {self.PROGRAM}")
+        self.proves(self.RAN, self.RAN, '[ "$1" != ci ]')
+        self.assert_refused("")
+        self.proves(self.RAN, self.RAN)
         for lines, wanted in (([f"echo 'try: {CASES - 1} cases, 0 differ'"], f"run: {CASES - 1} cases of the program were tried"),
-                              (["echo 'ok       a case'"], "run: no cases of the program were tried"),
+                              ([f"echo 'try: {CASES} cases, 1 differ'"], "run: no cases of the program were tried"),
+                              (["echo 'ok       a case'"], f"no cases of the program were tried, and {CASES} are due"),
                               ([self.TRIED, f"echo more >> {self.PROGRAM}"], "is no longer the one that rt ci ran"),
                               ([self.TRIED, "exit 1"], "")):
             self.stand_in("crates/arraystring_cli/try", *lines)
             self.assert_refused(wanted)
 
+    def test_where_there_is_no_cargo_it_says_what_was_not_checked(self):
+        (self.root / "bin/cargo").unlink()
+        failed, said, calls = self.called()
+        self.assertFalse(failed)
+        self.assertIn("there is no cargo, so the Rust crate (rust/check) was not checked", said)
+        self.assertEqual([it for it in calls if it.startswith("rust/")], [])
+
+    def test_serde_is_tested_where_the_gate_runs(self):
+        for skipped, is_due in (("0 skipped", False), ("1 skipped: rustfmt", False), ("1 skipped: serde", True),
+                                ("2 skipped: clippy serde", True), ("2 skipped: serde clippy", True)):
+            self.checks(skipped)
+            for setting in ({}, {"CI": ""}, {"CI": "true"}):
+                failed, said, _ = self.called(**setting)
+                self.assertEqual((failed, f"apt-get install {self.SERDE}" in said), 2 * (is_due and bool(setting.get("CI")),))
+
 
 class RustCheck(ScriptTest):
-    SCRIPT, PASSED = "rust/check", "rust/check: 11 passed, 0 skipped\n"
-    # (what `cargo doc` makes, and the number that `cargo pkgid` tells)
+    SCRIPT, PASSED, NOTED = "rust/check", "rust/check: 13 passed, 0 skipped\n", "cmp grep rm find"
+    PROGRAMS = "bash sh dirname cat wc sed mktemp paste awk sort cut uniq diff xargs"
+    # (what `cargo doc` makes, the number that `cargo pkgid` tells, and what the tests say)
     CARGO = """\
 case $1 in
     doc) mkdir -p "$CARGO_TARGET_DIR/doc/arraystring"; echo '{}' > "$CARGO_TARGET_DIR/doc/arraystring/struct.ArrayString.html" ;;
     pkgid) echo 'path#arraystring@0.1.0' ;;
+    test)
+        mkdir -p "$CARGO_TARGET_DIR"
+        case "$*" in *erase*) cat ../erased ;; *serde*) cat ../served ;; *) cat ../tested ;; esac ;;
 esac"""
+    CONSTRUCTORS = 'id="method.new" id="method.try_from_str" id="method.len"'
+    TEST, RUNNING = "#[test]\nfn {}() {{\n    fn other() {{}}\n}}\n", "     Running {} (path)\n\nrunning tests\n"
+    FILES = {
+        "LICENSE": "a license",
+        "rust/arraystring/LICENSE": "a license",
+        "rust/arraystring_serde/Cargo.lock": "of crates.io",
+        "rust/erase/src/main.rs": f"mod tests {{\n{TEST.format('erases')}}}\n",
+        "rust/erase/tests/main.rs": TEST.format("runs"),
+        "rust/arraystring/src/lib.rs": "",
+        "rust/arraystring/tests/model.rs": TEST.format("plays").replace("fn plays", "#[should_panic]\nfn plays"),
+        "rust/arraystring/tests/every_state/edits.rs": TEST.format("edits") + TEST.format("looks"),
+        "rust/arraystring_serde/src/lib.rs": "",
+        "rust/arraystring_serde/tests/json.rs": TEST.format("reads"),
+        "erased": RUNNING.format("unittests src/main.rs") + "test tests::erases ... ok\n\n"
+        + RUNNING.format("tests/main.rs") + "test runs ... ok\ntest result: ok. 1 passed\n",
+        "tested": RUNNING.format("tests/model.rs") + "test plays - should panic ... ok\n\n"
+        + RUNNING.format("tests/every_state/main.rs") + "test edits::edits ... ok\ntest edits::looks ... ok\n\n"
+        + "   Doc-tests arraystring\n\ntest src/lib.rs - ArrayString::new (line 3) ... ok\ntest result: ok. 1 passed\n",
+        "served": RUNNING.format("tests/json.rs") + "test reads ... ok\n",
+    }
+    BUILDS = ("", " --release", " --release --features checked,alloc", " --features alloc --test traits", " in its package")
 
     def setUp(self):
+        super().setUp()
         for path in ("erase/run", "bench/time", "no_panic/links"):
             self.stand_in(f"rust/{path}")
-        self.stand_in("bin/cargo", self.CARGO.format('id="method.new" id="method.try_from_str" id="method.len"'))
-        self.write_program("bin/ls", "#!/bin/sh\n")  # (it looks for serde)
+        self.has_reference(self.CONSTRUCTORS)
+        self.has_serde(True)
+        counts = ["erase: main 1", "erase: src 1", "arraystring_serde: json 1"]
+        for build in self.BUILDS:
+            counts += [f"arraystring{build}: {it}" for it in ("every_state 2", "examples 1", "model 1")]
+        self.write("rust/tests.txt", "".join(f"{it}\n" for it in sorted(counts)))
 
-    def test_each_call_is_enough_to_fail(self):
-        self.write("rust/arraystring_serde/Cargo.lock", "of crates.io")
-        calls = self.calls(["cargo fmt --version", "cargo clippy --version"])
-        # (the first are made before warnings are errors)
-        self.assertEqual(["with -D warnings and -D warnings" in it for it in calls], 13 * [False] + 19 * [True])
+    def has_reference(self, page):
+        self.stand_in("bin/cargo", f"PATH=/usr/bin:/bin\n{self.CARGO.format(page)}")
+
+    def has_serde(self, is_there):
+        self.write_program("bin/ls", f"#!/bin/sh\nexit {0 if is_there else 2}\n")
+
+    def test_calls(self):
+        self.assert_calls(but=["cargo fmt --version", "cargo clippy --version"])
         self.assertFalse((self.root / "rust/arraystring_serde/Cargo.lock").exists())
+
+    def test_it_says_what_was_not_there(self):
+        calls = [it for it in due(self.SCRIPT) if is_call(it)]
         for name, tool in (("fmt", "rustfmt"), ("clippy", "clippy")):
             said = self.called(calls.index(f"cargo {name} --version") + 1)[1]
-            self.assertTrue(said.endswith(f"rust/check: 10 passed, 1 skipped: {tool}\n"), said)
-        self.write_program("bin/ls", "#!/bin/sh\nexit 2\n")
-        _, said, fewer = self.called()
-        self.assertTrue(said.endswith("rust/check: 10 passed, 1 skipped: serde\n"), said)
-        self.assertEqual(len(fewer), len(calls) - 4)
+            self.assertIn(f"rust/check: {tool} is not there", said)
+            self.assertTrue(said.endswith(f"rust/check: 12 passed, 1 skipped: {tool}\n"), said)
+        self.has_serde(False)
+        failed, said, fewer = self.called()
+        self.assertFalse(failed)
+        self.assertIn("librust-serde-dev and librust-serde-json-dev are not there", said)
+        self.assertTrue(said.endswith("rust/check: 12 passed, 1 skipped: serde\n"), said)
+        # (the form of what is written by hand is looked at without it)
+        without = [it for it in calls if "arraystring_serde" not in it or "cargo fmt" in it or it.startswith("rm ")]
+        without = [it.replace("^none:", "^arraystring_serde:") for it in without]
+        self.assertEqual((len(without), [it for it in fewer if is_call(it)]), (len(calls) - 5, without))
+        said = self.called(calls.index("cargo fmt --version") + 1)[1]
+        self.assertTrue(said.endswith("rust/check: 11 passed, 2 skipped: rustfmt serde\n"), said)
+
+    def test_a_test_that_no_build_runs_is_told(self):
+        """One behind a `cfg`, in a file that no other names, or one that is ignored; and one that runs and is nowhere."""
+        one = "< arraystring:model:plays\n"
+        for change, wanted in ((("tested", r"^test plays.*\n", ""), one),
+                               (("tested", r"^test plays.*ok$", "test plays ... ignored"), one),
+                               (("tested", r"model\.rs", "other.rs"), one),
+                               (("rust/arraystring/tests/new.rs", self.TEST.format("plays")), "< arraystring:new:plays\n"),
+                               (("rust/arraystring/src/new.rs", self.TEST.format("plays")), "< arraystring:src:plays\n"),
+                               (("rust/erase/src/new.rs", self.TEST.format("new")), "< erase:src:new\n"),
+                               (("erased", "tests::erases", "tests::other"), "> erase:src:other\n"),
+                               (("served", "test reads", "test writes"), "< arraystring_serde:json:reads\n")):
+            with self.subTest(change), self.changed(change):
+                self.assertIn("rust/check: tests of the sources (<)", self.assert_refused(wanted))
+
+    def test_a_test_that_is_gone_from_a_file_or_a_build_is_told(self):
+        gone, only_one = ("rust/arraystring/tests/model.rs", None), 'case "$*" in *release*) cat ../tested ;; *) grep -v plays'
+        with self.changed(gone, ("tested", r"^test plays.*\n", "")):
+            said = self.assert_refused("rust/check: rust/tests.txt (<) is not how many tests have run (>)")
+            self.assertIn("".join(f"< arraystring{it}: model 1\n" for it in self.BUILDS[:1]), said)
+        with self.changed(("bin/cargo", r"\*\) cat \.\./tested", f"*) {only_one} ../tested ;; esac")):
+            self.assertEqual(re.findall("< (.*)", self.assert_refused("(<) is not how many")),
+                             [f"arraystring{it}: model 1" for it in (" --features alloc --test traits", " in its package", "")])
+        for line in ("erase: src", "arraystring: examples", "arraystring --release: every_state", "arraystring_serde: json"):
+            with self.changed(("rust/tests.txt", rf"^{line} \d", f"{line} 5")):
+                self.assert_refused(f"< {line} 5\n")
+
+    def test_a_test_that_fails_is_told_with_what_it_said(self):
+        # (the status counts, even where each test is told to be ok)
+        for does, last in (("echo 'test tests::erases ... FAILED'; exit 101", "test tests::erases ... FAILED"),
+                           ("cat ../erased; exit 101", "test result: ok. 1 passed")):
+            with self.subTest(does), self.changed(("bin/cargo", "cat ../erased ;;", f"{does} ;;")):
+                self.assertEqual(self.assert_refused(last).splitlines()[-1], last)
 
     def test_unproved_sources_are_taken_by_a_flag_alone(self):
         failed, _, calls = self.called(words=["--unproved"])
-        self.assertEqual((failed, calls[0]), (False, "run --check --unproved"))
+        self.assertEqual((failed, [it for it in calls if "erase/run" in it]), (False, ["erase/run --check --unproved"]))
         for words in (["--unprove"], ["--unproved", "--unproved"], [""]):
             self.assertEqual(self.called(words=words), (True, "rust/check: the argument is --unproved, or none\n", []))
 
     def test_another_license_or_reference_is_refused(self):
         with self.changed(("rust/arraystring/LICENSE", "another")):
             self.assert_refused("differ")
-        for page, wanted in (('id="method.new" id="method.try_from_str" a ghost', "a word of the proofs is in the reference"),
-                             ('id="method.new" id="method.len"', "the constructors are not what the reference shows first")):
-            self.stand_in("bin/cargo", self.CARGO.format(page))
+        for page, wanted in ((f"{self.CONSTRUCTORS} a ghost", "a word of the proofs is in the reference"),
+                             (f"{self.CONSTRUCTORS} precondition of its", "a word of the proofs is in the reference"),
+                             (f"{self.CONSTRUCTORS} Model", "a word of the proofs is in the reference"),
+                             ('id="method.new" id="method.len"', "what the reference shows first, but new len")):
+            self.has_reference(page)
             self.assert_refused(wanted)
 
 
-# Answers as the program does, but ends well where a full device or a pipe that nobody reads takes nothing, writes another last
-# line behind 5,000 replies, and a byte on standard output with the usage.
-NEARLY = """\
-#!/bin/sh
-fail() {
-    echo "$2" >&2
-    exit "$1"
-}
-[ $# = 1 ] || set -- none
-case $1 in
-    small) capacity=23 ;;
-    cache) capacity=63 ;;
-    max) capacity=255 ;;
-    *) printf x && fail 2 'usage: arraystring_run small or cache or max' ;;
-esac
-[ -f /dev/stdin ] || [ -p /dev/stdin ] || fail 4 'read failed'
-[ "$(ulimit -v)" = unlimited ] || [ "$(wc -c < /dev/stdin)" -lt 100000 ] || fail 3 'out of memory'
-set -- $(awk 'NR == 1 { first = $1 } !/^(len|capacity)$/ { bad = NR } END { print NR, bad + 0, first }')
-if [ "$3" = push_str ]; then
-    printf '%s\\n' done done done 'text 🤔DC' 'no text' 'refused OutOfBounds' 'text AABB' 'final AABB'
-    exit
-fi
-[ "$2" = 0 ] || fail 2 "bad line $2"
-[ ! -p /dev/stdout ] && { [ -f /dev/stdout ] || [ "$(readlink /proc/$$/fd/1)" != /dev/full ]; } || exit 0
-[ "$3" = capacity ] || capacity=0
-{ yes "number $capacity" | head -n "$1" && echo "final $([ "$1" -lt 5000 ] || echo x)"; } 2> /dev/null || fail 4 'write failed'
-"""
+class Links(ScriptTest):
+    SCRIPT, PASSED = "rust/no_panic/links", "rust/no_panic: at opt-level 1 2 3 s z all calls link"
+    PANICS = "*one_panics*) echo undefined: a_panic_is_left; exit 101 ;;"
+
+    def setUp(self):
+        super().setUp()
+        self.builds(self.PANICS)
+
+    def builds(self, *cases):
+        self.stand_in("bin/cargo", 'case "$*" in', *cases, "esac")
+
+    def test_calls(self):
+        failed, said, calls = self.called()
+        self.assertEqual((failed, said.startswith(self.PASSED)), (False, True), said)
+        self.assertEqual(calls, due(self.SCRIPT))
+
+    def test_at_each_level_all_calls_link_and_one_that_can_panic_does_not(self):
+        for level in "123sz":
+            is_level = f"[ $CARGO_PROFILE_RELEASE_OPT_LEVEL = {level} ]"
+            self.builds(f"*run*) ! {is_level} || exit 1 ;;", self.PANICS)
+            self.assert_refused(f"rust/no_panic: a call can panic at opt-level {level}\n")
+            self.builds(f"*one_panics*) ! {is_level} || exit 0; echo a_panic_is_left; exit 101 ;;")
+            self.assert_refused(f"rust/no_panic: at opt-level {level} a call that can panic links, too\n")
+            self.builds(f"*one_panics*) {is_level} || echo a_panic_is_left; echo no linker; exit 101 ;;")
+            self.assertFalse(self.PASSED in self.assert_refused("no linker"))
 
 
-class Try(PlantedTest):
-    def differing(self, program):
-        """In how many cases a program of this text differs from what the try wants."""
-        self.write_program("program", program)
-        run = subprocess.run([self.root / "crates/arraystring_cli/try", self.root / "program"], stdout=subprocess.PIPE,
-                             stderr=subprocess.STDOUT, encoding="utf-8", errors="replace")
-        self.assertEqual(run.returncode, 1)
-        return int(re.search(rf"(?m)^try: {CASES} cases, (\d+) differ$", run.stdout)[1])
+class OtherMachines(ScriptTest):
+    SCRIPT = "rust/other_machines"
+    PASSED = "rust/other_machines: 10 tests passed, 6 builds passed and 0 failed, skipped: none\n"
+    PROGRAMS = f"{ScriptTest.PROGRAMS} awk grep head mv"
+    # (what is there where all packages are installed)
+    THERE = ("usr/lib/gcc/x86_64-linux-gnu/12/32/libgcc.a", "usr/s390x-linux-gnu/lib/libc.so.6")
+    TESTED = "echo 'test result: ok. 2 passed; 0 failed'"
+    # A package of one compiler, with the sources of `core`.
+    UNPACKED = 'mkdir -p "$3/usr/bin" "$3/usr/src/rustc-1/library/core/src" && cp "${0%/*}/rustc" "$3/usr/bin" && ' \
+        'touch "$3/usr/src/rustc-1/library/core/src/lib.rs"'
 
-    def test_a_program_that_does_nothing_or_says_a_byte_more_differs_in_each_case(self):
-        self.assertEqual(self.differing("#!/bin/sh\n"), CASES)
-        # (on standard output where standard error is closed)
-        usage = "echo 'usage: arraystring_run small or cache or max' >&2"
-        self.assertEqual(self.differing(f"#!/bin/sh\n{usage}\nprintf x >&2 || printf x\nexit 2\n"), CASES)
+    def setUp(self):
+        super().setUp()
+        # (files of the system are looked for in the tree)
+        self.write_program(self.SCRIPT, re.sub(r"(?<= )/(?=usr/)", f"{self.root}/", read(self.root / self.SCRIPT)))
+        self.stand_in("bin/apt-get", '[ $2 != update ] || cat "$APT_CONFIG" >> "$CALLS"', "[ $2 != download ] || : > a.deb")
+        self.stand_in("bin/dpkg", f"PATH=/usr/bin:/bin\n{self.UNPACKED}")
+        self.stand_in("bin/cargo", self.TESTED)
+        for name in ("rustc", "gcc-12", "s390x-linux-gnu-gcc-12", "qemu-s390x-static"):
+            self.stand_in(f"bin/{name}")
+        for path in self.THERE:
+            self.write(path, "")
 
-    def test_one_that_is_nearly_right_differs_where_it_is_wrong(self):
-        # At each of three words, two devices that take nothing with five sizes, a pipe that is closed early, and 5,000 lines with
-        # closed standard error, into a file and in little memory; 100,000 lines; and each case that wants the usage.
-        self.assertEqual(self.differing(NEARLY), 3 * (2 * 5 + 1 + 3) + 1 + 237)
+    def called(self, *words, **more):
+        shutil.rmtree(self.root / "arraystring-machines-1000", ignore_errors=True)
+        failed, said, calls = super().called(*words, **more)
+        calls = [it.replace("ROOT/usr/", "/usr/").replace("ROOT/arraystring-machines-1000", "FOLDER") for it in calls]
+        return failed, said, calls
+
+    def test_calls(self):
+        self.assert_calls(but=["apt-get -qq update"])
+
+    def test_what_is_fetched_once_is_kept(self):
+        self.called()
+        _, said, calls = super().called()
+        self.assertTrue(said.endswith(self.PASSED))
+        self.assertEqual([it for it in calls if it.startswith(("apt-get", "dpkg"))], [])
+
+    def test_it_says_what_was_not_there_and_that_nothing_passed(self):
+        for path, skipped in ((self.THERE[0], "i686 (no /usr/lib/gcc/x86_64-linux-gnu/12/32/libgcc.a)"),
+                              (self.THERE[1], "s390x (no /usr/s390x-linux-gnu/lib/libc.so.6)"),
+                              ("bin/gcc-12", "i686 (no gcc-12)"), ("bin/qemu-s390x-static", "s390x (no qemu-s390x-static)")):
+            with self.subTest(path), self.changed((path, None)):
+                failed, said, _ = self.called()
+                self.assertFalse(failed)
+                said = said.replace(str(self.root), "")
+                self.assertIn(f"6 tests passed, 4 builds passed and 0 failed, skipped: {skipped}", said)
+        self.stand_in("bin/cargo", "echo 'test result: ok. 0 passed; 0 failed'")
+        self.assert_refused("0 tests passed, 6 builds passed and 0 failed")
+        self.stand_in("bin/cargo", "[ $3 != --release ] || exit 1", self.TESTED)
+        (self.root / "bin/apt-get").unlink()
+        self.assert_refused("skipped all of them (no apt-get)")
+
+
+class Hosts(unittest.TestCase):
+    def test_no_script_names_a_host(self):
+        """Packages come from where this machine has them from."""
+        files = [it for folder in (".ci", "rust", "rust/*", "bench", "tools", "crates/*") for it in ROOT.glob(f"{folder}/*")]
+        scripts = [it for it in files if it.is_file() and it.read_bytes().startswith(b"#!")]
+        found = {str(it.relative_to(ROOT)) for it in scripts}
+        self.assertLessEqual({it.SCRIPT for it in (Gate, RustCheck, Links, OtherMachines)}, found)
+        for script in scripts:
+            self.assertNotIn("://", read(script), script)

@@ -27,6 +27,7 @@ from repository import closed, crates, public_types, read, sources
 
 LIBRARIES = ["arraystring_base", "arraystring_core", "arraystring", "arraystring_run", "bounded_records"]
 PAGE = "docs/definitions.md"
+# (`first_of` is a word of ours, too; as a tactic it tries others of these)
 TACTICS = {"rw", "simp", "search", "assumption", "ground", "cc", "omega", "grind", "hlevel"}
 FUNCTION = r"(?:pub(?:\(\w+\))? |const |unsafe )*fn "
 

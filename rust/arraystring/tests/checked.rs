@@ -1,6 +1,7 @@
 //! What the feature `checked` tests: a call whose precondition is broken panics, at the call or where the text is read then.
 #![cfg(feature = "checked")]
 
+use std::hint::black_box;
 use std::panic::{AssertUnwindSafe, catch_unwind};
 
 use arraystring::utils::{Steps, encode, shift};
@@ -94,6 +95,24 @@ fn moved_past<const N: usize>() -> usize {
 
 #[test]
 fn a_move_past_the_array_panics_at_each_length() {
-    let counts = [moved_past::<4>(), moved_past::<23>(), moved_past::<80>(), moved_past::<300>()];
-    assert_eq!(counts, [16, 92, 320, 1200]);
+    let counts = [moved_past::<4>(), moved_past::<23>(), moved_past::<80>(), moved_past::<200>(), moved_past::<300>()];
+    assert_eq!(counts, [16, 92, 320, 800, 1200]);
+}
+
+/// What the last byte that can be moved does, and what the first one that can't says, where the run is so long and the array so
+/// short that a clause of the move is told to the compiler.
+#[test]
+fn a_clause_that_is_told_to_the_compiler_is_tested_first() {
+    let moved = |from: usize, len: usize| {
+        let (mut array, mut steps) = ([7; 255], Steps::new());
+        let (from, len) = black_box((from, len));
+        // SAFETY: the run ends in the array, or one past it, and then the call has to end before it could do harm.
+        let run = catch_unwind(AssertUnwindSafe(|| unsafe { shift(&mut array, from, 0, len, &mut steps) }));
+        run.err().map(|why| why.downcast_ref::<&str>().expect("a text").to_string())
+    };
+    for len in 129..=254 {
+        assert_eq!(moved(255 - len, len), None, "{len}");
+        assert_eq!(moved(256 - len, len).as_deref(), Some("the clause `source` does not hold"), "{len}");
+    }
+    assert_eq!(moved(usize::MAX - 200, 201).as_deref(), Some("the clause `source` does not hold"));
 }

@@ -6,6 +6,7 @@ use std::io::Write;
 use std::path::{Path, PathBuf};
 use std::process::{Command, Stdio};
 
+use crate::cursor::{Cursor, Fault};
 use crate::erase::{Source, Tally, erase, line_of};
 use crate::names;
 use crate::reasons::{self, Reasons};
@@ -164,12 +165,37 @@ fn formatted(text: &str, settings: &Path) -> Result<String, String> {
     }
 }
 
-/// The words of a text in alphabetic order: what rustfmt keeps.
-pub fn words(text: &str) -> Vec<&str> {
-    let mut words: Vec<_> = text.split(|ch: char| !ch.is_alphanumeric() && ch != '_').collect();
-    words.retain(|word| !word.is_empty());
-    words.sort_unstable();
-    words
+/// What rustfmt keeps of a text: its words and signs in order, comments among them, and its imports, whose order it changes. It
+/// may put a comma before a bracket that closes, or take it away.
+fn kept(text: &str) -> Result<(Vec<&str>, Vec<Vec<&str>>), Fault> {
+    let mut cursor = Cursor::new(text);
+    let (mut tokens, mut imports, mut import) = (Vec::new(), Vec::new(), None);
+    while let Some(token) = cursor.next()? {
+        let word = cursor.text(&token).trim_end();
+        let part = match (&mut import, word) {
+            (None, "use") => import.insert(Vec::new()),
+            (Some(import), _) => import,
+            (None, _) => &mut tokens,
+        };
+        if [")", "]", "}"].contains(&word) && part.last() == Some(&",") {
+            part.pop();
+        }
+        part.push(word);
+        if word == ";" {
+            imports.extend(import.take());
+        }
+    }
+    imports.extend(import);
+    imports.sort_unstable();
+    Ok((tokens, imports))
+}
+
+/// Whether two texts differ in more than rustfmt may change.
+fn differ(found: &str, made: &str) -> bool {
+    match (kept(found), kept(made)) {
+        (Ok(found), Ok(made)) => found != made,
+        _ => true,
+    }
 }
 
 /// Whether the files are there, each as it is made, and no others but those by hand. Where rustfmt is not there, what it keeps
@@ -177,7 +203,7 @@ pub fn words(text: &str) -> Vec<&str> {
 pub fn compare(made: &Made, target: &Path, is_formatted: bool) -> Result<(), String> {
     for (path, text) in made {
         let found = read(&target.join(path))?;
-        if if is_formatted { found != *text } else { words(&found) != words(text) } {
+        if if is_formatted { found != *text } else { differ(&found, text) } {
             return Err(format!("rust/arraystring/src/{path} is not as its source says: run rust/erase/run"));
         }
     }

@@ -16,6 +16,7 @@ use crate::rules::{
     WIDER,
 };
 use crate::sections::{example, required, section};
+use crate::sentences::sentences;
 
 /// A function as it was read.
 struct Function {
@@ -360,16 +361,13 @@ impl<'a> File<'a, '_> {
         self.tally.used.insert(function.call.clone());
         let indent = self.indent(lead.docs_end);
         let put = match fate {
-            Fate::Unsafe(words, lines) => {
-                let kept = function.kept().count();
-                if words.len() != kept {
-                    let why = format!("`{}` keeps {kept} clauses, and {} sentences say so", function.call, words.len());
-                    return Err(Fault::new(function.head.start, why));
-                }
+            Fate::Unsafe(lines) => {
+                let words = sentences(&function.call, &self.said(function)?);
+                let words = words.map_err(|why| Fault::new(function.head.start, why))?;
                 self.edits.replace(function.head.start..function.head.start + "fn".len(), "unsafe fn");
                 self.tally.count("calls that are `unsafe` in Rust");
                 let more = if lines.is_empty() { String::new() } else { example(&indent, lines) };
-                section(&indent, "Safety", &words.join(" ")) + &more
+                section(&indent, "Safety", &words) + &more
             }
             Fate::Panics(words, line) => {
                 if let Some(line) = line {

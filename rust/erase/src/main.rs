@@ -26,6 +26,7 @@ mod proved;
 mod reasons;
 mod rules;
 mod sections;
+mod sentences;
 mod width;
 mod words;
 
@@ -96,7 +97,7 @@ fn run(root: &std::path::Path, is_check: bool, is_unproved_allowed: bool) -> Res
         println!("tests by hand: {} has {}: {}", rule.file, rule.path, rule.why);
     }
     if !is_formatted {
-        println!("rustfmt is not there: no file was formatted, and files are compared by their words alone");
+        println!("rustfmt is not there: no file was formatted, and files are compared without their layout");
     }
     println!("{proved}");
     println!("{} files {} rust/arraystring/src", made.len(), if is_check { "are as in" } else { "written to" });

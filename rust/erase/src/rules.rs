@@ -81,9 +81,9 @@ pub struct LeftOut {
 
 /// What becomes of a public call that has a precondition.
 pub enum Fate {
-    /// It is an `unsafe fn`, with a sentence under `# Safety` for each clause that is kept, and an example if it is public in Rust
-    /// too.
-    Unsafe(&'static [&'static str], &'static [&'static str]),
+    /// It is an `unsafe fn`, with a sentence under `# Safety` for each clause that is kept, as `sentences.rs` makes it, and an
+    /// example if it is public in Rust too.
+    Unsafe(&'static [&'static str]),
     /// It panics, with these words under `# Panics`; the second is a line that is put behind `plain_ends` to do so.
     Panics(&'static str, Option<&'static str>),
     /// It is safe and defined without the precondition, as these words under `# In Rust` say.
@@ -92,14 +92,6 @@ pub enum Fate {
 
 use Fate::{Panics, Safe, Unsafe};
 
-const MUST_FIT: &[&str] = &["The text after the call must fit into the capacity."];
-const ALL_MUST_FIT: &[&str] =
-    &["All that the iterator gives must fit into the capacity together, also if it never ends, or panics."];
-const MUST_BE_A_PLACE: &[&str] =
-    &["The index must be a boundary of the text.", "The text after the call must fit into the capacity."];
-const MUST_BE_TEXT: &[&str] = &["The bytes must be well-formed UTF-8.", "They must fit into the capacity."];
-const MUST_LIE_IN_ARRAY: &[&str] = &["What is written must lie in the array."];
-const BOTH_RUNS: &[&str] = &["The run that is moved must lie in the array.", "So must the run that is written over."];
 const ENDS: &str = "An iterator that never ends, or that panics, is allowed. The call stops at the first item that does not fit, \
                     so only empty pieces without an end keep it. What was taken before a panic is a text.";
 const COUNTS: &str = "A count that would pass 2^64 - 1 stays there.";
@@ -110,165 +102,123 @@ const LIKE_STR: &str = "Where the range ends before it starts, ends past the tex
 pub const FATES: &[(&str, Fate)] = &[
     (
         "ArrayString::push_unchecked",
-        Unsafe(
-            MUST_FIT,
-            &[
-                "let mut string = ArrayString::<4>::from(\"abc\");",
-                "// SAFETY: there is room for one more byte.",
-                "unsafe { string.push_unchecked('d') };",
-                "assert_eq!(string, \"abcd\");",
-            ],
-        ),
+        Unsafe(&[
+            "let mut string = ArrayString::<4>::from(\"abc\");",
+            "// SAFETY: there is room for one more byte.",
+            "unsafe { string.push_unchecked('d') };",
+            "assert_eq!(string, \"abcd\");",
+        ]),
     ),
     (
         "ArrayString::push_str_unchecked",
-        Unsafe(
-            MUST_FIT,
-            &[
-                "let mut string = ArrayString::<4>::from(\"ab\");",
-                "// SAFETY: there is room for two more bytes, and `é` takes two.",
-                "unsafe { string.push_str_unchecked(\"é\") };",
-                "assert_eq!(string, \"abé\");",
-            ],
-        ),
+        Unsafe(&[
+            "let mut string = ArrayString::<4>::from(\"ab\");",
+            "// SAFETY: there is room for two more bytes, and `é` takes two.",
+            "unsafe { string.push_str_unchecked(\"é\") };",
+            "assert_eq!(string, \"abé\");",
+        ]),
     ),
     (
         "ArrayString::insert_unchecked",
-        Unsafe(
-            MUST_BE_A_PLACE,
-            &[
-                "let mut string = ArrayString::<4>::from(\"éb\");",
-                "// SAFETY: `b` begins at index 2, and there is room for one more byte.",
-                "unsafe { string.insert_unchecked(2, 'a') };",
-                "assert_eq!(string, \"éab\");",
-            ],
-        ),
+        Unsafe(&[
+            "let mut string = ArrayString::<4>::from(\"éb\");",
+            "// SAFETY: `b` begins at index 2, and there is room for one more byte.",
+            "unsafe { string.insert_unchecked(2, 'a') };",
+            "assert_eq!(string, \"éab\");",
+        ]),
     ),
     (
         "ArrayString::insert_str_unchecked",
-        Unsafe(
-            MUST_BE_A_PLACE,
-            &[
-                "let mut string = ArrayString::<4>::from(\"ad\");",
-                "// SAFETY: `d` begins at index 1, and there is room for two more bytes.",
-                "unsafe { string.insert_str_unchecked(1, \"bc\") };",
-                "assert_eq!(string, \"abcd\");",
-            ],
-        ),
+        Unsafe(&[
+            "let mut string = ArrayString::<4>::from(\"ad\");",
+            "// SAFETY: `d` begins at index 1, and there is room for two more bytes.",
+            "unsafe { string.insert_str_unchecked(1, \"bc\") };",
+            "assert_eq!(string, \"abcd\");",
+        ]),
     ),
     (
         "ArrayString::from_str_unchecked",
-        Unsafe(
-            MUST_FIT,
-            &[
-                "// SAFETY: the text takes three bytes.",
-                "let string = unsafe { ArrayString::<4>::from_str_unchecked(\"éa\") };",
-                "assert_eq!(string, \"éa\");",
-            ],
-        ),
+        Unsafe(&[
+            "// SAFETY: the text takes three bytes.",
+            "let string = unsafe { ArrayString::<4>::from_str_unchecked(\"éa\") };",
+            "assert_eq!(string, \"éa\");",
+        ]),
     ),
     (
         "ArrayString::from_iterator_unchecked",
-        Unsafe(
-            ALL_MUST_FIT,
-            &[
-                "// SAFETY: the pieces take four bytes together.",
-                "let string = unsafe { ArrayString::<4>::from_iterator_unchecked([\"a\", \"bcd\"]) };",
-                "assert_eq!(string, \"abcd\");",
-            ],
-        ),
+        Unsafe(&[
+            "// SAFETY: the pieces take four bytes together.",
+            "let string = unsafe { ArrayString::<4>::from_iterator_unchecked([\"a\", \"bcd\"]) };",
+            "assert_eq!(string, \"abcd\");",
+        ]),
     ),
     (
         "ArrayString::from_chars_unchecked",
-        Unsafe(
-            ALL_MUST_FIT,
-            &[
-                "// SAFETY: the digits take a byte each, and there are four.",
-                "let string = unsafe { ArrayString::<4>::from_chars_unchecked('6'..='9') };",
-                "assert_eq!(string, \"6789\");",
-            ],
-        ),
+        Unsafe(&[
+            "// SAFETY: the digits take a byte each, and there are four.",
+            "let string = unsafe { ArrayString::<4>::from_chars_unchecked('6'..='9') };",
+            "assert_eq!(string, \"6789\");",
+        ]),
     ),
     (
         "ArrayString::from_utf8_unchecked",
-        Unsafe(
-            MUST_BE_TEXT,
-            &[
-                "// SAFETY: the two bytes spell `é`, and there is room for four.",
-                "let string = unsafe { ArrayString::<4>::from_utf8_unchecked([0xC3, 0xA9]) };",
-                "assert_eq!(string, \"é\");",
-            ],
-        ),
+        Unsafe(&[
+            "// SAFETY: the two bytes spell `é`, and there is room for four.",
+            "let string = unsafe { ArrayString::<4>::from_utf8_unchecked([0xC3, 0xA9]) };",
+            "assert_eq!(string, \"é\");",
+        ]),
     ),
     (
         "CacheString::from_str_unchecked",
-        Unsafe(
-            MUST_FIT,
-            &[
-                "// SAFETY: the text takes less than 63 bytes.",
-                "let key = unsafe { CacheString::from_str_unchecked(\"user:42\") };",
-                "assert_eq!(key, \"user:42\");",
-            ],
-        ),
+        Unsafe(&[
+            "// SAFETY: the text takes less than 63 bytes.",
+            "let key = unsafe { CacheString::from_str_unchecked(\"user:42\") };",
+            "assert_eq!(key, \"user:42\");",
+        ]),
     ),
     (
         "CacheString::from_iterator_unchecked",
-        Unsafe(
-            ALL_MUST_FIT,
-            &[
-                "// SAFETY: the pieces take less than 63 bytes together.",
-                "let key = unsafe { CacheString::from_iterator_unchecked([\"user\", \":\", \"42\"]) };",
-                "assert_eq!(key, \"user:42\");",
-            ],
-        ),
+        Unsafe(&[
+            "// SAFETY: the pieces take less than 63 bytes together.",
+            "let key = unsafe { CacheString::from_iterator_unchecked([\"user\", \":\", \"42\"]) };",
+            "assert_eq!(key, \"user:42\");",
+        ]),
     ),
     (
         "CacheString::from_chars_unchecked",
-        Unsafe(
-            ALL_MUST_FIT,
-            &[
-                "// SAFETY: the letters take a byte each, and there are 26.",
-                "let letters = unsafe { CacheString::from_chars_unchecked('a'..='z') };",
-                "assert_eq!(letters.len(), 26);",
-            ],
-        ),
+        Unsafe(&[
+            "// SAFETY: the letters take a byte each, and there are 26.",
+            "let letters = unsafe { CacheString::from_chars_unchecked('a'..='z') };",
+            "assert_eq!(letters.len(), 26);",
+        ]),
     ),
     (
         "CacheString::from_utf8_unchecked",
-        Unsafe(
-            MUST_BE_TEXT,
-            &[
-                "// SAFETY: each byte is ASCII, and there are seven.",
-                "let key = unsafe { CacheString::from_utf8_unchecked(b\"user:42\") };",
-                "assert_eq!(key, \"user:42\");",
-            ],
-        ),
+        Unsafe(&[
+            "// SAFETY: each byte is ASCII, and there are seven.",
+            "let key = unsafe { CacheString::from_utf8_unchecked(b\"user:42\") };",
+            "assert_eq!(key, \"user:42\");",
+        ]),
     ),
     (
         "utf8::encode",
-        Unsafe(
-            MUST_LIE_IN_ARRAY,
-            &[
-                "let mut array = *b\"a__d\";",
-                "// SAFETY: `é` takes two bytes, and there are three from offset 1 on.",
-                "let len = unsafe { utils::encode('é', &mut array, 1) };",
-                "assert_eq!((len, &array), (2, b\"a\\xC3\\xA9d\"));",
-            ],
-        ),
+        Unsafe(&[
+            "let mut array = *b\"a__d\";",
+            "// SAFETY: `é` takes two bytes, and there are three from offset 1 on.",
+            "let len = unsafe { utils::encode('é', &mut array, 1) };",
+            "assert_eq!((len, &array), (2, b\"a\\xC3\\xA9d\"));",
+        ]),
     ),
-    ("moves::write_over", Unsafe(MUST_LIE_IN_ARRAY, &[])),
-    ("moves::move_run", Unsafe(BOTH_RUNS, &[])),
+    ("moves::write_over", Unsafe(&[])),
+    ("moves::move_run", Unsafe(&[])),
     (
         "moves::shift",
-        Unsafe(
-            BOTH_RUNS,
-            &[
-                "let (mut array, mut steps) = (*b\"abcd\", Steps::new());",
-                "// SAFETY: the bytes 0..3 and 1..4 lie in the array.",
-                "unsafe { utils::shift(&mut array, 0, 1, 3, &mut steps) };",
-                "assert_eq!((&array, steps.moved()), (b\"aabc\", 3));",
-            ],
-        ),
+        Unsafe(&[
+            "let (mut array, mut steps) = (*b\"abcd\", Steps::new());",
+            "// SAFETY: the bytes 0..3 and 1..4 lie in the array.",
+            "unsafe { utils::shift(&mut array, 0, 1, 3, &mut steps) };",
+            "assert_eq!((&array, steps.moved()), (b\"aabc\", 3));",
+        ]),
     ),
     ("steps::look", Panics("Where the index is not below the length.", None)),
     ("ArrayString::slice", Panics(LIKE_STR, None)),

@@ -79,7 +79,7 @@ fn contracts(text: &str) -> Vec<Contract> {
             }
             None if !line.trim_start().starts_with("#[") => {
                 let mut head = line.to_string();
-                while is_item(&head) && !head.contains(['{', ';']) {
+                while is_item(&head) && !is_ended(&head) {
                     let Some(more) = lines.next() else { break };
                     head += more;
                 }
@@ -101,6 +101,15 @@ fn contracts(text: &str) -> Vec<Contract> {
 /// Whether a line begins an item that may have a contract.
 fn is_item(line: &str) -> bool {
     ["impl", "pub", "fn", "const", "unsafe"].iter().any(|word| line.trim_start().starts_with(word))
+}
+
+/// Whether the head of an item ends in a text: by the bracket of its body, or by a semicolon that is not that of an array.
+fn is_ended(head: &str) -> bool {
+    let mut depth = 0;
+    head.chars().any(|sign| {
+        depth += i32::from("([".contains(sign)) - i32::from(")]".contains(sign));
+        sign == '{' || sign == ';' && depth == 0
+    })
 }
 
 /// The words of a text, and its other signs one by one.
@@ -187,6 +196,20 @@ mod tests {
         ] {
             let contract = format!("{contract}\n/// let");
             assert_eq!(explained(&with(&contract, "pub fn f(at: u8) {"), &rows), Ok(2), "{contract}");
+        }
+    }
+
+    #[test]
+    fn the_names_of_a_head_are_read_to_its_end() {
+        for head in [
+            "pub fn f(\n    array: &mut [u8; 4],\n    at: u8,\n) {",
+            "pub fn f<const N: usize>(array: &mut [u8; N], steps: &mut [[u8; 2]; N],\n    at: u8) {",
+            "impl<'a> A<[u8; 4]> for B<'a>\n    at {",
+        ] {
+            assert_eq!(explained(&with("ensures { result ≡ size at }", head), ROWS), Ok(2), "{head}");
+        }
+        for head in ["pub fn f() {\n    at", "pub const F: [u8; 4] =\n    4;\nfn at() {"] {
+            assert!(explained(&with("ensures { result ≡ size at }", head), ROWS).is_err(), "{head}");
         }
     }
 

@@ -44,16 +44,32 @@ impl Tree {
         Tree(folder)
     }
 
-    fn run(&self, words: &[&str]) -> Output {
-        Command::new(env!("CARGO_BIN_EXE_erase")).args(words).arg("--root").arg(&self.0).output().unwrap()
+    fn command(&self, words: &[&str]) -> Command {
+        let mut command = Command::new(env!("CARGO_BIN_EXE_erase"));
+        command.args(words).arg("--root").arg(&self.0);
+        command
     }
 
-    /// The end and the last line of each stream.
-    fn told(&self, words: &[&str]) -> (Option<i32>, String, String) {
-        let output = self.run(words);
-        let last = |bytes: &[u8]| String::from_utf8_lossy(bytes).lines().last().unwrap_or_default().to_string();
-        (output.status.code(), last(&output.stdout), last(&output.stderr))
+    fn run(&self, words: &[&str]) -> Output {
+        self.command(words).output().unwrap()
     }
+
+    /// What it tells where no program is found, and so no rustfmt.
+    fn told_alone(&self, words: &[&str]) -> Told {
+        told(self.command(words).env("PATH", self.0.join("rust")).output().unwrap())
+    }
+
+    fn told(&self, words: &[&str]) -> Told {
+        told(self.run(words))
+    }
+}
+
+/// The end, and the last line of each stream.
+type Told = (Option<i32>, String, String);
+
+fn told(output: Output) -> Told {
+    let last = |bytes: &[u8]| String::from_utf8_lossy(bytes).lines().last().unwrap_or_default().to_string();
+    (output.status.code(), last(&output.stdout), last(&output.stderr))
 }
 
 impl Drop for Tree {
@@ -86,6 +102,26 @@ fn a_stale_file_is_told_and_made_anew() {
     fs::write(tree.0.join(WRITTEN).join("left.rs"), "").unwrap();
     let why = "erase: rust/arraystring/src/left.rs has no source and is not written by hand";
     assert_eq!(tree.told(&check), (Some(1), none, why.to_string()));
+}
+
+#[test]
+fn a_made_file_is_compared_to_its_end_with_rustfmt_and_without() {
+    let tree = Tree::new("whole");
+    tree.run(&["--unproved"]);
+    let check = ["--check", "--unproved"];
+    assert_eq!(tree.told_alone(&check).0, Some(0));
+    let file = tree.0.join(WRITTEN).join("arraystring_base/moves.rs");
+    let fresh = fs::read_to_string(&file).unwrap();
+    let (shorter, _) = fresh.rsplit_once("\n/// ").unwrap();
+    let why = "erase: rust/arraystring/src/arraystring_base/moves.rs is not as its source says: run rust/erase/run";
+    let differs = (Some(1), String::new(), why.to_string());
+    for other in [&format!("{fresh}\nfn more() {{}}\n"), shorter, &fresh.replacen("from != to", "from == to", 1)] {
+        assert_ne!(fresh, other);
+        fs::write(&file, other).unwrap();
+        assert_eq!([tree.told(&check), tree.told_alone(&check)], [differs.clone(), differs.clone()]);
+    }
+    fs::write(&file, fresh.replace("    ", " ")).unwrap();
+    assert_eq!([tree.told(&check).0, tree.told_alone(&check).0], [Some(1), Some(0)]);
 }
 
 #[test]

@@ -86,7 +86,7 @@ impl<const N: usize> ArrayString<N> {
     ///
     /// It must fit.
     pub fn push_unchecked(&mut self, ch: char)
-        requires { size self.old.text < N }
+        requires { size self.old.text + width ch ≤ cap N }
     {
         f(ch)
     }

@@ -1,6 +1,8 @@
 //! A sample for each refusal, with its line and its words. Last come sources that say something else than they seem to: clauses
 //! that hold more than what Rust does without, and functions that only have the name of one that a rule knows.
 
+use std::sync::atomic::{AtomicUsize, Ordering};
+
 use crate::names::laws_change_nothing;
 use crate::rules::{GIVEN_UP, NAMED, NO_FACTS, PROOFS_ALONE};
 
@@ -73,21 +75,28 @@ fn a_call_in_a_list_without_its_precondition_is_refused() {
 }
 
 #[test]
-fn a_call_that_says_less_than_its_clauses_is_refused() {
+fn a_public_call_says_each_clause_that_is_kept_and_no_other() {
     let insert = |clauses: &str| {
-        let text =
-            format!("impl ArrayString {{\n    /// It.\n    pub fn insert_unchecked(at: u8)\n{clauses}    {{}}\n}}\n");
+        let text = format!(
+            "impl ArrayString {{\n    /// It.\n    pub fn insert_unchecked(&mut self, index: u8, ch: char)\n{clauses}    {{}}\n}}\n"
+        );
         made_as("arraystring_core/src/sample.rt", &text)
     };
-    let (index, room) = ("        requires index { at < 3 }\n", "        requires room { at < 4 }\n");
+    let index = "        requires boundary { IsTrue (boundary self.old.text index) }\n";
+    let room = "        requires room { size self.old.text + width ch ≤ cap N }\n";
     let count = "        requires { steps.old.moved ≤ 2 ^ 63 }\n";
+    let said = |sentences: &str| format!("/// # Safety\n    ///\n    /// {sentences}\n    ///\n    /// # Examples");
+    let (of_index, of_room) =
+        ("The index must be a boundary of the text.", "The text after the call must fit into the capacity.");
     let made = insert(&[index, room, count].concat()).unwrap();
-    let words =
-        "/// # Safety\n    ///\n    /// The index must be a boundary of the text. The text after the call must fit";
-    assert!(made.contains(words), "{made}");
-    let told = |kept: usize| format!("`ArrayString::insert_unchecked` keeps {kept} clauses, and 2 sentences say so");
-    assert_eq!(insert(index).unwrap_err(), told(1));
-    assert_eq!(insert(&[index, room, index].concat()).unwrap_err(), told(3));
+    assert!(made.contains(&said(&format!("{of_index} {of_room}"))), "{made}");
+    assert!(insert(index).unwrap().contains(&said(of_index)));
+    let told = |fact: &str| Err(format!("`ArrayString::insert_unchecked`: src/sentences.rs has no words for `{fact}`"));
+    let changed = |clause: &str, from: &str, to: &str| insert(&clause.replace(from, to));
+    assert_eq!(changed(room, "≤", "<"), told("self.len() + ch.len_utf8() < Self::capacity()"));
+    assert_eq!(changed(room, "cap N", "cap N - 1"), told("self.len() + ch.len_utf8() <= Self::capacity() - 1"));
+    assert_eq!(changed(room, "width ch", "index"), told("self.len() + index <= Self::capacity()"));
+    assert_eq!(insert("        requires { index < 3 }\n"), told("index < 3"));
 }
 
 #[test]
@@ -127,26 +136,67 @@ fn a_word_of_proofs_that_is_left_is_refused() {
     assert!(no_proof_is_left("// Model\nfn f() {}\n").is_ok());
 }
 
-#[test]
-fn files_are_compared_by_their_form_where_rustfmt_is_there_and_else_by_their_words() {
-    let folder = std::env::temp_dir().join(format!("erase-compared-{}", std::process::id()));
+/// Whether a file that is made is as it was found, where rustfmt is there and where it is not.
+fn compared(found: &str, made: &str) -> [bool; 2] {
+    static NUMBER: AtomicUsize = AtomicUsize::new(0);
+    let name = format!("erase-compared-{}-{}", std::process::id(), NUMBER.fetch_add(1, Ordering::Relaxed));
+    let folder = std::env::temp_dir().join(name);
     std::fs::create_dir_all(folder.join("by_hand")).unwrap();
-    std::fs::write(folder.join("a.rs"), "fn f(\n    a: u8,\n) {}\n").unwrap();
+    std::fs::write(folder.join("a.rs"), found).unwrap();
     std::fs::write(folder.join("by_hand/room.rs"), "").unwrap();
-    let compared = |text: &str, is_formatted| {
-        let made = crate::files::Made::from([("a.rs".to_string(), text.to_string())]);
-        crate::files::compare(&made, &folder, is_formatted)
-    };
-    let differs = Err("rust/arraystring/src/a.rs is not as its source says: run rust/erase/run".to_string());
-    assert_eq!(
-        (compared("fn f(\n    a: u8,\n) {}\n", true), compared("fn f(a: u8) {}\n", true)),
-        (Ok(()), differs.clone())
-    );
-    assert_eq!((compared("fn f(a: u8) {}\n", false), compared("fn f(b: u8) {}\n", false)), (Ok(()), differs));
+    let made = crate::files::Made::from([("a.rs".to_string(), made.to_string())]);
+    let told = [true, false].map(|is_formatted| crate::files::compare(&made, &folder, is_formatted));
     std::fs::write(folder.join("c.rs"), "").unwrap();
     let left = Err("rust/arraystring/src/c.rs has no source and is not written by hand".to_string());
-    assert_eq!(compared("fn f(\n    a: u8,\n) {}\n", true), left);
+    let differs = Err("rust/arraystring/src/a.rs is not as its source says: run rust/erase/run".to_string());
+    for (is_formatted, told) in [true, false].into_iter().zip(&told) {
+        let wanted = if *told == Ok(()) { &left } else { &differs };
+        assert_eq!(crate::files::compare(&made, &folder, is_formatted), *wanted);
+        assert!(*told == Ok(()) || *told == differs, "{told:?}");
+    }
     std::fs::remove_dir_all(folder).unwrap();
+    told.map(|told| told == Ok(()))
+}
+
+#[test]
+fn files_are_compared_whole_where_rustfmt_is_there_and_else_without_their_layout() {
+    let file = "use a::b;\nuse c::d;\n\n// It adds.\nfn f(a: u8, b: u8) -> u8 {\n    g(a, \"a b\") + b\n}\n";
+    assert_eq!(compared(file, file), [true, true]);
+    for (from, to) in [
+        ("a: u8, b: u8", "\n    a: u8,\n    b: u8,\n"),
+        ("{\n    g", "{ g"),
+        ("use a::b;\nuse c::d;", "use c::d;\nuse a::b;"),
+        ("\n\n", "\n"),
+    ] {
+        assert!(file.contains(from));
+        assert_eq!(compared(file, &file.replacen(from, to, 1)), [false, true], "{from}");
+    }
+}
+
+#[test]
+fn a_file_that_differs_in_a_word_a_sign_or_its_length_is_told() {
+    let file = "use a::b;\nuse c::d;\n\n// It adds.\nfn f(a: u8, b: u8) -> u8 {\n    g(a, \"a b\") + b\n}\n";
+    for (from, to) in [
+        ("+ b", "- b"),
+        ("+ b", "+ a"),
+        ("(a: u8, b: u8)", "(b: u8, a: u8)"),
+        ("\"a b\"", "\"ab\""),
+        ("It adds", "It does not add"),
+        ("use c::d;\n", ""),
+        ("use c::d;", "use c::e;"),
+        ("use a::b;", "pub use a::b;"),
+        ("}\n", "}\n\nfn h() {}\n"),
+        ("}\n", "}\n// More.\n"),
+        ("}\n", "}\n\nuse e::f;\n"),
+        ("\n// It adds.\nfn f(a: u8, b: u8) -> u8 {\n    g(a, \"a b\") + b\n}\n", ""),
+        (file, ""),
+        ("}\n", "}\n\""),
+    ] {
+        assert!(file.contains(from));
+        let other = file.replacen(from, to, 1);
+        assert_eq!(compared(file, &other), [false; 2], "{from} {to}");
+        assert_eq!(compared(&other, file), [false; 2], "{from} {to}");
+    }
 }
 
 /// A function with this precondition, on which an access and a look rest.

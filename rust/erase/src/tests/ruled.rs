@@ -139,7 +139,7 @@ fn a_body_calls_the_twin_of_what_panics() {
 fn what_is_always_inlined_in_a_source_need_not_be_here() {
     let function = |public: &str, name: &str| {
         format!(
-            "/// Moves.\n#[inline(always)]\n{public}fn {name}(at: usize)\n    requires source {{ at < 3 }}\n    requires target {{ at < 4 }}\n{{\n    f();\n}}\n\n"
+            "/// Moves.\n#[inline(always)]\n{public}fn {name}(from: usize, to: usize, len: usize)\n    requires source {{ from + len ≤ N }}\n    requires target {{ to + len ≤ N }}\n{{\n    f();\n}}\n\n"
         )
     };
     let source = function("pub ", "shift") + &function("", "move_much");

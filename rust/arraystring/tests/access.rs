@@ -1,0 +1,384 @@
+//! What `src/by_hand/access.rs` does, which is a part of this test as it is of the crate: within, each macro does what the plain
+//! access of a slice does, in a build that tests it and in one that does not. Where it is tested, with debug assertions or with the
+//! feature `checked`, the first place that is not within panics, and so does a clause that does not hold.
+
+#[macro_use]
+#[path = "../src/by_hand/access.rs"]
+mod access;
+
+/// The greatest length that is tried at each place.
+const MOST: usize = 20;
+
+/// Lengths about the sizes of registers and blocks, which are tried at their ends and in the middle.
+const LONGER: [usize; 14] = [31, 32, 33, 63, 64, 65, 127, 128, 129, 255, 256, 257, 300, 1000];
+
+/// Bytes that differ from their neighbours, and from those 256 places on.
+fn bytes(len: usize) -> Vec<u8> {
+    (0..len).map(|at| (at * 7 + at / 256 + 1) as u8).collect()
+}
+
+/// Places in `len` bytes: each of few, and of many the first, the middle and the last ones.
+fn places(len: usize) -> Vec<usize> {
+    let mut places: Vec<usize> = match len {
+        0..=MOST => (0..=len).collect(),
+        _ => [0, 1, 2, 7, 8, 9, 16, 17].into_iter().flat_map(|at| [at, len / 2 + at, len - at]).collect(),
+    };
+    places.retain(|at| *at <= len);
+    places.sort_unstable();
+    places.dedup();
+    places
+}
+
+/// The ranges between places of `len` bytes.
+fn ranges(len: usize) -> Vec<(usize, usize)> {
+    let places = places(len);
+    places.iter().flat_map(|start| places.iter().map(move |end| (*start, *end))).filter(|at| at.0 <= at.1).collect()
+}
+
+fn lengths() -> impl Iterator<Item = usize> {
+    (0..=MOST).chain(LONGER)
+}
+
+#[test]
+fn what_is_read_is_as_it_is_plainly() {
+    let mut count = 0;
+    for len in lengths() {
+        let bytes = bytes(len);
+        let units: Vec<u16> = bytes.iter().map(|byte| u16::from(*byte) + 0x300).collect();
+        for (start, end) in ranges(len) {
+            assert_eq!(get_unchecked!(bytes, start..end), &bytes[start..end]);
+            assert_eq!(get_unchecked!(bytes, start..), &bytes[start..]);
+            assert_eq!(get_unchecked!(bytes, ..end), &bytes[..end]);
+            assert_eq!(get_unchecked!(units, start..end), &units[start..end]);
+            assert_eq!(get_unchecked!(units, end..), &units[end..]);
+            if start < len {
+                assert_eq!(
+                    (*get_unchecked!(bytes, start), *get_unchecked!(units, start)),
+                    (bytes[start], units[start])
+                );
+            }
+            assert_eq!(split_at_unchecked!(bytes, end), bytes.split_at(end));
+            count += 1;
+        }
+    }
+    assert_eq!(count, 5_384);
+}
+
+#[test]
+fn what_is_read_of_an_array_or_a_text_is_as_it_is_plainly() {
+    const LETTERS: [u8; 6] = *b"abcdef";
+    const SPLIT: [(&[u8], &[u8]); 3] =
+        [split_at_unchecked!(LETTERS, 0), split_at_unchecked!(LETTERS, 4), split_at_unchecked!(LETTERS, 6)];
+    assert_eq!(SPLIT, [0, 4, 6].map(|at| LETTERS.split_at(at)));
+    let text = "aé€🤔z";
+    for (start, _) in text.char_indices().chain([(text.len(), ' ')]) {
+        assert_eq!((get_unchecked!(text, start..), get_unchecked!(text, ..start)), (&text[start..], &text[..start]));
+    }
+}
+
+#[test]
+fn what_is_written_is_as_it_is_plainly() {
+    let mut count = 0;
+    for len in lengths() {
+        let before = bytes(len);
+        let given: Vec<u8> = before.iter().rev().map(|byte| byte ^ 0x55).collect();
+        for (start, end) in ranges(len) {
+            let (mut one, mut other) = (before.clone(), before.clone());
+            get_unchecked_mut!(one, start..end).fill(1);
+            other[start..end].fill(1);
+            assert_eq!(one, other);
+            if start < len {
+                (*get_unchecked_mut!(one, start), other[start]) = (2, 2);
+                assert_eq!(one, other);
+            }
+            copy_from_slice_unchecked!(one, start..end, &given[..end - start]);
+            other[start..end].copy_from_slice(&given[..end - start]);
+            assert_eq!(one, other);
+            count += 1;
+        }
+    }
+    assert_eq!(count, 5_384);
+}
+
+#[test]
+fn what_is_moved_is_as_it_is_plainly() {
+    let (mut count, mut overlapping) = (0, [0, 0]);
+    for len in lengths() {
+        let before = bytes(len);
+        for (start, end) in ranges(len) {
+            for to in places(len - (end - start)) {
+                let (mut one, mut other) = (before.clone(), before.clone());
+                copy_within_unchecked!(one, start..end, to);
+                for at in start..end {
+                    other[to + at - start] = before[at];
+                }
+                assert_eq!(one, other, "{start}..{end} to {to} of {len}");
+                count += 1;
+                overlapping[0] += usize::from(to < start && start < to + end - start);
+                overlapping[1] += usize::from(start < to && to < end);
+            }
+        }
+    }
+    assert_eq!((count, overlapping), (93_951, [21_011, 24_465]));
+}
+
+#[test]
+fn what_is_known_and_holds_is_passed() {
+    fn sum(part: usize, more: usize, most: usize) -> usize {
+        known!(source: part + more <= most);
+        part + more
+    }
+    for part in 0..=MOST {
+        for more in 0..=MOST {
+            for spare in 0..=2 {
+                assert_eq!(sum(part, more, part + more + spare), part + more);
+            }
+        }
+    }
+    assert_eq!([sum(usize::MAX, 0, usize::MAX), sum(1, usize::MAX - 1, usize::MAX)], [usize::MAX; 2]);
+}
+
+#[test]
+fn what_is_made_of_a_number_or_of_bytes_is_as_it_is_made_with_a_test() {
+    for ch in ('\0'..='\u{2FF}')
+        .chain('\u{D7F0}'..='\u{E010}')
+        .chain('\u{FFF0}'..='\u{10010}')
+        .chain('\u{10FFF0}'..='\u{10FFFF}')
+    {
+        // SAFETY: the number is that of a character, and the bytes spell it.
+        let made = unsafe {
+            let text = access::str::from_utf8_unchecked(ch.encode_utf8(&mut [0; 4]).as_bytes()).to_string();
+            (access::char::from_u32_unchecked(ch as u32), text)
+        };
+        assert_eq!(made, (ch, ch.to_string()));
+    }
+    const MADE: (char, &str) = {
+        // SAFETY: the number is that of `é`, and so are the bytes.
+        unsafe { (access::char::from_u32_unchecked(0xE9), access::str::from_utf8_unchecked(&[0xC3, 0xA9])) }
+    };
+    assert_eq!(MADE, ('é', "é"));
+    assert_eq!(access::str::from_utf8("é".as_bytes()), Ok("é"));
+}
+
+#[test]
+fn it_is_tested_with_debug_assertions_or_checked_alone() {
+    assert_eq!(access::IS_TESTED, cfg!(debug_assertions) || cfg!(feature = "checked"));
+}
+
+/// What panics where it is tested.
+#[cfg(any(debug_assertions, feature = "checked"))]
+mod tested {
+    use std::hint::black_box;
+    use std::panic::catch_unwind;
+
+    use super::{MOST, bytes};
+
+    /// What a panic says, if there is one.
+    fn panic_of<T>(call: impl FnOnce() -> T + std::panic::UnwindSafe) -> Option<String> {
+        let why = catch_unwind(call).err()?;
+        let text = why.downcast_ref::<&str>().map(|text| text.to_string());
+        Some(text.or_else(|| why.downcast_ref::<String>().cloned()).expect("a message"))
+    }
+
+    /// Indices that are not within `len` bytes, the first one in front.
+    fn past(len: usize) -> [usize; 4] {
+        [len, len + 1, len + 256, usize::MAX]
+    }
+
+    /// Asserts that a call on `len` bytes gives something at the last place that is within, if there is one, and panics at each of
+    /// some that are not.
+    fn ends(len: usize, within: Option<usize>, not_within: &[usize], call: fn(&mut [u8], usize) -> u8) {
+        let run = |at: usize| catch_unwind(|| black_box(call)(&mut bytes(len), at)).is_ok();
+        if let Some(at) = within {
+            assert!(run(at), "{at} of {len}");
+        }
+        for at in not_within {
+            assert!(!run(*at), "{at} of {len}");
+        }
+    }
+
+    #[test]
+    fn the_first_index_that_is_not_within_panics() {
+        for len in 0..=MOST {
+            let last = len.checked_sub(1);
+            ends(len, last, &past(len), |all, at| *get_unchecked!(all, at));
+            ends(len, last, &past(len), |all, at| {
+                *get_unchecked_mut!(all, at) = 1;
+                all[at]
+            });
+        }
+    }
+
+    #[test]
+    fn the_first_end_of_a_part_that_is_not_within_panics() {
+        for len in 0..=MOST {
+            let past = &past(len)[1..];
+            ends(len, Some(len), past, |all, end| get_unchecked!(all, ..end).len() as u8);
+            ends(len, Some(len), past, |all, start| get_unchecked!(all, start..).len() as u8);
+            ends(len, Some(len), past, |all, end| get_unchecked!(all, 0..end).len() as u8);
+            ends(len, Some(len), past, |all, end| get_unchecked_mut!(all, ..end).len() as u8);
+            ends(len, Some(len), past, |all, start| get_unchecked_mut!(all, start..).len() as u8);
+            ends(len, Some(len), past, |all, end| get_unchecked_mut!(all, 0..end).len() as u8);
+            ends(len, Some(len), past, |all, at| split_at_unchecked!(all, at).0.len() as u8);
+        }
+    }
+
+    #[test]
+    fn a_part_that_ends_before_it_starts_panics() {
+        for len in 1..=MOST {
+            for end in 0..len {
+                let calls: [fn(&mut [u8], usize, usize); 4] = [
+                    |all, start, end| assert_eq!(get_unchecked!(all, start..end).len(), end - start),
+                    |all, start, end| assert_eq!(get_unchecked_mut!(all, start..end).len(), end - start),
+                    |all, start, end| copy_from_slice_unchecked!(all, start..end, &[]),
+                    |all, start, end| copy_within_unchecked!(all, start..end, 0),
+                ];
+                let run = |start: usize| calls.map(|call| panic_of(|| call(&mut bytes(len), start, end)));
+                assert_eq!(run(end), [None, None, None, None]);
+                let why = format!("slice index starts at {} but ends at {end}", end + 1);
+                assert_eq!(run(end + 1), [Some(why.clone()), Some(why.clone()), Some(why.clone()), Some(why)]);
+            }
+        }
+    }
+
+    #[test]
+    fn a_part_of_a_text_that_ends_inside_a_character_panics() {
+        let text = "aé€🤔z";
+        for at in 0..=text.len() + 1 {
+            let is_boundary = [0, 1, 3, 6, 10, 11].contains(&at);
+            assert_eq!(catch_unwind(|| get_unchecked!(text, ..at)).is_ok(), is_boundary, "{at}");
+            assert_eq!(catch_unwind(|| get_unchecked!(text, at..)).is_ok(), is_boundary, "{at}");
+        }
+    }
+
+    #[test]
+    fn a_copy_past_the_end_or_of_another_length_panics() {
+        for len in 0..=MOST {
+            for start in 0..=len {
+                let run = |start: usize, end: usize, given: usize| {
+                    catch_unwind(|| {
+                        let mut all = bytes(len);
+                        copy_from_slice_unchecked!(all, start..end, &bytes(given));
+                    })
+                    .is_ok()
+                };
+                assert!(run(start, len, len - start));
+                assert!(!run(start, len + 1, len + 1 - start), "{start} of {len}");
+                assert!(!run(len + 1, len + 1 + start, start), "{start} of {len}");
+                assert!(!run(start, len, len - start + 1), "{start} of {len}");
+                assert!(start == len || !run(start, len, len - start - 1), "{start} of {len}");
+            }
+        }
+    }
+
+    #[test]
+    fn a_move_from_or_to_past_the_end_panics() {
+        for len in 0..=MOST {
+            for size in 0..=len {
+                let run = |start: usize, end: usize, to: usize| {
+                    catch_unwind(|| {
+                        let mut all = bytes(len);
+                        copy_within_unchecked!(all, start..end, to);
+                    })
+                    .is_ok()
+                };
+                let last = len - size;
+                assert!(run(0, size, last) && run(last, len, 0) && run(last, len, last));
+                assert!(!run(0, size, last + 1), "to {size} of {len}");
+                assert!(!run(last + 1, len + 1, 0), "from {size} of {len}");
+                assert!(!run(0, size, usize::MAX), "{size} of {len}");
+            }
+        }
+    }
+
+    #[test]
+    fn a_clause_that_does_not_hold_panics() {
+        // (Numbers that the compiler can't see, as it would leave out a test that it finds undefined.)
+        fn is_passed(part: usize, more: usize, most: usize) -> Option<String> {
+            let (part, more, most) = black_box((part, more, most));
+            panic_of(|| {
+                known!(source: part + more <= most);
+            })
+        }
+        let why = Some("the clause `source` does not hold".to_string());
+        for part in 0..=MOST {
+            for more in 0..=MOST {
+                assert_eq!(is_passed(part, more, part + more), None);
+                if part + more > 0 {
+                    assert_eq!(is_passed(part, more, part + more - 1), why, "{part} {more}");
+                    assert_eq!(is_passed(part, more, 0), why, "{part} {more}");
+                }
+                if more > 0 {
+                    assert_eq!(is_passed(usize::MAX - more + 1, more, usize::MAX), why, "{part} {more}");
+                }
+            }
+        }
+    }
+
+    #[test]
+    fn what_is_not_reached_panics() {
+        fn reached(is_it: bool) {
+            if is_it {
+                unreachable_unchecked!();
+            }
+        }
+        let why = "internal error: entered unreachable code".to_string();
+        assert_eq!([false, true].map(|is_it| panic_of(|| reached(black_box(is_it)))), [None, Some(why)]);
+    }
+}
+
+/// What panics with the feature alone: no index shows that a number is no character, or that bytes are no text.
+#[cfg(feature = "checked")]
+mod checked {
+    use std::hint::black_box;
+    use std::panic::catch_unwind;
+
+    use super::access;
+
+    #[test]
+    fn a_number_that_is_no_character_panics() {
+        // What is made is not compared: a place for none in an `Option` is a number that is no character.
+        let is_made = |number: u32| {
+            let number = black_box(number);
+            // SAFETY: a number that is none panics.
+            catch_unwind(|| _ = black_box(unsafe { access::char::from_u32_unchecked(number) })).is_ok()
+        };
+        for number in [0, 0xD7FF, 0xE000, 0x10_FFFF] {
+            assert!(is_made(number), "{number:X}");
+        }
+        for number in [0xD800, 0xDBFF, 0xDC00, 0xDFFF, 0x11_0000, 0x11_0001, 0x20_0000, u32::MAX] {
+            assert!(!is_made(number), "{number:X}");
+        }
+    }
+
+    /// Whether bytes are taken for a text.
+    fn is_taken(bytes: &[u8]) -> bool {
+        // SAFETY: bytes that are no text panic.
+        catch_unwind(|| unsafe { access::str::from_utf8_unchecked(black_box(bytes)) }.len()).is_ok()
+    }
+
+    /// Each byte at which the rules for the bytes of a character change, in each place of a character, behind each length.
+    #[test]
+    fn bytes_that_are_no_text_panic_in_each_place() {
+        let edges = [
+            0x00, 0x7F, 0x80, 0x8F, 0x90, 0x9F, 0xA0, 0xBF, 0xC0, 0xC1, 0xC2, 0xDF, 0xE0, 0xED, 0xF0, 0xF4, 0xF5, 0xFF,
+        ];
+        let mut taken = 0;
+        for character in ["a", "é", "€", "\u{800}", "\u{D7FF}", "🤔", "\u{10000}", "\u{10FFFF}"] {
+            for front in [0, 1, 7, 8, 31] {
+                let text = "m".repeat(front) + character;
+                for at in front..text.len() {
+                    for byte in edges {
+                        let mut bytes = text.as_bytes().to_vec();
+                        bytes[at] = byte;
+                        let is_text = std::str::from_utf8(&bytes).is_ok();
+                        assert_eq!(is_taken(&bytes), is_text, "{bytes:X?}");
+                        taken += usize::from(is_text);
+                    }
+                    assert!(at == front || !is_taken(&text.as_bytes()[..at]), "{text} {at}");
+                }
+            }
+        }
+        assert_eq!(taken, 460);
+    }
+}

@@ -1,0 +1,170 @@
+"""What stands in two places, and where the move without a count may be named."""
+import calls
+from planted import TreeTest
+
+STRING = """\
+#[derive(Clone, Copy)]
+pub struct ArrayString<const N: usize> {
+    size: u8,
+}
+
+impl<const N: usize> ArrayString<N> {
+    pub fn pop(&mut self) {}
+    pub fn pop_counted(&mut self) {}
+    fn hidden(&self) {}
+}
+
+impl<'a, const N: usize> From<&'a str> for ArrayString<N> {
+    fn from(text: &str) {}
+}
+
+impl<const N: usize> Model for ArrayString<N> {}
+"""
+RUST = """\
+macro_rules! array_string {
+    impl<const N: usize> ArrayString<N> {
+        pub fn pop(&mut self) {}
+        pub unsafe fn pop_unchecked(&mut self) {}
+        pub fn slice(&self) {}
+        #[doc(hidden)]
+        #[must_use]
+        pub const fn of_constant(text: &str) {}
+    }
+}
+"""
+PLAYED = """\
+    match before {
+        "again" => {}
+    }
+    match call {
+        "pop" => text.pop(),
+        "get" | "drain" if is_part => given(" at"),
+        _ => return,
+    }
+"""
+LISTED = """\
+const AT_THE_END: &str = "pop";
+const IN_RANGE: &str =
+    "drain \\
+     get";
+
+    match call { "clear" => text.clear() }
+"""
+README = """\
+## The calls
+`capacity()`, `.._counted`
+
+## The crates, and what is proved
+```text
+arraystring_uses ── arraystring ── arraystring_base
+```
+
+## What a reader checks in the counted calls
+|Body|
+|---|
+|`pop_counted`|`look`|
+"""
+RUST_PAGE = """\
+## What cuts, and what refuses
+`pop()`, `slice`
+
+## The calls
+`.._unchecked`, `Clone`, `Copy`, `From<&str>`
+
+## Else
+`clear`
+"""
+CORE, BASE = "crates/arraystring_core/src/array_string.rt", "crates/arraystring_base/src/moves.rt"
+PLAYERS = "crates/arraystring_tests/src/tests/calls.rt", "rust/arraystring/tests/tables/calls.rs"
+SURFACE, LAWS = "crates/arraystring_tests/src/tests/surface.rt", "crates/arraystring_core/src/laws.rt"
+LINES, SCRIPTS, PROMISES = "crates/arraystring_run/src/line.rt", "docs/scripts.md", "docs/promises.md"
+IN_RUST, PROGRAM, PANICS = "rust/arraystring/src/array_string.rs", "rust/no_panic/src/main.rs", "rust/bench/calls.py"
+ON_RUST, BODIES = "rust/arraystring/README.md", "the table of bodies in README.md"
+
+
+class Calls(TreeTest):
+    FILES = {
+        "README.md": README,
+        "crates.txt": "arraystring_base:\narraystring:\narraystring_tests:\narraystring_uses:\n",
+        LINES: 'match word {\n"pop" => {}\n"push" => {}\n',
+        SCRIPTS: "|`pop`, `push C`|says `no char`|\n",
+        "crates/arraystring/src/lib.rt": "pub fn capacity() {}\n",
+        CORE: STRING,
+        "crates/arraystring_core/src/other.rt": "pub fn no_call_of_the_string() {}\n",
+        BASE: "pub fn move_run() {\n    1\n}\n",
+        LAWS: "pub fn parts() {}\n",
+        "crates/arraystring_run/src/laws.rt": "pub fn replies() {}\n",
+        "crates/arraystring/CALLING.md": "`capacity()`\n",
+        PROMISES: "`laws::{parts, replies}`\n",
+        SURFACE: "laws::parts();\n",
+        PLAYERS[0]: PLAYED,
+        PLAYERS[1]: LISTED,
+        IN_RUST: RUST,
+        ON_RUST: RUST_PAGE,
+        PANICS: '"ArrayString::slice": LIKE_STR,\n',
+        PROGRAM: "string.pop();\nstring.pop_counted(steps);\n",
+    }
+
+    def test_what_stands_in_two_places_is_counted(self):
+        counts = "3 public calls, 3 traits, 3 Rust calls, 1 calls without panics, 3 calls of tables, 1 counted calls, 2 laws, " \
+            "1 laws of the string, 2 commands, 3 crates"
+        self.assertEqual(self.told(calls), (False, f"22 names stand in two places: {counts}\n"))
+
+    def test_what_one_of_two_places_lacks_is_told(self):
+        here, lists = "src/ of the string", "what lists of calls and pages for callers name"
+        lacks = "{} lacks {}, which {} has\n".format
+        self.assert_finds(calls, *((lacks(*names), *changes) for *names, changes in (
+            (lists, "capacity", here, [("crates/arraystring/CALLING.md", "capacity\n\n```rust\n`capacity`\n```\n"),
+                                       ("README.md", r"`capacity\(\)`, ", "")]),
+            (lists, "pop_counted", here, [("README.md", r", `\.\._counted`", "")]),
+            (lists, "pop", here, [(ON_RUST, r"`pop\(\)`, ", "")]),
+            (lists, "more", here, [(CORE, "fn hidden", "pub fn more")]),
+            (ON_RUST, "From<&str>", here, [(ON_RUST, "`From<&str>`", "`From`")]),
+            (ON_RUST, "Copy", here, [(ON_RUST, "`Copy`, ", ""), ("README.md", "`capacity", "`Copy`, `capacity")]),
+            (ON_RUST, "clear", "rust/arraystring/src", [(IN_RUST, r"fn pop\(", "fn clear(")]),
+            (ON_RUST, "pop_unchecked", "rust/arraystring/src", [(ON_RUST, r"`\.\._unchecked`, ", "")]),
+            (PROGRAM, "pop", "rust/arraystring/src", [(PROGRAM, r"string\.pop\(\)", "// string.pop()")]),
+            (PROGRAM, "slice", "rust/arraystring/src", [(PANICS, "slice", "trim")]),
+            (PROGRAM, "clear", "rust/arraystring/src", [(IN_RUST, "unsafe fn pop_unchecked", "fn clear")]),
+            (PLAYERS[0], "get", PLAYERS[1], [(PLAYERS[0], r'"get" \| ', "")]),
+            (PLAYERS[1], "len", PLAYERS[0], [(PLAYERS[0], '"pop" =>', '"len" =>')]),
+            (PLAYERS[1], "drain", PLAYERS[0], [(PLAYERS[1], r"drain \\$", r"\\\\")]),
+            (PLAYERS[1], "pop", PLAYERS[0], [(PLAYERS[1], "const AT", "// const AT")]),
+            (BODIES, "pop_counted", here, [("README.md", r"\|`pop_counted`\|", "|`pop`|`pop_counted`|")]),
+            (here, "pop_counted", BODIES, [(CORE, "fn pop_counted", "fn popped")]),
+            (PROMISES, "sums", "crates/*/src/laws.rt", [(LAWS, "parts", "sums")]),
+            (SURFACE, "sums", "src/laws.rt of the string", [(LAWS, "parts", "sums")]),
+            (PROMISES, "replies", "crates/*/src/laws.rt", [(PROMISES, ", replies", "")]),
+            (SURFACE, "parts", "src/laws.rt of the string", [(SURFACE, "parts", "replies")]),
+            (SCRIPTS, "add", LINES, [(LINES, '"push"', '"add"')]),
+            (LINES, "push_str", SCRIPTS, [(SCRIPTS, "push C", "push_str T")]),
+            ("the drawing in README.md", "records", "crates.txt", [("crates.txt", "_tests:", "_tests:\nrecords:")]),
+            ("crates.txt", "uses", "the drawing in README.md", [("README.md", "arraystring_uses", "uses")]),
+        )))
+
+    def test_a_hidden_call_a_comment_and_a_model_are_none(self):
+        with self.changed((IN_RUST, r"^ *#\[doc\(hidden\)\]\n", "")):
+            self.assertIn(f"{ON_RUST} lacks of_constant", self.told(calls)[1])
+        self.assert_finds(calls, ("", (PLAYERS[0], r"^(.*)\"again\".*", r'\1"again" => {} // "len" => {}')))
+
+    def test_places_that_have_nothing_in_common_are_told(self):
+        self.assert_finds(
+            calls,
+            ("src/ of the string and rust/arraystring/README.md have no traits in common",
+             (CORE, STRING.partition("impl<'a")[0].partition("\n")[2])),
+            (f"{LINES} and {SCRIPTS} have no commands in common", (LINES, "")),
+            ("{} and {} have no calls of tables in common".format(*PLAYERS), *((it, "") for it in PLAYERS)),
+            ("crates.txt and the drawing in README.md have no crates in common", ("README.md", "```text", "```rust")),
+        )
+
+    def test_the_move_without_a_count_stands_below_and_in_tests_alone(self):
+        names = "crates/arraystring_uses/src/push.rt names move_run: move by shift\n"
+        self.assert_finds(
+            calls,
+            (names, ("crates/arraystring_uses/src/push.rt", "fn push() {\n    move_run()\n}\n")),
+            (names, ("crates/arraystring_uses/src/push.rt", "use arraystring_base::utils::{Steps, move_run, shift};\n")),
+            ("", ("crates/arraystring_uses/src/push.rt", "fn push() {\n    shift() // and not by move_run\n}\n")),
+            ("", ("crates/arraystring_uses/src/tests/moves.rt", "fn tried() {\n    move_run()\n}\n")),
+            ("", ("crates/arraystring_uses/src/push.rt", "fn push() {\n    move_running()\n}\n")),
+            ("arraystring_base has no move_run", (BASE, "move_run", "move_all")),
+        )

@@ -1,0 +1,119 @@
+"""What `tools/run check` asks for, that each part of it is enough to fail, and that none looks at too little."""
+import shutil
+import subprocess
+import sys
+
+import check
+from planted import TreeTest
+from repository import ROOT
+
+CLASS = "import unittest\n\n\nclass Sums(unittest.TestCase):\n"
+TEST = "    def test_{}(self):\n        self.assertEqual(1 + 1, {})\n"
+END = r"\Z"
+
+
+class Check(TreeTest):
+    FILES = {"crates.txt": "numbers:\nletters: numbers\n"}
+
+    def parts(self, failing=None, said="5 letters and 30 numbers are"):
+        """There are two parts, of which each says this, and one may fail."""
+        parts = [lambda words, root, it=it: print(said) or it == failing for it in range(2)]
+        self.put(check, "PARTS", [(it, [], {"{} letters": 5, "and {} numbers are": 30}) for it in parts])
+
+    def test_each_part_is_asked_and_enough_to_fail(self):
+        named = [f"{it.__module__}.{it.__name__} {' '.join(words)}".strip() for it, words, _ in check.PARTS]
+        due = {"check.tests", "trusted.main", "dead.main", "quotes.main", "calls.main", "evidence.main", "controls.main --check",
+               "proved.main --check"}
+        self.assertLessEqual(due, {*named})
+        for failing, told in ((None, False), (0, True), (1, True)):
+            self.parts(failing)
+            self.assertEqual(self.told(check)[0], told)
+
+    def test_what_a_part_looks_at_may_not_shrink_and_what_is_due_stays_near_it(self):
+        for said, told in (
+            ("4 letters and 30 numbers are", "4 letters, where at least 5 are due\n"),
+            ("5 letters and 29 numbers are", "and 29 numbers are, where at least 30 are due\n"),
+            ("5 letters", "and no numbers are, where at least 30 are due\n"),
+            ("5 letters and 34 numbers are", "and 34 numbers are, and tools/check.py asks for 30 alone: write more there\n"),
+        ):
+            self.parts(said=said)
+            self.assertEqual(self.told(check), (True, f"{said}\n{told}" * 2))
+        self.parts(said="5 letters and 33 numbers are")
+        self.assertFalse(self.told(check)[0])
+        self.parts(0, "a fault")
+        self.assertEqual(self.told(check)[1].splitlines()[:2], ["a fault"] * 2)
+
+    def test_each_part_has_to_say_what_it_looked_at(self):
+        self.assertTrue(all(least and min(least.values()) > 10 for _, _, least in check.PARTS))
+
+    def written(self, failing=""):
+        """Whether it fails where this command does, and what is written by which command."""
+        commands = []
+
+        def run(words, cwd, stdout):
+            commands.append((" ".join(words), str(cwd.relative_to(self.root))))
+            if failing == "missing":
+                raise FileNotFoundError("no such program")
+            return subprocess.CompletedProcess(words, int(" ".join(words) == failing))
+
+        def quotes(words, root):
+            commands.append((f"quotes {' '.join(words)}", str(root.relative_to(self.root))))
+
+        self.parts()
+        self.put(check.subprocess, "run", run)
+        self.put(check.quotes, "main", quotes)
+        failed, said = self.told(check, "--write")
+        return failed, commands, said
+
+    def test_what_can_be_written_is_written_and_what_cannot_is_a_fault(self):
+        formed = [("rt fmt", "crates/numbers"), ("rt fmt", "crates/letters")]
+        self.put(check.shutil, "which", lambda name: name)
+        for failing in ("", "rt fmt", "rust/erase/run", "missing"):
+            failed, commands, said = self.written(failing)
+            self.assertEqual((failed, "no such program" in said), (bool(failing), failing == "missing"))
+            self.assertEqual(commands, [*formed, ("rust/erase/run", "."), ("quotes --write", ".")])
+        self.put(check.shutil, "which", lambda name: None)
+        self.assertEqual(self.written()[:2], (False, [*formed, ("quotes --write", ".")]))
+
+    def test_nothing_is_written_unasked(self):
+        self.put(check, "is_written", lambda root: self.fail("it wrote"))
+        self.parts()
+        self.assertFalse(self.told(check)[0])
+
+
+class Tests(TreeTest):
+    """The tests of a copy of the tools."""
+
+    def setUp(self):
+        super().setUp()
+        for file in (ROOT / "tools").glob("*.py"):
+            if not file.name.startswith("test_"):
+                self.write(f"tools/{file.name}", file.read_text(encoding="utf-8"))
+        self.write("tools/test_sums.py", CLASS + TEST.format("a", 2) + "\n" + TEST.format("b", 2))
+
+    def ran(self):
+        """Whether they fail, and what is said on standard output."""
+        code = "import sys; sys.dont_write_bytecode = True; import check, repository; sys.exit(check.tests([], repository.ROOT))"
+        run = subprocess.run([sys.executable, "-c", code], cwd=self.root / "tools", capture_output=True, encoding="utf-8")
+        shutil.rmtree(self.root / "tools/__pycache__", ignore_errors=True)
+        return run.returncode != 0, run.stdout
+
+    def test_a_test_that_fails_or_is_not_run_is_a_fault(self):
+        file, all_run = "tools/test_sums.py", "{} tests of the tools have run\n".format
+        self.assertEqual(self.ran(), (False, all_run(2)))
+        not_run = "{} was not run\n".format
+        skipped = (file, r"^    def test_b", '    @unittest.skip("no")\n    def test_b')
+        for told, *changes in (
+            (all_run(2), (file, r"1, 2\)\n\Z", "1, 3)\n")),
+            (not_run("test_sums.Sums.test_b") + all_run(1), skipped),
+            # (a name that stands twice, a class that is no test, a file of another name, a class that goes by a rule of its own)
+            (not_run("test_sums.Sums.test_a") + all_run(1), (file, "test_b", "test_a")),
+            (not_run("test_sums.Sums.test_a") + not_run("test_sums.Sums.test_b") + all_run(0),
+             (file, r"\(unittest.TestCase\)", "")),
+            (not_run("sums.Sums.test_a") + all_run(2), ("tools/sums.py", CLASS + TEST.format("a", 2))),
+            (not_run("test_sums.Sums.test_b") + all_run(1), (file, END, "\n\ndel Sums.test_b\n")),
+        ):
+            with self.subTest(told), self.changed(*changes):
+                self.assertEqual(self.ran(), (True, told))
+        with self.changed((file, "^import unittest$", "import unittests")):
+            self.assertTrue(self.ran()[0])

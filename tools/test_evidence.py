@@ -1,0 +1,226 @@
+"""Which functions a wrong body is asked for, how it is named, what it touches, and what has to refuse it."""
+import evidence
+from planted import TreeTest
+
+SOURCE = """\
+pub struct Number {
+    value: u8,
+}
+
+impl Number {
+    pub fn doubled(&self) -> u8
+        ensures { result ≡ 2 * self.now.value }
+    {
+        twice(self.value)
+    }
+}
+
+impl Default for Number {
+    ghost value = { 0 };
+    fn default() -> Number {
+        Number { value: 0 }
+    }
+}
+
+fn twice(value: u8) -> u8 {
+    value + value
+}
+"""
+ONCE, IS_ONE = "file: src/lib.rt\nold:     value + value\nnew:     value + 0\n", "Number { value: 1 }"
+FOLDER, END = "crates/numbers/must-fail", r"\Z"
+FILE, OTHER, PROGRAM = "crates/numbers/src/lib.rt", "crates/numbers/src/other.rt", "crates/program/src/main.rt"
+MISSING, NO_NAME = "wrong bodies of {} that are missing: {}\n".format, "numbers {}: no public function has this name\n".format
+SHOWN = """\
+impl {0} for Number {{
+    ghost output = {{ 0 }};
+    fn fmt() {{
+        {0}
+    }}
+}}
+"""
+
+
+class Evidence(TreeTest):
+    FILES = {
+        "crates.txt": "# numbers\nnumbers:\nprogram:\ntest_support:\n",
+        FILE: SOURCE,
+        "crates/numbers/src/tests.rt": "pub fn tried() {\n    1\n}\n",
+        f"{FOLDER}/doubled.is_once.edit": ONCE,
+        f"{FOLDER}/default.is_one.edit": f"file: src/lib.rt\nold:         Number {{ value: 0 }}\nnew:         {IS_ONE}\n",
+        PROGRAM: "fn main() {\n    1\n}\n",
+        "crates/test_support/src/lib.rt": "pub fn for_tests() {\n    1\n}\n",
+    }
+
+    def renamed(self, name, other):
+        return (f"{FOLDER}/{name}.edit", None), (f"{FOLDER}/{other}.edit", self.FILES[f"{FOLDER}/{name}.edit"])
+
+    def test_a_wrong_body_of_its_name_touches_the_function_or_what_it_names(self):
+        self.assertEqual(self.told(evidence), (False, "wrong bodies try 2 functions\n"))
+
+    def test_a_function_or_an_impl_without_one_is_named(self):
+        private = "pub fn other() {{\n    {}\n}}\n".format
+        self.assert_finds(
+            evidence,
+            (MISSING("numbers doubled", 1), (f"{FOLDER}/doubled.is_once.edit", None)),
+            (MISSING("numbers default", 1), (f"{FOLDER}/default.is_one.edit", None)),
+            (MISSING("numbers other", 1), (OTHER, private(1))),
+            ("", (OTHER, private(1).replace("pub ", ""))),
+            ("", (OTHER, private(1).replace("pub ", "pub(crate) "))),
+            ("", (OTHER, "pub trait Shown {\n    fn shown(&self) {\n        1\n    }\n}\n")),
+            ("", (OTHER, "impl Debug for Number {\n    fn fmt() {\n        1\n    }\n}\n")),
+            ("", (OTHER, SHOWN.format("Debug").replace("Number", "Hidden"))),
+            (MISSING("numbers fmt", 1), (OTHER, SHOWN.format("Debug"))),
+            # (of a program all but `main`)
+            (MISSING("program print", 1), (PROGRAM, END, "\nfn print() {\n    1\n}\n")),
+        )
+
+    def test_no_function_is_a_fault(self):
+        with self.changed(*((it, None) for it in self.FILES if it.startswith("crates/numbers/"))):
+            self.assertEqual(self.told(evidence), (True, "wrong bodies try 0 functions\n"))
+
+    def test_one_that_only_calls_its_counted_form_needs_none(self):
+        counted = "\npub fn {}_counted(value: u8) -> u8 {{\n    value\n}}\n".format
+        plain = "pub fn thrice(value: u8) -> u8 {{\n    {}\n}}\n".format
+        edit = (f"{FOLDER}/thrice_counted.is_one.edit", "file: src/other.rt\nold:     value\nnew:     1\n")
+        both = plain("thrice_counted(value)") + counted("thrice")
+        self.assert_finds(
+            evidence,
+            (MISSING("numbers thrice_counted", 1), (OTHER, both)),
+            (MISSING("numbers thrice", 1), (OTHER, plain("let it = 1;\n    thrice_counted(it)") + counted("thrice")), edit),
+            (MISSING("numbers thrice", 1), (OTHER, plain("if true { thrice_counted(1) } else { 0 }") + counted("thrice")), edit),
+            (MISSING("numbers thrice", 1), (OTHER, plain("twice_counted(value)") + counted("thrice")), edit),
+        )
+        with self.changed((OTHER, both), edit):
+            self.assertEqual(self.told(evidence), (False, "wrong bodies try 4 functions\n"))
+
+    def test_a_name_belongs_to_a_public_function_that_the_edit_touches(self):
+        self.assert_finds(evidence, *((NO_NAME(it), *self.renamed("doubled.is_once", it)) for it in (
+            "twice.is_once", "tripled.is_once", "is_once", "doubled_is_once")))
+        self.assert_finds(
+            evidence,
+            ("numbers doubled.is_one: it does not touch doubled, nor what that names\n",
+             *self.renamed("default.is_one", "doubled.is_one")),
+            ("numbers doubled.is_once: src/lib.rt does not have this once: three", (f"{FOLDER}/doubled.is_once.edit",
+                                                                                    "file: src/lib.rt\nold: three\nnew: 3\n")),
+            ("numbers doubled.is_once: no line of an edit: what: 1", (f"{FOLDER}/doubled.is_once.edit", END, "what: 1\n")),
+        )
+
+    def test_the_type_and_the_trait_tell_equal_names_apart(self):
+        letter = SOURCE.replace("Number", "Letter").partition("\nfn twice")[0]
+        self.write("crates/numbers/src/letter.rt", letter)
+        said = self.told(evidence)[1]
+        self.assertIn(NO_NAME("doubled.is_once"), said)
+        self.assertIn(MISSING("numbers Number.doubled", 1), said)
+        edit = "file: src/letter.rt\nold:         Letter { value: 0 }\nnew:         Letter { value: 1 }\n"
+        self.write(f"{FOLDER}/Letter.default.is_one.edit", edit)
+        self.write(f"{FOLDER}/Letter.doubled.is_one.edit", "file: src/letter.rt\nold: twice(self.value)\nnew: 1\n")
+        with self.changed(*self.renamed("doubled.is_once", "Number.doubled.is_once"),
+                          *self.renamed("default.is_one", "Number.default.is_one")):
+            self.assertEqual(self.told(evidence), (False, "wrong bodies try 4 functions\n"))
+            with self.changed((OTHER, f"{SHOWN.format('Debug')}\n{SHOWN.format('Display')}")):
+                said = self.told(evidence)[1]
+        self.assertEqual(said, MISSING("numbers Number.Debug", 1) + MISSING("numbers Number.Display", 1))
+
+    def test_what_decides_has_one_for_each_direction(self):
+        edit = f"{FOLDER}/doubled.is_thrice.edit"
+        for decides in ((FILE, r"pub fn doubled\(&self\) -> u8$", "pub fn doubled(&self) -> bool"),
+                        (FILE, "result ≡ 2", "(result ≡ 0) ↔ 2")):
+            with self.subTest(decides), self.changed(decides):
+                self.assertEqual(self.told(evidence), (True, MISSING("numbers doubled", 1)))
+                with self.changed((edit, ONCE.replace("+ 0", "+ 7"))):
+                    self.assertFalse(self.told(evidence)[0])
+                with self.changed((f"{FOLDER}/doubled.is_once.edit", None)):
+                    self.assertEqual(self.told(evidence), (True, MISSING("numbers doubled", 2)))
+
+    def test_the_laws_that_borrow_need_none(self):
+        for name in evidence.LAWS_THAT_BORROW:
+            with self.changed((OTHER, f"pub fn {name}() {{\n    1\n}}\n")):
+                self.assertFalse(self.told(evidence)[0])
+
+
+COUNTED = """\
+pub fn counted(steps: &mut Steps)
+    ensures moved { steps.new.moved ≤ 4 }
+{
+    move_all(steps)
+}
+
+pub fn plain()
+    ensures { result ≡ 0 }
+{
+    move_all(&mut Steps::new())
+}
+
+fn move_all(steps: &mut Steps)
+    ensures moved { steps.new.moved ≤ 4 }
+    ensures text { result ≡ 0 }
+{
+    0
+}
+
+#[inline]
+#[cold]
+pub fn other()
+    ensures { result ≡ 1 }
+{
+    1
+}
+"""
+GOAL = "note: src/lib.rt:{}:1: it is not proved that what the function ensures holds when it returns (`{}`); `search` gave up"
+STORED = "./proofs/{}/Answers.antt:12:4: error: `returns-clause-text`: {}"
+MOVES = "crates/moves/must-fail"
+
+
+class Refusals(TreeTest):
+    FILES = {
+        "crates.txt": "moves:\n",
+        "crates/moves/src/lib.rt": COUNTED,
+        f"{MOVES}/counted.is_one.edit": "file: src/lib.rt\nold:     0\nnew:     1\n",
+        f"{MOVES}/plain.is_one.edit": "file: src/lib.rt\nold:     0\nnew:     1\n",
+        f"{MOVES}/other.is_zero.edit": "file: src/lib.rt\nold:     1\nnew:     0\n",
+    }
+    TOLD = {"counted.is_one": GOAL.format(13, "returns-clause-moved"), "plain.is_one": GOAL.format(13, "returns-clause-text"),
+            "other.is_zero": GOAL.format(22, "returns")}
+
+    def told_of(self, name="", said=""):
+        """Whether it fails over a log in which one verdict is another, and what it says."""
+        told = {**self.TOLD, **({name: said} if name else {})}
+        lines = [f"rt: must-fail moves/{it}.edit: refused, as it must be: {text}" for it, text in told.items() if text]
+        self.write("log", "\n".join(["checked moves", *lines, "3 passed, 0 failed"]))
+        return self.told(evidence, "--refused", str(self.root / "log"))
+
+    def assert_named(self, wanted, name, said):
+        self.assertEqual(self.told_of(name, said), (True, f"moves {name}: {wanted}\n"))
+
+    def test_each_is_refused_where_it_is_named_for(self):
+        self.assertEqual(self.told_of(), (False, "wrong bodies try 3 functions\n"))
+        # (and in what that names, and in the attributes above it)
+        self.assertFalse(self.told_of("other.is_zero", GOAL.format(20, "returns"))[0])
+        self.assertFalse(self.told_of("counted.is_one", GOAL.format(3, "returns-clause-moved"))[0])
+
+    def test_one_that_the_log_lacks_is_named(self):
+        self.assert_named("the log does not say that it is refused", "other.is_zero", "")
+        self.write("log", "rt: must-fail moves/other.is_zero.edit: NOT REFUSED\n")
+        self.assertIn("moves other.is_zero: the log does not say", self.told(evidence, "--refused", str(self.root / "log"))[1])
+
+    def test_a_goal_of_another_function_refuses_nothing(self):
+        at = "refused at src/lib.rt:{}, where nothing is that it is named for".format
+        self.assert_named(at(13), "other.is_zero", GOAL.format(13, "returns-clause-text"))
+        self.assert_named(at(22), "plain.is_one", GOAL.format(22, "returns"))
+        self.assert_named(at(6), "plain.is_one", GOAL.format(6, "returns"))
+
+    def test_counts_refuse_nothing_of_what_does_not_count(self):
+        by_counts = GOAL.format(13, "returns-then-zero-clause-moved")
+        self.assert_named("refused by counts, of which plain is not", "plain.is_one", by_counts)
+        self.assertFalse(self.told_of("counted.is_one", by_counts)[0])
+
+    def test_a_stored_proof_refuses_where_there_is_a_control_or_values_are_shown(self):
+        said = STORED.format("move_all", "expected another")
+        self.assert_named("refused over a stored proof, and has no control", "plain.is_one", said)
+        self.assertFalse(self.told_of("plain.is_one", STORED.format("move_all", f"`omega`: {evidence.VALUES} that holds, a"))[0])
+        with self.changed((f"{MOVES}/plain.is_one.edit", END, "# right:     { 0 }\n")):
+            self.assertFalse(self.told_of("plain.is_one", said)[0])
+            for name in ("other", "counted"):
+                self.assertIn("refused neither by a goal of src/ nor over a stored proof",
+                              self.told_of("plain.is_one", STORED.format(name, "expected another"))[1])
+            self.assertIn("refused neither by a goal", self.told_of("plain.is_one", "the machine stopped")[1])

@@ -1,0 +1,130 @@
+"""Which blocks, names and lists of a page have to be as in the files that it quotes."""
+import quotes
+from planted import TreeTest
+from repository import read
+
+PAGE = """\
+The function. From `src/greet.rt`:
+
+```rust
+fn greet() {
+    hello()
+}
+```
+
+## Words: `crates/base/specs/Words.antt`
+
+|Definition|What|
+|---|---|
+|`IsShort t`, `limit`|short
+
+- `Words`: `IsShort`, `limit`
+  and `Word`, which are all that it has.
+- `IsShort.is_never_so` and `*.is_never_so` are refused.
+
+`greet` and `hello` have goals of this form.
+
+Printed by `tools/run trusted`:
+
+```text
+3 definitions
+```
+"""
+SOURCE = "fn greet() {\n    hello()\n}\n\nfn hello() {\n    1\n}\n"
+WORDS = """\
+-- a text is short
+abbrev pub IsShort : Text → Type 0
+IsShort t = length t < limit
+
+abbrev pub limit : ℕ
+limit = 3
+
+pub record Word : Type 0 where
+  pub text : Text
+
+abbrev hidden : ℕ
+hidden = 4
+"""
+GREET, FILE, END = "src/greet.rt", "crates/base/specs/Words.antt", r"\Z"
+NOT_THERE = "page.md: src/greet.rt does not have these lines: {} ..\n".format
+
+
+class Quotes(TreeTest):
+    FILES = {
+        "page.md": PAGE,
+        GREET: SOURCE,
+        FILE: WORDS,
+        "crates/base/must-fail/IsShort.is_never_so.edit": "",
+        "crates/base/proofs/greet/Answers.antt": "",
+        "crates/base/proofs/deep/hello/Answers.antt": "",
+    }
+
+    def setUp(self):
+        super().setUp()
+        self.write_program("tools/run", '#!/bin/sh\n[ "$*" = trusted ] && echo 3 definitions\n')
+
+    def test_what_is_as_in_the_files_passes(self):
+        self.assertEqual(self.told(quotes), (False, "2 blocks are as in the files\n"))
+        for page in ("docs/page.md", "crates/base/page.md"):
+            with self.changed((page, PAGE.replace("hello()", "hi()"))):
+                self.assertIn(f"{page}: src/greet.rt does not have these lines", self.told(quotes)[1])
+
+    def test_a_block_has_whole_lines_one_after_the_other(self):
+        first = NOT_THERE("fn greet() {")
+        self.assert_finds(
+            quotes,
+            (first, (GREET, "hello\\(\\)$", "good_day()")),
+            (first, (GREET, r"^    hello\(\)$", "    let a = 1;\n    hello()")),
+            (first, ("page.md", r"^    hello\(\)\n}$", "}\n    hello()")),
+            (first, ("page.md", r"^    hello\(\)\n}$", "    hello(")),
+            (NOT_THERE("greet() {"), ("page.md", r"^fn greet", "greet")),
+            (first, ("page.md", r"^    hello\(\)$", "   hello()")),
+            ("page.md: src/other.rt does not have these lines", ("page.md", "From `src/greet.rt`", "From `src/other.rt`")),
+        )
+
+    def test_what_a_command_prints_is_compared_and_written(self):
+        for old, would in (("3 definitions", "page.md: tools/run quotes --write would write: 3 definitions\n"),
+                           ("3 definitions\n```", "page.md: tools/run quotes --write would write: fewer lines\n")):
+            changed = PAGE.replace(old, "2 definitions" if old == "3 definitions" else "3 definitions\n3 definitions\n```")
+            self.write("page.md", changed)
+            self.assertEqual(self.told(quotes), (True, would))
+            self.assertEqual(read(self.root / "page.md"), changed)
+            self.assertFalse(self.told(quotes, "--write")[0])
+            self.assertEqual(read(self.root / "page.md"), PAGE)
+
+    def test_a_table_names_what_its_file_defines(self):
+        self.assert_finds(
+            quotes,
+            (f"page.md: {FILE} does not define IsBrief\n", ("page.md", r"^\|`IsShort t`", "|`IsBrief t`")),
+            (f"page.md: {FILE} does not define most\n", ("page.md", "t`, `limit`", "t`, `most`")),
+            (f"page.md: {FILE} does not define IsShort\n", (FILE, r"^abbrev pub IsShort", "pub IsShort")),
+            ("page.md: crates/base/specs/Other.antt does not define limit\n", ("page.md", "^(## .*)Words.antt", r"\1Other.antt")),
+            ("", (FILE, r"^abbrev pub limit", "unfoldable pub limit")),
+            # (a table below the next heading is another's)
+            ("", ("page.md", END, "\n## Else\n\n|`none`|nothing\n")),
+        )
+
+    def test_a_list_that_is_to_be_whole_has_all_names_and_no_other(self):
+        differ = "page.md: the list of Words and the module differ in {}\n".format
+        self.assert_finds(
+            quotes,
+            (differ("Word"), ("page.md", r"^  and `Word`", "  and more")),
+            (differ("text"), ("page.md", r"^  and `Word`", "  `text` and `Word`")),
+            (differ("hidden"), ("page.md", r"^  and `Word`", "  `hidden` and `Word`")),
+            (differ("more"), (FILE, END, "\nunfoldable pub more : ℕ\nmore = 5\n")),
+            ("", ("page.md", r"^  and `Word`, which are all that it has", "  among others")),
+        )
+
+    def test_a_wrong_body_that_a_page_names_is_there(self):
+        names = ["IsShort.is_always_so", "*.is_gone", ".is_never_so"]
+        self.write("docs/review.md", f"`{'`, `'.join(names)}` and `greet.rt`\n\n```text\n`a.block_of_code`\n```\n")
+        told = "".join(f"docs/review.md: no wrong body is named {it}\n" for it in names)
+        self.assertEqual(self.told(quotes), (True, told))
+
+    def test_functions_with_goals_of_a_form_have_answers(self):
+        self.assert_finds(quotes, *((f"page.md: {it} has no answers\n", (f"crates/base/proofs/{folder}/Answers.antt", None))
+                                    for it, folder in (("greet", "greet"), ("hello", "deep/hello"))))
+
+    def test_a_tree_without_a_quote_is_told(self):
+        self.write("page.md", "nothing\n")
+        self.assertEqual(self.told(quotes), (True, "0 blocks are as in the files\n"))

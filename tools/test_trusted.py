@@ -1,0 +1,222 @@
+"""Which definitions a contract reaches, what specs/ may hold, and what the page has to have."""
+import re
+
+import modules
+import trusted
+from planted import TreeTest
+from repository import read
+
+WORDS = """\
+use Rattle.std.specs.Prelude.{◌≡◌, length}
+
+-- a text is short
+abbrev pub IsShort : Text → Type 0
+IsShort t = length t < limit
+
+-- how long a short text is
+-- at most
+abbrev pub limit : ℕ
+limit = 3
+"""
+ROWS = """\
+use Rattle.base.specs.Words.{IsShort}
+
+module _ (t : Text) (short : IsShort t) where
+  -- what stays of it
+  abbrev pub rest_of : Text
+  rest_of = drop 1 t
+"""
+SOURCE = """\
+ghost use Rattle.base.specs.Rows.{rest_of};
+
+pub fn run(text: &Text) -> Text
+    ensures { result ≡ rest_of text.now }
+{
+    text.rest()
+}
+"""
+LINE = """\
+ghost use Rattle.base.specs.Words.{IsShort};
+
+pub struct Line {
+    text: Text,
+}
+
+impl Model for Line {
+    ghost invariant = { IsShort };
+    ghost inverse = { IsLong };
+}
+
+pub fn length_of(line: &Line) -> u8
+    ensures { result ≡ 1 }
+{
+    1
+}
+"""
+PAGE = "|Definition|What|\n|---|---|\n|`IsShort t`|short|\n|`limit`|three|\n|`rest_of t`|all but one|\n"
+LAWS = "use Rattle.base.specs.Words.{IsShort}\n\npub empty-short : IsShort []\nempty-short = omega arith\n"
+LIST, FILE, END = "crates/base/specs/Lib.antt", "crates/base/specs/Words.antt", r"\Z"
+RUN, USER = "crates/base/src/lib.rt", "crates/user/src/lib.rt"
+IN_ORDER = ["IsShort", "limit", "rest_of"]
+
+
+class Trusted(TreeTest):
+    FILES = {
+        "crates.txt": "base:\nuser: base\n",
+        LIST: "pub mod Words\npub mod Rows\n",
+        FILE: WORDS,
+        "crates/base/specs/Rows.antt": ROWS,
+        "crates/base/proofs/WordLaws.antt": LAWS,
+        RUN: SOURCE,
+        trusted.PAGE: PAGE,
+    }
+
+    def setUp(self):
+        super().setUp()
+        self.put(trusted, "LIBRARIES", ["base", "user"])
+
+    def reached(self, of_run=False):
+        """The names of the definitions that --list tells of all public contracts, or of `run` alone, in order."""
+        said = self.told(trusted, "--list")[1].partition("all public contracts: " if of_run else "all of specs/: ")[0]
+        return re.findall(r"(?m)^crates/\S+antt:\d+: (\S+): ", said)
+
+    def test_a_contract_reaches_what_its_words_are_made_of(self):
+        failed, said = self.told(trusted)
+        self.assertEqual((failed, said.splitlines()[0]), (False, "run: 3 definitions, 6 lines"))
+        self.assertEqual(self.reached(of_run=True), IN_ORDER)
+        listed = self.told(trusted, "--list")[1]
+        self.assertIn(f"{FILE}:4: IsShort: a text is short\n{FILE}:9: limit: how long a short text is at most\n", listed)
+
+    def test_the_block_around_a_definition_belongs_to_it(self):
+        with self.changed(("crates/base/specs/Rows.antt", r" \(short : IsShort t\)", "")):
+            self.assertEqual(self.reached(of_run=True), ["rest_of"])
+
+    def test_a_definition_behind_an_alias_of_a_word_or_of_a_module_is_reached(self):
+        for imported, named in (("Words as words", "words.IsShort"), ("Words.{IsShort as Brief}", "Brief"),
+                                ("Words.{limit as most, IsShort as Brief}", "Brief"), ("Words", "Words.IsShort")):
+            rows = ROWS.replace("Words.{IsShort}", imported).replace("short : IsShort", f"short : {named}")
+            with self.subTest(imported), self.changed(("crates/base/specs/Rows.antt", rows)):
+                self.assertEqual(self.reached(of_run=True), IN_ORDER)
+            other = rows.replace(f"short : {named}", "short : Other")
+            with self.subTest(imported), self.changed(("crates/base/specs/Rows.antt", other)):
+                self.assertEqual(self.reached(of_run=True), ["rest_of"])
+
+    def test_a_definition_that_another_crate_passes_on_is_reached(self):
+        self.write("crates/user/specs/Lib.antt", "pub use Rattle.base.specs.Words\npub use Rattle.base.specs.Rows\n")
+        with self.changed((RUN, ""), (USER, SOURCE.replace("base.specs", "user.specs").replace("fn run", "fn play"))):
+            self.assertEqual(self.reached(), IN_ORDER)
+
+    def test_a_ghost_member_of_a_public_type_is_a_contract_and_the_inverse_is_none(self):
+        long = (FILE, END, "\n-- long\nabbrev pub IsLong : Text → Type 0\nIsLong t = limit < length t\n")
+        with self.changed(long, (RUN, LINE.replace("IsShort}", "IsShort, IsLong}"))):
+            self.assertEqual(self.reached(), ["IsShort", "limit"])
+        with self.changed((RUN, LINE.replace("pub struct", "struct"))):
+            self.assertEqual(self.reached(), [])
+        with self.changed((RUN, LINE.replace("fn length_of", "fn run"))):
+            self.assertEqual(self.reached(of_run=True), ["IsShort", "limit"])
+        with self.changed((RUN, LINE.replace("fn length_of(line: &Line)", "fn run(line: &Other)"))):
+            self.assertEqual(self.reached(of_run=True), [])
+
+    def test_labels_parameters_fields_and_strings_are_no_words(self):
+        source = SOURCE.replace("use Rattle", "use Rattle.base.specs.Words.{limit, IsShort};\nghost use Rattle", 1)
+        with self.changed(("crates/base/specs/Rows.antt", r" \(short : IsShort t\)", ""), (RUN, source)):
+            self.assertEqual(self.reached(), ["rest_of"])
+            for change in ((r"ensures \{", "ensures limit {"), (r"requires", "requires limit"), ("&Text", "&Text, limit: u8"),
+                           (r"text\.now \}", "text.now.limit }"), (r"text\.now \}", "record { limit = 0 } }"),
+                           (r"text\.now \}", "record { other = 0; limit = 0 } }"), (r"now \}", "now (let limit = 0 in 0) }"),
+                           (r"now \}", 'now } // limit'), (r"now \}", 'now "limit" }')):
+                required = (RUN, "    ensures", "    requires { 0 ≡ 0 }\n    ensures")
+                with self.subTest(change), self.changed(required, (RUN, *change)):
+                    self.assertEqual(self.reached(), ["rest_of"])
+            for change in ((r"text\.now \}", "limit }"), (r"text\.now \}", "record { other = limit } }")):
+                with self.subTest(change), self.changed((RUN, *change)):
+                    self.assertEqual(self.reached(), ["limit", "rest_of"])
+
+    def test_the_contract_of_a_private_function_is_none_of_the_public_ones(self):
+        for other in ("fn run", "pub(crate) fn run"):
+            with self.changed((RUN, "pub fn run", other)):
+                self.assertIn("all public contracts: 0 definitions", self.told(trusted)[1])
+        self.put(trusted, "LIBRARIES", ["user"])
+        self.assertIn("all public contracts: 0 definitions", self.told(trusted)[1])
+
+    def test_specs_have_definitions_alone(self):
+        claim = "pub none : limit ≡ 3\nnone = omega arith\n"
+        long = "\n-- long\nabbrev pub IsLong : Text → Type 0\nIsLong t = limit < length t\n"
+        self.assert_finds(
+            trusted,
+            (f"{FILE}:12: none is a proof: it belongs in proofs/", (FILE, END, f"\n{claim}")),
+            ("none is a proof: it belongs in proofs/", (FILE, END, f"\n-- none\nabbrev {claim}")),
+            ("none is a proof: it belongs", (FILE, END, "\n-- none\nabbrev pub none : limit < 3 → limit ≤ 3\nnone c = c\n")),
+            ("", ("crates/base/specs/GhostProofs.antt", f"use Rattle.base.proofs.Order.{{total}}\n\n-- none\n{claim}")),
+            ("Rattle.base.specs.Words imports from proofs: Rattle.base.proofs.Order",
+             (FILE, "^use Rattle.std", r"use Rattle.base.proofs.Order.{total}\n\g<0>")),
+            (f"{FILE}:13: IsLong is reached by no contract and no law", (FILE, END, long)),
+            (f"{FILE}:3: IsShort has no comment", (FILE, "^-- a text is short\n", "")),
+            ("rest_of has no comment", ("crates/base/specs/Rows.antt", "^ *-- what stays.*\n", "")),
+        )
+
+        with self.changed((FILE, END, long), ("crates/base/proofs/WordLaws.antt", "IsShort", "IsLong")):
+            self.assertFalse(self.told(trusted)[0])
+
+    def test_no_definition_calls_a_tactic(self):
+        tactics = ("rw", "simp", "search", "assumption", "cc", "omega", "grind", "hlevel")
+        self.assert_finds(trusted, *((f"{FILE}:9: limit calls a tactic: {it}\n", (FILE, "^limit = 3", f"limit = {it} rules"))
+                                     for it in tactics))
+        several = (FILE, "^limit = 3", "limit = first_of (omega arith, cc)")
+        self.assert_finds(trusted, ("limit calls a tactic: cc, omega", several))
+        self.assert_finds(trusted, *(("", (FILE, "^limit = 3", f"limit = {it}")) for it in ("omega2", '"omega"', "3 -- omega")))
+
+    def test_the_page_has_the_definitions_of_run_in_order(self):
+        in_the_place = f"{trusted.PAGE} has {{}} in the place of {{}}\n".format
+        self.assert_finds(
+            trusted,
+            (in_the_place("limit", "IsShort"), (trusted.PAGE, r"^(\|`IsShort.*\n)(\|`limit.*\n)", r"\2\1")),
+            (in_the_place("None", "rest_of"), (trusted.PAGE, r"^\|`rest_of.*\n", "")),
+            (in_the_place("more", "None"), (trusted.PAGE, END, "|`more t`|more|\n")),
+            ("", (trusted.PAGE, r"^\|`IsShort t`\|short\|\n\|`limit`\|three\|", "|`IsShort t`, `limit`|both|")),
+            (in_the_place("IsShort", "rest_of"), (LIST, "(pub mod Words\n)(pub mod Rows\n)", r"\2\1")),
+        )
+
+
+class Modules(TreeTest):
+    """What the names in a module stand for."""
+
+    FILES = {
+        "crates.txt": "base:\nuser: base\n",
+        FILE: WORDS + "\ndata Kind : Type 0 where\n  plain : Kind\n  (wide : ℕ) : Kind\n",
+        "crates/user/specs/Lib.antt": "pub use Rattle.base.specs.Words\n",
+    }
+
+    def named(self, term, text):
+        """The names of the items that a term stands for beside these imports."""
+        tree = modules.Modules(self.root)
+        return sorted(it.name for it in tree.named(term, modules.imports(text)))
+
+    def test_a_name_stands_for_what_is_imported_by_it(self):
+        for text, term, wanted in (
+            ("use Rattle.base.specs.Words.{limit}\n", "limit + limits + words.limit", ["limit"]),
+            ("use Rattle.base.specs.Words.{limit as most, IsShort}\n", "most limit", ["limit"]),
+            ("use Rattle.base.specs.Words.{limit as most, IsShort}\n", "limit", []),
+            ("ghost use Rattle.base.specs.Words as words;\n", "words.limit Words.IsShort", ["limit"]),
+            ("use Rattle.base.specs.Words\n", "Words.limit words.IsShort", ["limit"]),
+            ("pub use Rattle.base.specs.Words.{plain}\n", "plain", ["Kind"]),
+            ("use Rattle.user.specs.Words.{\n  limit,\n  IsShort as Brief\n}\n", "Brief t", ["IsShort"]),
+            ("use Rattle.other.specs.Words.{limit}\n", "limit", []),
+        ):
+            with self.subTest(text, term=term):
+                self.assertEqual(self.named(term, text), wanted)
+
+    def test_labels_of_clauses_and_records_and_fields_are_no_words(self):
+        text = "use Rattle.base.specs.Words.{limit, IsShort}\n"
+        for term in ("ensures limit { IsShort t }", "requires limit { IsShort t }", "record { limit = IsShort t }",
+                     "record { other = IsShort t; limit = 0 }", "let limit = IsShort t in t", "IsShort t.limit",
+                     "record {\n  limit = IsShort t\n}"):
+            with self.subTest(term):
+                self.assertEqual(self.named(term, text), ["IsShort"])
+        self.assertEqual(self.named("record { other = limit }", text), ["limit"])
+
+    def test_an_item_has_its_lines_and_the_comment_above_it(self):
+        items, _ = modules.parsed((self.root / FILE).relative_to(self.root), read(self.root / FILE))
+        told = [("IsShort", "a text is short", 2), ("limit", "how long a short text is at most", 2), ("Kind", "", 3)]
+        self.assertEqual([(it.name, it.comment, len(it.lines)) for it in items], told)
+        self.assertTrue(all(it.is_definition for it in items))
