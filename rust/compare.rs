@@ -9,7 +9,8 @@
 //!
 //! What it does not see, since the tokens are the same: what both languages take for something else.
 //!
-//! One part after the other: the two lists, tokens, ghost parts, items, uses, rewrites, the comparison of a file, that of all.
+//! One part after the other: tokens, ghost parts, items, paths and `use`, the list of rewrites, rewrites, the list of places, the
+//! comparison of a file, that of all. `Rattle` is the language of the sources, `Rust` that of what is made.
 
 use std::collections::{BTreeMap, BTreeSet};
 use std::fmt::Write as _;
@@ -86,6 +87,11 @@ struct Lexer<'a> {
 
 /// The tokens of a file. Comments and documentation are none.
 fn tokens(text: &str, language: Language) -> Result<Vec<Token>, Fault> {
+    // Some take one of these for the end of a line, and so of a comment, and others do not.
+    let is_unclear = |ch: char| ch.is_control() && ch != '\n' || matches!(ch, '\u{2028}' | '\u{2029}');
+    if let Some(at) = text.find(is_unclear) {
+        return fault(text[..at].matches('\n').count() + 1, "a character that may end a line, and may not");
+    }
     let mut lexer = Lexer { text, language, at: 0, line: 1, tokens: Vec::new() };
     while lexer.pass_blanks()? {
         lexer.take()?;
@@ -920,6 +926,8 @@ struct Rewrite {
     made: &'static str,
     source: &'static str,
     then: Then,
+    /// The module in which it is, or empty for each.
+    within: &'static str,
     why: &'static str,
 }
 
@@ -937,59 +945,83 @@ enum Then {
 const NO_TEST: &str = "an index is within in each body that is proved, and so it has no test";
 
 const REWRITES: &[Rewrite] = &[
-    Rewrite { made: "*get_unchecked!($of, $at)", source: "$of[$at]", then: Then::NoPostfix, why: NO_TEST },
-    Rewrite { made: "*get_unchecked_mut!($of, $at)", source: "$of[$at]", then: Then::NoPostfix, why: NO_TEST },
-    Rewrite { made: "get_unchecked!($of, $at)", source: "&$of[$at]", then: Then::End, why: NO_TEST },
-    Rewrite { made: "get_unchecked_mut!($of, $at)", source: "&mut $of[$at]", then: Then::End, why: NO_TEST },
+    Rewrite { made: "*get_unchecked!($of, $at)", source: "$of[$at]", then: Then::NoPostfix, within: "", why: NO_TEST },
+    Rewrite {
+        made: "*get_unchecked_mut!($of, $at)",
+        source: "$of[$at]",
+        then: Then::NoPostfix,
+        within: "",
+        why: NO_TEST,
+    },
+    Rewrite { made: "get_unchecked!($of, $at)", source: "&$of[$at]", then: Then::End, within: "", why: NO_TEST },
+    Rewrite {
+        made: "get_unchecked_mut!($of, $at)",
+        source: "&mut $of[$at]",
+        then: Then::End,
+        within: "",
+        why: NO_TEST,
+    },
     Rewrite {
         made: "get_unchecked_mut!($of, $at).make_ascii_uppercase()",
         source: "$of[$at].make_ascii_uppercase()",
         then: Then::End,
+        within: "",
         why: NO_TEST,
     },
     Rewrite {
         made: "get_unchecked_mut!($of, $at).make_ascii_lowercase()",
         source: "$of[$at].make_ascii_lowercase()",
         then: Then::End,
+        within: "",
         why: NO_TEST,
     },
     Rewrite {
         made: "copy_from_slice_unchecked!($of, $at, $given)",
         source: "$of[$at].copy_from_slice($given)",
         then: Then::End,
+        within: "",
         why: "the part is within and as long as what is given, by the proof",
     },
     Rewrite {
         made: "copy_within_unchecked!($of, $at, $to)",
         source: "$of.copy_within($at, $to)",
         then: Then::End,
+        within: "",
         why: "both parts are within, by the proof",
     },
     Rewrite {
         made: "unreachable_unchecked!()",
         source: "unreachable!()",
         then: Then::End,
+        within: "",
         why: "it is never reached, by the proof",
     },
     Rewrite {
         made: "crate::by_hand::char::from_u32_unchecked(",
         source: "char::from_u32_unchecked(",
         then: Then::Anything,
+        within: "arraystring_base::utf8",
         why: "the same call, which the feature `checked` tests",
     },
     Rewrite {
         made: "look_unchecked(",
         source: "look(",
         then: Then::Anything,
+        within: "arraystring_base::utf8",
         why: "`look` is safe in Rust, and panics; its twin has no test, and is what bodies call",
     },
 ];
+
+/// Functions that a rewrite or a law knows by their names. In a source each of these words is the name of a call and of nothing
+/// else, so that no closure or function in a body takes its place.
+const KNOWN_NAMES: &[&str] = &["look", "text_fits", "only_reading"];
 
 /// The same in the head of a function.
 const HEADS: &[Rewrite] = &[Rewrite {
     made: "fn fmt(&self, f: &mut fmt::Formatter<'_>) -> fmt::Result",
     source: "fn fmt<W: fmt::Write>(&self, f: &mut fmt::Formatter<W>) -> fmt::Result",
     then: Then::Anything,
+    within: "",
     why: "a formatter of Rattle has the type of what it writes to",
 }];
 
@@ -1198,9 +1230,10 @@ fn may_follow(then: Then, tokens: &[Token], start: usize, end: usize) -> bool {
     }
 }
 
-/// Undoes the rewrites of a list in made tokens. What is inside others is undone first: it stands to the right.
-fn undone(mut made: Vec<Token>, list: &[Rewrite], reading: &mut Reading) -> Vec<Token> {
-    let patterns: Vec<_> = list.iter().map(|rewrite| (pattern(rewrite.made), rewrite)).collect();
+/// Undoes the rewrites of a list in tokens of a made item. What is inside others is undone first: it stands to the right.
+fn undone(mut made: Vec<Token>, list: &[Rewrite], path: &str, reading: &mut Reading) -> Vec<Token> {
+    let list = list.iter().filter(|rewrite| path.starts_with(rewrite.within));
+    let patterns: Vec<_> = list.map(|rewrite| (pattern(rewrite.made), rewrite)).collect();
     for start in (0..made.len()).rev() {
         for (pattern_made, rewrite) in &patterns {
             let mut bound = Bound::new();
@@ -1393,13 +1426,27 @@ fn as_in_source(made: &Item, source: &Item, reading: &mut Reading) -> Item {
             head.remove(at);
             reading.note(UNSAFE_FN);
         }
-        head = undone(head, HEADS, reading);
+        head = undone(head, HEADS, &made.path, reading);
         undo_asked(&mut head, &mut body, reading);
         undo_asked_each(&mut head, &mut body, reading);
         undo_known(&mut body, source, reading);
-        body = undone(without_unsafe_blocks(body, reading), REWRITES, reading);
+        body = undone(without_unsafe_blocks(body, reading), REWRITES, &made.path, reading);
     }
     Item { head, body, ..made.clone() }
+}
+
+/// No name that is known is that of something in the body, and no function is in it.
+fn names_are_of_calls(source: &Item) -> Result<(), Fault> {
+    let is_known = |token: &Token| KNOWN_NAMES.contains(&token.text.as_str());
+    let parameter = source.head.windows(2).find(|pair| is_known(&pair[1]) && !pair[0].is("fn")).map(|pair| &pair[1]);
+    let other = source.body.windows(2).find(|pair| is_known(&pair[0]) && !pair[1].is("(")).map(|pair| &pair[0]);
+    if let Some(token) = parameter.or(other).filter(|_| source.is_function) {
+        return fault(token.line, format!("`{}` is the name of a call that is known, and of none here", token.text));
+    }
+    match source.body.windows(2).find(|pair| pair[0].is("fn") && pair[1].kind == Kind::Word) {
+        Some(pair) => fault(pair[0].line, "a function in a function"),
+        None => Ok(()),
+    }
 }
 
 /// An item of a source without what Rattle alone has. `laws` are those that its file uses, by their names.
@@ -1409,6 +1456,7 @@ fn without_ghosts(source: &Item, laws: &[&str], reading: &mut Reading) -> Result
         head.drain(at..at + 2);
         reading.note(DROP_BOUND);
     }
+    names_are_of_calls(source)?;
     let mut body = Vec::new();
     let mut tokens = source.body.iter().peekable();
     while let Some(token) = tokens.next() {
@@ -1873,8 +1921,9 @@ impl Comparison {
         let there = self.read(items(source.text, rattle), source.path);
         let here = self.read(items(made.text, rust), made.path);
         let (Some(there), Some(here)) = (there, here) else { return };
-        for item in there.iter().filter(|item| is_name_of_crate(&item.key)) {
-            self.differences.push(format!("{}:{}: `{}` has the name of a crate", source.path, item.line, item.path));
+        for item in there.iter().filter(|item| is_misleading(&item.key)) {
+            let why = "has the name of a crate, or of what a rewrite knows";
+            self.differences.push(format!("{}:{}: `{}` {why}", source.path, item.line, item.path));
         }
         match self.expected(source, there, krate, module) {
             Ok(expected) => self.match_items(expected, here, made.path),
@@ -2029,11 +2078,14 @@ impl Comparison {
     }
 }
 
-/// Whether a module or a `use` has the name of a crate, which a path of its file would then mean.
-fn is_name_of_crate(key: &str) -> bool {
-    let is_name = key.starts_with("use ") || key.starts_with("mod ");
+/// Whether a module or a `use` gives the name of a crate, or of what a rewrite knows, to something else. Paths would mean that.
+fn is_misleading(key: &str) -> bool {
+    let key = key.rsplit(" / ").next().unwrap_or_default();
     let name = key.rsplit([':', ' ']).next().unwrap_or_default();
-    is_name && (["std", "core", "alloc", "crate"].contains(&name) || CRATES.contains(&name))
+    let is_known = KNOWN_NAMES.contains(&name) && (key.contains(" as ") || key.starts_with("mod "));
+    let is_crate = ["std", "core", "alloc", "crate"].contains(&name) || CRATES.contains(&name);
+    let is_std = ["char", "str"].contains(&name) && key != format!("use core::{name}");
+    (key.starts_with("use ") || key.starts_with("mod ")) && (is_crate || is_std || is_known)
 }
 
 /// The items that an entry of a list has.

@@ -65,7 +65,8 @@ fn free_ranges(file: File, language: Language) -> Vec<(usize, usize)> {
     if language == Language::Rattle {
         let origin = Origin { language, krate, module: &module, orders: &[] };
         let items = items(file.text, origin).expect("items");
-        let is_out = |item: &&Item| item.is_function && LISTS.left_out.iter().any(|(path, _)| item.path == *path);
+        let is_listed = |item: &Item| LISTS.left_out.iter().any(|(path, _)| item.path == *path);
+        let is_out = |item: &&Item| !item.key.starts_with("use ") && is_listed(item);
         free.extend(items.iter().filter(is_out).map(|item| item.at));
     }
     for at in 0..tokens.len() {
@@ -332,6 +333,7 @@ fn a_path_is_compared_as_what_it_means_here() {
     differs("fn f() { crate::g() }\n", "fn f() { crate::g() }\n", "for `{ crate :: arraystring_base :: g");
     differs("fn f() { use crate::g; g() }\n", "fn f() { use crate::g; g() }\n", "`use` in a function");
     differs("mod std { }\nfn f() { std::g() }\n", "mod std { }\nfn f() { core::g() }\n", "has the name of a crate");
+    differs("use crate::b as str;\n", "use crate::arraystring_base::b as str;\n", "has the name of a crate");
     differs("pub use b::c;\n", "use b::c;\n", "visibility");
 }
 
@@ -390,6 +392,13 @@ fn a_comment_is_none_of_the_program() {
     same("fn f() {\n    // one { \"\n    g()\n}\n", "/* one /* two */ { */\nfn f() {\n    g() /* \" */\n}\n");
     differs("fn f() { /* */ }\n", "fn f() {}\n", "a comment of the form");
     differs("fn f() {}\n", "fn f() {} /* /* */\n", "a comment without its end");
+    for sign in ["\r", "\u{85}", "\u{2028}", "\0"] {
+        differs(
+            &format!("fn f() {{\n    // one{sign} g()\n}}\n"),
+            "fn f() {}\n",
+            "a.rt:2: a character that may end a line",
+        );
+    }
 }
 
 static LISTED: Lists = Lists {
@@ -493,6 +502,32 @@ fn a_parameter_is_asked_once_and_first() {
         &made.replace("let one = one.as_ref();", "let one = one.as_ref(); let one = one.as_ref();"),
         "for `",
     );
+}
+
+#[test]
+fn a_name_that_is_known_is_that_of_a_call() {
+    let uses = "use crate::laws::only_reading;\n";
+    let source = |body: &str| format!("{uses}fn f(a: u8) {{\n    {body}\n    g(a);\n}}\n");
+    let made = "fn f(a: u8) {\n    g(a);\n}\n";
+    same(&source("only_reading(a);"), made);
+    differs(&source("only_reading(h(a));"), made, "for `");
+    differs(
+        &source("let only_reading = h; only_reading(a);"),
+        made,
+        "is the name of a call that is known, and of none here",
+    );
+    differs(&source("fn only_reading(a: u8) {} only_reading(a);"), made, "a function in a function");
+    differs(&source("only_reading(a);").replace(uses, ""), made, "for `");
+    differs("fn f(look: u8) { look(a) }\n", "fn f(look: u8) { look(a) }\n", "is the name of a call that is known");
+    differs("use crate::b as look;\n", "use crate::arraystring_base::b as look;\n", "of what a rewrite knows");
+    differs("fn f() { look(a) }\n", "fn f() { look_unchecked(a) }\n", "for `");
+}
+
+#[test]
+fn a_checksum_is_that_of_the_definition() {
+    // (the values that are published with FNV-1a)
+    let sums = [("", 0xCBF2_9CE4_8422_2325), ("a", 0xAF63_DC4C_8601_EC8C), ("foobar", 0x8594_4171_F739_67E8)];
+    assert_eq!(sums.map(|(text, _)| checksum(text)), sums.map(|(_, sum)| sum));
 }
 
 #[test]
