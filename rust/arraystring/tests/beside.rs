@@ -1,39 +1,13 @@
 //! The calls by hand that stand beside those of the sources: strings beside texts, the room that is left,
 //! what is collected, and what small values print, hash and bound. The expected values are those of `String` and `str`.
 
-use std::collections::hash_map::DefaultHasher;
-use std::hash::{Hash, Hasher};
-
 use arraystring::error::{Error, OutOfBounds, Utf8, Utf16};
 use arraystring::utf16::Units;
 use arraystring::utils::Steps;
 use arraystring::{ArrayString, CacheString, MaxString};
+use inputs::{CHARS, at_capacities, behind, cut, hash_of, is_beside};
 
-/// Calls a generic test at each capacity on which something could depend.
-macro_rules! at_capacities {
-    ($test:ident) => {
-        $test::<0>();
-        $test::<1>();
-        $test::<2>();
-        $test::<3>();
-        $test::<4>();
-        $test::<7>();
-        $test::<8>();
-        $test::<16>();
-        $test::<23>();
-        $test::<63>();
-        $test::<64>();
-        $test::<127>();
-        $test::<254>();
-        $test::<255>();
-        $test::<256>();
-        $test::<300>();
-    };
-}
-
-/// Characters of each width, the least and the greatest of each, and some between.
-const CHARS: [char; 11] =
-    ['\0', 'a', 'b', '\u{7F}', '\u{80}', 'é', '\u{7FF}', '\u{800}', '\u{FFFF}', '\u{10000}', '\u{10FFFF}'];
+mod inputs;
 
 /// Texts of each length up to a size in bytes, with each character at the front, in the middle and at the end.
 fn texts(size: usize) -> Vec<String> {
@@ -51,36 +25,6 @@ fn texts(size: usize) -> Vec<String> {
     let pairs = if size < 8 { 0 } else { CHARS.len() * CHARS.len() };
     assert!(texts.len() > 3 * size.saturating_sub(3) + pairs);
     texts
-}
-
-/// A string whose text begins behind so many bytes of its array, where there is room for them.
-fn behind<const N: usize>(offset: usize, text: &str) -> ArrayString<N> {
-    let offset = offset.min(N.min(255) - text.len());
-    let mut string = ArrayString::<N>::from("~".repeat(offset).as_str());
-    string.try_push_str(text).expect("room");
-    string.drain(..offset as u8).expect("a part");
-    string
-}
-
-/// Asserts each sign between a string and a text to be as between their texts: `==` on either side, and `<` with the string on the
-/// left.
-macro_rules! is_beside {
-    ($string:expr, $text:expr, $other:expr) => {{
-        let (string, text, other): (_, &str, &str) = ($string, $text, $other);
-        assert_eq!(
-            (string == *other, string == other, *other == string, other == string),
-            (text == other, text == other, text == other, text == other),
-        );
-        assert_eq!(
-            (string != *other, *other != string, other != string),
-            (text != other, text != other, text != other)
-        );
-        assert_eq!((string < *other, string < other), (text < other, text < other));
-        assert_eq!((string <= *other, string <= other), (text <= other, text <= other));
-        assert_eq!((string > *other, string > other), (text > other, text > other));
-        assert_eq!((string >= *other, string >= other), (text >= other, text >= other));
-        assert_eq!([string.partial_cmp(other), string.partial_cmp(&other)], [Some(text.cmp(other)); 2]);
-    }};
 }
 
 /// Texts that begin with a text and are longer, also by as many bytes as a byte counts, so that the lengths are one byte.
@@ -111,12 +55,13 @@ fn strings_and_texts_are_compared() {
             for offset in [0, 1, 3] {
                 let string = behind::<N>(offset, text);
                 for other in texts.iter().cloned().chain(lengthened(text)) {
-                    is_beside!(string, text, &other);
+                    is_beside!(&string, text, &other);
                 }
             }
         }
     }
-    at_capacities!(at);
+    // The texts are the same from 17 on, so not at all capacities of the table.
+    at_capacities!(at: 0 1 2 3 4 7 8 16 23 63 64 127 254 255 256 300);
 }
 
 #[test]
@@ -144,7 +89,7 @@ fn long_texts_differ_at_each_place() {
             let text = "m".repeat(len);
             let string = ArrayString::<N>::from(text.as_str());
             for other in others(&text) {
-                is_beside!(string, &text, &other);
+                is_beside!(&string, &text, &other);
             }
         }
     }
@@ -157,21 +102,15 @@ fn cache_strings_and_texts_are_compared() {
     for text in &texts {
         let string = CacheString::from(text.as_str());
         for other in texts.iter().cloned().chain(lengthened(text)) {
-            is_beside!(string, text, &other);
+            is_beside!(&string, text, &other);
         }
     }
     for len in 0..=63 {
         let text = "m".repeat(len);
         for other in others(&text).into_iter().chain((0..=64).map(|other| "m".repeat(other))) {
-            is_beside!(CacheString::from(text.as_str()), &text, &other);
+            is_beside!(&CacheString::from(text.as_str()), &text, &other);
         }
     }
-}
-
-/// The longest prefix of whole characters that takes at most so many bytes.
-fn cut(text: &str, size: usize) -> &str {
-    let end = text.char_indices().map(|(at, ch)| at + ch.len_utf8()).take_while(|end| *end <= size).last();
-    &text[..end.unwrap_or(0)]
 }
 
 #[test]
@@ -275,12 +214,6 @@ fn counters_print_their_counts_and_begin_at_none() {
         assert_eq!(format!("{steps:?}"), format!("Steps {{ looked: {}, moved: {} }}", steps.looked(), steps.moved()));
     }
     assert!(steps.looked() != steps.moved() && steps.moved() > 0);
-}
-
-fn hash_of<T: Hash + ?Sized>(value: &T) -> u64 {
-    let mut state = DefaultHasher::new();
-    value.hash(&mut state);
-    state.finish()
 }
 
 #[test]

@@ -5,6 +5,9 @@ use std::thread;
 
 use arraystring::error::Utf8;
 use arraystring::{ArrayString, CacheString, Error};
+use inputs::cut;
+
+mod inputs;
 
 /// How many bytes the texts have at most: more than any string takes.
 const MOST: usize = 300;
@@ -18,8 +21,7 @@ fn as_std(bytes: &[u8]) -> usize {
         assert_eq!((made, whole), (Err(Utf8), Err(Error::Utf8)), "{bytes:x?}");
         return 1;
     };
-    let end = (0..=text.len().min(255)).rev().find(|end| text.is_char_boundary(*end));
-    let cut = &text[..end.expect("the start")];
+    let cut = cut(text, 255);
     assert_eq!(made.as_ref().map(|made| made.as_bytes()), Ok(cut.as_bytes()), "{bytes:x?}");
     match whole {
         Ok(whole) => assert_eq!((whole.as_bytes(), text.len()), (bytes, cut.len()), "{bytes:x?}"),
@@ -68,6 +70,21 @@ fn one_byte_from_80_on_at_each_place_of_ascii() {
     // The sum of all lengths, and of those in which each byte is tried.
     let (places, full) = (45_150, if cfg!(debug_assertions) { 2211 + 384 } else { 45_150 });
     assert_eq!(count, 301 + 128 * full + 3 * (places - full));
+}
+
+#[test]
+fn one_byte_from_80_on_at_each_place_of_long_ascii() {
+    // Around each block of 32 bytes behind those of the test above, and the longest.
+    let lengths: Vec<usize> =
+        (MOST + 1..=520).filter(|len| len % 32 <= 1 || len % 32 == 31 || len % 100 == 0).collect();
+    let count =
+        each_below(lengths.len(), |at| one_fault_in_ascii(lengths[at], false) + as_std(&cut_short(lengths[at])));
+    assert_eq!(count, lengths.iter().map(|len| 1 + 3 * len + 1).sum());
+}
+
+/// So many bytes of ASCII, of which the last is the first of a wider character.
+fn cut_short(len: usize) -> Vec<u8> {
+    [&ascii(len - 1)[..], &[0xC3]].concat()
 }
 
 #[test]
@@ -184,11 +201,6 @@ const BEHIND: [&[u16]; 14] = [
     &[0xDD14, 0x61],
     &[0xDD14, 0xD83E],
 ];
-
-/// The longest prefix of whole characters that fits.
-fn cut(text: &str, capacity: usize) -> &str {
-    &text[..(0..=text.len().min(capacity)).rev().find(|&at| text.is_char_boundary(at)).unwrap_or(0)]
-}
 
 fn check<const N: usize>(units: &[u16]) {
     let capacity = N.min(255);

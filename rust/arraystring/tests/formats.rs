@@ -3,7 +3,12 @@
 use std::fmt::{Debug, Display};
 
 use arraystring::error::{OutOfBounds, Utf8, Utf16};
-use arraystring::{ArrayString, CacheString, Drain, Error};
+use arraystring::utf16::{Unit16, Units};
+use arraystring::utils::{self, Steps};
+use arraystring::{ArrayString, CacheString, Drain, Error, MaxString};
+use inputs::{mixed, texts_of};
+
+mod inputs;
 
 /// Prints a value under each kind of format of `Display`.
 fn displayed<T: Display>(value: T, wanted: &str) {
@@ -64,6 +69,26 @@ mod derived {
     #[derive(Debug)]
     #[allow(dead_code)]
     pub struct Drain<'a>(pub &'a str);
+
+    #[derive(Debug)]
+    #[allow(dead_code)]
+    pub struct Steps {
+        pub looked: u64,
+        pub moved: u64,
+    }
+
+    #[derive(Debug)]
+    #[allow(dead_code)]
+    pub struct Units<'a> {
+        pub rest: &'a [u16],
+    }
+
+    #[derive(Debug)]
+    #[allow(dead_code)]
+    pub enum Unit16 {
+        Char(char),
+        Lone(u16),
+    }
 }
 
 /// The words of a value under each kind of format of `Debug` in turn.
@@ -100,5 +125,69 @@ fn a_walked_drain_prints_what_is_left() {
     for left in ["aé€🤔", "é€🤔", "€🤔", "🤔", ""] {
         assert_eq!(format!("{drain:?}"), format!("Drain({left:?})"));
         drain.next();
+    }
+}
+
+#[test]
+fn a_string_of_each_length_prints_its_fields() {
+    for len in 0..=255 {
+        // (the last of the texts begins with another character at each length)
+        let [_, _, text] = texts_of(len);
+        let mut string = MaxString::from(text.as_str());
+        let fields = || derived::ArrayString { array: &text, size: len as u8 };
+        assert_eq!(
+            (format!("{string:?}"), format!("{string:#?}")),
+            (format!("{:?}", fields()), format!("{:#?}", fields()))
+        );
+        if len <= 63 {
+            let (cached, fields) = (CacheString::from(text.as_str()), derived::CacheString(fields()));
+            assert_eq!(
+                (format!("{cached:?}"), format!("{cached:#?}")),
+                (format!("{fields:?}"), format!("{fields:#?}"))
+            );
+        }
+        let (drain, left) = (string.drain(..).expect("all of it"), derived::Drain(&text));
+        assert_eq!((format!("{drain:?}"), format!("{drain:#?}")), (format!("{left:?}"), format!("{left:#?}")));
+    }
+}
+
+#[test]
+fn a_counter_prints_its_counts() {
+    let mut steps = Steps::new();
+    // One look and twelve moves more each time, so both counts go through those of one to four figures.
+    for count in 0..=300 {
+        let counts = derived::Steps { looked: count, moved: 12 * count };
+        assert_eq!((steps.looked(), steps.moved()), (counts.looked, counts.moved));
+        assert_eq!(words(steps), words(counts));
+        utils::look(b"a", 0, &mut steps);
+        // SAFETY: both runs lie in the array.
+        unsafe { utils::shift(&mut [0; 13], 0, 1, 12, &mut steps) };
+    }
+    assert_eq!(words(Steps::default()), words(derived::Steps { looked: 0, moved: 0 }));
+}
+
+#[test]
+fn units_print_what_is_left() {
+    let mut units: Vec<u16> = mixed(60, 0).encode_utf16().collect();
+    units.insert(3, 0xD800);
+    for len in 0..=units.len() {
+        let given = &units[..len];
+        let mut walk = Units::new(given);
+        for item in char::decode_utf16(given.iter().copied()) {
+            let left = &given[given.len() - walk.clone().map(width).sum::<usize>()..];
+            assert_eq!(words(&walk), words(derived::Units { rest: left }));
+            let wanted =
+                item.map_or_else(|lone| derived::Unit16::Lone(lone.unpaired_surrogate()), derived::Unit16::Char);
+            assert_eq!(words(walk.next().expect("an item")), words(wanted));
+        }
+        assert_eq!((words(&walk), walk.next()), (words(derived::Units { rest: &[] }), None));
+    }
+}
+
+/// How many units an item takes.
+fn width(item: Unit16) -> usize {
+    match item {
+        Unit16::Char(ch) => ch.len_utf16(),
+        Unit16::Lone(_) => 1,
     }
 }

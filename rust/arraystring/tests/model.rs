@@ -2,6 +2,7 @@
 //!
 //! The variable `ARRAYSTRING_CALLS` of the environment says how many calls are made at each capacity.
 
+use std::collections::BTreeMap;
 use std::collections::hash_map::DefaultHasher;
 use std::fmt::Write;
 use std::hash::{Hash, Hasher};
@@ -77,14 +78,16 @@ struct Pair<const N: usize> {
     string: ArrayString<N>,
     model: String,
     capacity: usize,
-    /// How often both were compared, and how many unchecked calls were made.
-    compared: usize,
-    unchecked: usize,
+    /// How often both were compared after a call of each kind.
+    compared: BTreeMap<Kind, usize>,
 }
+
+/// A kind of call, by its group and its name.
+type Kind = (&'static str, &'static str);
 
 impl<const N: usize> Pair<N> {
     fn new() -> Self {
-        Pair { string: ArrayString::new(), model: String::new(), capacity: N.min(255), compared: 0, unchecked: 0 }
+        Pair { string: ArrayString::new(), model: String::new(), capacity: N.min(255), compared: BTreeMap::new() }
     }
 
     fn room(&self) -> usize {
@@ -100,36 +103,36 @@ impl<const N: usize> Pair<N> {
         if self.model.is_char_boundary(index) { Ok(index) } else { Err(Error::Utf8) }
     }
 
-    /// Asserts that all that a string shows is as the model.
-    fn agrees(&mut self, call: usize) {
+    /// Asserts that all that a string shows is as the model, and counts the kind of call that was made.
+    fn agrees(&mut self, call: usize, kind: Kind) {
         let (string, model) = (&self.string, &self.model);
-        assert_eq!(string.as_bytes(), model.as_bytes(), "after call {call} at {N}");
+        assert_eq!(string.as_bytes(), model.as_bytes(), "after call {call} at {N}, {kind:?}");
         assert!(std::str::from_utf8(string.as_bytes()).is_ok());
         assert_eq!((string.len() as usize, string.is_empty()), (model.len(), model.is_empty()));
         assert_eq!(ArrayString::<N>::capacity() as usize, self.capacity);
-        self.compared += 1;
+        *self.compared.entry(kind).or_default() += 1;
     }
 
-    /// Makes one call of each kind in turn.
+    /// Makes one call of each group in turn. Each group returns the name of the call that it asserted.
     fn call(&mut self, random: &mut Random, call: usize) {
         if random.below(4) == 0 {
             self.shifted(random);
         }
-        match call % 12 {
-            0 => self.added(random),
-            1 => self.inserted(random),
-            2 => self.taken_out(random),
-            3 => self.replaced(random),
-            4 => self.drained(random),
-            5 => self.shown(random),
-            6 => self.changed(random),
-            7 => self.made(random),
-            8 => self.counted(random),
-            9 => self.unchecked(random),
-            10 => self.panicked(random),
-            _ => self.collected(random),
-        }
-        self.agrees(call);
+        let kind = match call % 12 {
+            0 => ("added", self.added(random)),
+            1 => ("inserted", self.inserted(random)),
+            2 => ("taken out", self.taken_out(random)),
+            3 => ("replaced", self.replaced(random)),
+            4 => ("drained", self.drained(random)),
+            5 => ("shown", self.shown(random)),
+            6 => ("changed", self.changed(random)),
+            7 => ("made", self.made(random)),
+            8 => ("counted", self.counted(random)),
+            9 => ("unchecked", self.unchecked(random)),
+            10 => ("panicked", self.panicked(random)),
+            _ => ("collected", self.collected(random)),
+        };
+        self.agrees(call, kind);
     }
 
     /// Puts the same text behind some bytes of the array that are not used.
@@ -142,76 +145,81 @@ impl<const N: usize> Pair<N> {
     }
 
     /// The calls that count do what the others do, and count no more than they say.
-    fn counted(&mut self, random: &mut Random) {
+    fn counted(&mut self, random: &mut Random) -> &'static str {
         let (index, text, mut steps) = (random.index(&self.model), random.text(5), Steps::new());
         let (range, from, to) = self.range(random);
         let mut plain = self.string;
-        let most = match random.below(7) {
+        let (name, most) = match random.below(7) {
             0 => {
                 assert_eq!(self.string.pop_counted(&mut steps), plain.pop());
-                0
+                ("pop_counted", 0)
             }
             1 => {
                 plain.trim();
                 self.string.trim_counted(&mut steps);
-                0
+                ("trim_counted", 0)
             }
             2 => {
                 assert_eq!(self.string.remove_counted(index, &mut steps), plain.remove(index));
-                plain.len().saturating_sub(index)
+                ("remove_counted", plain.len().saturating_sub(index))
             }
             3 => {
                 assert_eq!(
                     self.string.try_insert_str_counted(index, &text, &mut steps),
                     plain.try_insert_str(index, &text)
                 );
-                plain.len()
+                ("try_insert_str_counted", plain.len())
             }
             4 => {
                 assert_eq!(self.string.drain_counted(range, &mut steps), plain.drain(range));
-                if from == 0 { 0 } else { (self.model.len() as u8).saturating_sub(to as u8) }
+                let behind = (self.model.len() as u8).saturating_sub(to as u8);
+                ("drain_counted", if from == 0 { 0 } else { behind })
             }
             5 => {
                 assert_eq!(
                     self.string.replace_range_counted(range, &text, &mut steps),
                     plain.replace_range(range, &text)
                 );
-                self.model.len() as u8
+                ("replace_range_counted", self.model.len() as u8)
             }
             _ => {
                 assert_eq!(truncate_str_counted(&self.model, index, &mut steps), truncate_str(&self.model, index));
                 assert_eq!(truncate_str(&self.model, index), cut(&self.model, index as usize));
-                0
+                ("truncate_str_counted", 0)
             }
         };
         assert_eq!(self.string, plain);
         assert!(steps.moved() <= u64::from(most), "{} moves of {most} at {N}", steps.moved());
         // What the plain call does is asserted elsewhere.
         self.model = plain.to_string();
+        name
     }
 
     /// The unchecked calls, where their conditions hold.
-    fn unchecked(&mut self, random: &mut Random) {
+    fn unchecked(&mut self, random: &mut Random) -> &'static str {
         let (index, text, ch) = (random.index(&self.model), random.text(5), random.character());
-        let (Ok(at), true) = (self.at(index), text.len().max(ch.len_utf8()) <= self.room()) else { return };
-        self.unchecked += 1;
+        let (Ok(at), true) = (self.at(index), text.len().max(ch.len_utf8()) <= self.room()) else { return "none" };
         // SAFETY: the index is a boundary, and what is given fits.
         match random.below(6) {
             0 => {
                 unsafe { self.string.push_unchecked(ch) };
                 self.model.push(ch);
+                "push_unchecked"
             }
             1 => {
                 unsafe { self.string.push_str_unchecked(&text) };
                 self.model += &text;
+                "push_str_unchecked"
             }
             2 => {
                 unsafe { self.string.insert_unchecked(index, ch) };
                 self.model.insert(at, ch);
+                "insert_unchecked"
             }
             3 => {
                 unsafe { self.string.insert_str_unchecked(index, &text) };
                 self.model.insert_str(at, &text);
+                "insert_str_unchecked"
             }
             4 => {
                 let pieces: Vec<_> = self.model.split_inclusive(' ').collect();
@@ -223,13 +231,17 @@ impl<const N: usize> Pair<N> {
                     ]
                 };
                 assert_eq!(others, [self.string; 3]);
+                "from unchecked"
             }
-            _ => self.string = unsafe { ArrayString::from_utf8_unchecked(&self.model) },
+            _ => {
+                self.string = unsafe { ArrayString::from_utf8_unchecked(&self.model) };
+                "from_utf8_unchecked"
+            }
         }
     }
 
     /// Closures and iterators that panic leave what they kept or gave.
-    fn panicked(&mut self, random: &mut Random) {
+    fn panicked(&mut self, random: &mut Random) -> &'static str {
         let (text, answers) = (random.text(12), random.below(1 << 30));
         let count = self.model.chars().count();
         let keeps = |at: usize| answers >> (at % 30) & 1 == 0;
@@ -249,6 +261,7 @@ impl<const N: usize> Pair<N> {
                 assert_eq!(panicked.is_err(), stops < count);
                 self.model =
                     self.model.chars().take(stops).enumerate().filter(|(at, _)| keeps(*at)).map(|(_, ch)| ch).collect();
+                "retain"
             }
             kind => {
                 let stops = random.below(text.chars().count() + 1);
@@ -262,12 +275,13 @@ impl<const N: usize> Pair<N> {
                 let given: String = text.chars().take(stops).collect();
                 let room = self.room();
                 self.model += cut(&given, room);
+                if kind == 1 { "extend_chars" } else { "extend_strs" }
             }
         }
     }
 
     /// What is collected from characters and pieces is cut or refused, and drains are compared by what is left.
-    fn collected(&mut self, random: &mut Random) {
+    fn collected(&mut self, random: &mut Random) -> &'static str {
         let most = if random.below(8) == 0 { 300 } else { 12 };
         let text = random.text(most);
         let (given, fits) = (cut(&text, self.capacity), text.len() <= self.capacity);
@@ -294,53 +308,62 @@ impl<const N: usize> Pair<N> {
         let (one, other) = (one.drain(..).expect("all of it"), other.drain(..).expect("all of it"));
         assert_eq!((Ord::cmp(&one, &other), one == other), (given.cmp(self.model.as_str()), given == self.model));
         assert_eq!((Drain::<N>::default().as_str(), one.as_str()), ("", given));
+        if fits { "whole" } else { "cut" }
     }
 
-    fn added(&mut self, random: &mut Random) {
+    fn added(&mut self, random: &mut Random) -> &'static str {
         let (text, ch) = (random.text(6), random.character());
         match random.below(8) {
             0 => {
                 let fits = self.room() >= ch.len_utf8();
                 assert_eq!(self.string.try_push(ch), if fits { Ok(()) } else { Err(OutOfBounds) });
                 self.model.extend(fits.then_some(ch));
+                "try_push"
             }
             1 => {
                 let fits = self.room() >= text.len();
                 assert_eq!(self.string.try_push_str(&text), if fits { Ok(()) } else { Err(OutOfBounds) });
                 self.model.extend(fits.then_some(text));
+                "try_push_str"
             }
             2 => {
                 self.string.push_str(&text);
                 self.model += cut(&text, self.room());
+                "push_str"
             }
             3 => {
                 self.string.extend(text.chars());
                 self.model += cut(&text, self.room());
+                "extend"
             }
             4 => {
                 self.string.extend_strs([&text, "", &text]);
                 let both = text.repeat(2);
                 self.model += cut(&both, self.room());
+                "extend_strs"
             }
             5 => {
                 self.string = self.string + &text;
                 self.model += cut(&text, self.room());
+                "+"
             }
             6 => {
                 let row = format!("{text}{ch}{text}");
                 let fits = self.room() >= row.len();
                 assert_eq!(self.string.try_write(format_args!("{text}{ch}{text}")).is_ok(), fits);
                 self.model.extend(fits.then_some(row));
+                "try_write"
             }
             _ => {
                 let fits = self.room() >= text.len();
                 assert_eq!(write!(self.string, "{text}").is_ok(), fits);
                 self.model.extend(fits.then_some(text));
+                "write!"
             }
         }
     }
 
-    fn inserted(&mut self, random: &mut Random) {
+    fn inserted(&mut self, random: &mut Random) -> &'static str {
         let (index, text, ch) = (random.index(&self.model), random.text(5), random.character());
         let (at, is_past) = (self.at(index), index as usize > self.model.len());
         let (given, cuts) = match random.below(3) {
@@ -353,22 +376,26 @@ impl<const N: usize> Pair<N> {
             _ if !cuts && given.len() > self.room() => Err(Error::OutOfBounds),
             at => at.map(|_| ()),
         };
-        let returned = match (cuts, given == text) {
-            (true, _) => self.string.insert_str(index, &given),
-            (false, true) => self.string.try_insert_str(index, &given),
-            (false, false) => self.string.try_insert(index, ch),
+        let (name, returned) = match (cuts, given == text) {
+            (true, _) => ("insert_str", self.string.insert_str(index, &given)),
+            (false, true) => ("try_insert_str", self.string.try_insert_str(index, &given)),
+            (false, false) => ("try_insert", self.string.try_insert(index, ch)),
         };
         assert_eq!(returned, wanted);
         if wanted.is_ok() {
             let room = self.room();
             self.model.insert_str(index as usize, cut(&given, room));
         }
+        name
     }
 
-    fn taken_out(&mut self, random: &mut Random) {
+    fn taken_out(&mut self, random: &mut Random) -> &'static str {
         let index = random.index(&self.model);
         match random.below(6) {
-            0 => assert_eq!(self.string.pop(), self.model.pop()),
+            0 => {
+                assert_eq!(self.string.pop(), self.model.pop());
+                "pop"
+            }
             1 | 2 => {
                 // Also index 0, which raises the offset at which the text begins.
                 let index = if random.below(2) == 0 { 0 } else { index };
@@ -377,6 +404,7 @@ impl<const N: usize> Pair<N> {
                     at => at,
                 };
                 assert_eq!(self.string.remove(index), wanted.map(|at| self.model.remove(at)));
+                "remove"
             }
             3 => {
                 let wanted = if index as usize >= self.model.len() {
@@ -388,10 +416,12 @@ impl<const N: usize> Pair<N> {
                 if wanted.is_ok() {
                     self.model.truncate(index as usize);
                 }
+                "truncate"
             }
             4 => {
                 let wanted = self.at(index).map(|at| self.model.split_off(at));
                 assert_eq!(self.string.split_off(index).map(|rest| rest.to_string()), wanted);
+                "split_off"
             }
             _ => {
                 let mut bits = random.below(1 << 30);
@@ -404,6 +434,7 @@ impl<const N: usize> Pair<N> {
                 self.string.retain(|_| *first.next().expect("one answer for each"));
                 self.model.retain(|_| *second.next().expect("one answer for each"));
                 assert_eq!(first.len(), 0);
+                "retain"
             }
         }
     }
@@ -433,7 +464,7 @@ impl<const N: usize> Pair<N> {
         (!self.model.is_char_boundary(from) || !self.model.is_char_boundary(to)).then_some(Error::Utf8)
     }
 
-    fn replaced(&mut self, random: &mut Random) {
+    fn replaced(&mut self, random: &mut Random) -> &'static str {
         let (range, from, to) = self.range(random);
         let text = random.text(8);
         let wanted = match self.refusal(from, to, || self.model.len() - (to - from) + text.len()) {
@@ -441,12 +472,16 @@ impl<const N: usize> Pair<N> {
             None => Ok(self.model.replace_range(from..to, &text)),
         };
         assert_eq!(self.string.replace_range(range, &text), wanted);
+        if wanted.is_ok() { "replace_range" } else { "a refused replace_range" }
     }
 
-    fn drained(&mut self, random: &mut Random) {
+    fn drained(&mut self, random: &mut Random) -> &'static str {
         let (range, from, to) = self.range(random);
         match (self.refusal(from, to, || 0), self.string.drain(range)) {
-            (Some(refusal), answer) => assert_eq!(answer, Err(refusal)),
+            (Some(refusal), answer) => {
+                assert_eq!(answer, Err(refusal));
+                "a refused drain"
+            }
             (None, answer) => {
                 let part: String = self.model.drain(from..to).collect();
                 let (mut drain, mut left) = (answer.expect("a part"), part.chars());
@@ -458,11 +493,12 @@ impl<const N: usize> Pair<N> {
                     }
                 }
                 assert_eq!((drain.next(), drain.next_back()), (None, None));
+                "drain"
             }
         }
     }
 
-    fn shown(&mut self, random: &mut Random) {
+    fn shown(&mut self, random: &mut Random) -> &'static str {
         let (start, end) = (random.index(&self.model), random.index(&self.model));
         let part = self.model.get(start as usize..end as usize);
         assert_eq!(self.string.get(start..end), part);
@@ -483,57 +519,65 @@ impl<const N: usize> Pair<N> {
         self.string.hash(&mut one);
         self.model.hash(&mut two);
         assert_eq!(one.finish(), two.finish());
+        if part.is_some() { "a part" } else { "no part" }
     }
 
-    fn changed(&mut self, random: &mut Random) {
+    fn changed(&mut self, random: &mut Random) -> &'static str {
         match random.below(8) {
             0 => {
                 self.string.trim();
                 self.model = self.model.trim().to_string();
+                "trim"
             }
             1 => {
                 self.string.trim_spaces();
                 self.model = self.model.trim_matches(' ').to_string();
+                "trim_spaces"
             }
             2 => {
                 self.string.make_ascii_uppercase();
                 self.model.make_ascii_uppercase();
+                "make_ascii_uppercase"
             }
             3 => {
                 self.string.make_ascii_lowercase();
                 self.model.make_ascii_lowercase();
+                "make_ascii_lowercase"
             }
             4 => {
                 let (start, end) = (random.index(&self.model), random.index(&self.model));
-                if let Some(part) = self.model.get_mut(start as usize..end as usize) {
-                    if random.below(2) == 0 {
-                        self.string.make_ascii_uppercase_in(start..end);
-                        part.make_ascii_uppercase();
-                    } else {
-                        self.string.make_ascii_lowercase_in(start..end);
-                        part.make_ascii_lowercase();
-                    }
+                let Some(part) = self.model.get_mut(start as usize..end as usize) else { return "no part" };
+                if random.below(2) == 0 {
+                    self.string.make_ascii_uppercase_in(start..end);
+                    part.make_ascii_uppercase();
+                    "make_ascii_uppercase_in"
+                } else {
+                    self.string.make_ascii_lowercase_in(start..end);
+                    part.make_ascii_lowercase();
+                    "make_ascii_lowercase_in"
                 }
             }
             5 if random.below(20) == 0 => {
                 self.string.clear();
                 self.model.clear();
+                "clear"
             }
             _ => {
                 let text = random.text(40);
                 self.string.push_str(&text);
                 self.model += cut(&text, self.room());
+                "push_str"
             }
         }
     }
 
     /// Makes a string anew, and goes on with it where it is another one.
-    fn made(&mut self, random: &mut Random) {
+    fn made(&mut self, random: &mut Random) -> &'static str {
         let most = if random.below(8) == 0 { 300 } else { 20 };
         let text = random.text(most);
         let whole = if text.len() <= self.capacity { Ok(text.clone()) } else { Err(OutOfBounds) };
         let given = cut(&text, self.capacity);
-        assert_eq!(ArrayString::<N>::try_from_str(&text).map(|made| made.to_string()), whole);
+        assert_eq!(ArrayString::<N>::try_from_str(&text).map(|made| made.to_string()), whole.clone());
         let mut bytes = text.clone().into_bytes();
         assert_eq!(ArrayString::<N>::from_utf8(&bytes).map(|made| made.to_string()), Ok(given.to_string()));
         let mut units: Vec<u16> = text.encode_utf16().collect();
@@ -551,17 +595,81 @@ impl<const N: usize> Pair<N> {
             self.string = text.chars().collect();
             self.model = given.to_string();
         }
+        if whole.is_ok() { "whole" } else { "cut" }
     }
 }
 
-/// Makes random calls at one capacity, and returns how many were compared, and how many of these unchecked.
-fn play<const N: usize>(calls: usize) -> [usize; 2] {
+/// The calls of each group, in order.
+const KINDS: [(&str, &[&str]); 12] = [
+    ("added", &["+", "extend", "extend_strs", "push_str", "try_push", "try_push_str", "try_write", "write!"]),
+    ("changed", CHANGES),
+    ("collected", &["cut", "whole"]),
+    ("counted", COUNTED),
+    ("drained", &["a refused drain", "drain"]),
+    ("inserted", &["insert_str", "try_insert", "try_insert_str"]),
+    ("made", &["cut", "whole"]),
+    ("panicked", &["extend_chars", "extend_strs", "retain"]),
+    ("replaced", &["a refused replace_range", "replace_range"]),
+    ("shown", &["a part", "no part"]),
+    ("taken out", &["pop", "remove", "retain", "split_off", "truncate"]),
+    ("unchecked", UNCHECKED),
+];
+
+const CHANGES: &[&str] = &[
+    "clear",
+    "make_ascii_lowercase",
+    "make_ascii_lowercase_in",
+    "make_ascii_uppercase",
+    "make_ascii_uppercase_in",
+    "no part",
+    "push_str",
+    "trim",
+    "trim_spaces",
+];
+
+const COUNTED: &[&str] = &[
+    "drain_counted",
+    "pop_counted",
+    "remove_counted",
+    "replace_range_counted",
+    "trim_counted",
+    "truncate_str_counted",
+    "try_insert_str_counted",
+];
+
+/// Those that are made where their conditions hold, and none, where these do not.
+const UNCHECKED: &[&str] = &[
+    "from unchecked",
+    "from_utf8_unchecked",
+    "insert_str_unchecked",
+    "insert_unchecked",
+    "none",
+    "push_str_unchecked",
+    "push_unchecked",
+];
+
+/// Makes random calls at one capacity, and returns how many of each kind were compared.
+fn play<const N: usize>(calls: usize) -> BTreeMap<Kind, usize> {
     let mut random = Random(N as u64);
     let mut pair = Pair::<N>::new();
     for call in 0..calls {
         pair.call(&mut random, call);
     }
-    [pair.compared, pair.unchecked]
+    pair.compared
+}
+
+/// Asserts that as many calls of each group were compared as were made, and that each kind of the group is among them.
+fn is_of_each_kind(capacity: usize, compared: &BTreeMap<Kind, usize>, calls: usize) {
+    assert_eq!(compared.values().sum::<usize>(), calls, "at {capacity}");
+    for (group, names) in KINDS {
+        let made = compared.iter().filter(|((of, _), _)| *of == group);
+        let count: usize = made.clone().map(|(_, count)| count).sum();
+        assert!(count == calls / 12 || count == calls.div_ceil(12), "{count} calls of {group} at {capacity}");
+        let made: Vec<_> = made.filter(|(_, count)| **count >= calls / 4000).map(|((_, name), _)| *name).collect();
+        // In no byte, or in one, much is refused that is made elsewhere.
+        assert!(made == names || capacity < 2, "{group} at {capacity}: {made:?}");
+        assert!(made.iter().all(|name| names.contains(name)), "{group} at {capacity}: {made:?}");
+    }
 }
 
 #[test]
@@ -590,8 +698,8 @@ fn random_calls_beside_a_string() {
         let threads = plays.map(|play| scope.spawn(move || play(calls)));
         threads.map(|thread| thread.join().expect("no panic"))
     });
-    assert_eq!(played.map(|[compared, _]| compared), [calls; 16]);
-    // Of twelve calls one is unchecked, and made where its conditions hold: never in no byte, and seldom in one.
-    let unchecked = played.map(|[_, unchecked]| unchecked);
-    assert!(unchecked[1..].iter().all(|made| *made >= calls / 400), "{unchecked:?}");
+    let capacities = [0, 1, 2, 3, 4, 7, 23, 63, 64, 65, 128, 129, 254, 255, 256, 300];
+    for (capacity, compared) in capacities.into_iter().zip(&played) {
+        is_of_each_kind(capacity, compared, calls);
+    }
 }

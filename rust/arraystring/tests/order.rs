@@ -2,11 +2,13 @@
 //! differ, of bytes below and above 80. Short texts: each size with each, at each offset in the array.
 
 use std::cmp::Ordering;
-use std::collections::hash_map::DefaultHasher;
-use std::hash::{Hash, Hasher};
+use std::hash::Hash;
 use std::thread;
 
 use arraystring::{ArrayString, CacheString, Drain};
+use inputs::{behind, hash_of, letters};
+
+mod inputs;
 
 /// Two characters of one width, the lesser first: bytes below 80, bytes on both sides of the middle of their range, bytes that
 /// differ in the first, a middle or the last place.
@@ -32,21 +34,6 @@ const WIDTHS: &[(char, char)] = &[
     ('\u{7FF}', '\u{FFFF}'),
     ('\u{FFFF}', '\u{10000}'),
 ];
-
-/// A string with a text that begins at some offset of its array.
-fn behind<const N: usize>(offset: usize, text: &str) -> ArrayString<N> {
-    let mut string = ArrayString::<N>::from("x".repeat(offset).as_str());
-    string.push_str(text);
-    assert!(string.drain(..offset as u8).is_ok());
-    assert_eq!(string.as_str(), text);
-    string
-}
-
-fn hash_of<T: Hash + ?Sized>(value: &T) -> u64 {
-    let mut state = DefaultHasher::new();
-    value.hash(&mut state);
-    state.finish()
-}
 
 /// Asserts that two values are ordered by their texts, both ways.
 fn are_ordered<T: Ord + Hash>(one: &T, other: &T, texts: (&str, &str)) {
@@ -97,11 +84,6 @@ fn each_length(test: impl Fn(usize) -> usize + Sync) -> usize {
         let threads = [0, 1, 2, 3].map(some);
         threads.into_iter().map(|thread| thread.join().expect("no panic")).sum()
     })
-}
-
-/// So many bytes of ASCII.
-fn letters(len: usize) -> String {
-    (0..len).map(|at| (b'!' + (at * 5 % 90) as u8) as char).collect()
 }
 
 /// A text with a character at a place.
@@ -242,6 +224,32 @@ fn drains_and_cache_strings_are_ordered_alike() {
     }
     // The lengths to 63, those to 62 and so on are these sums, for the pairs of one to four bytes.
     assert_eq!(count, 3 * 2016 + 3 * 1953 + 3 * 1891 + 2 * 1830);
+}
+
+/// A drain of all of a text.
+fn drained(text: &str) -> Drain<255> {
+    let mut string = ArrayString::<255>::from(text);
+    string.drain(..).expect("all of it")
+}
+
+#[test]
+fn drains_are_ordered_at_each_length() {
+    let mut count = 0;
+    for len in 1..=255 {
+        let text = letters(len);
+        let mut places = vec![0, 31, 63, 64, 127, 128, 191, len / 2, len - 1];
+        places.extend(len.checked_sub(2));
+        places.retain(|place| *place < len);
+        for place in places {
+            let texts = (&*with(&text, place, '\0'), &*with(&text, place, '\u{7F}'));
+            are_ordered(&drained(texts.0), &drained(texts.1), texts);
+            are_ordered(&drained(texts.0), &drained(texts.0), (texts.0, texts.0));
+            are_ordered(&drained(&text[..place]), &drained(texts.0), (&text[..place], texts.0));
+            count += 1;
+        }
+    }
+    // Of the places three are in each text, or two in that of one byte, and the others in those that are longer.
+    assert_eq!(count, 3 * 255 + 254 + [31, 63, 64, 127, 128, 191].map(|place| 255 - place).iter().sum::<usize>());
 }
 
 /// The texts of a size that differ from the first in one place, by a character of one to four bytes.

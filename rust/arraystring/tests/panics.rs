@@ -42,11 +42,23 @@ macro_rules! words {
     }};
 }
 
+/// The comparison of places sees a call that is one line off, so the tests below can fail.
+#[test]
+fn a_call_on_another_line_is_told() {
+    let line = line!() + 1;
+    let of_string = || _ = &ArrayString::<4>::from("abc")[2..9];
+    assert!(catch_unwind(|| words!(of_string())).is_err());
+    assert_eq!(panic_of(of_string).1, (file!().to_string(), line));
+    let of_str = || _ = &"abc"[2..9];
+    assert!(catch_unwind(|| words!(of_str())).is_err());
+    assert_eq!(words!(&ArrayString::<4>::from("abc")[2..9]), panic_of(of_str).0);
+}
+
 #[test]
 fn parts_panic_as_those_of_str() {
     let text = "aé€🤔";
     let string = ArrayString::<12>::from(text);
-    let mut parts = 0;
+    let (mut parts, mut refused) = (0, 0);
     for start in 0..=13u8 {
         for end in 0..=13u8 {
             let (from, to) = (start as usize, end as usize);
@@ -62,25 +74,29 @@ fn parts_panic_as_those_of_str() {
             assert_eq!(words!(other.make_ascii_uppercase_in(start..end)), wanted);
             assert_eq!(words!(other.make_ascii_lowercase_in(start..end)), wanted);
             assert_eq!(other, string);
+            refused += 1;
         }
     }
     // Between each two of five boundaries.
-    assert_eq!(parts, 15);
+    assert_eq!((parts, refused), (15, 14 * 14 - 15));
 }
 
-/// Asserts that a part panics where that of the `str` does, with the same words, and is the same one elsewhere.
+/// Asserts that a part panics where that of the `str` does, with the same words, and is the same one elsewhere. Returns whether it
+/// panics.
 macro_rules! as_str_does {
     ($string:expr, $text:expr, $range:expr, $wide:expr) => {{
         let (string, text): (&ArrayString<12>, &str) = ($string, $text);
         match text.get($wide) {
             Some(part) => {
-                assert_eq!((string.slice($range), &string[$range], string.get($range)), (part, part, Some(part)))
+                assert_eq!((string.slice($range), &string[$range], string.get($range)), (part, part, Some(part)));
+                false
             }
             None => {
                 let wanted = words!(&text[$wide]);
                 assert_eq!(words!(&string[$range]), wanted);
                 assert_eq!(words!(string.slice($range)), wanted);
                 assert_eq!(string.get($range), None);
+                true
             }
         }
     }};
@@ -91,6 +107,7 @@ const ENDS: [u8; 19] = [0, 1, 2, 3, 4, 5, 6, 7, 8, 9, 10, 11, 12, 13, 127, 128, 
 
 #[test]
 fn each_kind_of_range_panics_as_that_of_str() {
+    let (mut made, mut panicked) = (0, 0);
     for text in ["", "a", "aé€🤔", "🤔🤔🤔", "abcdefghijkl"] {
         for offset in 0..=12 - text.len() {
             let mut string = ArrayString::<12>::from(".".repeat(offset).as_str());
@@ -99,13 +116,21 @@ fn each_kind_of_range_panics_as_that_of_str() {
             assert_eq!(&string[..], text);
             for end in ENDS {
                 let to = end as usize;
-                as_str_does!(&string, text, end.., to..);
-                as_str_does!(&string, text, ..end, ..to);
                 // 256 is past each text; std counts an included end of its own from there on.
-                as_str_does!(&string, text, ..=end, ..to + 1);
+                let panics = [
+                    as_str_does!(&string, text, end.., to..),
+                    as_str_does!(&string, text, ..end, ..to),
+                    as_str_does!(&string, text, ..=end, ..to + 1),
+                ];
+                made += panics.len();
+                panicked += panics.iter().filter(|panics| **panics).count();
             }
         }
     }
+    // The texts have 13, 12, 3, 1 and 1 offsets. Of the 19 ends 1, 2, 5, 4 and 13 are boundaries, and one less is one that is included.
+    assert_eq!(made, 3 * 19 * (13 + 12 + 3 + 1 + 1));
+    let parts = [(13, 1), (12, 2), (3, 5), (1, 4), (1, 13)].map(|(offsets, boundaries)| offsets * (3 * boundaries - 1));
+    assert_eq!(panicked, made - parts.iter().sum::<usize>());
 }
 
 #[test]
@@ -162,4 +187,21 @@ fn calls_of_the_string_inside_name_their_caller_too() {
     assert_eq!([words!(&cached[2..9]), words!(cached.slice(2..9))], [wanted.clone(), wanted.clone()]);
     assert_eq!(words!(cached.make_ascii_uppercase_in(2..9)), wanted);
     assert_eq!((words!(cached.make_ascii_lowercase_in(2..9)), cached.as_str()), (wanted, "abc"));
+}
+
+#[test]
+fn what_does_not_fit_into_a_constant_names_its_line() {
+    let wanted = "the text does not fit into the capacity";
+    for len in 0..=520 {
+        let text = "m".repeat(len);
+        if len > 4 {
+            assert_eq!(words!(ArrayString::<4>::of_constant(&text)), wanted);
+        }
+        if len > 255 {
+            assert_eq!(words!(ArrayString::<255>::of_constant(&text)), wanted);
+            assert_eq!(words!(ArrayString::<300>::of_constant(&text)), wanted);
+        } else {
+            assert_eq!(ArrayString::<300>::of_constant(&text).as_str(), text);
+        }
+    }
 }

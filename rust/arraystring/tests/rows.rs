@@ -5,13 +5,9 @@ use std::fmt::{self, Display, Write};
 use std::panic::{AssertUnwindSafe, catch_unwind, resume_unwind};
 
 use arraystring::{ArrayString, CacheString};
+use inputs::{at_capacities, behind};
 
-/// Calls a generic test at each of these capacities.
-macro_rules! at_each {
-    ($test:ident: $($capacity:literal)*) => {
-        $($test::<$capacity>();)*
-    };
-}
+mod inputs;
 
 /// How a row ends.
 #[derive(Clone, Copy, Debug, PartialEq)]
@@ -87,14 +83,6 @@ impl Display for Row<'_> {
     }
 }
 
-/// A string whose text begins behind so many bytes of its array.
-fn behind<const N: usize>(offset: usize, text: &str) -> ArrayString<N> {
-    let mut string = ArrayString::<N>::from("~".repeat(offset).as_str());
-    string.try_push_str(text).expect("room");
-    string.drain(..offset as u8).expect("a part");
-    string
-}
-
 /// Makes a call, and returns `None` where it panics.
 fn unless_it_panics(call: impl FnOnce() -> fmt::Result) -> Option<fmt::Result> {
     catch_unwind(AssertUnwindSafe(call)).ok()
@@ -158,7 +146,7 @@ fn two_pieces_of_each_length_at_each_length() {
             }
         }
     }
-    at_each!(at: 0 1 2 3 4 5 6 7 8 9 10 11 12 13 14 15 16 17 18 19 20);
+    at_capacities!(at: 0 1 2 3 4 5 6 7 8 9 10 11 12 13 14 15 16 17 18 19 20);
 }
 
 #[test]
@@ -179,7 +167,7 @@ fn each_display_stops_at_each_place() {
             }
         }
     }
-    at_each!(at: 0 1 2 3 4 5 6 7 8 9 10 11 12 13 14 15 16 17 18 19 20 63 255 256 300);
+    at_capacities!(at: 0 1 2 3 4 5 6 7 8 9 10 11 12 13 14 15 16 17 18 19 20 63 255 256 300);
 }
 
 #[test]
@@ -196,7 +184,7 @@ fn wide_pieces_are_cut_at_no_place() {
             }
         }
     }
-    at_each!(at: 0 1 2 3 4 5 6 7 8 9 10 11 12 13 14 15 16 17 18 19 20);
+    at_capacities!(at: 0 1 2 3 4 5 6 7 8 9 10 11 12 13 14 15 16 17 18 19 20);
 }
 
 #[test]
@@ -241,7 +229,7 @@ fn each_format_is_whole_or_not_there() {
         is_formatted::<N>(format_args!("{}{}", ArrayString::<8>::from("aé€"), CacheString::from("🤔")));
         is_formatted::<N>(format_args!("{:?}", [1, 23, 456]));
     }
-    at_each!(at: 0 1 2 3 4 5 6 7 8 9 10 11 12 13 14 15 16 17 18 19 20 63 255);
+    at_capacities!(at: 0 1 2 3 4 5 6 7 8 9 10 11 12 13 14 15 16 17 18 19 20 63 255);
 }
 
 #[test]

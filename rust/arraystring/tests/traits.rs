@@ -3,17 +3,18 @@
 
 use std::borrow::{Borrow, Cow};
 use std::cell::Cell;
-use std::collections::hash_map::DefaultHasher;
 use std::collections::{BTreeMap, BTreeSet, HashMap};
 use std::error::Error as StdError;
 use std::fmt::Write;
-use std::hash::{Hash, Hasher};
 use std::iter;
 use std::rc::Rc;
 
 use arraystring::error::{OutOfBounds, Utf8, Utf16};
 use arraystring::prelude::*;
 use arraystring::{ArrayString, Error};
+use inputs::hash_of;
+
+mod inputs;
 
 type Name = ArrayString<8>;
 
@@ -41,12 +42,6 @@ fn characters() -> impl Iterator<Item = char> {
 /// Texts with a character at the front, in the middle, at the end, and twice.
 fn texts_with(ch: char) -> [String; 5] {
     [format!("{ch}"), format!("{ch}é"), format!("a{ch}b"), format!("a{ch}"), format!("{ch}{ch}")]
-}
-
-fn hash_of<T: Hash + ?Sized>(value: &T) -> u64 {
-    let mut state = DefaultHasher::new();
-    value.hash(&mut state);
-    state.finish()
 }
 
 /// Asserts that a value shows a text by each trait that both types of strings have.
@@ -428,11 +423,7 @@ fn each_impl_has_a_kind() {
 mod owned {
     use arraystring::{ArrayString, CacheString};
 
-    /// The longest prefix of whole characters that takes at most so many bytes.
-    fn cut(text: &str, size: usize) -> &str {
-        let end = text.char_indices().map(|(at, ch)| at + ch.len_utf8()).take_while(|end| *end <= size).last();
-        &text[..end.unwrap_or(0)]
-    }
+    use crate::inputs::cut;
 
     /// What a text is compared with: each prefix, texts that are longer, also by as many bytes as a byte counts, and those of its
     /// length that have another character of the same width at a place.

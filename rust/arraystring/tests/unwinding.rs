@@ -350,7 +350,7 @@ fn a_closure_panics_at_each_call_on_every_string() {
                     });
                 }
             }
-            wanted += case.strings.len() * ((1 << length(&case.text)) - 1);
+            wanted += case.string_count() * ((1 << length(&case.text)) - 1);
         }
         (made, wanted)
     }
@@ -375,7 +375,7 @@ fn the_drop_of_a_closure_panics_on_every_string() {
                     })
                 });
             }
-            wanted += case.strings.len() << length(&case.text);
+            wanted += case.string_count() << length(&case.text);
         }
         (made, wanted)
     }

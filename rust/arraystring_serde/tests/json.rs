@@ -5,11 +5,14 @@ use std::fmt::Debug;
 
 use arraystring::{ArrayString, CacheString};
 use arraystring_serde::{Cut, Whole};
+use inputs::cut;
 use serde::de::value::{
     BorrowedBytesDeserializer, BorrowedStrDeserializer, BytesDeserializer, Error, StrDeserializer, StringDeserializer,
 };
 use serde::de::{DeserializeOwned, IntoDeserializer};
 use serde::{Deserialize, Serialize};
+
+mod inputs;
 
 #[derive(Serialize, Deserialize, PartialEq, Debug)]
 #[serde(bound = "")]
@@ -30,12 +33,6 @@ struct Owned {
     cut: String,
     cached: String,
     cached_cut: String,
-}
-
-/// The longest prefix of whole characters that takes at most so many bytes.
-fn cut(text: &str, size: usize) -> &str {
-    let end = text.char_indices().map(|(at, ch)| at + ch.len_utf8()).take_while(|end| *end <= size).last();
-    &text[..end.unwrap_or(0)]
 }
 
 /// Texts of each length to a size and some bytes more, which JSON writes as they are, and by escapes.

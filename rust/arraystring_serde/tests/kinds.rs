@@ -7,10 +7,13 @@ use std::str::FromStr;
 use arraystring::error::OutOfBounds;
 use arraystring::{ArrayString, CacheString};
 use arraystring_serde::{Cut, Whole};
+use inputs::cut;
 use serde::de::value::Error;
 use serde::de::{Deserializer, Visitor};
 use serde::ser::{Impossible, Serializer};
 use serde::{Deserialize, Serialize, forward_to_deserialize_any};
+
+mod inputs;
 
 /// How a format gives a text.
 #[derive(Clone, Copy, Debug)]
@@ -132,12 +135,6 @@ impl Serializer for OnlyStr {
     fn is_human_readable(&self) -> bool {
         self.is_human_readable
     }
-}
-
-/// The longest prefix of whole characters that takes at most so many bytes.
-fn cut(text: &str, size: usize) -> &str {
-    let end = text.char_indices().map(|(at, ch)| at + ch.len_utf8()).take_while(|end| *end <= size).last();
-    &text[..end.unwrap_or(0)]
 }
 
 /// Texts of each length to a size and some bytes more, with characters of each width.

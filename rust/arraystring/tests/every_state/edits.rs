@@ -236,7 +236,7 @@ fn additions_of_a_character() {
             }
         }
         let fitting = |case: &Case<N>| WIDTHS.iter().filter(|ch| case.text.len() + ch.len_utf8() <= N).count();
-        let unchecked = |case: &Case<N>| case.strings.len() * fitting(case) * (2 + length(&case.text));
+        let unchecked = |case: &Case<N>| case.string_count() * fitting(case) * (2 + length(&case.text));
         let unchecked: usize = cases(&WIDTHS).iter().map(unchecked).sum();
         (made, 4 * total::<N>(&WIDTHS) * (N + 6) + unchecked)
     }
@@ -269,7 +269,11 @@ fn insertions_of_a_text() {
                 }
             }
         }
-        assert!(unchecked >= fitting::<N>(), "at the front of each text at least");
+        // At each boundary of a text, each that fits.
+        let counts = counts(&WIDTHS, N);
+        let fitting = |case: &Case<N>| counts[..=N - case.text.len()].iter().sum::<usize>();
+        let unchecked_of = |case: &Case<N>| case.string_count() * (length(&case.text) + 1) * fitting(case);
+        assert_eq!(unchecked, cases(&WIDTHS).iter().map(unchecked_of).sum(), "unchecked calls at {N}");
         (made, 3 * total::<N>(&WIDTHS) * (N + 4) * texts.len())
     }
     at_each_capacity!(inserted);
@@ -293,7 +297,7 @@ fn characters_that_are_kept() {
                     asked.into_inner()
                 });
             }
-            wanted += case.strings.len() << length(&case.text);
+            wanted += case.string_count() << length(&case.text);
         }
         (made, wanted)
     }

@@ -64,14 +64,21 @@ fn made_of_a_text() {
         for given in texts(&WIDTHS, N + 2) {
             let (cuts, wholes) = (texts_of(cuts_of::<N>(&given)), texts_of(wholes_of::<N>(&given)));
             let whole = if given.len() <= N { Ok(given.clone()) } else { Err(Error::OutOfBounds) };
-            made += cuts.len() + wholes.len();
-            assert!(cuts.iter().all(|made| made.as_deref() == Ok(cut(&given, N))), "{cuts:?} of {given}");
-            assert!(wholes.iter().all(|made| *made == whole), "{wholes:?} of {given}");
+            for string in cuts {
+                assert_eq!(string.as_deref(), Ok(cut(&given, N)), "of {given}");
+                made += 1;
+            }
+            for string in wholes {
+                assert_eq!(string, whole, "of {given}");
+                made += 1;
+            }
             if whole.is_ok() {
                 // SAFETY: the text fits.
                 let unchecked = texts_of(unsafe { unchecked_of::<N>(&given) });
-                assert!(unchecked.iter().all(|made| *made == whole), "{unchecked:?} of {given}");
-                made += unchecked.len();
+                for string in unchecked {
+                    assert_eq!(string, whole, "of {given}");
+                    made += 1;
+                }
             }
         }
         let counts = counts(&WIDTHS, N + 2);

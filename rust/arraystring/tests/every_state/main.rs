@@ -6,7 +6,7 @@
 use std::fs;
 use std::path::Path;
 
-use states::{WIDTHS, at_each_capacity, cases, counts, string_counts, texts};
+use states::{WIDTHS, at_each_capacity, cases, counts, offset, string_counts, texts};
 
 mod edits;
 mod limited;
@@ -54,7 +54,13 @@ fn every_string_is_there_once() {
         assert_eq!(cases.iter().map(|case| &case.text).collect::<Vec<_>>(), texts.iter().collect::<Vec<_>>());
         assert_eq!(texts.len(), texts.iter().collect::<std::collections::BTreeSet<_>>().len());
         assert!(texts.iter().all(|text| text.chars().all(|ch| WIDTHS.contains(&ch)) && text.len() <= N));
-        (cases.iter().map(|case| case.strings.len()).sum(), string_counts::<N>(&WIDTHS).iter().sum())
+        let mut made = 0;
+        for (case, string) in cases.iter().flat_map(|case| case.strings.iter().map(move |string| (case, string))) {
+            assert_eq!(string.as_str(), case.text);
+            assert!(offset(string) + case.text.len() <= N, "{:?} at {} of {N}", case.text, offset(string));
+            made += 1;
+        }
+        (made, string_counts::<N>(&WIDTHS).iter().sum())
     }
     at_each_capacity!(strings);
     // Worked out by hand: each size has as many texts as the four before it together.

@@ -207,7 +207,7 @@ fn every_walk_of_a_drain() {
             // A part of so many characters begins at so many places, and each character is taken from one of two ends.
             let count = length(&case.text);
             let drains = (0..=count).map(|len| (count - len + 1) * ((2 << len) - 1));
-            wanted += case.strings.len() * drains.sum::<usize>();
+            wanted += case.string_count() * drains.sum::<usize>();
         }
         (made, wanted)
     }

@@ -81,12 +81,17 @@ pub fn cases<const N: usize>(characters: &[char]) -> Vec<Case<N>> {
     texts.iter().map(|text| Case { text: text.clone(), strings: strings_of(text, &texts) }).collect()
 }
 
+/// How many strings [`cases`] has of a text of a size, by what there is around it.
+pub fn string_count<const N: usize>(characters: &[char], size: usize) -> usize {
+    let (counts, room) = (counts(characters, N), N - size);
+    let behind = |before: usize| counts[room - before] + usize::from(before < room);
+    (0..=room).map(|before| counts[before] * behind(before)).sum()
+}
+
 /// How many strings [`cases`] has of the texts of each size.
 pub fn string_counts<const N: usize>(characters: &[char]) -> Vec<usize> {
-    let counts = counts(characters, N);
-    let behind = |room: usize, before: usize| counts[room - before] + usize::from(before < room);
-    let around = |room| (0..=room).map(|before| counts[before] * behind(room, before)).sum::<usize>();
-    (0..=N).map(|size| counts[size] * around(N - size)).collect()
+    let texts = counts(characters, N).into_iter().enumerate();
+    texts.map(|(size, count)| count * string_count::<N>(characters, size)).collect()
 }
 
 fn strings_of<const N: usize>(text: &str, around: &[String]) -> Vec<ArrayString<N>> {
@@ -120,6 +125,11 @@ pub fn offset<const N: usize>(string: &ArrayString<N>) -> usize {
 }
 
 impl<const N: usize> Case<N> {
+    /// How many strings it has to have, whatever the list has, of characters of each width.
+    pub fn string_count(&self) -> usize {
+        string_count::<N>(&WIDTHS, self.text.len())
+    }
+
     /// Makes a call on a copy of each string. Asserts what it returns, and the text that it leaves. Says how many calls those are.
     pub fn each<T: PartialEq + Debug>(
         &self,
@@ -137,12 +147,15 @@ impl<const N: usize> Case<N> {
         (returned, text): &(T, String),
         call: &dyn Fn(&mut ArrayString<N>) -> T,
     ) -> usize {
+        // Counted one by one, so that a string that is left out is missed.
+        let mut made = 0;
         for string in &self.strings {
             let (mut after, from) = (*string, offset(string));
             assert_eq!(call(&mut after), *returned, "{name:?} of {:?} at {from} of {N}", self.text);
             assert_eq!(after.as_bytes(), text.as_bytes(), "after {name:?} of {:?} at {from} of {N}", self.text);
             assert!(offset(&after) + text.len() <= N, "outside after {name:?} of {:?} at {from} of {N}", self.text);
+            made += 1;
         }
-        self.strings.len()
+        made
     }
 }

@@ -1,0 +1,21 @@
+//! What is written by hand, over ranges: each length of a string and of what is given, each capacity of the table, and each kind
+//! of item. The expected values are those of `String` and `str`, cut by the rules of the table.
+
+// No call of the crate reaches all sizes of a vector, or a place that is not within: so these two files are compiled here, too.
+#[macro_use]
+#[path = "../../src/by_hand/access.rs"]
+#[allow(dead_code, unused_imports, unused_macros)]
+mod access;
+#[path = "../../src/by_hand/simd.rs"]
+mod simd;
+
+#[path = "../inputs/mod.rs"]
+mod inputs;
+
+mod asked;
+mod beside_parts;
+mod given;
+mod items;
+mod printing;
+mod shown;
+mod vectors;

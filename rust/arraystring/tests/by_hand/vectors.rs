@@ -1,0 +1,142 @@
+//! The vectors of the sources at each size, and what is read and written without a test, at each place of an array.
+
+use std::panic::{AssertUnwindSafe, catch_unwind, set_hook};
+
+use crate::access::IS_TESTED;
+use crate::simd::Simd;
+
+/// Calls a generic test at each size of a vector.
+macro_rules! at_each_size {
+    ($test:ident) => {
+        at_each_size!($test:
+            1 2 3 4 5 6 7 8 9 10 11 12 13 14 15 16 17 18 19 20 21 22 23 24 25 26 27 28 29 30 31 32 33 34 35 36 37 38 39 40 41 42 43
+            44 45 46 47 48 49 50 51 52 53 54 55 56 57 58 59 60 61 62 63 64);
+    };
+    ($test:ident: $($size:literal)*) => {
+        $($test::<$size>();)*
+    };
+}
+
+/// How many bytes the arrays of these tests have.
+const SIZE: usize = 80;
+
+/// Bytes of which no two within 80 are alike.
+fn bytes() -> [u8; SIZE] {
+    std::array::from_fn(|at| 200 - at as u8)
+}
+
+#[test]
+fn the_first_bytes_are_read_and_written() {
+    fn at<const K: usize>() {
+        let source = bytes();
+        for start in 0..=8 {
+            for end in start + K..=start + K + 8 {
+                let mut written = [1; SIZE];
+                Simd::<u8, K>::from_slice(&source[start..end]).copy_to_slice(&mut written[start..end]);
+                let mut wanted = [1; SIZE];
+                wanted[start..start + K].copy_from_slice(&source[start..start + K]);
+                assert_eq!(written, wanted, "{K} {start} {end}");
+            }
+        }
+    }
+    at_each_size!(at);
+}
+
+#[test]
+fn bytes_at_the_ends_of_their_range_are_read_in_each_lane() {
+    fn at<const K: usize>() {
+        for lane in 0..K {
+            for byte in [0, 1, 0x7F, 0x80, 0xFF] {
+                let (mut given, mut written) = ([7; K], [0; K]);
+                given[lane] = byte;
+                Simd::<u8, K>::from_slice(&given).copy_to_slice(&mut written);
+                assert_eq!(written, given, "{lane} of {K}");
+            }
+        }
+    }
+    at_each_size!(at);
+}
+
+/// Whether a call panics.
+fn panics<T>(call: impl FnOnce() -> T) -> bool {
+    // (without the frames of each)
+    set_hook(Box::new(|panic| eprintln!("{panic}")));
+    catch_unwind(AssertUnwindSafe(call)).is_err()
+}
+
+#[test]
+fn fewer_bytes_than_a_vector_has_panic() {
+    fn at<const K: usize>() {
+        let source = bytes();
+        for len in 0..K {
+            assert!(panics(|| Simd::<u8, K>::from_slice(&source[..len])), "{len} of {K}");
+            assert!(panics(|| Simd::<u8, K>::from_slice(&source).copy_to_slice(&mut [0; SIZE][..len])), "{len} of {K}");
+        }
+    }
+    at_each_size!(at);
+}
+
+#[test]
+fn each_part_is_as_it_is_plainly() {
+    let source = bytes();
+    for start in 0..=SIZE {
+        assert_eq!(split_at_unchecked!(source, start), source.split_at(start));
+        for end in start..=SIZE {
+            assert_eq!(get_unchecked!(source, start..end), &source[start..end]);
+            let (mut one, mut other) = (source, source);
+            get_unchecked_mut!(one, start..end).fill(1);
+            other[start..end].fill(1);
+            assert_eq!(one, other);
+            copy_from_slice_unchecked!(one, start..end, &source[..end - start]);
+            other[start..end].copy_from_slice(&source[..end - start]);
+            assert_eq!(one, other, "{start} {end}");
+        }
+        if let Some(byte) = source.get(start) {
+            assert_eq!(get_unchecked!(source, start), byte);
+        }
+    }
+}
+
+#[test]
+fn each_run_is_moved_to_each_place() {
+    let source = bytes();
+    for len in 0..=SIZE {
+        // To each place, from those that overlap it in each way, and from the ends.
+        for to in 0..=SIZE - len {
+            for start in [0, to.saturating_sub(1), to.saturating_sub(len), to, to + 1, to + len / 2, SIZE - len] {
+                if start > SIZE - len {
+                    continue;
+                }
+                let (mut one, mut other) = (source, source);
+                copy_within_unchecked!(one, start..start + len, to);
+                other.copy_within(start..start + len, to);
+                assert_eq!(one, other, "{len} from {start} to {to}");
+            }
+        }
+    }
+}
+
+#[test]
+fn what_is_not_within_panics_at_each_length() {
+    if !IS_TESTED {
+        return;
+    }
+    let mut all = bytes();
+    for past in SIZE + 1..=300 {
+        let reads: [&dyn Fn() -> bool; 4] = [
+            &|| panics(|| *get_unchecked!(all, past - 1)),
+            &|| panics(|| get_unchecked!(all, ..past).len()),
+            &|| panics(|| get_unchecked!(all, past..).len()),
+            &|| panics(|| split_at_unchecked!(all, past).0.len()),
+        ];
+        assert!(reads.iter().all(|panicked| panicked()), "{past}");
+        assert!(panics(|| get_unchecked_mut!(all, ..past).fill(1)), "{past}");
+        assert!(panics(|| copy_within_unchecked!(all, 0..past - SIZE, SIZE)), "{past}");
+        assert!(panics(|| copy_within_unchecked!(all, 0..past, 0)), "{past}");
+    }
+    for (len, given) in (0..=20).flat_map(|len| (0..=20).map(move |given| (len, given))) {
+        let source = bytes();
+        let panicked = panics(|| copy_from_slice_unchecked!(all, 3..3 + len, &source[..given]));
+        assert_eq!(panicked, len != given, "{given} for {len}");
+    }
+}

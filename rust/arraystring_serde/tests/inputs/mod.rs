@@ -1,0 +1,30 @@
+//! What the tests of this folder go through: texts of each length, and the rule by which one is cut.
+#![allow(dead_code)]
+
+/// The lengths of what is given: to more than twice what any string takes.
+pub const GIVEN: std::ops::RangeInclusive<usize> = 0..=600;
+
+/// The longest prefix of whole characters that takes at most so many bytes.
+pub fn cut(text: &str, size: usize) -> &str {
+    let end = text.char_indices().map(|(at, ch)| at + ch.len_utf8()).take_while(|end| *end <= size).last();
+    &text[..end.unwrap_or(0)]
+}
+
+/// Texts of so many bytes: of letters, and of characters of one to four bytes that begin at some place of the list.
+pub fn texts_of(len: usize) -> [String; 3] {
+    const CHARS: [char; 7] = ['🤔', 'é', '\0', '€', '"', '\u{80}', 'a'];
+    let mixed = |first: usize| {
+        let mut text = String::new();
+        for ch in CHARS.iter().cycle().skip(first) {
+            if text.len() + ch.len_utf8() > len {
+                break;
+            }
+            text.push(*ch);
+        }
+        let rest = len - text.len();
+        text + &"m".repeat(rest)
+    };
+    let texts = [(0..len).map(|at| (b'a' + (at % 26) as u8) as char).collect(), mixed(0), mixed(len % CHARS.len())];
+    assert!(texts.iter().all(|text| text.len() == len));
+    texts
+}
