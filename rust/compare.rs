@@ -99,12 +99,13 @@ fn tokens(text: &str, language: Language) -> Result<Vec<Token>, Fault> {
     Ok(lexer.tokens)
 }
 
+/// Whether a character begins a word. Each is ASCII: what others are letters, nobody has to agree about.
 fn is_letter(ch: char) -> bool {
-    ch.is_alphabetic() || ch == '_'
+    ch.is_ascii_alphabetic() || ch == '_'
 }
 
 fn is_inside_word(ch: char) -> bool {
-    ch.is_alphanumeric() || ch == '_'
+    ch.is_ascii_alphanumeric() || ch == '_'
 }
 
 impl Lexer<'_> {
@@ -134,7 +135,7 @@ impl Lexer<'_> {
     /// Passes blanks and comments. Returns whether something is left.
     fn pass_blanks(&mut self) -> Result<bool, Fault> {
         loop {
-            self.pass_while(char::is_whitespace);
+            self.pass_while(|ch| ch == ' ' || ch == '\n');
             if self.starts("//") {
                 self.pass_while(|ch| ch != '\n');
             } else if self.starts("/*") {
@@ -184,10 +185,7 @@ impl Lexer<'_> {
             '0'..='9' => self.pass_number(),
             ch if is_letter(ch) => match self.pass_prefixed()? {
                 Some(kind) => kind,
-                None => {
-                    self.pass_while(is_inside_word);
-                    Kind::Word
-                }
+                None => self.pass_word()?,
             },
             ch if ch.is_ascii_punctuation() => {
                 let bytes = SIGNS.iter().find(|sign| self.starts(sign)).map_or(1, |sign| sign.len());
@@ -198,6 +196,15 @@ impl Lexer<'_> {
         };
         self.push(kind, from);
         if kind == Kind::Word { self.ghost(from) } else { Ok(()) }
+    }
+
+    /// Passes a word. One with a quote behind it would be the prefix of a text or a character for some.
+    fn pass_word(&mut self) -> Result<Kind, Fault> {
+        self.pass_while(is_inside_word);
+        match self.peek() {
+            '"' | '\'' => fault(self.line, "a word with a quote behind it"),
+            _ => Ok(Kind::Word),
+        }
     }
 
     /// Passes a text up to its closing quote.
@@ -307,6 +314,7 @@ fn behind_group(tokens: &[Token], from: usize) -> Option<usize> {
 fn shown(tokens: &[Token]) -> String {
     tokens.iter().map(|token| token.text.as_str()).collect::<Vec<_>>().join(" ")
 }
+
 // ---- Ghost parts of a source ----
 
 /// What would end a ghost part early for one who reads it in another way, as a comment or a text does.
@@ -424,6 +432,7 @@ fn is_ghost_path(text: &str) -> bool {
         }
     }
 }
+
 // ---- Items ----
 
 /// A function, or another item, of a module and what is around it.
@@ -681,7 +690,7 @@ impl Items<'_> {
     /// is seen in the whole crate.
     fn may_be_moved(&self, start: usize) -> Result<(), Fault> {
         let function = &self.tokens[start..self.at];
-        let is_seen = function[0].is("pub") && !(function[1].is("(") && !function[2].is("crate"));
+        let is_seen = function[0].is("pub") && (!function[1].is("(") || function[2].is("crate"));
         let is_path = |pair: &[Token]| (pair[0].is("super") || pair[0].is("self")) && pair[1].is("::");
         if !is_seen || function.windows(2).any(is_path) {
             return fault(function[0].line, "a function that means something else in a module of the order");
@@ -918,6 +927,7 @@ fn between_commas(tokens: &[Token]) -> Vec<&[Token]> {
     }
     parts
 }
+
 // ---- The list of rewrites ----
 
 /// What stands in a made function for what stands in its source. `$of` is a path of fields and of calls without arguments,
@@ -942,74 +952,37 @@ enum Then {
     Anything,
 }
 
-const NO_TEST: &str = "an index is within in each body that is proved, and so it has no test";
+use Then::{Anything, End, NoPostfix};
+
+const fn rewrite(
+    made: &'static str,
+    source: &'static str,
+    then: Then,
+    within: &'static str,
+    why: &'static str,
+) -> Rewrite {
+    Rewrite { made, source, then, within, why }
+}
+
+const NO_TEST: &str = "each access of a body is within, by the proof, and so it has no test";
+const SAME_CALL: &str = "the same call, which the feature `checked` tests";
+const TWIN: &str = "`look` is safe in Rust, and panics; bodies call its twin, which has no test";
+const UPPERCASE: &str = "get_unchecked_mut!($of, $at).make_ascii_uppercase()";
+const LOWERCASE: &str = "get_unchecked_mut!($of, $at).make_ascii_lowercase()";
+const UTF8: &str = "arraystring_base::utf8";
 
 const REWRITES: &[Rewrite] = &[
-    Rewrite { made: "*get_unchecked!($of, $at)", source: "$of[$at]", then: Then::NoPostfix, within: "", why: NO_TEST },
-    Rewrite {
-        made: "*get_unchecked_mut!($of, $at)",
-        source: "$of[$at]",
-        then: Then::NoPostfix,
-        within: "",
-        why: NO_TEST,
-    },
-    Rewrite { made: "get_unchecked!($of, $at)", source: "&$of[$at]", then: Then::End, within: "", why: NO_TEST },
-    Rewrite {
-        made: "get_unchecked_mut!($of, $at)",
-        source: "&mut $of[$at]",
-        then: Then::End,
-        within: "",
-        why: NO_TEST,
-    },
-    Rewrite {
-        made: "get_unchecked_mut!($of, $at).make_ascii_uppercase()",
-        source: "$of[$at].make_ascii_uppercase()",
-        then: Then::End,
-        within: "",
-        why: NO_TEST,
-    },
-    Rewrite {
-        made: "get_unchecked_mut!($of, $at).make_ascii_lowercase()",
-        source: "$of[$at].make_ascii_lowercase()",
-        then: Then::End,
-        within: "",
-        why: NO_TEST,
-    },
-    Rewrite {
-        made: "copy_from_slice_unchecked!($of, $at, $given)",
-        source: "$of[$at].copy_from_slice($given)",
-        then: Then::End,
-        within: "",
-        why: "the part is within and as long as what is given, by the proof",
-    },
-    Rewrite {
-        made: "copy_within_unchecked!($of, $at, $to)",
-        source: "$of.copy_within($at, $to)",
-        then: Then::End,
-        within: "",
-        why: "both parts are within, by the proof",
-    },
-    Rewrite {
-        made: "unreachable_unchecked!()",
-        source: "unreachable!()",
-        then: Then::End,
-        within: "",
-        why: "it is never reached, by the proof",
-    },
-    Rewrite {
-        made: "crate::by_hand::char::from_u32_unchecked(",
-        source: "char::from_u32_unchecked(",
-        then: Then::Anything,
-        within: "arraystring_base::utf8",
-        why: "the same call, which the feature `checked` tests",
-    },
-    Rewrite {
-        made: "look_unchecked(",
-        source: "look(",
-        then: Then::Anything,
-        within: "arraystring_base::utf8",
-        why: "`look` is safe in Rust, and panics; its twin has no test, and is what bodies call",
-    },
+    rewrite("*get_unchecked!($of, $at)", "$of[$at]", NoPostfix, "", NO_TEST),
+    rewrite("*get_unchecked_mut!($of, $at)", "$of[$at]", NoPostfix, "", NO_TEST),
+    rewrite("get_unchecked!($of, $at)", "&$of[$at]", End, "", NO_TEST),
+    rewrite("get_unchecked_mut!($of, $at)", "&mut $of[$at]", End, "", NO_TEST),
+    rewrite(UPPERCASE, "$of[$at].make_ascii_uppercase()", End, "", NO_TEST),
+    rewrite(LOWERCASE, "$of[$at].make_ascii_lowercase()", End, "", NO_TEST),
+    rewrite("copy_from_slice_unchecked!($of, $at, $given)", "$of[$at].copy_from_slice($given)", End, "", NO_TEST),
+    rewrite("copy_within_unchecked!($of, $at, $to)", "$of.copy_within($at, $to)", End, "", NO_TEST),
+    rewrite("unreachable_unchecked!()", "unreachable!()", End, "", "it is never reached, by the proof"),
+    rewrite("crate::by_hand::char::from_u32_unchecked(", "char::from_u32_unchecked(", Anything, UTF8, SAME_CALL),
+    rewrite("look_unchecked(", "look(", Anything, UTF8, TWIN),
 ];
 
 /// Functions that a rewrite or a law knows by their names. In a source each of these words is the name of a call and of nothing
@@ -1017,13 +990,13 @@ const REWRITES: &[Rewrite] = &[
 const KNOWN_NAMES: &[&str] = &["look", "text_fits", "only_reading"];
 
 /// The same in the head of a function.
-const HEADS: &[Rewrite] = &[Rewrite {
-    made: "fn fmt(&self, f: &mut fmt::Formatter<'_>) -> fmt::Result",
-    source: "fn fmt<W: fmt::Write>(&self, f: &mut fmt::Formatter<W>) -> fmt::Result",
-    then: Then::Anything,
-    within: "",
-    why: "a formatter of Rattle has the type of what it writes to",
-}];
+const HEADS: &[Rewrite] = &[rewrite(
+    "fn fmt(&self, f: &mut fmt::Formatter<'_>) -> fmt::Result",
+    "fn fmt<W: fmt::Write>(&self, f: &mut fmt::Formatter<W>) -> fmt::Result",
+    Anything,
+    "",
+    "a formatter of Rattle has the type of what it writes to",
+)];
 
 /// A parameter that takes more types here, and that is asked once, by the first statement of the body.
 struct Asked {
@@ -1118,6 +1091,7 @@ const LAWS: &[Law] = &[
     },
     Law { path: "crate::arraystring_base::laws::only_reading", body: "{}", why: "its contract is a step of a proof" },
 ];
+
 // ---- Rewrites ----
 
 /// What the made functions are read by: the functions that are `unsafe`, and how often each entry of a list was used.
@@ -1224,9 +1198,9 @@ fn put(tokens: &mut Vec<Token>, range: std::ops::Range<usize>, mut with: Vec<Tok
 fn may_follow(then: Then, tokens: &[Token], start: usize, end: usize) -> bool {
     let next = |texts: &[&str]| tokens.get(end).is_some_and(|token| texts.iter().any(|text| token.is(text)));
     match then {
-        Then::End => next(&[")", ",", ";", "}"]) && !(start > 0 && tokens[start - 1].is("*")),
-        Then::NoPostfix => !next(&[".", "?", "[", "("]),
-        Then::Anything => true,
+        End => next(&[")", ",", ";", "}"]) && !(start > 0 && tokens[start - 1].is("*")),
+        NoPostfix => !next(&[".", "?", "[", "("]),
+        Anything => true,
     }
 }
 
@@ -1449,6 +1423,43 @@ fn names_are_of_calls(source: &Item) -> Result<(), Fault> {
     }
 }
 
+/// The body of a source without the steps of proofs, each of which is a statement.
+fn without_proofs(body: &[Token], reading: &mut Reading) -> Result<Vec<Token>, Fault> {
+    let mut made: Vec<Token> = Vec::new();
+    let mut tokens = body.iter().peekable();
+    while let Some(token) = tokens.next() {
+        if token.kind != Kind::Ghost {
+            made.push(token.clone());
+            continue;
+        }
+        let is_whole = tokens.next_if(|next| next.is(";")).is_some();
+        if !token.text.starts_with("prove") || !made.last().is_some_and(is_before_statement) || !is_whole {
+            return fault(token.line, format!("`{}` in a body", token.text));
+        }
+        reading.note(PROVE);
+    }
+    Ok(made)
+}
+
+fn is_before_statement(token: &Token) -> bool {
+    [";", "{", "}"].iter().any(|sign| token.is(sign))
+}
+
+/// The body of a source without calls of these laws, each of which is a statement with one name in its brackets.
+fn without_laws(mut body: Vec<Token>, laws: &[&str], reading: &mut Reading) -> Vec<Token> {
+    for law in laws {
+        let call = pattern(&format!("{law}($item);"));
+        for start in (1..body.len()).rev() {
+            let found = matched(&call, &body, start, &mut Bound::new());
+            if let Some(end) = found.filter(|_| is_before_statement(&body[start - 1])) {
+                body.drain(start..end);
+                reading.note(&format!("law {law}"));
+            }
+        }
+    }
+    body
+}
+
 /// An item of a source without what Rattle alone has. `laws` are those that its file uses, by their names.
 fn without_ghosts(source: &Item, laws: &[&str], reading: &mut Reading) -> Result<Item, Fault> {
     let mut head = source.head.clone();
@@ -1457,33 +1468,11 @@ fn without_ghosts(source: &Item, laws: &[&str], reading: &mut Reading) -> Result
         reading.note(DROP_BOUND);
     }
     names_are_of_calls(source)?;
-    let mut body = Vec::new();
-    let mut tokens = source.body.iter().peekable();
-    while let Some(token) = tokens.next() {
-        if token.kind != Kind::Ghost {
-            body.push(token.clone());
-            continue;
-        }
-        let is_statement = body.last().is_some_and(|last: &Token| [";", "{", "}"].iter().any(|sign| last.is(sign)));
-        let is_whole = tokens.next_if(|next| next.is(";")).is_some();
-        if !token.text.starts_with("prove") || !is_statement || !is_whole {
-            return fault(token.line, format!("`{}` in a body", token.text));
-        }
-        reading.note(PROVE);
-    }
-    for law in laws {
-        let call = pattern(&format!("; {law} ($item);"));
-        while let Some(at) = (0..body.len()).find(|at| {
-            let is_start = [";", "{", "}"].iter().any(|sign| body[*at].is(sign));
-            is_start && matched(&call[1..], &body, at + 1, &mut Bound::new()).is_some()
-        }) {
-            body.drain(at + 1..at + 1 + 5);
-            reading.note(&format!("law {law}"));
-        }
-    }
+    let body = without_laws(without_proofs(&source.body, reading)?, laws, reading);
     let (head, body) = (without_commas(with_single_closings(head), true), without_commas(body, false));
     Ok(Item { head, body: without_unsafe_blocks(body, reading), ..source.clone() })
 }
+
 // ---- The list of places ----
 
 /// An item that is another one here. `source` is the checksum of its source, from its attributes to its closing brace,
@@ -1860,6 +1849,7 @@ const BY_HAND: &[&str] = &[
 /// Modules in a made file that only give the calls of a type their order in the reference: the module around them, and their
 /// names. What is in them counts as if it stood around them.
 const ORDERS: &[(&str, &[&str])] = &[("arraystring_core::array_string", &["empty", "views"])];
+
 // ---- The comparison of a file ----
 
 /// The lists of what is another one here, and why.

@@ -388,6 +388,22 @@ fn a_literal_is_the_same_byte_for_byte() {
 }
 
 #[test]
+fn what_others_may_take_for_another_token_is_refused() {
+    for program in ["fn f() { g(rb\"\\\") }\n", "fn f() { g(k'a') }\n"] {
+        differs(program, program, "a.rt:1: a word with a quote behind it");
+    }
+    for sign in ["\u{A0}", "é", "≡", "\u{3000}", "\u{FEFF}"] {
+        let program = format!("fn f() {{ g{sign}() }}\n");
+        differs(&program, &program, "is no character of a program");
+    }
+    for program in
+        ["fn f() { g(\"a) }\n", "fn f() { g('ab') }\n", "fn f() { g(r#\"a\") }\n", "fn f() { g() \n", "fn f() {} }\n"]
+    {
+        assert!(!pair(&NONE, program, program).is_empty(), "{program}");
+    }
+}
+
+#[test]
 fn a_comment_is_none_of_the_program() {
     same("fn f() {\n    // one { \"\n    g()\n}\n", "/* one /* two */ { */\nfn f() {\n    g() /* \" */\n}\n");
     differs("fn f() { /* */ }\n", "fn f() {}\n", "a comment of the form");
