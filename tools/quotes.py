@@ -3,7 +3,7 @@
 tools/run quotes            looks at all pages of the repository
 tools/run quotes --write    first writes what commands print
 
-Six things are compared:
+Seven things are compared:
 - a block after a line that ends in "From `PATH`:". Its lines stand in the file one after the other;
 - a block after a line that ends in "Printed by `tools/run COMMAND`:" is what that prints;
 - a table below a heading with the path of a file of specs/ has in its first column what that file defines;
@@ -11,7 +11,8 @@ Six things are compared:
   there, and nothing else;
 - inline code such as `pop.drops_nothing`, which ends in a word with an underscore, is the name of a wrong body; a `*` stands for
   any text;
-- functions of which a sentence says that they have "goals of this form" have answers.
+- functions of which a sentence says that they have "goals of this form" have answers;
+- README.md begins as RUST_PAGE does, up to the first section of that, and the program there is the one of FIRST.
 """
 import re
 import subprocess
@@ -26,6 +27,7 @@ DEFINITION = re.compile(r"(?m)^ *(?:(?:abbrev|unfoldable)(?: pub)?|(?:pub )?(?:d
 WHOLE = re.compile(r"(?m)^- `(\w+)`:((?:(?!^- )[\s\S])*?),? which are all that it has\.")
 PUBLIC = re.compile(r"(?m)^(?:(?:abbrev|unfoldable) )?pub (?:data |record )?(\S+)")
 WRONG_BODY = re.compile(r"[\w.*]*\.[a-z]+_\w+")
+RUST_PAGE, FIRST = "rust/arraystring/README.md", "rust/arraystring/examples/first.rs"
 ANSWERED = re.compile(r"((?:`\w+`,?\s(?:and\s)?)+)have goals of this form")
 
 
@@ -62,8 +64,19 @@ def faults_of(root, text):
             yield f"{name} has no answers"
 
 
+def faults_of_beginnings(root):
+    """What is wrong with what both pages begin with; nothing where there is no page of the Rust crate."""
+    if (root / RUST_PAGE).exists():
+        begins, has_sections, _ = read(root / RUST_PAGE).partition("\n## ")
+        program = re.search(r"(?s)```rust\n(.*?)```", begins)
+        if not has_sections or not read(root / "README.md").startswith(begins):
+            yield f"README.md does not begin as {RUST_PAGE} does"
+        if not program or not read(root / FIRST).endswith(f"\n{program[1]}"):
+            yield f"{FIRST} does not end with the program that {RUST_PAGE} begins with"
+
+
 def main(arguments, root):
-    all_faults, compared = [], 0
+    all_faults, compared = list(faults_of_beginnings(root)), 0
     for page in [it for depth in ("", "*/", "*/*/") for it in sorted(root.glob(f"{depth}*.md"))]:
         text = read(page)
         due = as_due(root, text)

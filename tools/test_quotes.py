@@ -128,3 +128,29 @@ class Quotes(TreeTest):
     def test_a_tree_without_a_quote_is_told(self):
         self.write("page.md", "nothing\n")
         self.assertEqual(self.told(quotes), (True, "0 blocks are as in the files\n"))
+
+
+class Beginnings(TreeTest):
+    RUST, FIRST = "rust/arraystring/README.md", "rust/arraystring/examples/first.rs"
+    BEGINS = "# arraystring\n\nA string.\n\n```rust\nuse it;\n\nfn main() {}\n```\n\n- It is one.\n"
+    FILES = {
+        "README.md": BEGINS + "\n[Links](a)\n\n## More\n\n" + PAGE.partition("## ")[0],
+        RUST: BEGINS + "\n## Getting it\n",
+        FIRST: "//! The first.\n\nuse it;\n\nfn main() {}\n",
+        GREET: SOURCE,
+    }
+
+    def test_both_pages_begin_alike_and_with_the_program_of_an_example(self):
+        begins = f"README.md does not begin as {self.RUST} does\n"
+        program = f"{self.FIRST} does not end with the program that {self.RUST} begins with\n"
+        self.assert_finds(
+            quotes,
+            (begins, ("README.md", "It is one", "It is two")),
+            (begins, (self.RUST, r"\A", "\n")),
+            (begins, (self.RUST, "^## Getting it", "Getting it")),
+            (program, (self.FIRST, "fn main", "fn other")),
+            (program, (self.FIRST, END, "// more\n")),
+            (program, (self.RUST, "use it;", "use this;"), ("README.md", "use it;", "use this;")),
+            (program, (self.RUST, "(?s)```rust.*?```\n\n", ""), ("README.md", "(?s)```rust\nuse.*?```\n\n", "")),
+            ("", ("README.md", "^## More", "## Other")),
+        )

@@ -119,14 +119,17 @@ class Gate(ScriptTest):
         self.write(self.PROGRAM, "of an earlier run")
         os.utime(self.root / self.PROGRAM, (0, 0))
         self.proves(self.RAN, self.RAN)
-        for path in ("tools/run", "bin/cargo"):
-            self.stand_in(path)
+        self.refuses("144 growths of 44 calls, in 13 builds, 0 differ")
+        self.stand_in("bin/cargo")
         self.checks("0 skipped")
         self.stand_in("crates/arraystring_cli/try", self.TRIED)
 
     def proves(self, *lines, program=f"sleep 0.02; echo a program > {PROGRAM}"):
         """`rt ci` does this, and leaves a program."""
         self.stand_in("bin/rt", program, *lines)
+
+    def refuses(self, count):
+        self.stand_in("tools/run", f"[ $1 != refused ] || echo 'refused: {count}'")
 
     def checks(self, skipped):
         self.stand_in("rust/check", f"echo 'rust/check: 12 passed, {skipped}'")
@@ -152,6 +155,12 @@ class Gate(ScriptTest):
             self.stand_in("crates/arraystring_cli/try", *lines)
             self.assert_refused(wanted)
 
+    def test_each_growth_has_to_be_refused(self):
+        for count in ("143 growths of 44 calls, in 13 builds, 0 differ", "144 growths of 43 calls, in 13 builds, 0 differ",
+                      "144 growths of 44 calls, in 12 builds, 0 differ", "144 growths of 44 calls, in 13 builds, 1 differ"):
+            self.refuses(count)
+            self.assert_refused("growths were refused, and 144 are due")
+
     def test_where_there_is_no_cargo_it_says_what_was_not_checked(self):
         (self.root / "bin/cargo").unlink()
         failed, said, calls = self.called()
@@ -176,6 +185,7 @@ class RustCheck(ScriptTest):
 case $1 in
     doc) mkdir -p "$CARGO_TARGET_DIR/doc/arraystring"; echo '{}' > "$CARGO_TARGET_DIR/doc/arraystring/struct.ArrayString.html" ;;
     pkgid) echo 'path#arraystring@0.1.0' ;;
+    run) case "$*" in *'--example first') cat ../printed ;; esac ;;
     test)
         mkdir -p "$CARGO_TARGET_DIR"
         case "$*" in *erase*) cat ../erased ;; *serde*) cat ../served ;; *) cat ../tested ;; esac ;;
@@ -189,6 +199,8 @@ esac"""
         "rust/compare_tests.rs": TEST.format("sees"),
         "rust/erase/src/main.rs": f"mod tests {{\n{TEST.format('erases')}}}\n",
         "rust/erase/tests/main.rs": TEST.format("runs"),
+        "rust/arraystring/examples/first.rs": "    one(); // prints: a text\n    two(); // a remark\n    three(); // prints: 7\n",
+        "printed": "a text\n7\n",
         "rust/arraystring/src/lib.rs": "",
         "rust/arraystring/tests/model.rs": TEST.format("plays").replace("fn plays", "#[should_panic]\nfn plays"),
         "rust/arraystring/tests/every_state/edits.rs": TEST.format("edits") + TEST.format("looks"),
@@ -245,6 +257,11 @@ esac"""
         self.assertEqual((len(without), [it for it in fewer if is_call(it)]), (len(calls) - 5, without))
         said = self.called(calls.index("cargo fmt --version") + 1)[1]
         self.assertTrue(said.endswith("rust/check: 12 passed, 2 skipped: rustfmt serde\n"), said)
+
+    def test_the_first_program_prints_what_its_comments_say(self):
+        for printed in ("", "a text\n", "a text\n8\n", "a text\n7\nmore\n"):
+            self.write("printed", printed)
+            self.assert_refused("examples/first.rs prints another text than its comments say")
 
     def test_a_test_that_no_build_runs_is_told(self):
         """One behind a `cfg`, in a file that no other names, or one that is ignored; and one that runs and is nowhere."""

@@ -7,7 +7,7 @@ use arraystring::{ArrayString, CacheString, Error, SmallString, error::Utf8};
 
 type Username = ArrayString<20>;
 
-/// The example of the repository's README.
+/// A name with a sign before it and a greeting behind it, as far as that fits.
 fn greet(name: &str) -> Result<Username, Error> {
     let mut username = Username::try_from_str(name)?;
     username.try_insert_str(0, "@")?;

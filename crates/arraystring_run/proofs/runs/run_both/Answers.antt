@@ -99,6 +99,14 @@ alike (c ∷ cs) t n m le = go (tight c t n) refl (alike cs (edit c t n).text n 
           same_text = λ none. cc (rest.same_text (none-next first (sym (later n) ∙ none)), same.text);
         }
 
+pub returns-clause-second_replies : goal.returns-clause-second_replies
+returns-clause-second_replies g c = elim c.if-not-is_empty.branch [
+  | then-not-is_empty w ↦ ap (λ v. map said v.items) w.second_replies-is ∙ w.fill-first_tight.ensures.replies
+  | else-not-is_empty w ↦
+      ap (λ v. map said v.items) w.second_replies-is ∙ ap (map said) c.in_ok-second_replies.ensures.items
+      ∙ sym (of-none _ c.args.second.now.text (cap g.row.M) w.if-not-is_empty.ensures).0
+]
+
 pub returns-clause-second_text : goal.returns-clause-second_text
 returns-clause-second_text g c = elim c.if-not-is_empty.branch [
   | then-not-is_empty w ↦ ap (λ t. t.text) w.second-is ∙ w.fill-first_tight.ensures.text
@@ -122,17 +130,9 @@ returns-clause-one_each g c = elim c.if-not-is_empty.branch [
 
 pub returns-clause-agree : goal.returns-clause-agree
 returns-clause-agree g c = λ same le.
-    let cs = c.args.commands.now in
     let first = c.in_ok-first_outcome.ensures in
-    let t = c.args.second.now.text in
-    let second : map said c.if-not-is_empty.second_replies.items ≡ (after cs t (cap g.row.M)).replies =
-    elim c.if-not-is_empty.branch [
-      | then-not-is_empty w ↦ ap (λ v. map said v.items) w.second_replies-is ∙ w.fill-first_tight.ensures.replies
-      | else-not-is_empty w ↦
-          ap (λ v. map said v.items) w.second_replies-is ∙ ap (map said) c.in_ok-second_replies.ensures.items
-          ∙ sym (of-none _ c.args.second.now.text (cap g.row.M) w.if-not-is_empty.ensures).0
-    ] in
-    rw (first.replies, first.first_tight, second, ← same) (alike cs c.args.first.now.text (cap g.row.N) (cap g.row.M) le).agree
+    rw (first.replies, first.first_tight, returns-clause-second_replies g c, ← same)
+    (alike c.args.commands.now c.args.first.now.text (cap g.row.N) (cap g.row.M) le).agree
 
 pub returns-clause-no_sooner : goal.returns-clause-no_sooner
 returns-clause-no_sooner g c = λ same le.

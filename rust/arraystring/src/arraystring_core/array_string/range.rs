@@ -123,18 +123,7 @@ impl<const N: usize> ArrayString<N> {
     /// </details>
     #[inline(always)]
     pub fn drain<R: RangeBounds<u8>>(&mut self, range: R) -> Result<Drain<N>, Error> {
-        let (start, end) = saturating_ends(range, self.len());
-        self.check_part(start, end)?;
-        // Made here, and not in a function that both calls share: each one would copy the array once more.
-        // SAFETY: the `end - start` bytes of `self.array` from `self.start + start` on are UTF-8 and end within the
-        // capacity: `check_part` returned `Ok`, so this is a part of the text.
-        // Proved: crates/arraystring_core/src/array_string/range.rt
-        let removed = unsafe { Drain::new(self.array, self.start + start, end - start) };
-        // SAFETY: `start <= end`; `start` is a boundary of `self`; `end` is a boundary of `self`: `check_part` returned
-        // `Ok`, so this is a part of the text.
-        // Proved: crates/arraystring_core/src/array_string/range.rt
-        unsafe { self.take_out(start as usize, end as usize, &mut Steps::new()) };
-        Ok(removed)
+        self.drain_counted(range, &mut Steps::new())
     }
 
     /// Drains as [`drain`](crate::ArrayString::drain) does, with the bytes that it moves counted in `steps`. They are no more than
