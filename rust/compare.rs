@@ -425,7 +425,9 @@ fn is_ghost_path(text: &str) -> bool {
         return false;
     }
     match text.trim().split_once('{') {
-        Some((path, names)) => is_path(path) && names.find('}') == Some(names.len() - 1),
+        Some((path, names)) => {
+            is_path(path) && names.strip_suffix('}').is_some_and(|names| !names.contains(['{', '}']))
+        }
         None => {
             let (path, alias) = text.trim().split_once(" as ").unwrap_or((text.trim(), ""));
             is_path(path) && is_path(alias)

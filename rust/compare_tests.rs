@@ -274,6 +274,7 @@ fn a_clause_that_could_end_early_is_refused() {
         let found = pair(&NONE, &source, NO_CLAUSE);
         assert!(found.len() == 1 && found[0].starts_with("crates/arraystring_base/src/a.rt:2: "), "{sign}: {found:?}");
     }
+    differs(&CLAUSE.replace("≡ at", "≡ (at"), NO_CLAUSE, "a.rt:2: `}` in a ghost part closes nothing");
     let swallows = CLAUSE.replace("≡ at }", "≡ at --{ }").replace("return 3;\n    }", "return 3;\n    } }");
     differs(&swallows, "pub fn f(at: u8) -> u8 {\n    at\n}\n", "its end would not be clear");
 }
@@ -295,7 +296,15 @@ fn a_ghost_item_ends_at_its_own_sign() {
     let made = "pub const A: u8 = 1;\n";
     same("ghost use Rattle.a.B.{◌≡◌, c};\npub const A: u8 = 1;\n", made);
     same("ghost use Rattle.a as b;\npub const A: u8 = 1;\n", made);
-    differs("ghost use Rattle.a\npub const A: u8 = 1;\n", "", "not a path on one line");
+    for uses in
+        ["Rattle.a\n", "Rattle.a.{b,\nc};\n", "Rattle.a.{b, pub use c::{d};\n", "Rattle.a.{b} c;\n", "Rattle.a.{b;\n"]
+    {
+        differs(
+            &format!("ghost use {uses}pub const A: u8 = 1;\n"),
+            "",
+            "a.rt:1: a `ghost use` that is not a path on one line",
+        );
+    }
     differs("ghost fn f() {}\npub const A: u8 = 1;\n", "", "neither `ghost use ..;`");
     let item = |text: &str| format!("impl Eq for A {{\n    ghost laws = {{ {text} }};\n}}\n");
     same(&item("codes \"Error::\" ++ x"), "impl Eq for A {}\n");
@@ -476,7 +485,7 @@ fn unsafe_stands_around_one_call_of_what_is_unsafe() {
     same(source, &source.replace("put(a)", "unsafe { put(a) }"));
     same(source, &source.replace("put(a)", "unsafe { put(a,) }"));
     differs(source, &source.replace("other(b)", "unsafe { other(b) }"), "for `");
-    differs(source, &source.replace("put(a)", "unsafe { put(a) + 1 }"), "for `");
+    differs(&source.replace("(a);", "(a) + 1;"), &source.replace("put(a)", "unsafe { put(a) + 1 }"), "for `");
     differs(source, &source.replace("let b = put(a);\n    other(b);", "unsafe { let b = put(a); other(b); }"), "for `");
 }
 
@@ -513,6 +522,7 @@ fn a_parameter_is_asked_once_and_first() {
     let made = "fn f<U: AsRef<str>, I: IntoIterator<Item = U>>(all: I) {\n    for one in all {\n        let one = one.as_ref();\n        g(one);\n    }\n}\n";
     same(source, made);
     differs(source, &made.replace("g(one)", "h::<U>(one)"), "for `");
+    differs(source, &made.replace("let one = one.as_ref();", "let one = other.as_ref();"), "for `");
     differs(
         source,
         &made.replace("let one = one.as_ref();", "let one = one.as_ref(); let one = one.as_ref();"),
