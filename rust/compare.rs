@@ -987,9 +987,13 @@ const REWRITES: &[Rewrite] = &[
     rewrite("look_unchecked(", "look(", Anything, UTF8, TWIN),
 ];
 
-/// Functions that a rewrite or a law knows by their names. In a source each of these words is the name of a call and of nothing
-/// else, so that no closure or function in a body takes its place.
-const KNOWN_NAMES: &[&str] = &["look", "text_fits", "only_reading"];
+/// Functions that a rewrite or a law knows by their names, and where they are defined. No other item of a source has such a name,
+/// and in a body it is that of a call and of nothing else: so no function or closure takes its place.
+const KNOWN_NAMES: &[(&str, &str)] = &[
+    ("look", "arraystring_base::steps::look"),
+    ("text_fits", "arraystring_core::laws::text_fits"),
+    ("only_reading", "arraystring_base::laws::only_reading"),
+];
 
 /// The same in the head of a function.
 const HEADS: &[Rewrite] = &[rewrite(
@@ -1413,7 +1417,7 @@ fn as_in_source(made: &Item, source: &Item, reading: &mut Reading) -> Item {
 
 /// No name that is known is that of something in the body, and no function is in it.
 fn names_are_of_calls(source: &Item) -> Result<(), Fault> {
-    let is_known = |token: &Token| KNOWN_NAMES.contains(&token.text.as_str());
+    let is_known = |token: &Token| KNOWN_NAMES.iter().any(|(name, _)| token.is(name));
     let parameter = source.head.windows(2).find(|pair| is_known(&pair[1]) && !pair[0].is("fn")).map(|pair| &pair[1]);
     let other = source.body.windows(2).find(|pair| is_known(&pair[0]) && !pair[1].is("(")).map(|pair| &pair[0]);
     if let Some(token) = parameter.or(other).filter(|_| source.is_function) {
@@ -1913,7 +1917,7 @@ impl Comparison {
         let there = self.read(items(source.text, rattle), source.path);
         let here = self.read(items(made.text, rust), made.path);
         let (Some(there), Some(here)) = (there, here) else { return };
-        for item in there.iter().filter(|item| is_misleading(&item.key)) {
+        for item in there.iter().filter(|item| is_misleading(item)) {
             let why = "has the name of a crate, or of what a rewrite knows";
             self.differences.push(format!("{}:{}: `{}` {why}", source.path, item.line, item.path));
         }
@@ -2070,14 +2074,16 @@ impl Comparison {
     }
 }
 
-/// Whether a module or a `use` gives the name of a crate, or of what a rewrite knows, to something else. Paths would mean that.
-fn is_misleading(key: &str) -> bool {
-    let key = key.rsplit(" / ").next().unwrap_or_default();
+/// Whether an item of a source has a name that a rewrite or a path takes for something else.
+fn is_misleading(item: &Item) -> bool {
+    let key = item.key.rsplit(" / ").next().unwrap_or_default();
     let name = key.rsplit([':', ' ']).next().unwrap_or_default();
-    let is_known = KNOWN_NAMES.contains(&name) && (key.contains(" as ") || key.starts_with("mod "));
+    let is_use = key.starts_with("use ");
+    let is_named_here = !is_use || key.contains(" as ");
+    let is_known = KNOWN_NAMES.iter().any(|(known, path)| name == *known && item.path != *path);
     let is_crate = ["std", "core", "alloc", "crate"].contains(&name) || CRATES.contains(&name);
     let is_std = ["char", "str"].contains(&name) && key != format!("use core::{name}");
-    (key.starts_with("use ") || key.starts_with("mod ")) && (is_crate || is_std || is_known)
+    is_named_here && is_known || (is_use || key.starts_with("mod ")) && (is_crate || is_std)
 }
 
 /// The items that an entry of a list has.

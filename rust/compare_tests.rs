@@ -428,28 +428,28 @@ fn a_comment_is_none_of_the_program() {
 
 static LISTED: Lists = Lists {
     places: &[Place {
-        path: "arraystring_base::a::look",
-        source: 0x17FB_F9CA_B18B_E3EA,
-        here: "pub fn look() -> u8 { 2 }",
+        path: "arraystring_base::a::peek",
+        source: 0x297A_981F_C6EF_5A16,
+        here: "pub fn peek() -> u8 { 2 }",
         why: "a test",
     }],
     ..NONE
 };
 
-const LOOK: &str = "pub fn look() -> u8\n    ensures { result ≡ 1 }\n{\n    1\n}\n";
+const PEEK: &str = "pub fn peek() -> u8\n    ensures { result ≡ 1 }\n{\n    1\n}\n";
 
 #[test]
 fn a_place_is_of_one_source_and_of_one_path() {
-    let made = "pub fn look() -> u8 {\n    2\n}\n";
-    assert_eq!(pair(&LISTED, LOOK, made), [""; 0]);
+    let made = "pub fn peek() -> u8 {\n    2\n}\n";
+    assert_eq!(pair(&LISTED, PEEK, made), [""; 0]);
     for (from, to) in [("    1\n", "    0\n"), ("≡ 1", "≡ 2"), ("u8\n", "u16\n"), ("pub ", "#[inline] pub ")] {
-        let found = pair(&LISTED, &LOOK.replace(from, to), made);
+        let found = pair(&LISTED, &PEEK.replace(from, to), made);
         assert!(found.first().is_some_and(|first| first.contains("read both, and enter 0x")), "{from}: {found:?}");
     }
-    assert!(pair(&LISTED, LOOK, &made.replace('2', "1"))[0].contains("for `"));
+    assert!(pair(&LISTED, PEEK, &made.replace('2', "1"))[0].contains("for `"));
     let inner = |text: &str| format!("mod inner {{\n{text}}}\n{text}");
-    let found = pair(&LISTED, &inner(LOOK), &inner(made));
-    assert!(found.len() == 1 && found[0].contains("`arraystring_base::a::inner::look`"), "{found:?}");
+    let found = pair(&LISTED, &inner(PEEK), &inner(made));
+    assert!(found.len() == 1 && found[0].contains("`arraystring_base::a::inner::peek`"), "{found:?}");
 }
 
 #[test]
@@ -545,6 +545,13 @@ fn a_name_that_is_known_is_that_of_a_call() {
     differs(&source("fn only_reading(a: u8) {} only_reading(a);"), made, "a function in a function");
     differs(&source("only_reading(a);").replace(uses, ""), made, "for `");
     differs("fn f(look: u8) { look(a) }\n", "fn f(look: u8) { look(a) }\n", "is the name of a call that is known");
+    let inner = "mod inner {\n    use super::*;\n    fn look(a: u8) {}\n    fn f() { look(a) }\n}\n";
+    differs(inner, inner, "`arraystring_base::a::inner::look` has the name");
+    differs(
+        "impl A { fn look(&self) {} }\n",
+        "impl A { fn look(&self) {} }\n",
+        "`arraystring_base::a::A::look` has the name",
+    );
     differs("use crate::b as look;\n", "use crate::arraystring_base::b as look;\n", "of what a rewrite knows");
     differs("fn f() { look(a) }\n", "fn f() { look_unchecked(a) }\n", "for `");
 }
