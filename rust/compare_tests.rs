@@ -517,11 +517,14 @@ fn a_parameter_is_asked_once_and_first() {
     ] {
         differs(source, &made.replace(from, to), "`arraystring_base::a::f`: `");
     }
+    // (a type of the source with the name of the parameter would be hidden by it)
+    let named = |text: &str| text.replace("g(a, b)", "S::g(a, b)");
+    differs(&named(source), &named(made), "`arraystring_base::a::f`: `");
     let source =
         "fn f<'a, I: IntoIterator<Item = &'a str> + Drop>(all: I) {\n    for one in all {\n        g(one);\n    }\n}\n";
     let made = "fn f<U: AsRef<str>, I: IntoIterator<Item = U>>(all: I) {\n    for one in all {\n        let one = one.as_ref();\n        g(one);\n    }\n}\n";
     same(source, made);
-    differs(source, &made.replace("g(one)", "h::<U>(one)"), "for `");
+    differs(&source.replace("g(one)", "U::g(one)"), &made.replace("g(one)", "U::g(one)"), "for `");
     differs(source, &made.replace("let one = one.as_ref();", "let one = other.as_ref();"), "for `");
     differs(
         source,
