@@ -214,8 +214,14 @@ fn what_is_made_of_no_source_is_seen() {
     let mut more = files.clone();
     more.insert(format!("{MADE}arraystring_base/more.rs"), "pub fn more() {}\n".to_string());
     seen(&more, "it has no source, and is not in the list of what is by hand");
+    let path = format!("{MADE}arraystring_base/utf8.rs");
+    let mut marked = files.clone();
+    marked.insert(path.clone(), format!("// NOT PROVED: a mark.\n{}", files[&path]));
+    assert_eq!(compare(&marked, &LISTS).differences, [""; 0]);
+    marked.insert(path.clone(), files[&path].replace("utf8.rt", "utf16.rt"));
+    seen(&marked, "it does not name crates/arraystring_base/src/utf8.rt as its source");
     let mut fewer = files.clone();
-    fewer.remove(&format!("{MADE}arraystring_base/utf8.rs"));
+    fewer.remove(&path);
     seen(&fewer, "it has no made file");
     let mut other = files.clone();
     other.insert("crates/arraystring_base/src/more.rt".to_string(), "pub fn more() {}\n".to_string());
