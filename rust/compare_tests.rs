@@ -587,6 +587,7 @@ fn each_item_is_there_once_and_no_other() {
     differs("fn f() {}\n", "fn f() {}\nfn g() {}\n", "`arraystring_base::a::g` is in no source");
     differs("fn f() {}\nfn g() {}\n", "fn f() {}\n", "`arraystring_base::a::g` is missing");
     differs("fn f() {}\n", "fn f() {}\n#[cfg(test)]\nfn f() {}\n", "is there twice");
+    differs("mod a\npub mod b;\n", "mod a;\n", "`mod a` without `;`");
     differs("impl A for B {}\n", "", "`arraystring_base::a::<B as A>` is missing");
     differs("impl A { fn f() {} }\n", "impl B { fn f() {} }\n", "is missing");
     differs("struct A { a: u8, b: u8 }\n", "struct A { b: u8, a: u8 }\n", "for `");
