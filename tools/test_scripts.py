@@ -178,8 +178,8 @@ class Gate(ScriptTest):
 
 
 class RustCheck(ScriptTest):
-    SCRIPT, PASSED, NOTED = "rust/check", "rust/check: 13 passed, 0 skipped\n", "cmp grep rm find"
-    PROGRAMS = "bash sh dirname cat wc sed mktemp paste awk sort cut uniq diff xargs"
+    SCRIPT, PASSED, NOTED = "rust/check", "rust/check: 14 passed, 0 skipped\n", "cmp grep rm find"
+    PROGRAMS = "bash sh dirname cat wc sed mktemp mkdir paste awk sort cut uniq diff xargs"
     # (what `cargo doc` makes, the number that `cargo pkgid` tells, and what the tests say)
     CARGO = """\
 case $1 in
@@ -196,6 +196,7 @@ esac"""
         "LICENSE": "a license",
         "rust/arraystring/LICENSE": "a license",
         "rust/arraystring_serde/Cargo.lock": "of crates.io",
+        "rust/compare_tests.rs": TEST.format("sees"),
         "rust/erase/src/main.rs": f"mod tests {{\n{TEST.format('erases')}}}\n",
         "rust/erase/tests/main.rs": TEST.format("runs"),
         "rust/arraystring/examples/first.rs": "    one(); // prints: a text\n    two(); // a remark\n    three(); // prints: 7\n",
@@ -218,9 +219,13 @@ esac"""
         super().setUp()
         for path in ("erase/run", "bench/time", "no_panic/links"):
             self.stand_in(f"rust/{path}")
+        self.stand_in("bin/rustfmt")
+        # (what rustc makes is a stand-in, too)
+        self.stand_in("compared", "echo 'test tests::sees ... ok'")
+        self.stand_in("bin/rustc", "PATH=/usr/bin:/bin", "for word; do made=$word; done", 'cp ../compared "$made"')
         self.has_reference(self.CONSTRUCTORS)
         self.has_serde(True)
-        counts = ["erase: main 1", "erase: src 1", "arraystring_serde: json 1"]
+        counts = ["compare: compare_tests 1", "erase: main 1", "erase: src 1", "arraystring_serde: json 1"]
         for build in self.BUILDS:
             counts += [f"arraystring{build}: {it}" for it in ("every_state 2", "examples 1", "model 1")]
         self.write("rust/tests.txt", "".join(f"{it}\n" for it in sorted(counts)))
@@ -240,18 +245,18 @@ esac"""
         for name, tool in (("fmt", "rustfmt"), ("clippy", "clippy")):
             said = self.called(calls.index(f"cargo {name} --version") + 1)[1]
             self.assertIn(f"rust/check: {tool} is not there", said)
-            self.assertTrue(said.endswith(f"rust/check: 12 passed, 1 skipped: {tool}\n"), said)
+            self.assertTrue(said.endswith(f"rust/check: 13 passed, 1 skipped: {tool}\n"), said)
         self.has_serde(False)
         failed, said, fewer = self.called()
         self.assertFalse(failed)
         self.assertIn("librust-serde-dev and librust-serde-json-dev are not there", said)
-        self.assertTrue(said.endswith("rust/check: 12 passed, 1 skipped: serde\n"), said)
+        self.assertTrue(said.endswith("rust/check: 13 passed, 1 skipped: serde\n"), said)
         # (the form of what is written by hand is looked at without it)
         without = [it for it in calls if "arraystring_serde" not in it or "cargo fmt" in it or it.startswith("rm ")]
         without = [it.replace("^none:", "^arraystring_serde:") for it in without]
         self.assertEqual((len(without), [it for it in fewer if is_call(it)]), (len(calls) - 5, without))
         said = self.called(calls.index("cargo fmt --version") + 1)[1]
-        self.assertTrue(said.endswith("rust/check: 11 passed, 2 skipped: rustfmt serde\n"), said)
+        self.assertTrue(said.endswith("rust/check: 12 passed, 2 skipped: rustfmt serde\n"), said)
 
     def test_the_first_program_prints_what_its_comments_say(self):
         for printed in ("", "a text\n", "a text\n8\n", "a text\n7\nmore\n"):
@@ -268,6 +273,7 @@ esac"""
                                (("rust/arraystring/src/new.rs", self.TEST.format("plays")), "< arraystring:src:plays\n"),
                                (("rust/erase/src/new.rs", self.TEST.format("new")), "< erase:src:new\n"),
                                (("erased", "tests::erases", "tests::other"), "> erase:src:other\n"),
+                               (("compared", "tests::sees", "tests::other"), "< compare:compare_tests:sees\n"),
                                (("served", "test reads", "test writes"), "< arraystring_serde:json:reads\n")):
             with self.subTest(change), self.changed(change):
                 self.assertIn("rust/check: tests of the sources (<)", self.assert_refused(wanted))

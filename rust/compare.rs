@@ -1,0 +1,2311 @@
+//! Compares each made file of the Rust crate with the proved source that it was made of, token by token. It shares no code with
+//! the eraser, and knows nothing of it: it reads what was made, undoes the rewrites of a list, and what is left has to be the
+//! source without its ghost parts, but for the places of another list.
+//!
+//!     rustc --edition 2024 -O rust/compare.rs -o /tmp/compare && /tmp/compare [--root FOLDER]
+//!
+//! The folder is the repository, by default the one in which it runs. Status 1: there is a difference, and each is printed with
+//! both places. Status 2: it was called wrongly, or a file can't be read. Its tests are in `compare_tests.rs`.
+//!
+//! What it does not see, since the tokens are the same: what both languages take for something else.
+//!
+//! One part after the other: tokens, ghost parts, items, paths and `use`, the list of rewrites, rewrites, the list of places, the
+//! comparison of a file, that of all. `Rattle` is the language of the sources, `Rust` that of what is made.
+
+use std::collections::{BTreeMap, BTreeSet};
+use std::fmt::Write as _;
+use std::path::{Path, PathBuf};
+use std::process::ExitCode;
+
+// ---- Tokens ----
+
+/// What is wrong, at a line of a text.
+#[derive(Debug)]
+struct Fault {
+    line: usize,
+    why: String,
+}
+
+fn fault<T>(line: usize, why: impl Into<String>) -> Result<T, Fault> {
+    Err(Fault { line, why: why.into() })
+}
+
+#[derive(Clone, Copy, PartialEq, Eq, Debug)]
+enum Kind {
+    Word,
+    Number,
+    /// A text, a byte text or a raw one, with its quotes.
+    Text,
+    /// A character or a byte.
+    Letter,
+    Lifetime,
+    Sign,
+    /// A ghost part of a source, as it is written.
+    Ghost,
+}
+
+#[derive(Clone, Debug)]
+struct Token {
+    kind: Kind,
+    text: String,
+    line: usize,
+    /// Where it begins and ends in its file.
+    at: (usize, usize),
+}
+
+impl PartialEq for Token {
+    fn eq(&self, other: &Self) -> bool {
+        self.kind == other.kind && self.text == other.text
+    }
+}
+
+impl Token {
+    fn is(&self, text: &str) -> bool {
+        self.text == text && matches!(self.kind, Kind::Word | Kind::Sign)
+    }
+}
+
+#[derive(Clone, Copy, PartialEq)]
+enum Language {
+    Rattle,
+    Rust,
+}
+
+/// The signs of more than one byte, the longest first, as rustc takes them. `$` is for patterns.
+const SIGNS: &[&str] = &[
+    "<<=", ">>=", "...", "..=", "::", "->", "=>", "==", "!=", "<=", ">=", "&&", "||", "+=", "-=", "*=", "/=", "%=",
+    "^=", "&=", "|=", "<<", ">>", "..",
+];
+
+struct Lexer<'a> {
+    text: &'a str,
+    language: Language,
+    at: usize,
+    line: usize,
+    tokens: Vec<Token>,
+}
+
+/// The tokens of a file. Comments and documentation are none.
+fn tokens(text: &str, language: Language) -> Result<Vec<Token>, Fault> {
+    // Some take one of these for the end of a line, and so of a comment, and others do not.
+    let is_unclear = |ch: char| ch.is_control() && ch != '\n' || matches!(ch, '\u{2028}' | '\u{2029}');
+    if let Some(at) = text.find(is_unclear) {
+        return fault(text[..at].matches('\n').count() + 1, "a character that may end a line, and may not");
+    }
+    let mut lexer = Lexer { text, language, at: 0, line: 1, tokens: Vec::new() };
+    while lexer.pass_blanks()? {
+        lexer.take()?;
+    }
+    Ok(lexer.tokens)
+}
+
+/// Whether a character begins a word. Each is ASCII: what others are letters, nobody has to agree about.
+fn is_letter(ch: char) -> bool {
+    ch.is_ascii_alphabetic() || ch == '_'
+}
+
+fn is_inside_word(ch: char) -> bool {
+    ch.is_ascii_alphanumeric() || ch == '_'
+}
+
+impl Lexer<'_> {
+    fn rest(&self) -> &str {
+        &self.text[self.at..]
+    }
+
+    fn starts(&self, with: &str) -> bool {
+        self.rest().starts_with(with)
+    }
+
+    /// The next character, or 0 at the end.
+    fn peek(&self) -> char {
+        self.rest().chars().next().unwrap_or('\0')
+    }
+
+    fn pass(&mut self, bytes: usize) {
+        self.line += self.rest()[..bytes].matches('\n').count();
+        self.at += bytes;
+    }
+
+    fn pass_while(&mut self, is_meant: impl Fn(char) -> bool) {
+        let bytes = self.rest().find(|ch| !is_meant(ch)).unwrap_or(self.rest().len());
+        self.pass(bytes);
+    }
+
+    /// Passes blanks and comments. Returns whether something is left.
+    fn pass_blanks(&mut self) -> Result<bool, Fault> {
+        loop {
+            self.pass_while(|ch| ch == ' ' || ch == '\n');
+            if self.starts("//") {
+                self.pass_while(|ch| ch != '\n');
+            } else if self.starts("/*") {
+                self.pass_comment()?;
+            } else {
+                return Ok(self.at < self.text.len());
+            }
+        }
+    }
+
+    /// Passes a comment in which others may lie. No source has one: whether they nest there is not known here.
+    fn pass_comment(&mut self) -> Result<(), Fault> {
+        let line = self.line;
+        if self.language == Language::Rattle {
+            return fault(line, "a comment of the form `/* */`: each line of a source has its own `//`");
+        }
+        let mut depth = 0;
+        loop {
+            let Some(next) = self.rest().find(['/', '*']) else { return fault(line, "a comment without its end") };
+            self.pass(next);
+            match (self.starts("/*"), self.starts("*/")) {
+                (true, _) => depth += 1,
+                (_, true) => depth -= 1,
+                _ => {
+                    self.pass(1);
+                    continue;
+                }
+            }
+            self.pass(2);
+            if depth == 0 {
+                return Ok(());
+            }
+        }
+    }
+
+    fn push(&mut self, kind: Kind, from: (usize, usize)) {
+        let (line, start) = from;
+        self.tokens.push(Token { kind, text: self.text[start..self.at].to_string(), line, at: (start, self.at) });
+    }
+
+    /// Takes the next token.
+    fn take(&mut self) -> Result<(), Fault> {
+        let from = (self.line, self.at);
+        let kind = match self.peek() {
+            '"' => self.pass_text()?,
+            '\'' => self.pass_quote()?,
+            '0'..='9' => self.pass_number(),
+            ch if is_letter(ch) => match self.pass_prefixed()? {
+                Some(kind) => kind,
+                None => self.pass_word()?,
+            },
+            ch if ch.is_ascii_punctuation() => {
+                let bytes = SIGNS.iter().find(|sign| self.starts(sign)).map_or(1, |sign| sign.len());
+                self.pass(bytes);
+                Kind::Sign
+            }
+            ch => return fault(self.line, format!("`{ch}` is no character of a program")),
+        };
+        self.push(kind, from);
+        if kind == Kind::Word { self.ghost(from) } else { Ok(()) }
+    }
+
+    /// Passes a word. One with a quote behind it would be the prefix of a text or a character for some.
+    fn pass_word(&mut self) -> Result<Kind, Fault> {
+        self.pass_while(is_inside_word);
+        match self.peek() {
+            '"' | '\'' => fault(self.line, "a word with a quote behind it"),
+            _ => Ok(Kind::Word),
+        }
+    }
+
+    /// Passes a text up to its closing quote.
+    fn pass_text(&mut self) -> Result<Kind, Fault> {
+        let line = self.line;
+        self.pass(1);
+        loop {
+            self.pass_while(|ch| ch != '"' && ch != '\\');
+            match self.peek() {
+                '"' => {
+                    self.pass(1);
+                    return Ok(Kind::Text);
+                }
+                '\\' if self.rest().len() > 1 => self.pass_escape(),
+                _ => return fault(line, "a text without its end"),
+            }
+        }
+    }
+
+    /// Passes a `\` and the character behind it.
+    fn pass_escape(&mut self) {
+        self.pass(1);
+        self.pass(self.peek().len_utf8());
+    }
+
+    /// Passes a character or a lifetime.
+    fn pass_quote(&mut self) -> Result<Kind, Fault> {
+        let line = self.line;
+        self.pass(1);
+        if self.peek() == '\\' {
+            self.pass_escape();
+            self.pass_while(|ch| ch != '\'' && ch != '\n');
+        } else {
+            let first = self.peek();
+            self.pass(first.len_utf8().min(self.rest().len()));
+            if self.peek() != '\'' && is_letter(first) {
+                self.pass_while(is_inside_word);
+                return Ok(Kind::Lifetime);
+            }
+        }
+        if self.peek() != '\'' {
+            return fault(line, "a character without its end");
+        }
+        self.pass(1);
+        Ok(Kind::Letter)
+    }
+
+    fn pass_number(&mut self) -> Kind {
+        let is_field = self.tokens.last().is_some_and(|token| token.is("."));
+        self.pass_while(is_inside_word);
+        let mut next = self.rest().chars();
+        if !is_field && next.next() == Some('.') && next.next().is_some_and(|ch| ch.is_ascii_digit()) {
+            self.pass(1);
+            self.pass_while(is_inside_word);
+        }
+        Kind::Number
+    }
+
+    /// Passes what has a prefix before its quote: a byte, a byte text, a text of C, and raw ones, in which `\` is nothing.
+    fn pass_prefixed(&mut self) -> Result<Option<Kind>, Fault> {
+        if self.starts("b'") {
+            self.pass(1);
+            return self.pass_quote().map(Some);
+        }
+        let letters = self.rest().find(|ch| !matches!(ch, 'b' | 'c' | 'r')).unwrap_or(0);
+        let prefix = self.rest()[..letters].to_string();
+        let behind = &self.rest()[letters..];
+        let marks = behind.find(|ch| ch != '#').unwrap_or(0);
+        let is_quoted = behind[marks..].starts_with('"');
+        match prefix.as_str() {
+            "b" | "c" if behind.starts_with('"') => {
+                self.pass(1);
+                self.pass_text().map(Some)
+            }
+            "r" | "br" | "cr" if is_quoted => {
+                let end = format!("\"{}", "#".repeat(marks));
+                let line = self.line;
+                self.pass(letters + marks + 1);
+                let Some(found) = self.rest().find(&end) else { return fault(line, "a raw text without its end") };
+                self.pass(found + end.len());
+                Ok(Some(Kind::Text))
+            }
+            _ => Ok(None),
+        }
+    }
+}
+
+/// The index behind a group of brackets that begins at an index, or `None` if it has no end.
+fn behind_group(tokens: &[Token], from: usize) -> Option<usize> {
+    let mut open = Vec::new();
+    for (index, token) in tokens.iter().enumerate().skip(from) {
+        match token.text.as_str() {
+            _ if token.kind != Kind::Sign => {}
+            "(" => open.push(")"),
+            "[" => open.push("]"),
+            "{" => open.push("}"),
+            ")" | "]" | "}" if open.pop() != Some(token.text.as_str()) => return None,
+            _ => {}
+        }
+        if open.is_empty() {
+            return Some(index + 1);
+        }
+    }
+    None
+}
+
+fn shown(tokens: &[Token]) -> String {
+    tokens.iter().map(|token| token.text.as_str()).collect::<Vec<_>>().join(" ")
+}
+
+// ---- Ghost parts of a source ----
+
+/// What would end a ghost part early for one who reads it in another way, as a comment or a text does.
+const UNCLEAR: &[&str] = &["--", "//", "/*", "*/", "{-", "-}", "'", "`", "\\"];
+
+impl Lexer<'_> {
+    /// Makes one token of the ghost part that begins with the word which was just taken, if one does. In Rust it is refused.
+    fn ghost(&mut self, from: (usize, usize)) -> Result<(), Fault> {
+        let word = self.text[from.1..self.at].to_string();
+        let is_ghost = matches!(word.as_str(), "requires" | "ensures" | "ghost") || word == "prove" && self.starts("!");
+        if !is_ghost {
+            return Ok(());
+        }
+        if self.language == Language::Rust {
+            return fault(from.0, format!("`{word}` of a proof"));
+        }
+        self.tokens.pop();
+        match word.as_str() {
+            "ghost" => self.pass_ghost_item()?,
+            "prove" => {
+                self.pass(1);
+                self.pass_ghost_group('(', false)?;
+            }
+            _ => {
+                self.pass_while(char::is_whitespace);
+                self.pass_while(is_inside_word);
+                self.pass_ghost_group('{', false)?;
+            }
+        }
+        self.push(Kind::Ghost, from);
+        Ok(())
+    }
+
+    /// `ghost use PATH;` or `ghost NAME = { .. };`.
+    fn pass_ghost_item(&mut self) -> Result<(), Fault> {
+        self.pass_while(char::is_whitespace);
+        let start = self.at;
+        self.pass_while(is_inside_word);
+        if &self.text[start..self.at] == "use" {
+            let path = self.rest().split(';').next().unwrap_or_default();
+            if !is_ghost_path(path) {
+                return fault(self.line, "a `ghost use` that is not a path on one line");
+            }
+            self.pass(path.len());
+        } else {
+            self.pass_while(char::is_whitespace);
+            if self.peek() != '=' {
+                return fault(self.line, "a ghost item that is neither `ghost use ..;` nor `ghost NAME = { .. };`");
+            }
+            self.pass(1);
+            self.pass_ghost_group('{', true)?;
+        }
+        self.pass_while(char::is_whitespace);
+        if self.peek() != ';' {
+            return fault(self.line, "a ghost item without `;`");
+        }
+        self.pass(1);
+        Ok(())
+    }
+
+    /// Passes a group of brackets, whose end nobody can take for another one: what could hide a bracket is refused. A text may
+    /// be plain words, where that is allowed.
+    fn pass_ghost_group(&mut self, first: char, may_have_text: bool) -> Result<(), Fault> {
+        self.pass_while(char::is_whitespace);
+        if self.peek() != first {
+            return fault(self.line, format!("a ghost part without `{first}`"));
+        }
+        let mut open = Vec::new();
+        loop {
+            if let Some(sign) = UNCLEAR.iter().find(|sign| self.starts(sign)) {
+                return fault(self.line, format!("`{sign}` in a ghost part: its end would not be clear"));
+            }
+            let ch = self.peek();
+            match ch {
+                '\0' => return fault(self.line, "a ghost part without its end"),
+                '"' if may_have_text => self.pass_plain_text()?,
+                '"' => return fault(self.line, "a text in a ghost part: its end would not be clear"),
+                '(' => open.push(')'),
+                '[' => open.push(']'),
+                '{' => open.push('}'),
+                ')' | ']' | '}' if open.pop() != Some(ch) => {
+                    return fault(self.line, format!("`{ch}` in a ghost part closes nothing"));
+                }
+                _ => {}
+            }
+            self.pass(ch.len_utf8());
+            if open.is_empty() {
+                return Ok(());
+            }
+        }
+    }
+
+    /// Passes a text of words, blanks and colons up to its closing quote.
+    fn pass_plain_text(&mut self) -> Result<(), Fault> {
+        self.pass(1);
+        self.pass_while(|ch| is_inside_word(ch) || ch == ' ' || ch == ':');
+        match self.peek() {
+            '"' => Ok(()),
+            _ => fault(self.line, "a text in a ghost part that is more than words: its end would not be clear"),
+        }
+    }
+}
+
+/// Whether a text is ` a.b.c`, ` a.b.{ .. }` or ` a.b as c`, on one line.
+fn is_ghost_path(text: &str) -> bool {
+    let is_path = |text: &str| text.chars().all(|ch| is_inside_word(ch) || ch == '.');
+    if text.contains(['\n', '"']) || UNCLEAR.iter().any(|sign| text.contains(sign)) {
+        return false;
+    }
+    match text.trim().split_once('{') {
+        Some((path, names)) => {
+            is_path(path) && names.strip_suffix('}').is_some_and(|names| !names.contains(['{', '}']))
+        }
+        None => {
+            let (path, alias) = text.trim().split_once(" as ").unwrap_or((text.trim(), ""));
+            is_path(path) && is_path(alias)
+        }
+    }
+}
+
+// ---- Items ----
+
+/// A function, or another item, of a module and what is around it.
+#[derive(Clone, Debug)]
+struct Item {
+    /// The head of its impl, and the modules in its file, by their tokens; what it is, and its name.
+    key: String,
+    /// Its path as the lists name it.
+    path: String,
+    attributes: Vec<String>,
+    /// Its tokens up to its clauses or its body; of an item that is no function all of them.
+    head: Vec<Token>,
+    clauses: Vec<Token>,
+    /// The body of a function with its braces.
+    body: Vec<Token>,
+    is_function: bool,
+    line: usize,
+    /// Where its attributes begin and its body ends in its file.
+    at: (usize, usize),
+}
+
+/// What is around an item.
+#[derive(Clone, Default)]
+struct Around {
+    key: String,
+    path: String,
+    /// Whether it is a module that keeps an order alone, and is none of the source.
+    is_order: bool,
+}
+
+impl Around {
+    fn below(&self, key: &str, name: &str) -> Around {
+        Around { key: format!("{}{key} / ", self.key), path: joined(&self.path, name), is_order: self.is_order }
+    }
+}
+
+fn joined(path: &str, name: &str) -> String {
+    if path.is_empty() { name.to_string() } else { format!("{path}::{name}") }
+}
+
+/// Where a file stands: which crate it is of, and which module.
+#[derive(Clone, Copy)]
+struct Origin<'a> {
+    language: Language,
+    krate: &'a str,
+    /// The path of its module in the Rust crate.
+    module: &'a str,
+    /// Modules in the file that keep an order alone.
+    orders: &'a [&'a str],
+}
+
+struct Items<'a> {
+    origin: Origin<'a>,
+    tokens: Vec<Token>,
+    at: usize,
+    /// Where the attributes of the item begin that is read.
+    from: usize,
+    found: Vec<Item>,
+}
+
+/// The items of a file.
+fn items(text: &str, origin: Origin) -> Result<Vec<Item>, Fault> {
+    let tokens = resolved(tokens(text, origin.language)?, origin);
+    let mut items = Items { origin, tokens, at: 0, from: 0, found: Vec::new() };
+    items.all(&Around { path: origin.module.to_string(), ..Around::default() })?;
+    match items.tokens.get(items.at) {
+        Some(token) => fault(token.line, "`}` closes nothing"),
+        None => Ok(items.found),
+    }
+}
+
+impl Items<'_> {
+    fn line(&self) -> usize {
+        self.tokens.get(self.at).or(self.tokens.last()).map_or(1, |token| token.line)
+    }
+
+    fn is(&self, ahead: usize, text: &str) -> bool {
+        self.tokens.get(self.at + ahead).is_some_and(|token| token.is(text))
+    }
+
+    /// The index behind the group that begins at an index.
+    fn behind(&self, from: usize) -> Result<usize, Fault> {
+        let line = self.tokens.get(from).map_or(1, |token| token.line);
+        behind_group(&self.tokens, from).map_or_else(|| fault(line, "brackets that do not match"), Ok)
+    }
+
+    /// Takes all items up to the end, or up to a brace that closes what is around them.
+    fn all(&mut self, around: &Around) -> Result<(), Fault> {
+        while self.at < self.tokens.len() && !self.is(0, "}") {
+            let token = &self.tokens[self.at];
+            if token.kind == Kind::Ghost {
+                if !token.text.starts_with("ghost") {
+                    return fault(token.line, "a clause or a `prove!` that is in no function");
+                }
+                self.at += 1;
+                continue;
+            }
+            self.from = token.at.0;
+            let attributes = self.attributes(around)?;
+            if self.at < self.tokens.len() && !self.is(0, "}") {
+                self.item(around, attributes)?;
+            } else if !attributes.is_empty() {
+                return fault(self.line(), "an attribute of nothing");
+            }
+        }
+        Ok(())
+    }
+
+    /// Takes the attributes before an item. One of the whole file, `#![..]`, is an item of its own.
+    fn attributes(&mut self, around: &Around) -> Result<Vec<String>, Fault> {
+        let mut attributes = Vec::new();
+        while self.is(0, "#") {
+            let is_inner = self.is(1, "!");
+            let start = self.at + 1 + usize::from(is_inner);
+            let end = self.behind(start)?;
+            if !self.tokens[start].is("[") || self.tokens[start..end].iter().any(|token| token.kind == Kind::Ghost) {
+                return fault(self.line(), "`#` that begins no attribute");
+            }
+            let words: String = self.tokens[start + 1..end - 1].iter().map(|token| token.text.as_str()).collect();
+            let is_tactic = self.origin.language == Language::Rattle && self.tokens[start + 1].is("tactic");
+            if is_tactic && self.tokens[start..end].iter().any(|token| token.kind == Kind::Text) {
+                return fault(self.line(), "a text in a tactic");
+            }
+            if is_inner && !is_tactic {
+                let key = format!("attribute #![{words}]");
+                self.push(around, &key, &key, self.at..end, Vec::new());
+            } else if !is_tactic {
+                attributes.push(words);
+            }
+            self.at = end;
+        }
+        Ok(attributes)
+    }
+
+    /// Notes an item without a body, whose tokens these are.
+    fn push(&mut self, around: &Around, key: &str, name: &str, of: std::ops::Range<usize>, attributes: Vec<String>) {
+        let tokens = &self.tokens[of];
+        let Some((first, last)) = tokens.first().zip(tokens.last()) else { return };
+        self.found.push(Item {
+            key: format!("{}{key}", around.key),
+            path: joined(&around.path, name),
+            attributes,
+            head: tokens.to_vec(),
+            clauses: Vec::new(),
+            body: Vec::new(),
+            is_function: false,
+            line: first.line,
+            at: (self.from, last.at.1),
+        });
+    }
+
+    /// Takes one item, behind its attributes.
+    fn item(&mut self, around: &Around, attributes: Vec<String>) -> Result<(), Fault> {
+        let start = self.at;
+        let word = self.keyword()?;
+        let name = self.tokens.get(word + 1).map(|token| token.text.clone()).unwrap_or_default();
+        let kind = self.tokens[word].text.clone();
+        match kind.as_str() {
+            "use" => self.uses(around, attributes, word),
+            "fn" => self.function(around, attributes, word),
+            "impl" | "trait" => self.scope(around, attributes),
+            "mod" => self.module(around, attributes, word),
+            "struct" | "enum" | "union" | "const" | "static" | "type" | "macro_rules" => {
+                let is_closed_by_brace = matches!(kind.as_str(), "struct" | "enum" | "union" | "macro_rules");
+                self.at = self.end_of_item(word, is_closed_by_brace)?;
+                let key = format!("{kind} {name}");
+                self.push(around, &key, &key, start..self.at, attributes);
+                Ok(())
+            }
+            _ if name == "!" => {
+                self.at = self.end_of_item(word, true)?;
+                let key = format!("{kind}!");
+                self.push(around, &key, &key, start..self.at, attributes);
+                Ok(())
+            }
+            _ => fault(self.line(), format!("`{kind}` begins no item")),
+        }
+    }
+
+    /// The index of the word that says what an item is, behind its visibility and what else may stand before it.
+    fn keyword(&self) -> Result<usize, Fault> {
+        let mut at = self.at;
+        let is =
+            |at: usize, texts: &[&str]| self.tokens.get(at).is_some_and(|token| texts.contains(&token.text.as_str()));
+        if is(at, &["pub"]) {
+            at += 1;
+            if is(at, &["("]) {
+                at = self.behind(at)?;
+            }
+        }
+        while is(at, &["unsafe", "async"]) || is(at, &["const"]) && is(at + 1, &["fn", "unsafe"]) {
+            at += 1;
+        }
+        match self.tokens.get(at) {
+            Some(token) if token.kind == Kind::Word => Ok(at),
+            _ => fault(self.line(), "no item"),
+        }
+    }
+
+    /// The index behind an item: behind its `;`, or behind its braces, if those close it.
+    fn end_of_item(&self, from: usize, is_closed_by_brace: bool) -> Result<usize, Fault> {
+        let mut at = from;
+        while let Some(token) = self.tokens.get(at) {
+            match token.text.as_str() {
+                _ if token.kind == Kind::Ghost => break,
+                ";" => return Ok(at + 1),
+                "{" if is_closed_by_brace => return self.behind(at),
+                "(" | "[" | "{" => at = self.behind(at)?,
+                ")" | "]" | "}" => break,
+                _ => at += 1,
+            }
+        }
+        fault(self.line(), "an item without its end")
+    }
+
+    fn function(&mut self, around: &Around, attributes: Vec<String>, word: usize) -> Result<(), Fault> {
+        let start = self.at;
+        let name = self.tokens.get(word + 1).map(|token| token.text.clone()).unwrap_or_default();
+        let mut at = word;
+        let ends = |token: &Token| token.kind == Kind::Ghost || token.is("{") || token.is(";");
+        while self.tokens.get(at).is_some_and(|token| !ends(token)) {
+            let is_group = self.tokens[at].is("(") || self.tokens[at].is("[");
+            at = if is_group { self.behind(at)? } else { at + 1 };
+        }
+        let clauses = at;
+        while self.tokens.get(at).is_some_and(|token| token.kind == Kind::Ghost && !token.text.starts_with("prove")) {
+            at += 1;
+        }
+        let body = at;
+        self.at = match self.tokens.get(at) {
+            Some(token) if token.is("{") => self.behind(at)?,
+            Some(token) if token.is(";") => at + 1,
+            found => {
+                let line = found.map_or(self.line(), |token| token.line);
+                return fault(line, format!("`{name}`: what is behind the clauses is no body"));
+            }
+        };
+        if self.origin.language == Language::Rattle && self.tokens[start..self.at].iter().any(|token| token.is("use")) {
+            return fault(self.line(), format!("`{name}`: `use` in a function, whose path would not be looked at"));
+        }
+        let key = format!("fn {name}");
+        self.push(around, &key, &name, start..self.at, attributes);
+        if around.is_order {
+            self.may_be_moved(start)?;
+        }
+        let (head, clauses) = (self.tokens[start..clauses].to_vec(), self.tokens[clauses..body].to_vec());
+        let body = self.tokens[body..self.at].to_vec();
+        if let Some(item) = self.found.last_mut() {
+            *item = Item { head, clauses, body, is_function: true, ..item.clone() };
+        }
+        Ok(())
+    }
+
+    /// A function in a module that keeps an order alone means the same outside: it names nothing from where it stands, and
+    /// is seen in the whole crate.
+    fn may_be_moved(&self, start: usize) -> Result<(), Fault> {
+        let function = &self.tokens[start..self.at];
+        let is_seen = function[0].is("pub") && (!function[1].is("(") || function[2].is("crate"));
+        let is_path = |pair: &[Token]| (pair[0].is("super") || pair[0].is("self")) && pair[1].is("::");
+        if !is_seen || function.windows(2).any(is_path) {
+            return fault(function[0].line, "a function that means something else in a module of the order");
+        }
+        Ok(())
+    }
+
+    /// Takes an impl or a trait, and what is in it.
+    fn scope(&mut self, around: &Around, attributes: Vec<String>) -> Result<(), Fault> {
+        let start = self.at;
+        while !self.is(0, "{") {
+            if self.at >= self.tokens.len() || self.is(0, ";") || self.tokens[self.at].kind == Kind::Ghost {
+                return fault(self.line(), "an impl without its body");
+            }
+            self.at += 1;
+        }
+        let head = self.tokens[start..self.at].to_vec();
+        let key = attributes.iter().map(|words| format!("#[{words}] ")).collect::<String>() + &shown(&head);
+        let name = name_of_impl(&head);
+        let (is_of_trait, is_model) = (head.iter().any(|token| token.is("for")), name.ends_with(" as Model>"));
+        if is_of_trait && !is_model || head[0].is("trait") {
+            self.push(around, &key, &name, start..self.at, Vec::new());
+        }
+        self.at += 1;
+        let count = self.found.len();
+        self.all(&around.below(&key, &name))?;
+        if is_model && (self.origin.language == Language::Rust || self.found.len() > count) {
+            return fault(head[0].line, "an impl of `Model` with what is not ghost");
+        }
+        self.close()
+    }
+
+    /// Takes a module that has a file of its own, or one in this file, and what is in it.
+    fn module(&mut self, around: &Around, attributes: Vec<String>, word: usize) -> Result<(), Fault> {
+        let name = self.tokens.get(word + 1).map(|token| token.text.clone()).unwrap_or_default();
+        let has_body = self.tokens.get(word + 2).is_some_and(|token| token.is("{"));
+        if !has_body {
+            let key = format!("mod {name}");
+            self.push(around, &key, &key, self.at..word + 2, attributes);
+            self.at = word + 3;
+            return match self.tokens.get(word + 2) {
+                Some(token) if token.is(";") => Ok(()),
+                _ => fault(self.line(), format!("`mod {name}` without `;`")),
+            };
+        }
+        let is_order = self.origin.orders.contains(&name.as_str()) && around.key.is_empty();
+        if is_order && (word != self.at || !attributes.is_empty()) {
+            return fault(self.line(), "a module of the order with a visibility or an attribute");
+        }
+        let key = format!("mod {name}");
+        if !is_order {
+            self.push(around, &key, &key, self.at..word + 3, attributes);
+        }
+        self.at = word + 3;
+        let below = if is_order { around.clone() } else { around.below(&key, &name) };
+        self.all(&Around { is_order: is_order || around.is_order, ..below })?;
+        self.close()
+    }
+
+    fn close(&mut self) -> Result<(), Fault> {
+        if !self.is(0, "}") {
+            return fault(self.line(), "an item without its closing brace");
+        }
+        self.at += 1;
+        Ok(())
+    }
+}
+
+/// How the lists name an impl: by its type, or as `<Type as Trait>`.
+fn name_of_impl(head: &[Token]) -> String {
+    let mut at = usize::from(head.get(1).is_some_and(|token| token.is("<")));
+    let mut depth = 0;
+    loop {
+        match head.get(at).map(|token| token.text.as_str()) {
+            Some("<") => depth += 1,
+            Some(">") => depth -= 1,
+            None => break,
+            _ => {}
+        }
+        at += 1;
+        if depth <= 0 {
+            break;
+        }
+    }
+    let rest = &head[at.max(1).min(head.len())..];
+    let name = |tokens: &[Token]| tokens.first().map(|token| token.text.clone()).unwrap_or_default();
+    match rest.iter().position(|token| token.is("for")) {
+        Some(found) => {
+            let of: String = rest[..found].iter().map(|token| token.text.as_str()).collect();
+            format!("<{} as {of}>", name(&rest[found + 1..]))
+        }
+        None => name(rest),
+    }
+}
+
+// ---- Paths and `use` ----
+
+/// The crates that are read. The last is the root of the Rust crate, each of the others is a module of it.
+const CRATES: &[&str] = &["arraystring_base", "arraystring_core", "arraystring"];
+
+/// The path of a crate of the sources in the Rust crate.
+fn path_of_crate(krate: &str) -> Vec<&str> {
+    if CRATES.last() == Some(&krate) { vec!["crate"] } else { vec!["crate", krate] }
+}
+
+/// What the first name of a path of a source is here, if it is another one: a crate is a module, and `std` is `core`.
+fn first_of_path<'a>(name: &'a str, krate: &'a str) -> Option<Vec<&'a str>> {
+    match name {
+        "crate" => Some(path_of_crate(krate)),
+        "std" => Some(vec!["core"]),
+        _ if CRATES.contains(&name) => Some(path_of_crate(name)),
+        _ => None,
+    }
+}
+
+/// The tokens with the paths of a source as they are here, `use` aside, which is taken apart below.
+fn resolved(tokens: Vec<Token>, origin: Origin) -> Vec<Token> {
+    if origin.language == Language::Rust {
+        return tokens;
+    }
+    let mut made: Vec<Token> = Vec::new();
+    let mut is_use = false;
+    for (index, token) in tokens.iter().enumerate() {
+        is_use = token.is("use") || is_use && !token.is(";");
+        let is_path = tokens.get(index + 1).is_some_and(|next| next.is("::"));
+        let is_first = !made.last().is_some_and(|last| last.is("::") || last.is("."));
+        let found = if token.kind == Kind::Word { first_of_path(&token.text, origin.krate) } else { None };
+        match found.filter(|_| is_path && is_first && !is_use) {
+            Some(names) => {
+                for (count, name) in names.iter().enumerate() {
+                    if count > 0 {
+                        made.push(Token { kind: Kind::Sign, text: "::".to_string(), ..token.clone() });
+                    }
+                    made.push(Token { text: name.to_string(), ..token.clone() });
+                }
+            }
+            None => made.push(token.clone()),
+        }
+    }
+    made
+}
+
+impl Items<'_> {
+    /// Takes a `use`: each name of it is an item, by its whole path here.
+    fn uses(&mut self, around: &Around, attributes: Vec<String>, word: usize) -> Result<(), Fault> {
+        let start = self.at;
+        self.at = self.end_of_item(word, false)?;
+        let tree = self.tokens[word + 1..self.at - 1].to_vec();
+        let line = self.tokens[word].line;
+        let mut paths = Vec::new();
+        if !take_tree(&tree, &[], &mut paths) {
+            return fault(line, "a `use` that is no tree of names");
+        }
+        if around.is_order {
+            if shown(&self.tokens[start..self.at]) == "use super :: * ;" && attributes.is_empty() {
+                return Ok(());
+            }
+            return fault(line, "a `use` in a module of the order");
+        }
+        let visibility = shown(&self.tokens[start..word]);
+        for (names, alias) in paths {
+            let here = self.path_here(&names);
+            let shown_alias = if Some(&alias) == names.last() { String::new() } else { format!(" as {alias}") };
+            let key = format!("use {here}{shown_alias}");
+            self.push(around, &key, &key, start..word + 1, attributes.clone());
+            if let Some(item) = self.found.last_mut() {
+                item.head.truncate(0);
+                item.attributes.push(format!("visibility {visibility}"));
+            }
+        }
+        Ok(())
+    }
+
+    fn path_here(&self, names: &[String]) -> String {
+        let first = names.first().map(String::as_str).unwrap_or_default();
+        match first_of_path(first, self.origin.krate) {
+            Some(here) if self.origin.language == Language::Rattle => {
+                let rest = names[1..].iter().map(String::as_str);
+                here.into_iter().chain(rest).collect::<Vec<_>>().join("::")
+            }
+            _ => names.join("::"),
+        }
+    }
+}
+
+/// Takes the names of a tree, each with its alias. Returns whether it is one.
+fn take_tree(tree: &[Token], before: &[String], paths: &mut Vec<(Vec<String>, String)>) -> bool {
+    let mut names = before.to_vec();
+    let mut at = 0;
+    loop {
+        match tree.get(at) {
+            Some(token) if token.is("{") => {
+                let inner = &tree[at + 1..tree.len().max(at + 2) - 1];
+                return behind_group(tree, at) == Some(tree.len())
+                    && between_commas(inner).iter().all(|part| take_tree(part, &names, paths));
+            }
+            Some(token) if token.kind == Kind::Word || token.is("*") => {
+                let is_itself = token.is("self") && !names.is_empty();
+                if !is_itself {
+                    names.push(token.text.clone());
+                }
+            }
+            _ => return false,
+        }
+        match &tree[at + 1..] {
+            [] => {
+                let last = names.last().cloned().unwrap_or_default();
+                paths.push((names, last));
+                return true;
+            }
+            [sign, alias] if sign.is("as") && alias.kind == Kind::Word => {
+                paths.push((names, alias.text.clone()));
+                return true;
+            }
+            [sign, _, ..] if sign.is("::") => at += 2,
+            _ => return false,
+        }
+    }
+}
+
+/// What stands between the commas that are in no brackets.
+fn between_commas(tokens: &[Token]) -> Vec<&[Token]> {
+    let (mut parts, mut start, mut at) = (Vec::new(), 0, 0);
+    while at < tokens.len() {
+        if tokens[at].is(",") {
+            parts.push(&tokens[start..at]);
+            start = at + 1;
+        }
+        let is_group = ["(", "[", "{"].iter().any(|open| tokens[at].is(open));
+        at = if is_group { behind_group(tokens, at).unwrap_or(tokens.len()) } else { at + 1 };
+    }
+    if start < tokens.len() {
+        parts.push(&tokens[start..]);
+    }
+    parts
+}
+
+// ---- The list of rewrites ----
+
+/// What stands in a made function for what stands in its source. `$of` is a path of fields and of calls without arguments,
+/// any other `$name` is what stands between commas, with balanced brackets.
+struct Rewrite {
+    made: &'static str,
+    source: &'static str,
+    then: Then,
+    /// The module in which it is, or empty for each.
+    within: &'static str,
+    why: &'static str,
+}
+
+/// What may follow a rewrite, and what may not stand before it, so that what is around binds the same in both.
+#[derive(Clone, Copy, PartialEq)]
+enum Then {
+    /// The end of an operand: `)`, `,`, `;` or `}`; and no `*` stands before it.
+    End,
+    /// Anything but `.`, `?`, `[` and `(`.
+    NoPostfix,
+    /// Anything.
+    Anything,
+}
+
+use Then::{Anything, End, NoPostfix};
+
+const fn rewrite(
+    made: &'static str,
+    source: &'static str,
+    then: Then,
+    within: &'static str,
+    why: &'static str,
+) -> Rewrite {
+    Rewrite { made, source, then, within, why }
+}
+
+const NO_TEST: &str = "each access of a body is within, by the proof, and so it has no test";
+const SAME_CALL: &str = "the same call, which the feature `checked` tests";
+const TWIN: &str = "`look` is safe in Rust, and panics; bodies call its twin, which has no test";
+const UPPERCASE: &str = "get_unchecked_mut!($of, $at).make_ascii_uppercase()";
+const LOWERCASE: &str = "get_unchecked_mut!($of, $at).make_ascii_lowercase()";
+const UTF8: &str = "arraystring_base::utf8";
+
+const REWRITES: &[Rewrite] = &[
+    rewrite("*get_unchecked!($of, $at)", "$of[$at]", NoPostfix, "", NO_TEST),
+    rewrite("*get_unchecked_mut!($of, $at)", "$of[$at]", NoPostfix, "", NO_TEST),
+    rewrite("get_unchecked!($of, $at)", "&$of[$at]", End, "", NO_TEST),
+    rewrite("get_unchecked_mut!($of, $at)", "&mut $of[$at]", End, "", NO_TEST),
+    rewrite(UPPERCASE, "$of[$at].make_ascii_uppercase()", End, "", NO_TEST),
+    rewrite(LOWERCASE, "$of[$at].make_ascii_lowercase()", End, "", NO_TEST),
+    rewrite("copy_from_slice_unchecked!($of, $at, $given)", "$of[$at].copy_from_slice($given)", End, "", NO_TEST),
+    rewrite("copy_within_unchecked!($of, $at, $to)", "$of.copy_within($at, $to)", End, "", NO_TEST),
+    rewrite("unreachable_unchecked!()", "unreachable!()", End, "", "it is never reached, by the proof"),
+    rewrite("crate::by_hand::char::from_u32_unchecked(", "char::from_u32_unchecked(", Anything, UTF8, SAME_CALL),
+    rewrite("look_unchecked(", "look(", Anything, UTF8, TWIN),
+];
+
+/// Functions that a rewrite or a law knows by their names, and where they are defined. No other item of a source has such a name,
+/// and in a body it is that of a call and of nothing else: so no function or closure takes its place.
+const KNOWN_NAMES: &[(&str, &str)] = &[
+    ("look", "arraystring_base::steps::look"),
+    ("text_fits", "arraystring_core::laws::text_fits"),
+    ("only_reading", "arraystring_base::laws::only_reading"),
+];
+
+/// The same in the head of a function.
+const HEADS: &[Rewrite] = &[rewrite(
+    "fn fmt(&self, f: &mut fmt::Formatter<'_>) -> fmt::Result",
+    "fn fmt<W: fmt::Write>(&self, f: &mut fmt::Formatter<W>) -> fmt::Result",
+    Anything,
+    "",
+    "a formatter of Rattle has the type of what it writes to",
+)];
+
+/// A parameter that takes more types here, and that is asked once, by the first statement of the body.
+struct Asked {
+    generics: &'static str,
+    source: &'static str,
+    why: &'static str,
+}
+
+const ASKED: &[Asked] = &[
+    Asked { generics: "S: AsRef<str>", source: "&str", why: "as the Rust crate 0.3.0 does" },
+    Asked { generics: "B: AsRef<[u8]>", source: "&[u8]", why: "as the Rust crate 0.3.0 does" },
+    Asked { generics: "B: AsRef<[u16]>", source: "&[u16]", why: "as the Rust crate 0.3.0 does" },
+];
+
+/// The same of what an iterator gives: each is asked once, by the first statement of the walk over all.
+const ASKED_EACH: (&str, &str) = ("U: AsRef<str>, I: IntoIterator<Item = U>", "'a, I: IntoIterator<Item = &'a str>");
+const ASKED_EACH_WHY: &str = "as the Rust crate 0.3.0 does";
+const WALK: (&str, &str) = ("for $item in $all { let $item = $item.as_ref();", "for $item in $all {");
+
+const UNSAFE_BLOCK: &str = "`unsafe { }` around one call";
+const UNSAFE_FN: &str = "`unsafe fn`";
+const KNOWN: &str = "`known!(..)`";
+const DROP_BOUND: &str = "`+ Drop`";
+const PROVE: &str = "`prove!(..);`";
+
+/// The rewrites that code makes below, since a pattern would not say them.
+const BY_CODE: &[(&str, &str)] = &[
+    (UNSAFE_BLOCK, "the function is declared `unsafe fn` in the Rust crate, and what it requires is proved"),
+    (UNSAFE_FN, "the source has a `requires`; where it has one and is safe here, `SAFE` says why"),
+    (KNOWN, "its words are those of the named clause of the function, told to rustc"),
+    (DROP_BOUND, "a bound that a value may be dropped, which each may be in Rust"),
+    (PROVE, "a step of a proof"),
+];
+
+/// Attributes that may differ, since they change no result.
+const FREE_ATTRIBUTES: &[(&str, &str)] = &[
+    ("inline", "how fast it is"),
+    ("inline(always)", "how fast it is"),
+    ("inline(never)", "how fast it is"),
+    ("must_use", "a warning for who does not look at a result"),
+    ("track_caller", "which line a panic names"),
+];
+
+/// A path of a `use` that is another one here, or none. `within` is a module, or empty for each.
+struct Uses {
+    source: &'static str,
+    made: Option<&'static str>,
+    within: &'static str,
+    why: &'static str,
+}
+
+const USES: &[Uses] = &[
+    Uses {
+        source: "core::marker::Model",
+        made: None,
+        within: "",
+        why: "the trait of what a type means in a proof; it has ghost items alone",
+    },
+    Uses {
+        source: "core::str",
+        made: Some("crate::by_hand::str"),
+        within: "",
+        why: "the calls of std that are used, one of which the feature `checked` tests",
+    },
+    Uses {
+        source: "core::simd::Simd",
+        made: Some("crate::by_hand::simd::Simd"),
+        within: "arraystring_base::moves",
+        why: "stable Rust has no vectors: they are arrays or words",
+    },
+    Uses {
+        source: "crate::arraystring_base::steps::look",
+        made: Some("crate::arraystring_base::steps::look_unchecked"),
+        within: "arraystring_base::utf8",
+        why: "bodies call the twin of `look`",
+    },
+];
+
+/// A law that a body calls for its proof alone: a function of the sources, and its body, which changes nothing. Calls of it are
+/// left out.
+struct Law {
+    path: &'static str,
+    body: &'static str,
+    why: &'static str,
+}
+
+const LAWS: &[Law] = &[
+    Law {
+        path: "crate::arraystring_core::laws::text_fits",
+        body: "{ let _ = string.len(); }",
+        why: "its contract is a step of a proof; it reads a length",
+    },
+    Law { path: "crate::arraystring_base::laws::only_reading", body: "{}", why: "its contract is a step of a proof" },
+];
+
+// ---- Rewrites ----
+
+/// What the made functions are read by: the functions that are `unsafe`, and how often each entry of a list was used.
+#[derive(Default)]
+struct Reading {
+    unsafe_names: BTreeSet<String>,
+    used: BTreeMap<String, usize>,
+}
+
+impl Reading {
+    fn note(&mut self, entry: &str) {
+        *self.used.entry(entry.to_string()).or_default() += 1;
+    }
+}
+
+/// The tokens of a pattern or of a text of a list.
+fn pattern(text: &str) -> Vec<Token> {
+    tokens(text, Language::Rust).unwrap_or_else(|fault| panic!("`{text}` of a list: {}", fault.why))
+}
+
+/// What the names of a pattern stand for.
+type Bound = BTreeMap<String, Vec<Token>>;
+
+/// Whether tokens from an index on are as a pattern says. Returns the index behind them.
+fn matched(pattern: &[Token], tokens: &[Token], from: usize, bound: &mut Bound) -> Option<usize> {
+    let (mut at, mut part) = (from, 0);
+    while part < pattern.len() {
+        if pattern[part].is("$") {
+            let name = &pattern.get(part + 1)?.text;
+            let end = end_of_part(tokens, at, pattern.get(part + 2));
+            let found = &tokens[at..end];
+            let is_allowed = match name.as_str() {
+                "of" => is_path_of_fields(found),
+                "item" => found.len() == 1 && found[0].kind == Kind::Word,
+                _ => !found.is_empty(),
+            };
+            let before = bound.entry(name.clone()).or_insert_with(|| found.to_vec());
+            if !is_allowed || before.as_slice() != found {
+                return None;
+            }
+            (at, part) = (end, part + 2);
+        } else if tokens.get(at) == Some(&pattern[part]) {
+            (at, part) = (at + 1, part + 1);
+        } else {
+            return None;
+        }
+    }
+    Some(at)
+}
+
+/// The end of what a name of a pattern stands for: at a comma, a `;`, a closing bracket, or what the pattern has behind it.
+fn end_of_part(tokens: &[Token], from: usize, next: Option<&Token>) -> usize {
+    let mut at = from;
+    while let Some(token) = tokens.get(at) {
+        let is_end = [",", ";", ")", "]", "}"].iter().any(|end| token.is(end));
+        if is_end || at > from && Some(token) == next {
+            break;
+        }
+        let is_group = ["(", "[", "{"].iter().any(|open| token.is(open));
+        at = if is_group { behind_group(tokens, at).unwrap_or(tokens.len()) } else { at + 1 };
+    }
+    at
+}
+
+/// Whether tokens are names with points between, each a field or a call without an argument: evaluated before or after
+/// another operand, it is the same.
+fn is_path_of_fields(tokens: &[Token]) -> bool {
+    let mut at = 0;
+    loop {
+        if !tokens.get(at).is_some_and(|token| matches!(token.kind, Kind::Word | Kind::Number)) {
+            return false;
+        }
+        at += 1;
+        if tokens.get(at).is_some_and(|token| token.is("(")) && tokens.get(at + 1).is_some_and(|token| token.is(")")) {
+            at += 2;
+        }
+        match tokens.get(at) {
+            None => return true,
+            Some(token) if token.is(".") => at += 1,
+            _ => return false,
+        }
+    }
+}
+
+fn filled(pattern: &[Token], bound: &Bound) -> Vec<Token> {
+    let mut made = Vec::new();
+    let mut parts = pattern.iter();
+    while let Some(token) = parts.next() {
+        match token.is("$") {
+            true => made.extend(parts.next().and_then(|name| bound.get(&name.text)).cloned().unwrap_or_default()),
+            false => made.push(token.clone()),
+        }
+    }
+    made
+}
+
+/// Puts tokens in the place of others, at the line of those.
+fn put(tokens: &mut Vec<Token>, range: std::ops::Range<usize>, mut with: Vec<Token>) {
+    let (line, at) = tokens.get(range.start).map_or((0, (0, 0)), |token| (token.line, token.at));
+    with.iter_mut().for_each(|token| (token.line, token.at) = (line, at));
+    tokens.splice(range, with);
+}
+
+fn may_follow(then: Then, tokens: &[Token], start: usize, end: usize) -> bool {
+    let next = |texts: &[&str]| tokens.get(end).is_some_and(|token| texts.iter().any(|text| token.is(text)));
+    match then {
+        End => next(&[")", ",", ";", "}"]) && !(start > 0 && tokens[start - 1].is("*")),
+        NoPostfix => !next(&[".", "?", "[", "("]),
+        Anything => true,
+    }
+}
+
+/// Undoes the rewrites of a list in tokens of a made item. What is inside others is undone first: it stands to the right.
+fn undone(mut made: Vec<Token>, list: &[Rewrite], path: &str, reading: &mut Reading) -> Vec<Token> {
+    let list = list.iter().filter(|rewrite| path.starts_with(rewrite.within));
+    let patterns: Vec<_> = list.map(|rewrite| (pattern(rewrite.made), rewrite)).collect();
+    for start in (0..made.len()).rev() {
+        for (pattern_made, rewrite) in &patterns {
+            let mut bound = Bound::new();
+            let Some(end) = matched(pattern_made, &made, start, &mut bound) else { continue };
+            if may_follow(rewrite.then, &made, start, end) {
+                put(&mut made, start..end, filled(&pattern(rewrite.source), &bound));
+                reading.note(rewrite.made);
+                break;
+            }
+        }
+    }
+    made
+}
+
+/// A body without `unsafe { }` around one call.
+fn without_unsafe_blocks(mut body: Vec<Token>, reading: &mut Reading) -> Vec<Token> {
+    for start in (0..body.len()).rev() {
+        without_unsafe(&mut body, start, reading);
+    }
+    body
+}
+
+/// Takes `unsafe { }` away that begins at an index, if one call is in it, and nothing else, of a function that is `unsafe`.
+fn without_unsafe(tokens: &mut Vec<Token>, start: usize, reading: &mut Reading) {
+    if !tokens.get(start).is_some_and(|token| token.is("unsafe")) {
+        return;
+    }
+    let Some(end) = behind_group(tokens, start + 1) else { return };
+    if !tokens[start + 1].is("{") {
+        return;
+    }
+    let inside = tokens[start + 2..end - 1].to_vec();
+    if called(&inside).is_some_and(|name| reading.unsafe_names.contains(name)) {
+        put(tokens, start..end, inside);
+        reading.note(UNSAFE_BLOCK);
+    }
+}
+
+/// The name of a function, if the tokens are one call of it, and nothing else: `name(..)`, `Path::name::<..>(..)` or
+/// `path.of.fields.name(..)`.
+fn called(tokens: &[Token]) -> Option<&str> {
+    let (mut at, mut name) = (0, None);
+    loop {
+        let token = tokens.get(at)?;
+        if token.kind == Kind::Word {
+            name = Some(token.text.as_str());
+            at += 1;
+        } else if token.is("<") {
+            at += tokens[at..].iter().position(|token| token.is(">"))? + 1;
+        } else {
+            return None;
+        }
+        match tokens.get(at) {
+            Some(next) if next.is("::") || next.is(".") => at += 1,
+            Some(next) if next.is("(") => break,
+            _ => return None,
+        }
+    }
+    (behind_group(tokens, at)? == tokens.len()).then_some(name?)
+}
+
+/// The tokens without commas that change nothing: before a bracket that closes several, or a call's, or any but a round one.
+fn without_commas(tokens: Vec<Token>, is_head: bool) -> Vec<Token> {
+    let mut made: Vec<Token> = Vec::new();
+    let mut open: Vec<(bool, usize)> = Vec::new();
+    for token in tokens {
+        if token.kind == Kind::Sign {
+            match token.text.as_str() {
+                "(" | "[" | "{" => open.push((token.is("(") && !is_call(made.last(), is_head), 0)),
+                "," => open.iter_mut().last().into_iter().for_each(|group| group.1 += 1),
+                ")" | "]" | "}" => {
+                    let (may_be_tuple, commas) = open.pop().unwrap_or((true, 1));
+                    if made.last().is_some_and(|last| last.is(",")) && !(may_be_tuple && commas == 1) {
+                        made.pop();
+                    }
+                }
+                ">" if is_head && made.last().is_some_and(|last| last.is(",")) => {
+                    made.pop();
+                }
+                _ => {}
+            }
+        }
+        made.push(token);
+    }
+    made
+}
+
+/// Whether a round bracket behind this token begins the arguments of a call, or the parameters of a function.
+fn is_call(before: Option<&Token>, is_head: bool) -> bool {
+    const KEYWORDS: &[&str] = &[
+        "return", "in", "match", "if", "else", "break", "while", "move", "mut", "ref", "as", "let", "for", "dyn",
+        "impl", "where",
+    ];
+    before.is_some_and(|token| match token.kind {
+        Kind::Word => !KEYWORDS.contains(&token.text.as_str()),
+        _ => token.is(">") && is_head || token.is("!"),
+    })
+}
+
+/// `>>` in the head of a function closes two lists of types.
+fn with_single_closings(tokens: Vec<Token>) -> Vec<Token> {
+    let mut made = Vec::new();
+    for token in tokens {
+        let count = if token.is(">>") { 2 } else { 1 };
+        let text = if count == 2 { ">".to_string() } else { token.text.clone() };
+        made.extend(std::iter::repeat_n(Token { text, ..token }, count));
+    }
+    made
+}
+
+fn count_of(tokens: &[Token], text: &str) -> usize {
+    tokens.iter().filter(|token| token.is(text)).count()
+}
+
+fn position(tokens: &[Token], of: &[Token]) -> Option<usize> {
+    tokens.windows(of.len()).position(|window| window == of)
+}
+
+/// Undoes `ASKED` in a made function.
+fn undo_asked(head: &mut Vec<Token>, body: &mut Vec<Token>, reading: &mut Reading) {
+    for asked in ASKED {
+        let generics = with_single_closings(pattern(asked.generics));
+        let letter = generics[0].text.clone();
+        let Some(open) = head.iter().position(|token| token.is("<")) else { return };
+        let end = open + 1 + generics.len();
+        let is_first = head.get(open + 1..end) == Some(&generics[..]);
+        let parameter = pattern(&format!(": {letter}"));
+        let found = position(&head[open..], &parameter).map(|found| open + found);
+        let (true, Some(at), 2, 0) = (is_first, found, count_of(head, &letter), count_of(body, &letter)) else {
+            continue;
+        };
+        let name = head[at - 1].text.clone();
+        let line = pattern(&format!("let {name} = {name}.as_ref();"));
+        if body.get(1..1 + line.len()) != Some(&line[..]) {
+            continue;
+        }
+        put(body, 1..1 + line.len(), Vec::new());
+        put(head, at + 1..at + 2, pattern(asked.source));
+        let is_only = head[end].is(">");
+        put(head, if is_only { open..end + 1 } else { open + 1..end + 1 }, Vec::new());
+        reading.note(asked.generics);
+        return;
+    }
+}
+
+/// Undoes `ASKED_EACH` in a made function.
+fn undo_asked_each(head: &mut Vec<Token>, body: &mut Vec<Token>, reading: &mut Reading) {
+    let (here, there) = (with_single_closings(pattern(ASKED_EACH.0)), with_single_closings(pattern(ASKED_EACH.1)));
+    let letter = here[0].text.clone();
+    let Some(at) = position(head, &here) else { return };
+    if count_of(head, &letter) != count_of(&here, &letter) || count_of(body, &letter) != 0 {
+        return;
+    }
+    put(head, at..at + here.len(), there);
+    reading.note(ASKED_EACH.0);
+    let (walk, plain) = (pattern(WALK.0), pattern(WALK.1));
+    for start in (0..body.len()).rev() {
+        let mut bound = Bound::new();
+        if let Some(end) = matched(&walk, body, start, &mut bound) {
+            put(body, start..end, filled(&plain, &bound));
+            reading.note(WALK.0);
+        }
+    }
+}
+
+/// Undoes `known!(name: fact);` at the start of a body, if the clause of that name says so.
+fn undo_known(body: &mut Vec<Token>, source: &Item, reading: &mut Reading) {
+    while body.len() > 4 && body[1].is("known") && body[2].is("!") {
+        let Some(end) = behind_group(body, 3).filter(|end| body.get(*end).is_some_and(|token| token.is(";"))) else {
+            return;
+        };
+        let (name, fact) = (body[4].text.clone(), shown(&body[6..end - 1]));
+        let clause = format!("requires {name} {{ {} }}", fact.replace("<=", "≤"));
+        let is_so = |clauses: &Token| clauses.text.split_whitespace().collect::<Vec<_>>().join(" ") == clause;
+        if !body[5].is(":") || !source.clauses.iter().any(is_so) {
+            return;
+        }
+        put(body, 1..end + 1, Vec::new());
+        reading.note(KNOWN);
+    }
+}
+
+/// A made item as its source has it, if it is made of that.
+fn as_in_source(made: &Item, source: &Item, reading: &mut Reading) -> Item {
+    let mut head = without_commas(with_single_closings(made.head.clone()), true);
+    let mut body = without_commas(made.body.clone(), false);
+    if made.is_function {
+        let requires = source.clauses.iter().any(|clause| clause.text.starts_with("requires"));
+        if let Some(at) = position(&head, &pattern("unsafe fn")).filter(|_| requires) {
+            head.remove(at);
+            reading.note(UNSAFE_FN);
+        }
+        head = undone(head, HEADS, &made.path, reading);
+        undo_asked(&mut head, &mut body, reading);
+        undo_asked_each(&mut head, &mut body, reading);
+        undo_known(&mut body, source, reading);
+        body = undone(without_unsafe_blocks(body, reading), REWRITES, &made.path, reading);
+    }
+    Item { head, body, ..made.clone() }
+}
+
+/// No name that is known is that of something in the body, and no function is in it.
+fn names_are_of_calls(source: &Item) -> Result<(), Fault> {
+    let is_known = |token: &Token| KNOWN_NAMES.iter().any(|(name, _)| token.is(name));
+    let parameter = source.head.windows(2).find(|pair| is_known(&pair[1]) && !pair[0].is("fn")).map(|pair| &pair[1]);
+    let other = source.body.windows(2).find(|pair| is_known(&pair[0]) && !pair[1].is("(")).map(|pair| &pair[0]);
+    if let Some(token) = parameter.or(other).filter(|_| source.is_function) {
+        return fault(token.line, format!("`{}` is the name of a call that is known, and of none here", token.text));
+    }
+    match source.body.windows(2).find(|pair| pair[0].is("fn") && pair[1].kind == Kind::Word) {
+        Some(pair) => fault(pair[0].line, "a function in a function"),
+        None => Ok(()),
+    }
+}
+
+/// The body of a source without the steps of proofs, each of which is a statement.
+fn without_proofs(body: &[Token], reading: &mut Reading) -> Result<Vec<Token>, Fault> {
+    let mut made: Vec<Token> = Vec::new();
+    let mut tokens = body.iter().peekable();
+    while let Some(token) = tokens.next() {
+        if token.kind != Kind::Ghost {
+            made.push(token.clone());
+            continue;
+        }
+        let is_whole = tokens.next_if(|next| next.is(";")).is_some();
+        if !token.text.starts_with("prove") || !made.last().is_some_and(is_before_statement) || !is_whole {
+            return fault(token.line, format!("`{}` in a body", token.text));
+        }
+        reading.note(PROVE);
+    }
+    Ok(made)
+}
+
+fn is_before_statement(token: &Token) -> bool {
+    [";", "{", "}"].iter().any(|sign| token.is(sign))
+}
+
+/// The body of a source without calls of these laws, each of which is a statement with one name in its brackets.
+fn without_laws(mut body: Vec<Token>, laws: &[&str], reading: &mut Reading) -> Vec<Token> {
+    for law in laws {
+        let call = pattern(&format!("{law}($item);"));
+        for start in (1..body.len()).rev() {
+            let found = matched(&call, &body, start, &mut Bound::new());
+            if let Some(end) = found.filter(|_| is_before_statement(&body[start - 1])) {
+                body.drain(start..end);
+                reading.note(&format!("law {law}"));
+            }
+        }
+    }
+    body
+}
+
+/// An item of a source without what Rattle alone has. `laws` are those that its file uses, by their names.
+fn without_ghosts(source: &Item, laws: &[&str], reading: &mut Reading) -> Result<Item, Fault> {
+    let mut head = source.head.clone();
+    while let Some(at) = position(&head, &pattern("+ Drop")) {
+        head.drain(at..at + 2);
+        reading.note(DROP_BOUND);
+    }
+    names_are_of_calls(source)?;
+    let body = without_laws(without_proofs(&source.body, reading)?, laws, reading);
+    let (head, body) = (without_commas(with_single_closings(head), true), without_commas(body, false));
+    Ok(Item { head, body: without_unsafe_blocks(body, reading), ..source.clone() })
+}
+
+// ---- The list of places ----
+
+/// An item that is another one here. `source` is the checksum of its source, from its attributes to its closing brace,
+/// contract and comments included: who changes the source reads the place anew.
+struct Place {
+    path: &'static str,
+    source: u64,
+    here: &'static str,
+    why: &'static str,
+}
+
+const MEMCMP: &str = "std compares by `memcmp`, which has larger vectors";
+const SPLITS: &str = "it is `const`: the array is split twice, since stable Rust has no index of a slice in a constant";
+const LIKE_STR: &str = "no precondition bounds the range: it panics as the index of `str` does";
+const COUNT_STOPS: &str = "no precondition bounds the count, which stops at 2^64 - 1";
+
+const PLACES: &[Place] = &[
+    Place {
+        path: "arraystring_base::steps::Steps::count_moves",
+        source: 0x0ECD_4EB4_8C1A_0C39,
+        here: "
+            pub(crate) fn count_moves(&mut self, len: usize) {
+                self.moved = self.moved.saturating_add(len as u64);
+            }",
+        why: COUNT_STOPS,
+    },
+    Place {
+        path: "arraystring_base::steps::look",
+        source: 0xE066_8B4E_3280_08A5,
+        here: "
+            pub fn look(bytes: &[u8], at: usize, steps: &mut Steps) -> u8 {
+                steps.looked = steps.looked.saturating_add(1);
+                bytes[at]
+            }",
+        why: "no precondition bounds the count or the index: it panics as that of a slice; bodies call its twin",
+    },
+    Place {
+        path: "arraystring_base::utf16::struct Units",
+        source: 0xA3D2_D553_3C77_05B6,
+        here: "
+            #[derive(Clone, Debug)]
+            pub struct Units<'a> {
+                rest: &'a [u16],
+            }",
+        why: "an iterator is cloned and printed in Rust, as each of std's is",
+    },
+    Place {
+        path: "arraystring_base::utils::is_inside_boundary",
+        source: 0x55A0_AD80_A420_6DD4,
+        here: "
+            pub fn is_inside_boundary<S: Into<usize>, L: Into<usize>>(size: S, limit: L) -> Result<(), OutOfBounds> {
+                let (size, limit) = (size.into(), limit.into());
+                if size > limit {
+                    return Err(OutOfBounds);
+                }
+                Ok(())
+            }",
+        why: "it takes more types, as the Rust crate 0.3.0 does, and each is asked once",
+    },
+    Place {
+        path: "arraystring_core::array_string::ArrayString::as_str",
+        source: 0xCFC6_A0FD_1160_7E8D,
+        here: "
+            pub const fn as_str(&self) -> &str {
+                let (size, start) = (self.size as usize, self.start as usize);
+                let (_, text) = split_at_unchecked!(split_at_unchecked!(self.array, start + size).0, start);
+                unsafe { str::from_utf8_unchecked(text) }
+            }",
+        why: SPLITS,
+    },
+    Place {
+        path: "arraystring_core::array_string::ArrayString::as_bytes",
+        source: 0x1CAC_2A40_CCBA_ED84,
+        here: "
+            pub const fn as_bytes(&self) -> &[u8] {
+                let (size, start) = (self.size as usize, self.start as usize);
+                split_at_unchecked!(split_at_unchecked!(self.array, start + size).0, start).1
+            }",
+        why: SPLITS,
+    },
+    Place {
+        path: "arraystring_core::array_string::range::ArrayString::slice",
+        source: 0xB09A_1F3E_A40D_7C6C,
+        here: "
+            pub fn slice<R: RangeBounds<u8>>(&self, range: R) -> &str {
+                let (start, end) = plain_ends(range, self.len());
+                &self.as_str()[start..end]
+            }",
+        why: LIKE_STR,
+    },
+    Place {
+        path: "arraystring_core::array_string::range::ArrayString::get",
+        source: 0x4914_C8A9_BF9F_A62C,
+        here: "
+            pub fn get<R: RangeBounds<u8>>(&self, range: R) -> Option<&str> {
+                let (start, end) = plain_ends(range, self.len());
+                self.as_str().get(start..end)
+            }",
+        why: "std makes the same tests, and the index behind them makes none again",
+    },
+    Place {
+        path: "arraystring_core::array_string::range::ArrayString::make_ascii_uppercase_in",
+        source: 0x9FBB_390C_DFBC_CBB7,
+        here: "
+            pub fn make_ascii_uppercase_in<R: RangeBounds<u8>>(&mut self, range: R) {
+                let (start, end) = plain_ends(range, self.len());
+                let _ = &self.as_str()[start..end];
+                unsafe { self.uppercase_between(start, end) };
+            }",
+        why: LIKE_STR,
+    },
+    Place {
+        path: "arraystring_core::array_string::range::ArrayString::make_ascii_lowercase_in",
+        source: 0xA4C7_FDF2_F207_E58E,
+        here: "
+            pub fn make_ascii_lowercase_in<R: RangeBounds<u8>>(&mut self, range: R) {
+                let (start, end) = plain_ends(range, self.len());
+                let _ = &self.as_str()[start..end];
+                unsafe { self.lowercase_between(start, end) };
+            }",
+        why: LIKE_STR,
+    },
+    Place {
+        path: "arraystring_core::fast::equal::equal",
+        source: 0x6684_9168_2648_7990,
+        here: "
+            pub(crate) fn equal(text: &str, other: &str) -> bool {
+                text == other
+            }",
+        why: MEMCMP,
+    },
+    Place {
+        path: "arraystring_core::fast::order::order",
+        source: 0x4B09_0F8C_F8C2_9B50,
+        here: "
+            pub(crate) fn order<const N: usize>(text: &str, other: &str) -> Ordering {
+                text.cmp(other)
+            }",
+        why: MEMCMP,
+    },
+    Place {
+        path: "arraystring_core::fast::well_formed::read_utf8",
+        source: 0x1D1E_0447_27C5_0A8D,
+        here: "
+            pub(crate) fn read_utf8(given: &[u8]) -> Result<&str, Utf8> {
+                let (blocks, last) = (given.len() / 32 * 32, given.len().saturating_sub(32));
+                if get_unchecked!(given, ..blocks).is_ascii() && get_unchecked!(given, last..).is_ascii() {
+                    return Ok(unsafe { str::from_utf8_unchecked(given) });
+                }
+                str::from_utf8(given).map_err(Utf8::from)
+            }",
+        why: "std tests UTF-8 by the vectors of the machine, behind a test for ASCII: the blocks of 32 bytes in front and the \
+              last 32 bytes are all bytes",
+    },
+];
+
+/// Functions that require something in their sources, and are safe here, by the clauses, as they are written.
+struct Safe {
+    requires: &'static [&'static str],
+    functions: &'static [&'static str],
+    why: &'static str,
+}
+
+const ENDS: &str =
+    "an iterator that never ends keeps the call, which writes nothing that does not fit; nothing rests on the end";
+const COUNTS: &str = "a count stops at 2^64 - 1, and nothing rests on it";
+const CLOSURES: &str = "a closure that panics leaves what was kept until then; nothing rests on its return";
+
+const SAFE: &[Safe] = &[
+    Safe {
+        requires: &["requires { IsFiniteIterable I.into_iter_gives I.IntoIter.can_next I.IntoIter.remaining pieces }"],
+        functions: &[
+            "cache_string::CacheString::try_from_iterator",
+            "cache_string::CacheString::from_iterator",
+            "arraystring_core::array_string::append::ArrayString::add_strs",
+            "arraystring_core::array_string::construct::ArrayString::try_from_iterator",
+            "arraystring_core::array_string::construct::ArrayString::from_iterator",
+            "arraystring_core::array_string::push::ArrayString::extend_strs",
+        ],
+        why: ENDS,
+    },
+    Safe {
+        requires: &[
+            "requires { IsFiniteIterable I.into_iter_gives I.IntoIter.can_next I.IntoIter.remaining characters }",
+        ],
+        functions: &[
+            "cache_string::CacheString::try_from_chars",
+            "cache_string::CacheString::from_chars",
+            "arraystring_core::array_string::append::ArrayString::add_chars",
+            "arraystring_core::array_string::construct::ArrayString::try_from_chars",
+            "arraystring_core::array_string::construct::ArrayString::from_chars",
+            "arraystring_core::array_string::push::ArrayString::extend_chars",
+        ],
+        why: ENDS,
+    },
+    Safe {
+        requires: &["requires looks { steps.old.looked ≤ 2 ^ 63 }", "requires moves { steps.old.moved ≤ 2 ^ 63 }"],
+        functions: &[
+            "arraystring_core::array_string::insert::ArrayString::try_insert_str_counted",
+            "arraystring_core::array_string::range::ArrayString::drain_counted",
+            "arraystring_core::array_string::range::ArrayString::replace_range_counted",
+            "arraystring_core::array_string::remove::ArrayString::pop_counted",
+            "arraystring_core::array_string::remove::ArrayString::remove_counted",
+            "arraystring_core::array_string::trim::ArrayString::trim_counted",
+        ],
+        why: COUNTS,
+    },
+    Safe {
+        requires: &["requires { steps.old.looked ≤ 2 ^ 63 }"],
+        functions: &["arraystring_base::utf8::truncate_str_counted"],
+        why: COUNTS,
+    },
+    Safe {
+        requires: &["requires { steps.old.looked + 4 < 2 ^ 64 }"],
+        functions: &["arraystring_base::utf8::last_char"],
+        why: COUNTS,
+    },
+    Safe {
+        requires: &["requires { steps.old.moved ≤ 2 ^ 63 }"],
+        functions: &["arraystring_core::array_string::range::ArrayString::replace_between"],
+        why: COUNTS,
+    },
+    Safe {
+        requires: &["requires { IsCallableInTurn F.pre F.step f self.old.text }"],
+        functions: &["arraystring_core::array_string::remove::ArrayString::retain"],
+        why: CLOSURES,
+    },
+    Safe {
+        requires: &["requires callable { F.IsAlwaysCallable drops }", "requires looks { steps.old.looked ≤ 2 ^ 63 }"],
+        functions: &["arraystring_core::array_string::trim::ArrayString::drop_trailing"],
+        why: CLOSURES,
+    },
+    Safe {
+        requires: &["requires callable { F.IsAlwaysCallable drops }"],
+        functions: &[
+            "arraystring_core::array_string::trim::ArrayString::drop_leading",
+            "arraystring_core::array_string::trim::ArrayString::drop_leading_decoded",
+        ],
+        why: CLOSURES,
+    },
+    Safe {
+        requires: &["requires callable { F.IsAlwaysCallable drops.now }"],
+        functions: &["arraystring_core::array_string::trim::ArrayString::drop_leading_ascii"],
+        why: CLOSURES,
+    },
+];
+
+/// What a made file has not of its source.
+const LEFT_OUT: &[(&str, &str)] = &[
+    ("mod integration", SERDE),
+    ("arraystring_core::mod integration", SERDE),
+    ("mod laws", NO_PROOF),
+    ("arraystring_base::mod laws", NO_PROOF),
+    ("arraystring_core::mod laws", NO_PROOF),
+    (
+        "arraystring_base::utils::use crate::arraystring_base::moves::move_run",
+        "nothing of the crate moves without a count, and no program reaches it",
+    ),
+    (
+        "arraystring_core::array_string::range::ArrayString::between",
+        "`get` asks std for the part, and `slice` has the index itself",
+    ),
+    ("arraystring_core::fast::equal::use core::simd::Simd", BY_STD),
+    ("arraystring_core::fast::equal::equal_few", BY_STD),
+    ("arraystring_core::fast::equal::equal_by_blocks", BY_STD),
+    ("arraystring_core::fast::equal::equal_by_four", BY_STD),
+    ("arraystring_core::fast::equal::equal_by_two", BY_STD),
+    ("arraystring_core::fast::equal::equal_block", BY_STD),
+    ("arraystring_core::fast::order::use crate::arraystring_core::fast::equal::equal_block", BY_STD),
+    ("arraystring_core::fast::order::use core::simd::Simd", BY_STD),
+    ("arraystring_core::fast::order::order_by_bytes", BY_STD),
+    ("arraystring_core::fast::order::order_by_ends", BY_STD),
+    ("arraystring_core::fast::order::words", BY_STD),
+    ("arraystring_core::fast::order::halves", BY_STD),
+    ("arraystring_core::fast::order::order_of_lengths", BY_STD),
+    ("arraystring_core::fast::order::order_of_different", BY_STD),
+    ("arraystring_core::fast::order::order_by_blocks", BY_STD),
+    ("arraystring_core::fast::order::order_by_groups", BY_STD),
+    ("arraystring_core::fast::order::equal_groups", BY_STD),
+    ("arraystring_core::fast::order::order_by_block", BY_STD),
+    ("arraystring_core::fast::order::block_order", BY_STD),
+    ("arraystring_core::fast::well_formed::use core::simd::Simd", BY_STD),
+    ("arraystring_core::fast::well_formed::read_characters", BY_STD),
+    ("arraystring_core::fast::well_formed::behind_characters", BY_STD),
+    ("arraystring_core::fast::well_formed::characters_at_front", BY_STD),
+    ("arraystring_core::fast::well_formed::character_at_front", BY_STD),
+    ("arraystring_core::fast::well_formed::is_second", BY_STD),
+    ("arraystring_core::fast::well_formed::is_later", BY_STD),
+    ("arraystring_core::fast::well_formed::ascii_at_front", BY_STD),
+    ("arraystring_core::fast::well_formed::is_ascii", BY_STD),
+    ("arraystring_core::fast::well_formed::is_ascii_by_blocks", BY_STD),
+    ("arraystring_core::fast::well_formed::is_ascii_block", BY_STD),
+];
+
+const SERDE: &str = "it stands on `serde_json`, and the Rust crate has no dependency";
+const NO_PROOF: &str = "a Rust program has no proof that could cite a law";
+const BY_STD: &str = "std does here what it is for, and nothing else calls it";
+
+/// Items that a made file has beyond its source.
+struct Added {
+    module: &'static str,
+    items: &'static str,
+    why: &'static str,
+}
+
+const ADDED: &[Added] = &[
+    Added {
+        module: "",
+        items: "
+            #![doc = include_str!(\"../README.md\")]
+            #![no_std]
+            #![deny(unsafe_op_in_unsafe_fn, missing_docs)]
+            #[cfg(not(any(target_pointer_width = \"32\", target_pointer_width = \"64\")))]
+            compile_error!(\"the crate was tried where a `usize` has 32 or 64 bits, and nowhere else\");
+            #[macro_use]
+            #[path = \"by_hand/access.rs\"]
+            mod access;
+            mod arraystring_base;
+            mod arraystring_core;
+            mod by_hand;
+            pub use by_hand::{contracts, trust};",
+        why: "the root of the Rust crate: its page, the other crates as modules, and what is by hand",
+    },
+    Added {
+        module: "arraystring_base::steps",
+        items: "
+            pub(crate) unsafe fn look_unchecked(bytes: &[u8], at: usize, steps: &mut Steps) -> u8 {
+                steps.looked = steps.looked.saturating_add(1);
+                *get_unchecked!(bytes, at)
+            }
+            #[cfg(test)]
+            #[path = \"../by_hand/count_tests.rs\"]
+            mod tests;",
+        why: "the twin of `look`, for bodies, which prove its precondition; and tests that set the counts",
+    },
+    Added {
+        module: "arraystring_core::array_string",
+        items: "
+            #[path = \"../by_hand/constant.rs\"]
+            mod constant;
+            #[path = \"../by_hand/room.rs\"]
+            mod room;
+            #[path = \"../by_hand/write.rs\"]
+            mod write;",
+        why: "calls of the string that are by hand",
+    },
+    Added {
+        module: "arraystring_core::drain::traits",
+        items: "
+            impl<const N: usize> Iterator for Drain<N> {
+                fn size_hint(&self) -> (usize, Option<usize>) {
+                    let len = self.as_str().len();
+                    (len.div_ceil(4), Some(len))
+                }
+            }",
+        why: "callers that make room ask for it",
+    },
+];
+
+/// The files by hand. Each other one is made of the source of its path.
+const BY_HAND: &[&str] = &[
+    "by_hand.rs",
+    "by_hand/access.rs",
+    "by_hand/constant.rs",
+    "by_hand/contracts.rs",
+    "by_hand/count_tests.rs",
+    "by_hand/owned.rs",
+    "by_hand/room.rs",
+    "by_hand/simd.rs",
+    "by_hand/traits.rs",
+    "by_hand/write.rs",
+];
+
+/// Modules in a made file that only give the calls of a type their order in the reference: the module around them, and their
+/// names. What is in them counts as if it stood around them.
+const ORDERS: &[(&str, &[&str])] = &[("arraystring_core::array_string", &["empty", "views"])];
+
+// ---- The comparison of a file ----
+
+/// The lists of what is another one here, and why.
+struct Lists {
+    left_out: &'static [(&'static str, &'static str)],
+    added: &'static [Added],
+    places: &'static [Place],
+    safe: &'static [Safe],
+    by_hand: &'static [&'static str],
+    /// Modules that keep an order alone: the path of the module around them, and their names.
+    orders: &'static [(&'static str, &'static [&'static str])],
+}
+
+const LISTS: Lists =
+    Lists { left_out: LEFT_OUT, added: ADDED, places: PLACES, safe: SAFE, by_hand: BY_HAND, orders: ORDERS };
+
+/// FNV-1a of 64 bits: it tells a change that somebody made unawares. It is no seal.
+fn checksum(text: &str) -> u64 {
+    text.bytes().fold(0xCBF2_9CE4_8422_2325, |sum, byte| (sum ^ u64::from(byte)).wrapping_mul(0x100_0000_01B3))
+}
+
+/// A file by its path in the repository, and what is in it.
+#[derive(Clone, Copy)]
+struct File<'a> {
+    path: &'a str,
+    text: &'a str,
+}
+
+/// What an item has to be, and where that is said.
+struct Expected {
+    item: Item,
+    /// The item of the source, if the list has not another one in its place.
+    source: Option<Item>,
+    said_at: String,
+}
+
+struct Comparison {
+    lists: &'static Lists,
+    reading: Reading,
+    differences: Vec<String>,
+    functions: usize,
+    items: usize,
+}
+
+impl Comparison {
+    fn new(lists: &'static Lists, unsafe_names: BTreeSet<String>) -> Self {
+        let reading = Reading { unsafe_names, ..Reading::default() };
+        Comparison { lists, reading, differences: Vec::new(), functions: 0, items: 0 }
+    }
+
+    /// Compares a made file with its source. `module` is the path of both in the Rust crate.
+    fn file(&mut self, source: File, made: File, krate: &str, module: &str) {
+        // (a first line may say that the sources are not proved)
+        let named = format!("// Made from {} by ", source.path);
+        if !made.text.lines().take(2).any(|line| line.starts_with(&named)) {
+            self.differences.push(format!("{}:1: it does not name {} as its source", made.path, source.path));
+        }
+        let orders = self.lists.orders.iter().find(|(path, _)| *path == module).map_or(&[][..], |(_, names)| names);
+        let rattle = Origin { language: Language::Rattle, krate, module, orders: &[] };
+        let rust = Origin { language: Language::Rust, krate, module, orders };
+        let there = self.read(items(source.text, rattle), source.path);
+        let here = self.read(items(made.text, rust), made.path);
+        let (Some(there), Some(here)) = (there, here) else { return };
+        for item in there.iter().filter(|item| is_misleading(item)) {
+            let why = "has the name of a crate, or of what a rewrite knows";
+            self.differences.push(format!("{}:{}: `{}` {why}", source.path, item.line, item.path));
+        }
+        match self.expected(source, there, krate, module) {
+            Ok(expected) => self.match_items(expected, here, made.path),
+            Err(fault) => self.differences.push(format!("{}:{}: {}", source.path, fault.line, fault.why)),
+        }
+        orders.iter().for_each(|name| self.reading.note(&format!("order {module} {name}")));
+    }
+
+    /// The items of a file, or `None` where it can't be read, which is a difference.
+    fn read(&mut self, items: Result<Vec<Item>, Fault>, path: &str) -> Option<Vec<Item>> {
+        items.map_err(|fault| self.differences.push(format!("{path}:{}: {}", fault.line, fault.why))).ok()
+    }
+
+    /// What the made file has to have.
+    fn expected(&mut self, file: File, items: Vec<Item>, krate: &str, module: &str) -> Result<Vec<Expected>, Fault> {
+        let is_used = |law: &&str| items.iter().any(|item| item.key == format!("use {law}"));
+        let used: Vec<&str> = LAWS.iter().map(|law| law.path).filter(is_used).collect();
+        let names: Vec<&str> = used.iter().filter_map(|law| law.rsplit("::").next()).collect();
+        let mut expected = Vec::new();
+        for mut source in items {
+            if self.is_left_out(&source.path) || used.iter().any(|law| source.key == format!("use {law}")) {
+                continue;
+            }
+            if !self.other_use(&mut source, module) {
+                continue;
+            }
+            let said_at = format!("{}:{}", file.path, source.line);
+            expected.push(match self.lists.places.iter().find(|place| place.path == source.path) {
+                Some(place) => self.in_its_place(place, file, source, said_at)?,
+                None => {
+                    let item = without_ghosts(&source, &names, &mut self.reading)?;
+                    Expected { item, source: Some(source), said_at }
+                }
+            });
+        }
+        for (count, added) in self.lists.added.iter().enumerate().filter(|(_, added)| added.module == module) {
+            self.reading.note(&format!("added {count}"));
+            let origin = Origin { language: Language::Rust, krate, module, orders: &[] };
+            let said_at = format!("the list of what is added to `{module}`");
+            let listed = items_of_list(added.items, origin);
+            let listed = listed.filter(|item| item.is_function || !item.key.starts_with("impl"));
+            expected.extend(listed.map(|item| Expected { item, source: None, said_at: said_at.clone() }));
+        }
+        Ok(expected)
+    }
+
+    fn is_left_out(&mut self, path: &str) -> bool {
+        let is_it = self.lists.left_out.iter().any(|(left_out, _)| *left_out == path);
+        if is_it {
+            self.reading.note(&format!("left out {path}"));
+        }
+        is_it
+    }
+
+    /// Gives a `use` the path that it has here. Returns false if it has none.
+    fn other_use(&mut self, source: &mut Item, module: &str) -> bool {
+        let Some(path) = source.key.strip_prefix("use ") else { return true };
+        let is_meant = |uses: &&Uses| uses.source == path && (uses.within.is_empty() || uses.within == module);
+        let Some(uses) = USES.iter().find(is_meant) else { return true };
+        self.reading.note(&format!("use {}", uses.source));
+        let Some(made) = uses.made else { return false };
+        source.key = format!("use {made}");
+        source.path = joined(module, &source.key);
+        true
+    }
+
+    /// What the list of places has for an item, if its source is still the one that was read.
+    fn in_its_place(&mut self, place: &Place, file: File, source: Item, said_at: String) -> Result<Expected, Fault> {
+        self.reading.note(&format!("place {}", place.path));
+        let sum = checksum(&file.text[source.at.0..source.at.1]);
+        if sum != place.source {
+            let path = place.path;
+            self.differences.push(format!(
+                "{said_at}: `{path}` is not as it was when its place was written: read both, and enter 0x{sum:016X}"
+            ));
+        }
+        let origin = Origin { language: Language::Rust, krate: "", module: "", orders: &[] };
+        let listed = items_of_list(place.here, origin).next();
+        let Some(listed) = listed else { return fault(source.line, format!("`{}` is no item", place.here)) };
+        let Item { attributes, head, body, .. } = listed;
+        Ok(Expected { item: Item { attributes, head, body, ..source }, source: None, said_at })
+    }
+
+    /// Compares what has to be there with what is there, whatever the order.
+    fn match_items(&mut self, expected: Vec<Expected>, here: Vec<Item>, path: &str) {
+        let mut left: BTreeMap<String, Item> = BTreeMap::new();
+        for item in here {
+            let line = item.line;
+            if let Some(item) = left.insert(item.key.clone(), item) {
+                self.differences.push(format!("{path}:{line}: `{}` is there twice", item.path));
+            }
+        }
+        for expected in expected {
+            let Some(made) = left.remove(&expected.item.key) else {
+                let Expected { item, said_at, .. } = expected;
+                self.differences.push(format!("{said_at}: `{}` is missing in {path}", item.path));
+                continue;
+            };
+            self.item(&expected, &made, path);
+            *(if made.is_function { &mut self.functions } else { &mut self.items }) += 1;
+        }
+        for made in left.values() {
+            self.differences.push(format!("{path}:{}: `{}` is in no source and in no list", made.line, made.path));
+        }
+    }
+
+    /// Compares an item with what it has to be.
+    fn item(&mut self, expected: &Expected, made: &Item, path: &str) {
+        let as_there = match &expected.source {
+            Some(source) => as_in_source(made, source, &mut self.reading),
+            None => as_in_list(made),
+        };
+        let places = format!("{}, {path}:{}", expected.said_at, made.line);
+        let (has_to_be, is) = (self.strict(&expected.item.attributes), self.strict(&made.attributes));
+        if has_to_be != is {
+            self.differences.push(format!("{places}: `{}`: {is:?} for {has_to_be:?}", made.path));
+        }
+        for (has_to_be, is) in [(&expected.item.head, &as_there.head), (&expected.item.body, &as_there.body)] {
+            if let Some(difference) = first_difference(has_to_be, is) {
+                self.differences.push(format!("{places}: `{}`: {difference}", made.path));
+            }
+        }
+        if let Some(source) = &expected.source {
+            self.precondition(source, made, &places);
+        }
+    }
+
+    /// The attributes that have to be the same.
+    fn strict<'a>(&mut self, attributes: &'a [String]) -> Vec<&'a str> {
+        let (free, strict): (Vec<_>, Vec<_>) = attributes
+            .iter()
+            .map(String::as_str)
+            .partition(|words| FREE_ATTRIBUTES.iter().any(|(free, _)| free == words));
+        free.iter().for_each(|words| self.reading.note(&format!("attribute {words}")));
+        strict
+    }
+
+    /// A function that requires something is an `unsafe fn`, or the list says why not.
+    fn precondition(&mut self, source: &Item, made: &Item, places: &str) {
+        let requires: Vec<_> = source.clauses.iter().filter(|clause| clause.text.starts_with("requires")).collect();
+        if requires.is_empty() || position(&made.head, &pattern("unsafe fn")).is_some() {
+            return;
+        }
+        let texts: Vec<_> = requires.iter().map(|clause| clause.text.as_str()).collect();
+        let path = source.path.as_str();
+        match self.lists.safe.iter().find(|safe| safe.functions.contains(&path) && safe.requires == texts) {
+            Some(_) => self.reading.note(&format!("safe {path}")),
+            None => self.differences.push(format!(
+                "{places}: `{path}` is no `unsafe fn`, and the list does not say why, for what it requires: {texts:?}"
+            )),
+        }
+    }
+}
+
+/// Whether an item of a source has a name that a rewrite or a path takes for something else.
+fn is_misleading(item: &Item) -> bool {
+    let key = item.key.rsplit(" / ").next().unwrap_or_default();
+    let name = key.rsplit([':', ' ']).next().unwrap_or_default();
+    let is_use = key.starts_with("use ");
+    let is_named_here = !is_use || key.contains(" as ");
+    let is_known = KNOWN_NAMES.iter().any(|(known, path)| name == *known && item.path != *path);
+    let is_crate = ["std", "core", "alloc", "crate"].contains(&name) || CRATES.contains(&name);
+    let is_std = ["char", "str"].contains(&name) && key != format!("use core::{name}");
+    is_named_here && is_known || (is_use || key.starts_with("mod ")) && (is_crate || is_std)
+}
+
+/// The items that an entry of a list has.
+fn items_of_list(text: &str, origin: Origin) -> impl Iterator<Item = Item> {
+    let items = items(text, origin).unwrap_or_else(|fault| panic!("`{text}` of a list: {}", fault.why));
+    items.into_iter().map(|item| as_in_list(&item))
+}
+
+fn as_in_list(item: &Item) -> Item {
+    let head = without_commas(with_single_closings(item.head.clone()), true);
+    Item { head, body: without_commas(item.body.clone(), false), ..item.clone() }
+}
+
+/// Where tokens begin to differ, with what is around.
+fn first_difference(has_to_be: &[Token], is: &[Token]) -> Option<String> {
+    if has_to_be == is {
+        return None;
+    }
+    let same = has_to_be.iter().zip(is).take_while(|(one, other)| one == other).count();
+    let around = |tokens: &[Token]| shown(&tokens[same.saturating_sub(4)..tokens.len().min(same + 8)]);
+    let line = |tokens: &[Token]| tokens.get(same).or(tokens.last()).map_or(0, |token| token.line);
+    let (there, here) = (around(has_to_be), around(is));
+    Some(format!("`{here}` (line {}) for `{there}` (line {})", line(is), line(has_to_be)))
+}
+
+// ---- The comparison of all ----
+
+const MADE: &str = "rust/arraystring/src/";
+
+/// All files below the folders of the sources and of what is made, by their paths.
+type Files = BTreeMap<String, String>;
+
+/// The crate and the module of a source, by its path.
+fn module_of(path: &str) -> Option<(&str, String)> {
+    let (krate, module) = path.strip_prefix("crates/")?.strip_suffix(".rt")?.split_once("/src/")?;
+    let module = if module == "lib" { String::new() } else { module.replace('/', "::") };
+    let is_root = CRATES.last() == Some(&krate);
+    let whole = if is_root { module } else { [krate, &module].join("::").trim_end_matches(':').to_string() };
+    CRATES.contains(&krate).then_some((krate, whole))
+}
+
+/// The path of the made file of a module.
+fn path_of_made(module: &str) -> String {
+    let module = if module.is_empty() { "lib" } else { module };
+    format!("{MADE}{}.rs", module.replace("::", "/"))
+}
+
+/// The names of all functions that are `unsafe` in the Rust crate.
+fn unsafe_names(files: &Files) -> BTreeSet<String> {
+    let mut names = BTreeSet::new();
+    for text in files.iter().filter(|(path, _)| path.starts_with(MADE)).map(|(_, text)| text) {
+        let tokens = tokens(text, Language::Rust).unwrap_or_default();
+        let found = tokens.windows(3).filter(|three| three[0].is("unsafe") && three[1].is("fn"));
+        names.extend(found.map(|three| three[2].text.clone()));
+    }
+    names
+}
+
+/// Compares all files.
+fn compare(files: &Files, lists: &'static Lists) -> Comparison {
+    let mut comparison = Comparison::new(lists, unsafe_names(files));
+    let mut left: BTreeSet<&str> = files.keys().filter(|path| path.starts_with(MADE)).map(String::as_str).collect();
+    for (path, text) in files {
+        let Some((krate, module)) = module_of(path) else { continue };
+        if is_left_out(lists, &module) {
+            continue;
+        }
+        let made = path_of_made(&module);
+        match files.get(&made) {
+            Some(here) => comparison.file(File { path, text }, File { path: &made, text: here }, krate, &module),
+            None => comparison.differences.push(format!("{path}: it has no made file {made}")),
+        }
+        left.remove(made.as_str());
+    }
+    for name in lists.by_hand {
+        if left.remove(format!("{MADE}{name}").as_str()) {
+            comparison.reading.note(&format!("by hand {name}"));
+        }
+    }
+    let no_source = |path: &&str| format!("{path}: it has no source, and is not in the list of what is by hand");
+    comparison.differences.extend(left.iter().map(no_source));
+    laws_do_nothing(files, &mut comparison);
+    comparison
+}
+
+/// Whether a module is left out, or one that it is in.
+fn is_left_out(lists: &Lists, module: &str) -> bool {
+    lists.left_out.iter().any(|(path, _)| {
+        let Some((around, name)) = path.split_once("mod ") else { return false };
+        module == format!("{around}{name}") || module.starts_with(&format!("{around}{name}::"))
+    })
+}
+
+/// Each law that a body calls still has the body that was read.
+fn laws_do_nothing(files: &Files, comparison: &mut Comparison) {
+    for law in LAWS {
+        let path = law.path.trim_start_matches("crate::");
+        let found = files.iter().find_map(|(file, text)| {
+            let (krate, module) = module_of(file)?;
+            let name = path.strip_prefix(&format!("{module}::"))?;
+            let origin = Origin { language: Language::Rattle, krate, module: &module, orders: &[] };
+            items(text, origin).ok()?.into_iter().find(|item| item.key == format!("fn {name}"))
+        });
+        if found.is_none_or(|item| item.body != pattern(law.body)) {
+            let (path, body) = (law.path, law.body);
+            comparison
+                .differences
+                .push(format!("`{path}` is no function with the body `{body}`, and calls of it are left out"));
+        }
+    }
+}
+
+/// The entries of the lists as they are noted when they are used, each with its reason.
+fn entries(lists: &'static Lists) -> Vec<(String, &'static str)> {
+    let mut entries: Vec<(String, &'static str)> = Vec::new();
+    entries.extend(REWRITES.iter().chain(HEADS).map(|rewrite| (rewrite.made.to_string(), rewrite.why)));
+    entries.extend(ASKED.iter().map(|asked| (asked.generics.to_string(), asked.why)));
+    entries.extend([ASKED_EACH.0, WALK.0].map(|made| (made.to_string(), ASKED_EACH_WHY)));
+    entries.extend(BY_CODE.iter().map(|(name, why)| (name.to_string(), *why)));
+    entries.extend(FREE_ATTRIBUTES.iter().map(|(words, why)| (format!("attribute {words}"), *why)));
+    entries.extend(USES.iter().map(|uses| (format!("use {}", uses.source), uses.why)));
+    let name = |law: &str| law.rsplit("::").next().unwrap_or_default().to_string();
+    entries.extend(LAWS.iter().map(|law| (format!("law {}", name(law.path)), law.why)));
+    entries.extend(lists.left_out.iter().map(|(path, why)| (format!("left out {path}"), *why)));
+    entries.extend(lists.added.iter().enumerate().map(|(count, added)| (format!("added {count}"), added.why)));
+    entries.extend(lists.places.iter().map(|place| (format!("place {}", place.path), place.why)));
+    let functions = |safe: &'static Safe| safe.functions.iter().map(|path| (format!("safe {path}"), safe.why));
+    entries.extend(lists.safe.iter().flat_map(functions));
+    entries.extend(lists.by_hand.iter().map(|name| (format!("by hand {name}"), "by hand")));
+    let names =
+        |(module, names): &(&str, &'static [&str])| names.iter().map(|name| format!("order {module} {name}")).collect();
+    entries
+        .extend(lists.orders.iter().flat_map(|order| -> Vec<String> { names(order) }).map(|entry| (entry, "an order")));
+    entries
+}
+
+/// What is wrong with the lists: an entry that nothing uses is wider than it has to be, and one without a reason is refused.
+fn faults_of_lists(comparison: &Comparison) -> Vec<String> {
+    let mut faults = Vec::new();
+    for (entry, why) in entries(comparison.lists) {
+        if !comparison.reading.used.contains_key(&entry) {
+            faults.push(format!("nothing uses the entry `{entry}` of a list"));
+        }
+        if why.trim().is_empty() {
+            faults.push(format!("the entry `{entry}` of a list has no reason"));
+        }
+    }
+    faults
+}
+
+/// Reads all files with an ending below a folder of the repository.
+fn read_below(root: &Path, folder: &str, ending: &str, files: &mut Files) -> Result<(), String> {
+    let told = |path: &Path, error: std::io::Error| format!("{}: {error}", path.display());
+    let path = root.join(folder);
+    for entry in std::fs::read_dir(&path).map_err(|error| told(&path, error))? {
+        let entry = entry.map_err(|error| told(&path, error))?;
+        let name = format!("{folder}/{}", entry.file_name().to_string_lossy());
+        if entry.path().is_dir() {
+            read_below(root, &name, ending, files)?;
+        } else if name.ends_with(ending) {
+            let text = std::fs::read_to_string(entry.path()).map_err(|error| told(&entry.path(), error))?;
+            files.insert(name, text);
+        }
+    }
+    Ok(())
+}
+
+fn read_all(root: &Path) -> Result<Files, String> {
+    let mut files = Files::new();
+    for krate in CRATES {
+        read_below(root, &format!("crates/{krate}/src"), ".rt", &mut files)?;
+    }
+    read_below(root, MADE.trim_end_matches('/'), ".rs", &mut files)?;
+    Ok(files)
+}
+
+fn main() -> ExitCode {
+    let words: Vec<String> = std::env::args().skip(1).collect();
+    let root = match &words[..] {
+        [] => PathBuf::from("."),
+        [word, root] if word == "--root" => PathBuf::from(root),
+        _ => {
+            eprintln!("compare: the arguments are [--root FOLDER]");
+            return ExitCode::from(2);
+        }
+    };
+    match read_all(&root) {
+        Ok(files) => report(&compare(&files, &LISTS)),
+        Err(why) => {
+            eprintln!("compare: {why}");
+            ExitCode::from(2)
+        }
+    }
+}
+
+/// Prints the differences, or how much was compared.
+fn report(comparison: &Comparison) -> ExitCode {
+    let mut text = String::new();
+    for difference in &comparison.differences {
+        let _ = writeln!(text, "compare: {difference}");
+    }
+    for fault in faults_of_lists(comparison) {
+        let _ = writeln!(text, "compare: {fault}");
+    }
+    eprint!("{text}");
+    let Comparison { functions, items, lists, .. } = comparison;
+    let rewrites = REWRITES.len() + HEADS.len() + ASKED.len() + 1 + BY_CODE.len() + USES.len() + LAWS.len();
+    let safe: usize = lists.safe.iter().map(|safe| safe.functions.len()).sum();
+    let places = lists.places.len() + safe + lists.left_out.len() + lists.added.len();
+    if text.is_empty() {
+        println!(
+            "compare: {functions} functions and {items} items are as in the sources; {rewrites} rewrites, {places} places"
+        );
+        ExitCode::SUCCESS
+    } else {
+        eprintln!("compare: {} differences", text.lines().count());
+        ExitCode::FAILURE
+    }
+}
+
+#[cfg(test)]
+#[path = "compare_tests.rs"]
+mod tests;
