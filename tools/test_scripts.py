@@ -278,6 +278,11 @@ esac"""
             with self.subTest(change), self.changed(change):
                 self.assertIn("rust/check: tests of the sources (<)", self.assert_refused(wanted))
 
+    def test_a_test_of_the_sources_may_run_where_a_test_includes_their_file(self):
+        included = "".join(self.RUNNING.format(it) + "test access::is_within ... ok\n\n" for it in ("unittests src/lib.rs", "tests/access.rs"))
+        with self.changed(("rust/arraystring/src/access.rs", self.TEST.format("is_within")), ("tested", r"\A", included)):
+            self.assertNotIn("tests of the sources (<)", self.assert_refused("> arraystring: access 1\n"))
+
     def test_a_test_that_is_gone_from_a_file_or_a_build_is_told(self):
         gone, only_one = ("rust/arraystring/tests/model.rs", None), 'case "$*" in *release*) cat ../tested ;; *) grep -v plays'
         with self.changed(gone, ("tested", r"^test plays.*\n", "")):
