@@ -1,26 +1,54 @@
-//! What stands before a public call beside its documentation: that a panic is its caller's, and that its result is to be used.
+//! What stands before a function beside its documentation: that a panic is its caller's, that its result is to be used, and how it
+//! may be inlined.
 
 use std::ops::Range;
 
-use crate::items::{File, Lead};
+use crate::decorated::Decoration;
+use crate::edits::indent;
+use crate::erase::Tally;
+use crate::items::Lead;
+use crate::reference::{ONCE, Once};
 use crate::rules::{FATES, Fate};
 
-impl File<'_, '_> {
+impl Decoration<'_> {
     /// Puts the attributes of a public call before it. The head is its signature in the source.
-    pub fn attributes(&mut self, call: &str, head: Range<usize>, lead: &Lead) {
+    pub fn attributes(&mut self, call: &str, head: Range<usize>, lead: &Lead, tally: &mut Tally) {
         let panics = FATES.iter().any(|(name, fate)| *name == call && matches!(fate, Fate::Panics(..)));
         if panics {
             self.attribute_of(lead, "#[track_caller]");
-            self.tally.count("calls that name their caller where they panic");
+            tally.count("calls that name their caller where they panic");
         }
         if only_returns(&self.text[head]) {
             self.attribute_of(lead, "#[must_use]");
-            self.tally.count("calls whose result is to be used");
+            tally.count("calls whose result is to be used");
+        }
+    }
+
+    /// Says to rustc that a body may be inlined.
+    pub fn hint(&mut self, call: &str, head: usize, lead: &Lead, tally: &mut Tally) {
+        if !lead.is_inlined {
+            self.attribute_of(lead, "#[inline]");
+            tally.count("functions that may be inlined");
+        }
+        self.once(call, head, lead, tally);
+    }
+
+    /// Lets rustc decide whether a body is inlined that its source always inlines, if a rule says so.
+    fn once(&mut self, call: &str, head: usize, lead: &Lead, tally: &mut Tally) {
+        let always = format!("{}#[inline(always)]\n", indent(self.text, head));
+        let name = call.rsplit("::").next().unwrap_or_default();
+        let is_meant = |rule: &&Once| rule.file == self.path && !rule.but.contains(&name);
+        let Some(rule) = ONCE.iter().find(is_meant) else { return };
+        if let Some(at) = self.text[lead.docs_end..head].find(&always) {
+            let at = lead.docs_end + at;
+            self.edits.replace(at..at + always.len(), "");
+            tally.count("functions that need not be inlined");
+            tally.used.insert(format!("once {}", rule.file));
         }
     }
 
     fn attribute_of(&mut self, lead: &Lead, attribute: &str) {
-        self.edits.insert(lead.docs_end, format!("{}{attribute}\n", self.indent(lead.docs_end)));
+        self.edits.insert(lead.docs_end, format!("{}{attribute}\n", indent(self.text, lead.docs_end)));
     }
 }
 
@@ -42,7 +70,7 @@ mod tests {
 
     use super::*;
     use crate::cursor::Fault;
-    use crate::erase::{Source, Tally, erase};
+    use crate::erase::{Source, erase};
 
     /// What comes of a file of strings.
     fn made(text: &str) -> Result<String, Fault> {

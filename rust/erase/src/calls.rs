@@ -58,11 +58,18 @@ impl Here<'_> {
     }
 }
 
-/// Rewrites a body, which is given by its tokens.
-pub fn rewrite(source: &str, tokens: &[Token], here: &Here, edits: &mut Edits, tally: &mut Tally) -> Result<(), Fault> {
-    paths(source, tokens, here.krate, edits, tally);
+/// Rewrites a body, which is given by its tokens. Its code changes, and reasons are added to it.
+pub fn rewrite(
+    source: &str,
+    tokens: &[Token],
+    here: &Here,
+    code: &mut Edits,
+    decoration: &mut Edits,
+    tally: &mut Tally,
+) -> Result<(), Fault> {
+    paths(source, tokens, here.krate, code, tally);
     let (body, numbers) = (Body::new(source, tokens), BTreeMap::new());
-    let mut calls = Calls { body, here, edits, tally, safe_until: 0, inner_until: 0, numbers };
+    let mut calls = Calls { body, here, code, decoration, tally, safe_until: 0, inner_until: 0, numbers };
     (0..tokens.len()).try_for_each(|at| calls.token(at))
 }
 
@@ -70,7 +77,9 @@ pub fn rewrite(source: &str, tokens: &[Token], here: &Here, edits: &mut Edits, t
 struct Calls<'a, 't> {
     body: Body<'a>,
     here: &'a Here<'a>,
-    edits: &'t mut Edits,
+    code: &'t mut Edits,
+    /// The reasons.
+    decoration: &'t mut Edits,
     tally: &'t mut Tally,
     /// Behind the last `unsafe` block of the source.
     safe_until: usize,
@@ -84,16 +93,16 @@ impl Calls<'_, '_> {
     /// Rewrites what begins at a token.
     fn token(&mut self, at: usize) -> Result<(), Fault> {
         let body = &self.body;
-        if self.here.proves && access::rewrite(body, at, self.edits, self.tally)? {
+        if self.here.proves && access::rewrite(body, at, self.code, self.tally)? {
             self.access(at)?;
         }
         let body = &self.body;
         let is_free = matches!(body.called(at), Called::Free);
         if is_free && PROOFS_ALONE.contains(&body.text(at)) && body.text(at + 1) == "(" {
-            body.leave_out(at, at + 1, self.edits)?;
+            body.leave_out(at, at + 1, self.code)?;
             self.tally.count("calls for the proof alone");
         } else if [0, 1, 2].map(|next| body.text(at + next)) == ["prove", "!", "("] {
-            body.leave_out(at, at + 2, self.edits)?;
+            body.leave_out(at, at + 2, self.code)?;
             self.tally.count("tests for the proof alone");
         } else if body.text(at) == "unsafe" && body.text(at + 1) == "{" {
             self.block(at)?;
@@ -122,8 +131,8 @@ impl Calls<'_, '_> {
         self.safe_until = body.closing(at + 1)?;
         if at < self.inner_until {
             // The block round the call is enough.
-            self.edits.replace(body.at(at).start..body.at(at + 2).start, "");
-            self.edits.replace(body.at(self.safe_until - 1).end..body.at(self.safe_until).end, "");
+            self.code.replace(body.at(at).start..body.at(at + 2).start, "");
+            self.code.replace(body.at(self.safe_until - 1).end..body.at(self.safe_until).end, "");
         }
         if !body.has_reason(at) {
             return Err(Fault::new(body.at(at).start, "an `unsafe` block without its line `// SAFETY: ..`"));
@@ -145,8 +154,8 @@ impl Calls<'_, '_> {
         let why = self.here.reason(&worker, *number - 1, name_at, self.tally)?;
         if at >= self.inner_until {
             self.inner_until = self.body.closing(opens)?;
-            self.edits.insert(self.body.at(start).start, "unsafe { ");
-            self.edits.insert(self.body.at(self.inner_until).end, " }");
+            self.code.insert(self.body.at(start).start, "unsafe { ");
+            self.code.insert(self.body.at(self.inner_until).end, " }");
         }
         self.say(start, &format!("{facts}: {why}"));
         Ok(())
@@ -157,7 +166,7 @@ impl Calls<'_, '_> {
         let (name, called) = (self.body.text(at), self.body.called(at));
         let twin = TWINS.iter().find(|rule| rule.call == name && matches!(called, Called::Free));
         if let Some(rule) = twin {
-            self.edits.replace(self.body.at(at), rule.twin);
+            self.code.replace(self.body.at(at), rule.twin);
             self.tally.used.insert(format!("twin called {}", rule.call));
         } else {
             self.tally.contracts.note_call(self.here.call, name);
@@ -192,8 +201,8 @@ impl Calls<'_, '_> {
         let sign = format!("{indent}//");
         let put =
             lines(&sign, &sign, &format!("SAFETY: {why}.")) + &format!("{sign} Proved: crates/{}\n", self.here.path);
-        if !self.edits.has(start, &put) {
-            self.edits.insert(start, put);
+        if !self.decoration.has(start, &put) {
+            self.decoration.insert(start, put);
         }
         self.tally.count("reasons of `unsafe`");
     }

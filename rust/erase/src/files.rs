@@ -10,9 +10,10 @@ use crate::cursor::{Cursor, Fault};
 use crate::erase::{Source, Tally, erase, line_of};
 use crate::names;
 use crate::reasons::{self, Reasons};
+use crate::reference::{MORE, ONCE};
 use crate::rules::{
-    ADDED, BODIES, BY_HAND, BY_STD, CONSTANT, CRATES, FATES, GIVEN_UP, KNOWN, LEFT_OUT, MORE, NAMED, ONCE, ORDER,
-    REPLACED, TESTED, TWINS, WIDER,
+    ADDED, BODIES, BY_HAND, BY_STD, CONSTANT, CRATES, FATES, GIVEN_UP, KNOWN, LEFT_OUT, NAMED, ORDER, REPLACED, TESTED,
+    TWINS, WIDER,
 };
 use crate::width;
 

@@ -7,13 +7,12 @@ use crate::calls::{self, Here};
 use crate::clauses::{Names, said};
 use crate::contracts::{Clause, is_type};
 use crate::cursor::{Cursor, Fault, Token};
-use crate::edits::Edits;
+use crate::edits::{Edits, indent, line_start};
 use crate::erase::Source;
 use crate::items::{File, Inside, Lead};
 use crate::reasons::Reasons;
 use crate::rules::{
-    BEHIND, BODIES, BY_STD, CONSTANT, FATES, Fate, KNOWN, LEFT_OUT, ONCE, Once, REPLACED, TESTS_RANGE, TWINS, WALK,
-    WIDER,
+    BEHIND, BODIES, BY_STD, ByStd, CONSTANT, FATES, Fate, KNOWN, LEFT_OUT, REPLACED, TESTS_RANGE, TWINS, WALK, WIDER,
 };
 use crate::sections::{example, required, section};
 use crate::sentences::sentences;
@@ -59,7 +58,7 @@ impl<'a> File<'a, '_> {
         let function = self.read_function(cursor, word, is_public, inside)?;
         let name = function.call.rsplit("::").next().unwrap_or_default();
         if LEFT_OUT.iter().any(|rule| rule.name == name) {
-            self.edits.replace(self.lines(lead.start..function.end), "");
+            self.code.replace(self.lines(lead.start..function.end), "");
             self.tally.count("functions left out");
             self.tally.used.insert(name.to_string());
             return Ok(());
@@ -72,7 +71,7 @@ impl<'a> File<'a, '_> {
             self.tally.contracts.note_public(&function.call);
         }
         if is_public || inside.of_trait {
-            self.linked(lead, name);
+            self.decoration.linked(lead, name, self.tally);
         }
         self.twin(&function)?;
         self.head(function.head.clone());
@@ -86,9 +85,11 @@ impl<'a> File<'a, '_> {
             self.others.extend(others);
         }
         if is_public && !inside.of_trait {
-            self.attributes(&function.call, function.head.clone(), lead);
+            self.decoration.attributes(&function.call, function.head.clone(), lead, self.tally);
         }
-        self.hint(&function, lead);
+        self.decoration.hint(&function.call, function.head.start, lead, self.tally);
+        self.by_std(&function, lead);
+        self.part(name, function.end)?;
         if self.other_body(&function) { Ok(()) } else { self.body(&function, inside) }
     }
 
@@ -117,7 +118,22 @@ impl<'a> File<'a, '_> {
         if self.is_by_std() {
             return Ok(());
         }
-        calls::rewrite(self.text, &function.tokens, &here, &mut self.edits, self.tally)
+        calls::rewrite(self.text, &function.tokens, &here, &mut self.code, &mut self.decoration.edits, self.tally)
+    }
+
+    /// Leaves of a file whose work std does the one function that others call, with a body by std.
+    fn by_std(&mut self, function: &Function, lead: &Lead) {
+        let is_it =
+            |rule: &&ByStd| rule.file == self.source.path && function.call.ends_with(&format!("::{}", rule.function));
+        let Some(rule) = BY_STD.iter().find(is_it).filter(|_| function.clauses.is_some()) else { return };
+        self.code.replace(0..lead.start, format!("{}\n\n", rule.imports));
+        self.code.replace(function.body..function.end - 1, format!("\n    {}\n", rule.body));
+        self.code.replace(function.end..self.text.len(), "\n");
+        self.decoration.edits.insert(0, format!("//! {}\n\n", rule.module));
+        self.decoration.edits.replace(lead.start..lead.docs_end, format!("/// {}\n", rule.docs));
+        self.has_function_of_std = true;
+        self.tally.used.insert(format!("by std {}", rule.file));
+        self.tally.count("files whose work std does");
     }
 
     /// The reasons of a function, if it has some. Two functions of one path would share them: those of two impls in one file.
@@ -239,9 +255,10 @@ impl<'a> File<'a, '_> {
             None if !has_precondition || !(function.is_public || inside.of_trait) => {
                 if rests {
                     self.tally.count("private functions that are `unsafe` in Rust");
-                    self.edits.replace(function.head.start..function.head.start + "fn".len(), "unsafe fn");
+                    self.code.replace(function.head.start..function.head.start + "fn".len(), "unsafe fn");
                     let facts = self.said(function)?;
-                    self.in_its_place(lead, required(&self.indent(lead.docs_end), &facts));
+                    let put = required(&indent(self.text, lead.docs_end), &facts);
+                    self.decoration.in_its_place(lead, put, self.tally);
                 }
                 return match lead.precondition {
                     Some(_) if !rests => Err(Fault::new(lead.start, format!("`{call}` has no precondition in Rust"))),
@@ -265,7 +282,7 @@ impl<'a> File<'a, '_> {
             let Some(test) = test.filter(|test| !test.contains('`')) else {
                 return Err(Fault::new(head.start, format!("`{call}`: it has no test `{name}` that could be known")));
             };
-            self.edits.insert(*body, format!("\n{indent}known!({name}: {test});"));
+            self.code.insert(*body, format!("\n{indent}known!({name}: {test});"));
             self.tally.count("clauses that are known");
             self.tally.used.insert(format!("known {call} {name}"));
         }
@@ -281,7 +298,8 @@ impl<'a> File<'a, '_> {
             return Err(Fault::new(function.head.start, why));
         }
         let body = &self.text[function.body..function.end - 1];
-        let (mut cursor, mut tokens, mut edits) = (Cursor::new(body), Vec::new(), Edits::default());
+        let (mut cursor, mut tokens) = (Cursor::new(body), Vec::new());
+        let (mut code, mut decoration) = (Edits::default(), Edits::default());
         while let Some(token) = cursor.next_code()? {
             tokens.push(token);
         }
@@ -291,17 +309,16 @@ impl<'a> File<'a, '_> {
         self.tally.contracts.note(&call, &head, &function.preconditions);
         let whole_path = function.path.replace(rule.of, &call);
         let here = Here { krate, path, owner: "", call: &call, whole_path: &whole_path, gives_up: false, proves: true };
-        calls::rewrite(body, &tokens, &here, &mut edits, self.tally)?;
-        self.edits.insert(
-            function.end,
-            format!(
-                "\n\n/// `{}` where bodies call it, without a test.\n///\n{}#[inline(always)]\npub(crate) unsafe {}{{{}}}",
-                rule.call,
-                required("", &facts),
-                head.trim_end().to_string() + " ",
-                edits.apply(body),
-            ),
-        );
+        calls::rewrite(body, &tokens, &here, &mut code, &mut decoration, self.tally)?;
+        let made = code.apply(body);
+        let blank = "\n\n";
+        let before = format!("{blank}pub(crate) unsafe {} {{", head.trim_end());
+        let docs = format!("/// `{}` where bodies call it, without a test.\n///\n", rule.call);
+        let mut more = Edits::default();
+        more.insert(blank.len(), docs + &required("", &facts) + "#[inline(always)]\n");
+        more.extend(before.len(), decoration.moved(&made));
+        self.code.insert(function.end, format!("{before}{}}}", made.text));
+        self.decoration.of_put.push((function.end, more));
         self.tally.used.insert(format!("twin {}", rule.of));
         Ok(())
     }
@@ -334,9 +351,9 @@ impl<'a> File<'a, '_> {
     /// Puts another body in the place of that of a function, if a rule has one.
     fn other_body(&mut self, function: &Function) -> bool {
         let Some(rule) = BODIES.iter().find(|rule| rule.call == function.call) else { return false };
-        let indent = self.indent(function.head.start);
+        let indent = indent(self.text, function.head.start);
         let lines: String = rule.lines.iter().map(|line| format!("\n{indent}    {line}")).collect();
-        self.edits.replace(function.body..function.end - 1, format!("{lines}\n{indent}"));
+        self.code.replace(function.body..function.end - 1, format!("{lines}\n{indent}"));
         self.tally.count("bodies that are others in Rust");
         self.tally.used.insert(format!("body {}", rule.call));
         true
@@ -345,49 +362,26 @@ impl<'a> File<'a, '_> {
     /// Makes a section of the clauses, and takes them out of the code.
     fn contract(&mut self, function: &Function, lead: &Lead, has_words: bool, others: &[&str]) -> Result<(), Fault> {
         let Some(at) = function.clauses.clone() else { return Ok(()) };
-        let first = self.line_start(at.start);
+        let first = line_start(self.text, at.start);
         if !self.text[first..at.start].trim().is_empty() {
             return Err(Fault::new(at.start, "a clause that is not on a line of its own"));
         }
         let text = self.dedented(at);
-        self.folded(lead.docs_end, &text, lead.has_docs || has_words, others);
+        self.decoration.folded(lead.docs_end, &text, lead.has_docs || has_words, others, self.tally);
         // The bracket of the body, which stands on a line of its own behind clauses, ends the signature.
-        self.edits.replace(function.head.end..function.body - 1, " ");
+        self.code.replace(function.head.end..function.body - 1, " ");
         Ok(())
-    }
-
-    /// Says to rustc that a body may be inlined.
-    fn hint(&mut self, function: &Function, lead: &Lead) {
-        if !lead.is_inlined {
-            self.edits.insert(lead.docs_end, format!("{}#[inline]\n", self.indent(function.head.start)));
-            self.tally.count("functions that may be inlined");
-        }
-        self.once(function, lead);
-    }
-
-    /// Lets rustc decide whether a body is inlined that its source always inlines, if a rule says so.
-    fn once(&mut self, function: &Function, lead: &Lead) {
-        let always = format!("{}#[inline(always)]\n", self.indent(function.head.start));
-        let name = function.call.rsplit("::").next().unwrap_or_default();
-        let is_meant = |rule: &&Once| rule.file == self.source.path && !rule.but.contains(&name);
-        let Some(rule) = ONCE.iter().find(is_meant) else { return };
-        if let Some(at) = self.text[lead.docs_end..function.head.start].find(&always) {
-            let at = lead.docs_end + at;
-            self.edits.replace(at..at + always.len(), "");
-            self.tally.count("functions that need not be inlined");
-            self.tally.used.insert(format!("once {}", rule.file));
-        }
     }
 
     /// Does what is to become of a public call with a precondition.
     fn fate(&mut self, function: &Function, fate: &Fate, lead: &Lead) -> Result<(), Fault> {
         self.tally.used.insert(function.call.clone());
-        let indent = self.indent(lead.docs_end);
+        let indent = indent(self.text, lead.docs_end);
         let put = match fate {
             Fate::Unsafe(lines) => {
                 let words = sentences(&function.call, &self.said(function)?);
                 let words = words.map_err(|why| Fault::new(function.head.start, why))?;
-                self.edits.replace(function.head.start..function.head.start + "fn".len(), "unsafe fn");
+                self.code.replace(function.head.start..function.head.start + "fn".len(), "unsafe fn");
                 self.tally.count("calls that are `unsafe` in Rust");
                 let more = if lines.is_empty() { String::new() } else { example(&indent, lines) };
                 section(&indent, "Safety", &words) + &more
@@ -404,14 +398,14 @@ impl<'a> File<'a, '_> {
                 section(&indent, "In Rust", words)
             }
         };
-        self.in_its_place(lead, put);
+        self.decoration.in_its_place(lead, put, self.tally);
         Ok(())
     }
 
     /// Makes a call `const`, if a rule says so.
     fn constant(&mut self, function: &Function) {
         if CONSTANT.contains(&function.call.as_str()) {
-            self.edits.insert(function.head.start, "const ");
+            self.code.insert(function.head.start, "const ");
             self.tally.count("calls that are `const` in Rust");
             self.tally.used.insert(format!("constant {}", function.call));
         }
@@ -426,16 +420,16 @@ impl<'a> File<'a, '_> {
         let [found] = signature.match_indices(rule.from).map(|(at, _)| at).collect::<Vec<_>>()[..] else {
             return Err(Fault::new(head.start, format!("`{call}` does not have `{}` once", rule.from)));
         };
-        self.edits.replace(head.start + found..head.start + found + rule.from.len(), rule.to);
+        self.code.replace(head.start + found..head.start + found + rule.from.len(), rule.to);
         if !rule.generics.is_empty() {
             let name_end = signature.find(['(', '<']).unwrap_or_default();
             match signature[name_end..].starts_with('<') {
-                true => self.edits.insert(head.start + name_end + 1, format!("{}, ", rule.generics)),
-                false => self.edits.insert(head.start + name_end, format!("<{}>", rule.generics)),
+                true => self.code.insert(head.start + name_end + 1, format!("{}, ", rule.generics)),
+                false => self.code.insert(head.start + name_end, format!("<{}>", rule.generics)),
             }
             let line = self.text[body..].split('\n').nth(1).unwrap_or_default();
             let indent = &line[..line.len() - line.trim_start().len()];
-            self.edits.insert(body, format!("\n{indent}{}", rule.line));
+            self.code.insert(body, format!("\n{indent}{}", rule.line));
         } else if self.text[body..].split("\n    }\n").next().unwrap_or_default().contains(WALK) {
             let end = body + self.text[body..].find("\n    }\n").unwrap_or_default();
             self.put_behind(WALK, rule.line, body..end)?;
@@ -452,8 +446,8 @@ impl<'a> File<'a, '_> {
         };
         let end = within.start + found + after.len();
         let deeper = if after.ends_with('{') { "    " } else { "" };
-        let indent = self.indent(within.start + found);
-        self.edits.insert(end, format!("\n{indent}{deeper}{line}"));
+        let indent = indent(self.text, within.start + found);
+        self.code.insert(end, format!("\n{indent}{deeper}{line}"));
         self.tally.count("lines put into bodies");
         Ok(())
     }

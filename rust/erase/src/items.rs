@@ -5,10 +5,11 @@ use std::ops::Range;
 use crate::body;
 use crate::contracts::{is_type, shown};
 use crate::cursor::{Cursor, Fault, Kind, Token};
-use crate::edits::Edits;
+use crate::decorated::{Decoration, out_of_order};
+use crate::edits::{Edits, indent, line_start};
 use crate::erase::{Source, Tally};
-use crate::rules::{ADDED, LEFT_OUT, MORE, PROOFS_ALONE};
-use crate::sections::documented;
+use crate::reference::ROOT_DOCS;
+use crate::rules::{ADDED, BY_STD, LEFT_OUT, ORDER, PROOFS_ALONE, Part, ROOT, TESTED};
 
 /// Where items are read.
 pub struct Inside<'a> {
@@ -45,7 +46,10 @@ pub struct Lead {
 pub struct File<'a, 't> {
     pub source: &'a Source<'a>,
     pub text: &'a str,
-    pub edits: Edits,
+    /// What the first pass changes.
+    pub code: Edits,
+    /// What the second pass adds.
+    pub decoration: Decoration<'a>,
     pub tally: &'t mut Tally,
     /// What those bodies of an impl do that are others here, and whose contract is that of the impl.
     pub others: Vec<&'static str>,
@@ -57,18 +61,41 @@ pub struct File<'a, 't> {
     pub modules: Vec<String>,
     /// Those that were dropped.
     pub dropped: Vec<String>,
+    /// Whether the function was found that is left where std does the work of the file.
+    pub has_function_of_std: bool,
+    /// The parts of the impl that is read which are still to come, if it is split: the last one comes first.
+    pub parts: Option<Vec<(&'static str, &'static str)>>,
 }
 
 impl<'a, 't> File<'a, 't> {
     /// Reads a whole file.
     pub fn read(source: &'a Source<'a>, text: &'a str, tally: &'t mut Tally) -> Result<Self, Fault> {
-        let (edits, others, named, around, modules, dropped) = Default::default();
-        let mut file = File { source, text, edits, tally, others, named, around, modules, dropped };
+        let mut file = File {
+            source,
+            text,
+            code: Edits::default(),
+            decoration: Decoration::new(source.path, text),
+            tally,
+            others: Vec::new(),
+            named: Vec::new(),
+            around: Vec::new(),
+            modules: Vec::new(),
+            dropped: Vec::new(),
+            has_function_of_std: false,
+            parts: None,
+        };
         let name = source.path.rsplit('/').next().unwrap_or(source.path);
         let owner = name.strip_suffix(".rt").unwrap_or(name);
         file.items(&mut Cursor::new(text), &Inside { owner, of_trait: false, is_block: false })?;
         file.root()?;
-        Ok(file)
+        file.tests_by_hand();
+        match BY_STD.iter().find(|rule| rule.file == source.path && !file.has_function_of_std) {
+            Some(rule) => {
+                let why = format!("the function `{}` with its contract is not there", rule.function);
+                Err(Fault::new(0, why))
+            }
+            None => Ok(file),
+        }
     }
 
     /// Reads the items up to the end of the file or of the block.
@@ -102,7 +129,7 @@ impl<'a, 't> File<'a, 't> {
         let mut lead = Lead { start: usize::MAX, docs_end, has_docs, docs, precondition, is_test, is_inlined };
         loop {
             let Some(token) = cursor.next()? else { return Ok((lead, None)) };
-            let line = self.line_start(token.at.start);
+            let line = line_start(self.text, token.at.start);
             if token.kind == Kind::Doc && cursor.text(&token).starts_with("//!") {
                 lead.start = usize::MAX;
                 continue;
@@ -127,7 +154,7 @@ impl<'a, 't> File<'a, 't> {
                     if lead.docs_end == 0 {
                         lead.docs_end = line;
                     }
-                    lead.precondition = self.documentation(&lead.docs)?;
+                    lead.precondition = self.decoration.documentation(&lead.docs, self.tally)?;
                     return Ok((lead, Some(token)));
                 }
             }
@@ -158,11 +185,11 @@ impl<'a, 't> File<'a, 't> {
         let whole = &self.text[sign.at.start..cursor.at];
         match cursor.text(&name) {
             "tactic" => {
-                self.edits.replace(self.lines(sign.at.start..cursor.at), "");
+                self.code.replace(self.lines(sign.at.start..cursor.at), "");
                 self.tally.count("tactics");
             }
             "derive" if whole == "#[derive(Drop)]" => {
-                self.edits.replace(self.lines(sign.at.start..cursor.at), "");
+                self.code.replace(self.lines(sign.at.start..cursor.at), "");
                 self.tally.count("derives of `Drop`");
             }
             "derive" if whole.contains("Drop") => {
@@ -195,7 +222,7 @@ impl<'a, 't> File<'a, 't> {
                 _ => {}
             }
         }
-        self.edits.replace(self.lines(word.at.start..cursor.at), "");
+        self.code.replace(self.lines(word.at.start..cursor.at), "");
         self.tally.count(if is_use { "ghost imports" } else { "ghost members" });
         Ok(if is_use { cursor.at..cursor.at } else { word.at.start..cursor.at })
     }
@@ -214,40 +241,99 @@ impl<'a, 't> File<'a, 't> {
             self.head(head.clone());
         }
         let inside = Inside { owner: &owner, of_trait: !of.is_empty(), is_block: true };
+        self.split(header, lead);
         let ghosts = self.items(cursor, &inside)?;
+        self.end_split(cursor.at)?;
         let others = std::mem::take(&mut self.others);
-        self.added(&head, self.line_start(cursor.at));
+        self.added(&head, line_start(self.text, cursor.at));
         if is_model {
-            self.edits.replace(self.lines(lead.start..cursor.at), "");
+            self.code.replace(self.lines(lead.start..cursor.at), "");
             self.tally.count("models");
             return Ok(());
         }
-        self.linked(lead, "");
+        self.decoration.linked(lead, "", self.tally);
         let members = ghosts.iter().filter(|at| !at.is_empty()).map(|at| self.dedented(at.clone()));
         let members: Vec<_> = members.map(|member| member.trim_start_matches("ghost ").to_string()).collect();
         if !members.is_empty() {
             let shown: Vec<_> = members.iter().map(|member| shown(member)).collect();
-            self.folded(lead.docs_end, &shown.join("\n"), lead.has_docs, &others);
+            self.decoration.folded(lead.docs_end, &shown.join("\n"), lead.has_docs, &others, self.tally);
         }
         Ok(())
+    }
+
+    /// Puts an impl into modules of its own, if the reference has its calls in parts. Begins the first one.
+    fn split(&mut self, header: &str, lead: &Lead) {
+        let rule = ORDER.iter().find(|rule| rule.file == self.source.path && rule.head == header);
+        let parts = rule.map(|rule| rule.parts.iter().rev().filter_map(Part::calls).collect::<Vec<_>>());
+        if let Some((name, _)) = parts.as_ref().and_then(|parts| parts.last()) {
+            self.code.insert(lead.start, format!("mod {name} {{\nuse super::*;\n\n"));
+        }
+        self.parts = parts;
+    }
+
+    /// Ends a part of an impl that is split behind its last function, and begins the next one.
+    pub fn part(&mut self, name: &str, end: usize) -> Result<(), Fault> {
+        let Some(parts) = &mut self.parts else { return Ok(()) };
+        let Some((_, last)) = parts.last() else {
+            return Err(out_of_order(self.source.path, "a call of its impl has no place in it"));
+        };
+        if *last != name {
+            return Ok(());
+        }
+        parts.pop();
+        if let Some((next, _)) = parts.last() {
+            let head = ORDER.iter().find(|rule| rule.file == self.source.path).map_or("", |rule| rule.head);
+            self.code.insert(end, format!("\n}}\n}}\n\nmod {next} {{\nuse super::*;\n\n{head} {{\n"));
+        }
+        Ok(())
+    }
+
+    /// Ends the last part of an impl that is split, and names the modules by hand that stand between the parts.
+    fn end_split(&mut self, end: usize) -> Result<(), Fault> {
+        let Some(parts) = self.parts.take() else { return Ok(()) };
+        if let Some((_, last)) = parts.last() {
+            return Err(out_of_order(self.source.path, &format!("`{last}` is not there")));
+        }
+        self.code.insert(end, "\n}\n");
+        for part in ORDER.iter().filter(|rule| rule.file == self.source.path).flat_map(|rule| rule.parts) {
+            if let Part::ByHand(name, path) = part {
+                self.code.insert(end, format!("\n#[path = \"{path}\"]\nmod {name};\n"));
+            }
+        }
+        Ok(())
+    }
+
+    /// Begins the root of the Rust crate, which has another documentation.
+    fn root(&mut self) -> Result<(), Fault> {
+        if self.source.path != "arraystring/src/lib.rt" {
+            return Ok(());
+        }
+        let end = self.text.lines().take_while(|line| line.starts_with("//!")).map(|line| line.len() + 1).sum();
+        if end == 0 {
+            return Err(Fault::new(0, "a root without documentation"));
+        }
+        self.code.replace(0..end, ROOT);
+        self.decoration.edits.insert(0, ROOT_DOCS);
+        Ok(())
+    }
+
+    /// Names the tests by hand of a module.
+    fn tests_by_hand(&mut self) {
+        for rule in TESTED.iter().filter(|rule| rule.file == self.source.path) {
+            let end = self.text.len();
+            self.code.insert(end, format!("\n#[cfg(test)]\n#[path = \"{}\"]\nmod tests;\n", rule.path));
+            self.tally.count("modules of tests by hand");
+            self.tally.used.insert(format!("tests {}", rule.path));
+        }
     }
 
     /// Puts the lines into an impl that it has beyond its source, before its last line, which begins at `end`.
     fn added(&mut self, head: &Range<usize>, end: usize) {
         for rule in ADDED.iter().filter(|rule| rule.file == self.source.path && rule.head == &self.text[head.clone()]) {
             let lines: String = rule.lines.iter().map(|line| format!("\n    {line}")).collect();
-            self.edits.insert(end, format!("{lines}\n"));
+            self.code.insert(end, format!("{lines}\n"));
             self.tally.count("functions beyond the source");
             self.tally.used.insert(format!("added {}", rule.head));
-        }
-    }
-
-    /// Adds what the documentation of a type has beyond its source.
-    fn more(&mut self, name: &str, lead: &Lead) {
-        for rule in MORE.iter().filter(|rule| rule.file == self.source.path && rule.of == name) {
-            self.edits.insert(lead.docs_end, documented(&self.indent(lead.docs_end), rule.lines));
-            self.tally.count("types with more documentation");
-            self.tally.used.insert(format!("more {name}"));
         }
     }
 
@@ -281,8 +367,8 @@ impl<'a, 't> File<'a, 't> {
     fn declared(&mut self, cursor: &mut Cursor<'a>, lead: &Lead, first: &Token) -> Result<(), Fault> {
         let Some(name) = cursor.next_code()? else { return Err(Fault::new(first.at.start, "a type without its name")) };
         let name = cursor.text(&name);
-        self.linked(lead, name);
-        self.more(name, lead);
+        self.decoration.linked(lead, name, self.tally);
+        self.decoration.more(name, lead, self.tally);
         let mut depth = 0;
         loop {
             let Some(token) = cursor.next_code()? else {
@@ -305,13 +391,13 @@ impl<'a, 't> File<'a, 't> {
     fn item_to_its_end(&mut self, cursor: &mut Cursor<'a>, first: &Token) -> Result<(), Fault> {
         let at = self.up_to(cursor, first.at.start, &[";"])?;
         if &self.text[at.clone()] == "use std::marker::Model" {
-            self.edits.replace(self.lines(at.start..cursor.at), "");
+            self.code.replace(self.lines(at.start..cursor.at), "");
             self.tally.count("imports of `Model`");
             return Ok(());
         }
         self.import(at.clone())?;
         if PROOFS_ALONE.iter().any(|law| self.text[at.clone()].ends_with(&format!("::laws::{law}"))) {
-            self.edits.replace(self.lines(at.start..cursor.at), "");
+            self.code.replace(self.lines(at.start..cursor.at), "");
             return Ok(());
         }
         for rule in LEFT_OUT {
@@ -319,7 +405,7 @@ impl<'a, 't> File<'a, 't> {
             if let Some(found) = self.text[at.clone()].find(&name) {
                 let start = at.start + found;
                 let end = start + name.len();
-                self.edits.replace(start..end + usize::from(self.text[end..].starts_with(' ')), "");
+                self.code.replace(start..end + usize::from(self.text[end..].starts_with(' ')), "");
             }
         }
         self.head(at);
@@ -340,7 +426,7 @@ impl<'a, 't> File<'a, 't> {
         cursor.expect(";")?;
         let is_left_out = LEFT_OUT.iter().any(|rule| rule.name == text);
         if lead.is_test || is_left_out {
-            self.edits.replace(self.lines(lead.start..cursor.at), "");
+            self.code.replace(self.lines(lead.start..cursor.at), "");
             self.tally.count(if is_left_out { "modules left out" } else { "modules of tests" });
             self.dropped.push(text.to_string());
         } else {
@@ -356,20 +442,20 @@ impl<'a, 't> File<'a, 't> {
     pub fn head(&mut self, at: Range<usize>) {
         let text = &self.text[at.clone()];
         for (found, bound) in text.match_indices(" + Drop") {
-            self.edits.replace(at.start + found..at.start + found + bound.len(), "");
+            self.code.replace(at.start + found..at.start + found + bound.len(), "");
             self.tally.count("bounds `Drop`");
         }
         for (from, to) in [("fmt<W: fmt::Write>(", "fmt("), ("fmt::Formatter<W>", "fmt::Formatter<'_>")] {
             if text.contains("fmt<W: fmt::Write>(") {
                 let found = at.start + text.find(from).unwrap_or_default();
-                self.edits.replace(found..found + from.len(), to);
+                self.code.replace(found..found + from.len(), to);
             }
         }
         if text.contains("fmt<W: fmt::Write>(") {
             self.tally.count("formatters without a type parameter");
         }
         let tokens = self.tokens(at);
-        body::paths(self.text, &tokens, self.source.krate, &mut self.edits, self.tally);
+        body::paths(self.text, &tokens, self.source.krate, &mut self.code, self.tally);
     }
 
     /// The tokens of a part, comments left out.
@@ -394,25 +480,15 @@ impl<'a, 't> File<'a, 't> {
         }
     }
 
-    pub fn line_start(&self, at: usize) -> usize {
-        self.text[..at].rfind('\n').map_or(0, |end| end + 1)
-    }
-
     /// The whole lines of a part.
     pub fn lines(&self, at: Range<usize>) -> Range<usize> {
         let end = self.text[at.end..].find('\n').map_or(self.text.len(), |end| at.end + end + 1);
-        self.line_start(at.start)..end
-    }
-
-    /// The spaces before what stands on the line of `at`.
-    pub fn indent(&self, at: usize) -> String {
-        let line = &self.text[self.line_start(at)..];
-        line[..line.len() - line.trim_start_matches(' ').len()].to_string()
+        line_start(self.text, at.start)..end
     }
 
     /// The lines of a part, without the spaces that its first line has before it.
     pub fn dedented(&self, at: Range<usize>) -> String {
-        let indent = self.indent(at.start);
+        let indent = indent(self.text, at.start);
         let lines = self.text[at].lines().map(|line| line.strip_prefix(&indent).unwrap_or(line));
         lines.collect::<Vec<_>>().join("\n")
     }

@@ -1,6 +1,9 @@
 //! Makes the Rust crate `arraystring` out of the proved sources: contracts become documentation, proofs go, and the bodies
 //! stay line for line, but where a rule says otherwise, as the list in TRUST.md of the crate says, which is made, too.
 //!
+//! Each file is made in two passes. The first one erases code. The second one adds documentation, comments, attributes and order, and
+//! stops where the code behind it is not that before it (`decorated.rs`).
+//!
 //!     cargo run --release --offline --manifest-path rust/erase/Cargo.toml -- [--check] [--unproved] [--root FOLDER]
 //!
 //! Without `--check` it writes `rust/arraystring/src`; with it, it says whether that is as the sources say. The folder is
@@ -15,6 +18,7 @@ mod clauses;
 mod checksum;
 mod contracts;
 mod cursor;
+mod decorated;
 mod edits;
 mod erase;
 mod files;
@@ -24,6 +28,7 @@ mod listed;
 mod names;
 mod proved;
 mod reasons;
+mod reference;
 mod rules;
 mod sections;
 mod sentences;

@@ -85,7 +85,7 @@ impl File<'_, '_> {
         }
         for token in self.tokens(at).iter().filter(|_| before.is_empty()) {
             if let Some(rule) = TWINS.iter().find(|rule| rule.call == &self.text[token.at.clone()]) {
-                self.edits.replace(token.at.clone(), rule.twin);
+                self.code.replace(token.at.clone(), rule.twin);
             }
         }
         Ok(())

@@ -3,9 +3,13 @@
 use std::collections::{BTreeMap, BTreeSet};
 use std::ops::Range;
 
+use crate::contracts::Contracts;
 use crate::cursor::{Fault, Token};
-use crate::items::{File, Lead};
-use crate::rules::{LINKS, NAMES, OWNERS, ROOT};
+use crate::decorated::Decoration;
+use crate::edits::{indent, line_start};
+use crate::erase::Tally;
+use crate::items::Lead;
+use crate::reference::{LINKS, MORE, NAMES, OWNERS};
 
 /// The head of the section of a source that Rust's fate replaces.
 const PRECONDITION: &str = "/// # Precondition";
@@ -81,16 +85,16 @@ pub fn example(indent: &str, lines: &[&str]) -> String {
     documented(indent, &format!("\n# Examples\n\n```\n{}{lines}\n```", imports(&lines)))
 }
 
-impl File<'_, '_> {
+impl Decoration<'_> {
     /// Reads a documentation: each example gets its imports. Returns where the section on a precondition is, if there is one.
-    pub fn documentation(&mut self, docs: &[Token]) -> Result<Option<Range<usize>>, Fault> {
+    pub fn documentation(&mut self, docs: &[Token], tally: &mut Tally) -> Result<Option<Range<usize>>, Fault> {
         let mut opened: Option<&Token> = None;
         for token in docs {
             match (opened.take(), &self.text[token.at.clone()]) {
                 (Some(first), "/// ```") => {
                     let put = imports(&self.text[first.at.end..token.at.start]);
-                    self.edits.insert(first.at.end + 1, documented(&self.indent(token.at.start), &put));
-                    self.tally.count("examples");
+                    self.edits.insert(first.at.end + 1, documented(&indent(self.text, token.at.start), &put));
+                    tally.count("examples");
                 }
                 (Some(first), _) => opened = Some(first),
                 (None, "/// ```") => opened = Some(token),
@@ -106,42 +110,43 @@ impl File<'_, '_> {
         let text = self.text;
         let mut heads = docs.iter().filter(|token| text[token.at.clone()].starts_with("/// # "));
         let Some(first) = heads.find(|token| text[token.at.clone()] == *PRECONDITION) else { return Ok(None) };
-        let end = heads.next().map(|token| self.line_start(token.at.start));
+        let end = heads.next().map(|token| line_start(self.text, token.at.start));
         let end = end.or(docs.last().map(|token| token.at.end + 1)).unwrap_or_default();
-        Ok(Some(self.line_start(first.at.start)..end))
+        Ok(Some(line_start(self.text, first.at.start)..end))
     }
 
     /// Puts what became of a precondition in the place of its section, or behind the documentation.
-    pub fn in_its_place(&mut self, lead: &Lead, put: String) {
+    pub fn in_its_place(&mut self, lead: &Lead, put: String, tally: &mut Tally) {
         match &lead.precondition {
             Some(at) => {
-                let blank = format!("{}///\n", self.indent(at.start));
+                let blank = format!("{}///\n", indent(self.text, at.start));
                 let is_last = at.end == lead.docs_end;
                 self.edits.replace(at.clone(), if is_last { put } else { put + &blank });
-                self.tally.count("sections on a precondition that Rust's fate replaces");
+                tally.count("sections on a precondition that Rust's fate replaces");
             }
             None => {
-                let blank = if lead.has_docs { format!("{}///\n", self.indent(lead.docs_end)) } else { String::new() };
+                let blank =
+                    if lead.has_docs { format!("{}///\n", indent(self.text, lead.docs_end)) } else { String::new() };
                 self.edits.insert(lead.docs_end, blank + &put);
             }
         }
     }
 
     /// Adds a contract to a documentation, folded, and below it what the bodies do here that are others than the proved.
-    pub fn folded(&mut self, at: usize, lines: &str, has_docs: bool, others: &[&str]) {
+    pub fn folded(&mut self, at: usize, lines: &str, has_docs: bool, others: &[&str], tally: &mut Tally) {
         let blank = if has_docs { "\n" } else { "" };
         let put =
             format!("{blank}<details><summary>Contract</summary>\n\n```text\n{lines}\n```\n\n{HOW}\n\n</details>");
-        self.edits.insert(at, documented(&self.indent(at), &put));
-        self.tally.count("contracts");
+        self.edits.insert(at, documented(&indent(self.text, at), &put));
+        tally.count("contracts");
         for here in others {
-            self.edits.insert(at, documented(&self.indent(at), &format!("\n{ANOTHER}: {here}.")));
-            self.tally.count("contracts over another body than the proved one");
+            self.edits.insert(at, documented(&indent(self.text, at), &format!("\n{ANOTHER}: {here}.")));
+            tally.count("contracts over another body than the proved one");
         }
     }
 
     /// Makes links of the names between backticks, but for those in examples and that of the item itself.
-    pub fn linked(&mut self, lead: &Lead, item: &str) {
+    pub fn linked(&mut self, lead: &Lead, item: &str, tally: &mut Tally) {
         let mut is_example = false;
         for token in &lead.docs {
             let line = &self.text[token.at.clone()];
@@ -153,10 +158,12 @@ impl File<'_, '_> {
             let mut at = token.at.start;
             for (part, quoted) in line.split('`').enumerate() {
                 let end = at + quoted.len();
-                if let Some(path) = (part % 2 == 1 && quoted != item).then(|| self.path(quoted)).flatten() {
+                if let Some(path) =
+                    (part % 2 == 1 && quoted != item).then(|| self.path_to(quoted, &tally.contracts)).flatten()
+                {
                     self.edits.insert(at - 1, "[");
                     self.edits.insert(end + 1, format!("]({path})"));
-                    self.tally.count("links");
+                    tally.count("links");
                 }
                 at = end + 1;
             }
@@ -164,26 +171,22 @@ impl File<'_, '_> {
     }
 
     /// The path of what a documentation names, if it is public.
-    fn path(&self, quoted: &str) -> Option<String> {
+    fn path_to(&self, quoted: &str, contracts: &Contracts) -> Option<String> {
         let name = quoted.strip_prefix("Err(").and_then(|rest| rest.strip_suffix(')')).unwrap_or(quoted);
         if let Some((_, path)) = LINKS.iter().find(|(known, _)| *known == name) {
             return Some(path.to_string());
         }
-        let of = OWNERS.iter().find(|(file, _)| self.source.path.starts_with(file)).map(|(_, of)| *of)?;
-        let of = of.iter().find(|of| self.tally.contracts.is_public(&format!("{of}::{name}")))?;
+        let of = OWNERS.iter().find(|(file, _)| self.path.starts_with(file)).map(|(_, of)| *of)?;
+        let of = of.iter().find(|of| contracts.is_public(&format!("{of}::{name}")))?;
         Some(format!("crate::{of}::{name}"))
     }
 
-    /// Puts what the Rust crate begins with in place of the documentation of the root.
-    pub fn root(&mut self) -> Result<(), Fault> {
-        if self.source.path != "arraystring/src/lib.rt" {
-            return Ok(());
+    /// Adds what the documentation of a type has beyond its source.
+    pub fn more(&mut self, name: &str, lead: &Lead, tally: &mut Tally) {
+        for rule in MORE.iter().filter(|rule| rule.file == self.path && rule.of == name) {
+            self.edits.insert(lead.docs_end, documented(&indent(self.text, lead.docs_end), rule.lines));
+            tally.count("types with more documentation");
+            tally.used.insert(format!("more {name}"));
         }
-        let end = self.text.lines().take_while(|line| line.starts_with("//!")).map(|line| line.len() + 1).sum();
-        if end == 0 {
-            return Err(Fault::new(0, "a root without documentation"));
-        }
-        self.edits.replace(0..end, ROOT);
-        Ok(())
     }
 }

@@ -109,6 +109,7 @@ fn a_private_function_says_each_clause_that_is_kept() {
 #[test]
 fn a_rule_that_matches_nothing_is_told() {
     use crate::files::{all_used, entries};
+    use crate::reference::{MORE, ONCE};
     use crate::rules::*;
     let crates = concat!(env!("CARGO_MANIFEST_DIR"), "/../../crates");
     let (_, mut tally) = crate::files::made(std::path::Path::new(crates)).unwrap();
