@@ -279,7 +279,8 @@ esac"""
                 self.assertIn("rust/check: tests of the sources (<)", self.assert_refused(wanted))
 
     def test_a_test_of_the_sources_may_run_where_a_test_includes_their_file(self):
-        included = "".join(self.RUNNING.format(it) + "test access::is_within ... ok\n\n" for it in ("unittests src/lib.rs", "tests/access.rs"))
+        files = ("unittests src/lib.rs", "tests/access.rs")
+        included = "".join(self.RUNNING.format(it) + "test access::is_within ... ok\n\n" for it in files)
         with self.changed(("rust/arraystring/src/access.rs", self.TEST.format("is_within")), ("tested", r"\A", included)):
             self.assertNotIn("tests of the sources (<)", self.assert_refused("> arraystring: access 1\n"))
 
