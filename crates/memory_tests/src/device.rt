@@ -26,6 +26,7 @@ pub struct Kept {
 }
 
 impl Kept {
+    /// Nothing was written yet.
     pub fn new() -> Kept {
         Kept {
             text: MaxString::new(),
