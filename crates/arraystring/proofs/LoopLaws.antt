@@ -1,11 +1,11 @@
--- Laws of a loop that makes a text: it appends a piece for each item of an iterator.
-use Rattle.std.proofs.Common.{◌≡◌, ℕ, ◌+◌, ◌≤◌, List, [], ◌∷◌, ◌++◌, ap, subst, sym, ◌∙◌, arith, map, flat_map, Option, Some, None}
+-- Laws of a loop that makes a text: it appends a piece for each item of an iterator or of a slice, or one character many times.
+use Rattle.std.proofs.Common.{◌≡◌, ℕ, ◌+◌, ◌*◌, ◌<◌, ◌≤◌, List, [], ◌∷◌, ◌++◌, ap, subst, sym, ◌∙◌, arith, map, flat_map, length, take, get_or, replicate, zero, suc, Option, Some, None}
 use Rattle.std.proofs.lemmas.Iterator.{YieldsList}
 use Rattle.std.proofs.lemmas.Grind.{flat_map-append}
 use Rattle.std.proofs.lemmas.List.Folds.{flat_map-map}
 use Rattle.std.proofs.iter.Yields.{gives_left, gives_Drains}
 use Rattle.std.specs.Iterator.{AlwaysYields, Yields}
-use Rattle.arraystring_base.specs.Text.{size}
+use Rattle.arraystring_base.specs.Text.{size, width}
 use Rattle.arraystring_base.proofs.TextLaws.{size-append}
 
 -- an iterator that gives `all`, of which the loop has taken the items `xs`; `v` reads an item
@@ -38,3 +38,29 @@ module _ {S A B : Type 0} {steps : S → Option A → S → Type 0} {v : A → B
             size-append (piece y) (flat_map piece rest),
             ap size (flat_map-map piece v xs),
           )
+
+-- a slice, of which the loop has taken the items before `i`
+module _ {A : Type 0} (piece : A → List ℕ) where
+  -- the text of their pieces and the piece of the next item are no larger than the text of all, whatever stands for an item past the end
+  pub taken-more : (xs : List A) (i : ℕ) → i < length xs
+      → (past : A) → size (flat_map piece (take i xs)) + size (piece (get_or xs i past)) ≤ size (flat_map piece xs)
+  taken-more [] i below past = absurd (omega arith)
+  taken-more (x ∷ xs) zero below past = omega (arith, size-append (piece x) (flat_map piece xs))
+  taken-more (x ∷ xs) (suc i) below past =
+      omega (
+        arith,
+        size-append (piece x) (flat_map piece (take i xs)),
+        size-append (piece x) (flat_map piece xs),
+        taken-more xs i (omega arith) past,
+      )
+
+  -- there is a next item, where no fact names it yet
+  pub taken-next : (xs : List A) (i : ℕ) → i < length xs
+      → (next : A) × (size (flat_map piece (take i xs)) + size (piece next) ≤ size (flat_map piece xs))
+  taken-next [] i below = absurd (omega arith)
+  taken-next (x ∷ xs) i below = (get_or (x ∷ xs) i x, taken-more (x ∷ xs) i below x)
+
+-- a character many times takes its width as often
+pub size-replicate : (n c : ℕ) → size (replicate n c) ≡ n * width c
+size-replicate zero c = omega arith
+size-replicate (suc n) c = omega (arith, size-replicate n c)

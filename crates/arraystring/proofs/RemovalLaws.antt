@@ -7,8 +7,8 @@ use Rattle.std.proofs.lemmas.Bool.Decides.{nat_tests}
 use Rattle.std.specs.Prelude.{slice_index}
 use Rattle.std.specs.Char.{to_ascii_uppercase, to_ascii_lowercase}
 use Rattle.arraystring_base.specs.Text.{size, front, back, boundary}
-use Rattle.arraystring_base.proofs.TextLaws.{width-bounds}
-use Rattle.arraystring_base.proofs.BoundaryLaws.{back-size, boundary-within}
+use Rattle.arraystring_base.proofs.TextLaws.{width-bounds, empty-size}
+use Rattle.arraystring_base.proofs.BoundaryLaws.{back-size, back-start, front-start, boundary-is, boundary-within}
 use Rattle.arraystring_base.specs.declared.error.Error.{Error}
 use Rattle.arraystring_base.specs.declared.error.Error.TheVariants.{Utf8, OutOfBounds}
 use Rattle.arraystring_core.specs.Edits.{Past, Inside, Makes, popping, truncation, trimming, removal, clearing, split, uppercase, lowercase, last_of, all_but_last, without_leading, without_trailing}
@@ -101,6 +101,21 @@ module _ {t : List ℕ} (i : ℕ) {new : List ℕ} where
   pub removal-refused : {error : Error} → Makes (removal t i) t (Err error) new
       → (((size t ≤ i) × (error ≡ OutOfBounds)) ⊎ ((i < size t) × (boundary t i ≡ false) × (error ≡ Utf8))) × (new ≡ t)
   removal-refused m = let (cause, first, e, same) = edit-first_held m in (grind (arith, nat_tests), same)
+
+-- the first character is taken out
+module _ {t new : List ℕ} where
+  -- a removal at the start that returned `Ok`: the text was the result, and then what is left of it
+  pub removal_at_start-made : {c : ℕ} → Makes (removal t 0) t (Ok c) new → t ≡ c ∷ new
+  removal_at_start-made {c} m =
+      let left = (removal-made 0 m).2 in
+      sym (back-start t) ∙ left.1 ∙ ap (λ l. c ∷ l) (sym (left.2 ∙ ap (λ l. l ++ left.0) (front-start t)))
+
+  -- one that returned `Err`: the text was empty
+  pub removal_at_start-refused : {error : Error} → Makes (removal t 0) t (Err error) new → (t ≡ []) × (error ≡ OutOfBounds) × (new ≡ [])
+  removal_at_start-refused m =
+      let refused = removal-refused 0 m in
+      let empty : size t ≡ 0 = grind (arith, refused.0, boundary-is [] t 0 refl) in
+      grind (arith, empty-size empty, refused)
 
 module _ {t : List ℕ} (i : ℕ) {new : List ℕ} {result : Result ℕ Error} where
   -- the character that begins at a boundary is removed

@@ -1,3 +1,4 @@
 pub mod Commas
 pub mod Lines
 pub mod Scores
+pub mod Words

@@ -1,9 +1,11 @@
 //! Uses of `arraystring`, as a caller writes them. Its tests are in `tests.rt`.
 #![tactic(auto)]
 
+pub mod columns;
 pub mod commas;
 pub mod greeting;
 pub mod json;
+pub mod letters;
 pub mod log_line;
 pub mod pair;
 pub mod parts;
@@ -11,3 +13,4 @@ pub mod row;
 pub mod scores;
 #[cfg(test)]
 mod tests;
+pub mod words;

@@ -1,12 +1,15 @@
 //! Each use, on values worked out by hand.
+use crate::columns::{bytes_shown, padded};
 use crate::commas::with_commas;
 use crate::greeting::greet;
 use crate::json::sent_and_read;
+use crate::letters::{push_if_any_fits, take_first};
 use crate::log_line::{Level, log_line};
 use crate::pair::{pair, pair_of, split_value};
 use crate::parts::{drop_part, first_left, part};
 use crate::row::add_row;
 use crate::scores::{look_up, record};
+use crate::words::{add_both, lines, path};
 use arraystring::{ArrayString, Error};
 use std::collections::BTreeMap;
 use std::fmt::Debug;
@@ -67,11 +70,10 @@ fn a_long_line_is_marked(rt: HostRuntime) {
     );
 }
 
-/// Asserts that `text` with its commas is `wanted`, or does not fit into 10 bytes.
-fn check_commas(rt: &impl Abort, text: &str, wanted: Option<&str>) {
-    let made: Result<ArrayString<10>, Error> = with_commas(text);
+/// Asserts that what was made is `wanted`, or did not fit into 10 bytes.
+fn check_made(rt: &impl Abort, made: Result<ArrayString<10>, Error>, wanted: Option<&str>) {
     match made {
-        Ok(line) => agree(rt, Some(line.as_str()), wanted),
+        Ok(text) => agree(rt, Some(text.as_str()), wanted),
         Err(error) => agree(rt, (error, None), (Error::OutOfBounds, wanted)),
     }
 }
@@ -96,7 +98,99 @@ fn commas_stand_before_each_fourth(rt: HostRuntime) {
         ("éébcdef", Some("ééb,cdef")),
         ("éébcdefg", None),
     ] {
-        check_commas(&rt, text, wanted);
+        check_made(&rt, with_commas(text), wanted);
+    }
+}
+
+/// Asserts what words make on lines of their own, and in a path.
+fn check_words(rt: &impl Abort, words: &[&str], on_lines: Option<&str>, in_a_path: Option<&str>) {
+    check_made(rt, lines(words), on_lines);
+    check_made(rt, path(words), in_a_path);
+}
+
+#[test]
+fn words_are_put_together(rt: HostRuntime) {
+    check_words(&rt, &[], Some(""), Some(""));
+    check_words(&rt, &["", "", ""], Some("\n\n\n"), Some("//"));
+    check_words(&rt, &["a", "", "é"], Some("a\n\né\n"), Some("a//é"));
+    let (on_lines, in_a_path) = ("ab\ncd\nefg\n", "ab/cd/efg");
+    check_words(&rt, &["ab", "cd", "efg"], Some(on_lines), Some(in_a_path));
+    check_words(&rt, &["01234567"], Some("01234567\n"), Some("01234567"));
+    // The end of the last line is a byte too much.
+    check_words(&rt, &["ab", "cd", "🤔"], None, Some("ab/cd/🤔"));
+    check_words(&rt, &["0123456789"], None, Some("0123456789"));
+    // The last word is, too.
+    check_words(&rt, &["ab", "cd", "🤔a"], None, None);
+    check_words(&rt, &["0123456789", ""], None, None);
+    check_words(&rt, &["0123456789a"], None, None);
+}
+
+#[test]
+fn both_are_added_or_neither(rt: HostRuntime) {
+    for (first, last, is_added, after) in [
+        ("", "", true, "0123456789"),
+        ("abcdefg", "hijklmn", true, "0123456789abcdefghijklmn"),
+        ("abcdefg", "hijklé", true, "0123456789abcdefghijklé"),
+        // A byte too much, at the end of the second and of the first.
+        ("abcdefg", "hijklmé", false, "0123456789"),
+        ("abcdefghijklmné", "", false, "0123456789"),
+        ("", "abcdefghijklmno", false, "0123456789"),
+    ] {
+        let mut line = ArrayString::from_str_truncate("0123456789");
+        agree(&rt, add_both(&mut line, first, last).is_ok(), is_added);
+        agree(&rt, line.as_str(), after);
+    }
+}
+
+#[test]
+fn columns_are_padded(rt: HostRuntime) {
+    for (text, count, wanted) in [
+        ("", 0, Some("")),
+        ("", 10, Some("          ")),
+        ("", 11, None),
+        ("é€", 3, Some("é€   ")),
+        ("é€", 5, Some("é€     ")),
+        ("é€", 6, None),
+        ("0123456789", 0, Some("0123456789")),
+        ("0123456789", 1, None),
+        ("0123456789a", 0, None),
+    ] {
+        check_made(&rt, padded(text, count), wanted);
+    }
+}
+
+#[test]
+fn an_empty_column_shows_no_bytes(rt: HostRuntime) {
+    for (text, wanted) in [
+        ("", None),
+        ("a", Some(1)),
+        ("é€", Some(5)),
+        ("0123456789abcdef", Some(16)),
+    ] {
+        agree(
+            &rt,
+            bytes_shown(&ArrayString::from_str_truncate(text)),
+            wanted,
+        );
+    }
+}
+
+#[test]
+fn letters_go_in_and_out(rt: HostRuntime) {
+    let mut text = ArrayString::from_str_truncate("é🤔");
+    agree(&rt, take_first(&mut text), Some('é'));
+    agree(&rt, take_first(&mut text), Some('🤔'));
+    agree(&rt, take_first(&mut text), None);
+    agree(&rt, text.as_str(), "");
+    for (before, is_pushed, after) in [
+        ("", true, "€"),
+        ("0123456789ab", true, "0123456789ab€"),
+        // 13 bytes: it would fit, but a character of four bytes would not.
+        ("0123456789abc", false, "0123456789abc"),
+    ] {
+        let mut text = ArrayString::from_str_truncate(before);
+        agree(&rt, push_if_any_fits(&mut text, '€'), is_pushed);
+        agree(&rt, text.as_str(), after);
     }
 }
 

@@ -2,6 +2,7 @@
 //! tests are in `tests.rt`.
 #![tactic(auto)]
 
+pub mod records;
 pub mod registry;
 #[cfg(test)]
 mod tests;

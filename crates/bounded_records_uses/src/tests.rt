@@ -1,7 +1,8 @@
 //! Each use once, on values worked out by hand.
+use crate::records::role_in;
 use crate::registry::{NotRenamed, dump, enter, rename, strike_off};
 use arraystring::ArrayString;
-use bounded_records::{Directory, User};
+use bounded_records::{Directory, RecordFault, User};
 use std::alloc::AllocError;
 use std::fmt::Debug;
 use std::process::Abort;
@@ -26,6 +27,22 @@ fn check_users(rt: &(impl Abort + AllocGlobal), users: &Directory, wanted: &[Use
 fn each_refusal_is_equal_to_itself_alone(rt: HostRuntime) {
     let refusals = [NotRenamed::Missing, NotRenamed::Taken, NotRenamed::Memory];
     agree(&rt, first_mistaken(&refusals), None);
+}
+
+#[test]
+fn a_role_is_found_in_a_record(rt: HostRuntime) -> Result<(), Fail> {
+    let record = b"\x03ann\0\0\0\0\0\0\0\0\0\0\0\0\0\0\0\0\0\x05admin";
+    agree(
+        &rt,
+        role_in(record),
+        Ok(ArrayString::try_from_str("admin")?),
+    );
+    agree(&rt, role_in(&record[1..]), Err(RecordFault::Length));
+    agree(&rt, role_in(&[6; 27]), Err(RecordFault::Count));
+    agree(&rt, role_in(&[0xFF; 27]), Err(RecordFault::Count));
+    agree(&rt, role_in(&[5; 27]), Err(RecordFault::Padding));
+    agree(&rt, role_in(&[0; 27]), Ok(ArrayString::new()));
+    Ok(())
 }
 
 #[test]

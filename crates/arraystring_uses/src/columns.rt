@@ -1,0 +1,33 @@
+//! Columns of a table.
+ghost use Rattle.std.specs.Prelude.{◌≡◌, ◌<◌, ◌++◌, [], MatchOption, chars, replicate};
+ghost use Rattle.arraystring.specs.Construct.{IsWholeOrRefused};
+ghost use Rattle.arraystring.specs.Text.{cap, size};
+
+use arraystring::laws::text_fits;
+use arraystring::{ArrayString, Error};
+
+/// Returns `text` and then `count` spaces.
+///
+/// # Errors
+///
+/// Returns `Err(OutOfBounds)` if the whole does not fit.
+pub fn padded<const N: usize>(text: &str, count: u8) -> Result<ArrayString<N>, Error>
+    ensures { IsWholeOrRefused (chars text.now ++ replicate count 0x20) (cap N) result }
+{
+    let mut column = ArrayString::try_from_str(text)?;
+    for _ in 0..count {
+        column.try_push(' ')?;
+    }
+    text_fits(&column);
+    Ok(column)
+}
+
+/// Returns how many bytes a column takes, or `None` if it is empty.
+pub fn bytes_shown(column: &ArrayString<16>) -> Option<u8>
+    ensures { MatchOption result (column.now.text ≡ []) (λ bytes. (bytes ≡ size column.now.text) × (0 < bytes)) }
+{
+    match column.len() {
+        0 => None,
+        bytes => Some(bytes),
+    }
+}

@@ -1,0 +1,63 @@
+//! Words that are put together.
+ghost use Rattle.std.specs.Prelude.{◌++◌, chars};
+ghost use Rattle.arraystring.specs.Construct.{IsWholeOrRefused};
+ghost use Rattle.arraystring.specs.Edits.{Makes, addition};
+ghost use Rattle.arraystring.specs.Text.{cap};
+ghost use Rattle.arraystring_uses.specs.Words.{lines, path};
+
+use arraystring::laws::text_fits;
+use arraystring::{ArrayString, Error};
+
+/// Puts each of `words` on a line of its own.
+///
+/// # Errors
+///
+/// Returns `Err(OutOfBounds)` if the whole does not fit.
+pub fn lines<const N: usize>(words: &[&str]) -> Result<ArrayString<N>, Error>
+    ensures { IsWholeOrRefused (lines words.now) (cap N) result }
+{
+    let mut all = ArrayString::new();
+    for word in words {
+        all.try_push_str(word)?;
+        all.try_push('\n')?;
+    }
+    text_fits(&all);
+    Ok(all)
+}
+
+/// Puts `words` one after the other, with a `/` between each two.
+///
+/// # Errors
+///
+/// Returns `Err(OutOfBounds)` if the whole does not fit.
+pub fn path<const N: usize>(words: &[&str]) -> Result<ArrayString<N>, Error>
+    ensures { IsWholeOrRefused (path words.now) (cap N) result }
+{
+    let Some((first, rest)) = words.split_first() else {
+        return Ok(ArrayString::new());
+    };
+    let mut all = ArrayString::try_from_str(first)?;
+    for word in rest {
+        all.try_push('/')?;
+        all.try_push_str(word)?;
+    }
+    text_fits(&all);
+    Ok(all)
+}
+
+/// Appends `first` and `last`.
+///
+/// # Errors
+///
+/// Returns `Err(OutOfBounds)` if not both fit. The text is then unchanged.
+pub fn add_both(line: &mut ArrayString<24>, first: &str, last: &str) -> Result<(), Error>
+    ensures { Makes (addition line.old.text (chars first.now ++ chars last.now) 24) line.old.text result line.new.text }
+{
+    let before = *line;
+    line.try_push_str(first)?;
+    if let Err(error) = line.try_push_str(last) {
+        *line = before;
+        return Err(error.into());
+    }
+    Ok(())
+}
