@@ -7,23 +7,35 @@
 //! The folder is the repository, by default the one in which it runs. Status 1: there is a difference, and each is printed with
 //! both places. Status 2: it was called wrongly, or a file can't be read. Its tests are in `compare_tests.rs`.
 //!
-//! What it does not see, since the tokens are the same: what both languages take for something else.
+//! Comments and documentation are not compared, nor is the code of an example in them, which `rust/check` runs.
 //!
-//! One part after the other: tokens, ghost parts, items, paths and `use`, the list of rewrites, rewrites, the list of places, the
-//! comparison of a file, that of all. `Rattle` is the language of the sources, `Rust` that of what is made.
+//! It does not see what the same tokens mean in the two languages: `a + b` may wrap in Rust, and is proved not to in Rattle. Nor does
+//! it see what a file by hand does.
+//!
+//! One part after the other: tokens, ghost parts, items, paths and `use`, rewrites, the comparison of a file, that of all. The two
+//! lists are in `lists.rs`. `Rattle` is the language of the sources, `Rust` that of what is made.
 
 use std::collections::{BTreeMap, BTreeSet};
 use std::fmt::Write as _;
 use std::path::{Path, PathBuf};
 use std::process::ExitCode;
 
+#[path = "lists.rs"]
+pub mod lists;
+
+use lists::{
+    ADDED, ASKED, ASKED_EACH, ASKED_EACH_WHY, Added, BY_CODE, BY_HAND, CRATES, DROP_BOUND, FREE_ATTRIBUTES, HEADS,
+    KNOWN, KNOWN_NAMES, LAWS, LEFT_OUT, ORDERS, PLACES, PROVE, Place, REQUIRED, REWRITES, Required, Rewrite, SAFE,
+    Safe, Then, UNSAFE_BLOCK, UNSAFE_FN, USES, Uses, WALK,
+};
+
 // ---- Tokens ----
 
 /// What is wrong, at a line of a text.
 #[derive(Debug)]
-struct Fault {
-    line: usize,
-    why: String,
+pub struct Fault {
+    pub line: usize,
+    pub why: String,
 }
 
 fn fault<T>(line: usize, why: impl Into<String>) -> Result<T, Fault> {
@@ -31,7 +43,7 @@ fn fault<T>(line: usize, why: impl Into<String>) -> Result<T, Fault> {
 }
 
 #[derive(Clone, Copy, PartialEq, Eq, Debug)]
-enum Kind {
+pub enum Kind {
     Word,
     Number,
     /// A text, a byte text or a raw one, with its quotes.
@@ -45,12 +57,12 @@ enum Kind {
 }
 
 #[derive(Clone, Debug)]
-struct Token {
-    kind: Kind,
-    text: String,
-    line: usize,
+pub struct Token {
+    pub kind: Kind,
+    pub text: String,
+    pub line: usize,
     /// Where it begins and ends in its file.
-    at: (usize, usize),
+    pub at: (usize, usize),
 }
 
 impl PartialEq for Token {
@@ -60,13 +72,13 @@ impl PartialEq for Token {
 }
 
 impl Token {
-    fn is(&self, text: &str) -> bool {
+    pub fn is(&self, text: &str) -> bool {
         self.text == text && matches!(self.kind, Kind::Word | Kind::Sign)
     }
 }
 
 #[derive(Clone, Copy, PartialEq)]
-enum Language {
+pub enum Language {
     Rattle,
     Rust,
 }
@@ -86,7 +98,7 @@ struct Lexer<'a> {
 }
 
 /// The tokens of a file. Comments and documentation are none.
-fn tokens(text: &str, language: Language) -> Result<Vec<Token>, Fault> {
+pub fn tokens(text: &str, language: Language) -> Result<Vec<Token>, Fault> {
     // Some take one of these for the end of a line, and so of a comment, and others do not.
     let is_unclear = |ch: char| ch.is_control() && ch != '\n' || matches!(ch, '\u{2028}' | '\u{2029}');
     if let Some(at) = text.find(is_unclear) {
@@ -198,11 +210,11 @@ impl Lexer<'_> {
         if kind == Kind::Word { self.ghost(from) } else { Ok(()) }
     }
 
-    /// Passes a word. One with a quote behind it would be the prefix of a text or a character for some.
+    /// Passes a word. One with a quote behind it would be the prefix of a text or a character for some, and `r#` that of a word.
     fn pass_word(&mut self) -> Result<Kind, Fault> {
         self.pass_while(is_inside_word);
         match self.peek() {
-            '"' | '\'' => fault(self.line, "a word with a quote behind it"),
+            '"' | '\'' | '#' => fault(self.line, "a word with a quote or a `#` behind it"),
             _ => Ok(Kind::Word),
         }
     }
@@ -293,7 +305,7 @@ impl Lexer<'_> {
 }
 
 /// The index behind a group of brackets that begins at an index, or `None` if it has no end.
-fn behind_group(tokens: &[Token], from: usize) -> Option<usize> {
+pub fn behind_group(tokens: &[Token], from: usize) -> Option<usize> {
     let mut open = Vec::new();
     for (index, token) in tokens.iter().enumerate().skip(from) {
         match token.text.as_str() {
@@ -311,14 +323,14 @@ fn behind_group(tokens: &[Token], from: usize) -> Option<usize> {
     None
 }
 
-fn shown(tokens: &[Token]) -> String {
+pub fn shown(tokens: &[Token]) -> String {
     tokens.iter().map(|token| token.text.as_str()).collect::<Vec<_>>().join(" ")
 }
 
 // ---- Ghost parts of a source ----
 
 /// What would end a ghost part early for one who reads it in another way, as a comment or a text does.
-const UNCLEAR: &[&str] = &["--", "//", "/*", "*/", "{-", "-}", "'", "`", "\\"];
+const UNCLEAR: &[&str] = &["--", "//", "/*", "*/", "/-", "-/", "{-", "-}", "«", "»", "'", "`", "\\"];
 
 impl Lexer<'_> {
     /// Makes one token of the ghost part that begins with the word which was just taken, if one does. In Rust it is refused.
@@ -439,21 +451,28 @@ fn is_ghost_path(text: &str) -> bool {
 
 /// A function, or another item, of a module and what is around it.
 #[derive(Clone, Debug)]
-struct Item {
-    /// The head of its impl, and the modules in its file, by their tokens; what it is, and its name.
-    key: String,
-    /// Its path as the lists name it.
-    path: String,
-    attributes: Vec<String>,
-    /// Its tokens up to its clauses or its body; of an item that is no function all of them.
-    head: Vec<Token>,
-    clauses: Vec<Token>,
+pub struct Item {
+    /// By this a made item finds its source: the modules in its file and the head of its impl, by their tokens; what it is, and
+    /// its name. No two of a file have the same.
+    pub key: String,
+    /// By this a list names it. It is shorter: functions of two impls of a type may have the same.
+    pub path: String,
+    /// Without their `#[` and `]`, and without blanks. The visibility of a `use` is one, too.
+    pub attributes: Vec<String>,
+    /// Its tokens up to its clauses or its body; of an item that is no function all of them, and of a `use` none: its key says all.
+    pub head: Vec<Token>,
+    pub clauses: Vec<Token>,
     /// The body of a function with its braces.
-    body: Vec<Token>,
-    is_function: bool,
-    line: usize,
-    /// Where its attributes begin and its body ends in its file.
-    at: (usize, usize),
+    pub body: Vec<Token>,
+    pub is_function: bool,
+    pub line: usize,
+    /// Where its attributes begin and its body ends in its file: the text of a place's checksum.
+    pub at: (usize, usize),
+}
+
+/// Whether a token may stand in `#[tactic(..)]`: names of lemmas, and what is between them.
+fn is_of_tactic(token: &Token) -> bool {
+    token.kind == Kind::Word || ["(", ")", ",", "::"].iter().any(|sign| token.is(sign))
 }
 
 /// What is around an item.
@@ -469,6 +488,11 @@ impl Around {
     fn below(&self, key: &str, name: &str) -> Around {
         Around { key: format!("{}{key} / ", self.key), path: joined(&self.path, name), is_order: self.is_order }
     }
+
+    /// Whether a module of the order may have such an item here: `use`, an impl, and in that functions.
+    fn may_have(&self, kind: &str) -> bool {
+        if self.key.is_empty() { matches!(kind, "use" | "impl") } else { kind == "fn" }
+    }
 }
 
 fn joined(path: &str, name: &str) -> String {
@@ -477,13 +501,13 @@ fn joined(path: &str, name: &str) -> String {
 
 /// Where a file stands: which crate it is of, and which module.
 #[derive(Clone, Copy)]
-struct Origin<'a> {
-    language: Language,
-    krate: &'a str,
+pub struct Origin<'a> {
+    pub language: Language,
+    pub krate: &'a str,
     /// The path of its module in the Rust crate.
-    module: &'a str,
+    pub module: &'a str,
     /// Modules in the file that keep an order alone.
-    orders: &'a [&'a str],
+    pub orders: &'a [&'a str],
 }
 
 struct Items<'a> {
@@ -496,8 +520,12 @@ struct Items<'a> {
 }
 
 /// The items of a file.
-fn items(text: &str, origin: Origin) -> Result<Vec<Item>, Fault> {
+pub fn items(text: &str, origin: Origin) -> Result<Vec<Item>, Fault> {
     let tokens = resolved(tokens(text, origin.language)?, origin);
+    let is_taken = |pair: &&[Token]| is_reserved(&pair[0].text) && pair[1].is(":");
+    if let Some(pair) = tokens.windows(2).find(is_taken) {
+        return fault(pair[0].line, format!("`{}` as the name of a parameter", pair[0].text));
+    }
     let mut items = Items { origin, tokens, at: 0, from: 0, found: Vec::new() };
     items.all(&Around { path: origin.module.to_string(), ..Around::default() })?;
     match items.tokens.get(items.at) {
@@ -505,6 +533,23 @@ fn items(text: &str, origin: Origin) -> Result<Vec<Item>, Fault> {
         None => Ok(items.found),
     }
 }
+
+/// Words that begin an item. None stands in a function, where its name could take the place of one that a rewrite knows.
+const WORDS_OF_ITEMS: &[&str] = &[
+    "use",
+    "fn",
+    "struct",
+    "enum",
+    "union",
+    "const",
+    "static",
+    "type",
+    "trait",
+    "impl",
+    "mod",
+    "macro_rules",
+    "extern",
+];
 
 impl Items<'_> {
     fn line(&self) -> usize {
@@ -554,9 +599,13 @@ impl Items<'_> {
                 return fault(self.line(), "`#` that begins no attribute");
             }
             let words: String = self.tokens[start + 1..end - 1].iter().map(|token| token.text.as_str()).collect();
-            let is_tactic = self.origin.language == Language::Rattle && self.tokens[start + 1].is("tactic");
-            if is_tactic && self.tokens[start..end].iter().any(|token| token.kind == Kind::Text) {
-                return fault(self.line(), "a text in a tactic");
+            let is_tactic = self.origin.language == Language::Rattle
+                && position(&self.tokens[start..end], &pattern("tactic(")) == Some(1);
+            if is_tactic && !self.tokens[start + 1..end - 1].iter().all(is_of_tactic) {
+                return fault(self.line(), "a tactic that is more than paths: its end would not be clear");
+            }
+            if is_inner && around.is_order {
+                return fault(self.line(), "an attribute of a module of the order");
             }
             if is_inner && !is_tactic {
                 let key = format!("attribute #![{words}]");
@@ -586,31 +635,40 @@ impl Items<'_> {
         });
     }
 
-    /// Takes one item, behind its attributes.
+    /// Takes one item, behind its attributes. What no file has is refused: a trait, a `static`, a macro of its own, `extern`.
     fn item(&mut self, around: &Around, attributes: Vec<String>) -> Result<(), Fault> {
         let start = self.at;
         let word = self.keyword()?;
         let name = self.tokens.get(word + 1).map(|token| token.text.clone()).unwrap_or_default();
         let kind = self.tokens[word].text.clone();
+        if around.is_order && !around.may_have(&kind) {
+            return fault(
+                self.line(),
+                format!("`{kind}` in a module of the order, which has functions of a type alone"),
+            );
+        }
         match kind.as_str() {
             "use" => self.uses(around, attributes, word),
             "fn" => self.function(around, attributes, word),
-            "impl" | "trait" => self.scope(around, attributes),
+            "impl" => self.scope(around, attributes),
             "mod" => self.module(around, attributes, word),
-            "struct" | "enum" | "union" | "const" | "static" | "type" | "macro_rules" => {
-                let is_closed_by_brace = matches!(kind.as_str(), "struct" | "enum" | "union" | "macro_rules");
+            "struct" | "enum" | "const" | "type" => {
+                let is_closed_by_brace = matches!(kind.as_str(), "struct" | "enum");
                 self.at = self.end_of_item(word, is_closed_by_brace)?;
                 let key = format!("{kind} {name}");
                 self.push(around, &key, &key, start..self.at, attributes);
                 Ok(())
             }
-            _ if name == "!" => {
+            "compile_error" => {
                 self.at = self.end_of_item(word, true)?;
                 let key = format!("{kind}!");
                 self.push(around, &key, &key, start..self.at, attributes);
                 Ok(())
             }
-            _ => fault(self.line(), format!("`{kind}` begins no item")),
+            _ => fault(
+                self.line(),
+                format!("`{kind}` begins no item that a file may have: write it as functions, types and constants"),
+            ),
         }
     }
 
@@ -672,13 +730,18 @@ impl Items<'_> {
                 return fault(line, format!("`{name}`: what is behind the clauses is no body"));
             }
         };
-        if self.origin.language == Language::Rattle && self.tokens[start..self.at].iter().any(|token| token.is("use")) {
-            return fault(self.line(), format!("`{name}`: `use` in a function, whose path would not be looked at"));
+        let uses = self.tokens[start..body].iter().filter(|token| token.is("use"));
+        let items = self.tokens[body..self.at].iter().filter(|token| WORDS_OF_ITEMS.iter().any(|word| token.is(word)));
+        if let Some(token) = uses.chain(items).next() {
+            return fault(
+                token.line,
+                format!("`{name}`: `{}` in a function, which would not be looked at", token.text),
+            );
         }
         let key = format!("fn {name}");
         self.push(around, &key, &name, start..self.at, attributes);
         if around.is_order {
-            self.may_be_moved(start)?;
+            may_be_moved(&self.tokens[start..self.at])?;
         }
         let (head, clauses) = (self.tokens[start..clauses].to_vec(), self.tokens[clauses..body].to_vec());
         let body = self.tokens[body..self.at].to_vec();
@@ -688,19 +751,7 @@ impl Items<'_> {
         Ok(())
     }
 
-    /// A function in a module that keeps an order alone means the same outside: it names nothing from where it stands, and
-    /// is seen in the whole crate.
-    fn may_be_moved(&self, start: usize) -> Result<(), Fault> {
-        let function = &self.tokens[start..self.at];
-        let is_seen = function[0].is("pub") && (!function[1].is("(") || function[2].is("crate"));
-        let is_path = |pair: &[Token]| (pair[0].is("super") || pair[0].is("self")) && pair[1].is("::");
-        if !is_seen || function.windows(2).any(is_path) {
-            return fault(function[0].line, "a function that means something else in a module of the order");
-        }
-        Ok(())
-    }
-
-    /// Takes an impl or a trait, and what is in it.
+    /// Takes an impl, and what is in it.
     fn scope(&mut self, around: &Around, attributes: Vec<String>) -> Result<(), Fault> {
         let start = self.at;
         while !self.is(0, "{") {
@@ -710,10 +761,13 @@ impl Items<'_> {
             self.at += 1;
         }
         let head = self.tokens[start..self.at].to_vec();
+        if around.is_order && names_what_is_around(&head) {
+            return fault(head[0].line, "an impl that means something else in a module of the order");
+        }
         let key = attributes.iter().map(|words| format!("#[{words}] ")).collect::<String>() + &shown(&head);
         let name = name_of_impl(&head);
         let (is_of_trait, is_model) = (head.iter().any(|token| token.is("for")), name.ends_with(" as Model>"));
-        if is_of_trait && !is_model || head[0].is("trait") {
+        if is_of_trait && !is_model {
             self.push(around, &key, &name, start..self.at, Vec::new());
         }
         self.at += 1;
@@ -761,6 +815,21 @@ impl Items<'_> {
     }
 }
 
+/// A function in a module that keeps an order alone means the same outside: it names nothing from where it stands, and is seen
+/// in the whole crate.
+fn may_be_moved(function: &[Token]) -> Result<(), Fault> {
+    let is_seen = function[0].is("pub") && (!function[1].is("(") || function[2].is("crate"));
+    if !is_seen || names_what_is_around(function) {
+        return fault(function[0].line, "a function that means something else in a module of the order");
+    }
+    Ok(())
+}
+
+/// Whether a path begins with `super` or `self`, and so with the module that it stands in.
+fn names_what_is_around(tokens: &[Token]) -> bool {
+    tokens.windows(2).any(|pair| (pair[0].is("super") || pair[0].is("self")) && pair[1].is("::"))
+}
+
 /// How the lists name an impl: by its type, or as `<Type as Trait>`.
 fn name_of_impl(head: &[Token]) -> String {
     let mut at = usize::from(head.get(1).is_some_and(|token| token.is("<")));
@@ -790,8 +859,13 @@ fn name_of_impl(head: &[Token]) -> String {
 
 // ---- Paths and `use` ----
 
-/// The crates that are read. The last is the root of the Rust crate, each of the others is a module of it.
-const CRATES: &[&str] = &["arraystring_base", "arraystring_core", "arraystring"];
+/// Names of std that a path or a rewrite knows.
+const NAMES_OF_STD: &[&str] = &["std", "core", "alloc", "crate", "char", "str", "Model", "Drop"];
+
+/// Whether a name is that of a crate, or of what std has: nothing of a source takes its place.
+fn is_reserved(name: &str) -> bool {
+    NAMES_OF_STD.contains(&name) || CRATES.contains(&name)
+}
 
 /// The path of a crate of the sources in the Rust crate.
 fn path_of_crate(krate: &str) -> Vec<&str> {
@@ -854,6 +928,9 @@ impl Items<'_> {
         }
         let visibility = shown(&self.tokens[start..word]);
         for (names, alias) in paths {
+            if self.origin.language == Language::Rattle && alias == "*" {
+                return fault(line, "a `use` of all names: one of them could take the place of what is left out");
+            }
             let here = self.path_here(&names);
             let shown_alias = if Some(&alias) == names.last() { String::new() } else { format!(" as {alias}") };
             let key = format!("use {here}{shown_alias}");
@@ -878,7 +955,8 @@ impl Items<'_> {
     }
 }
 
-/// Takes the names of a tree, each with its alias. Returns whether it is one.
+/// Takes the names of a tree, each with its alias. Returns whether it is one. `a::{self}` is another one than `a`: it brings a
+/// module, and no function or macro of that name.
 fn take_tree(tree: &[Token], before: &[String], paths: &mut Vec<(Vec<String>, String)>) -> bool {
     let mut names = before.to_vec();
     let mut at = 0;
@@ -890,10 +968,7 @@ fn take_tree(tree: &[Token], before: &[String], paths: &mut Vec<(Vec<String>, St
                     && between_commas(inner).iter().all(|part| take_tree(part, &names, paths));
             }
             Some(token) if token.kind == Kind::Word || token.is("*") => {
-                let is_itself = token.is("self") && !names.is_empty();
-                if !is_itself {
-                    names.push(token.text.clone());
-                }
+                names.push(token.text.clone());
             }
             _ => return false,
         }
@@ -914,7 +989,7 @@ fn take_tree(tree: &[Token], before: &[String], paths: &mut Vec<(Vec<String>, St
 }
 
 /// What stands between the commas that are in no brackets.
-fn between_commas(tokens: &[Token]) -> Vec<&[Token]> {
+pub fn between_commas(tokens: &[Token]) -> Vec<&[Token]> {
     let (mut parts, mut start, mut at) = (Vec::new(), 0, 0);
     while at < tokens.len() {
         if tokens[at].is(",") {
@@ -929,174 +1004,6 @@ fn between_commas(tokens: &[Token]) -> Vec<&[Token]> {
     }
     parts
 }
-
-// ---- The list of rewrites ----
-
-/// What stands in a made function for what stands in its source. `$of` is a path of fields and of calls without arguments,
-/// any other `$name` is what stands between commas, with balanced brackets.
-struct Rewrite {
-    made: &'static str,
-    source: &'static str,
-    then: Then,
-    /// The module in which it is, or empty for each.
-    within: &'static str,
-    why: &'static str,
-}
-
-/// What may follow a rewrite, and what may not stand before it, so that what is around binds the same in both.
-#[derive(Clone, Copy, PartialEq)]
-enum Then {
-    /// The end of an operand: `)`, `,`, `;` or `}`; and no `*` stands before it.
-    End,
-    /// Anything but `.`, `?`, `[` and `(`.
-    NoPostfix,
-    /// Anything.
-    Anything,
-}
-
-use Then::{Anything, End, NoPostfix};
-
-const fn rewrite(
-    made: &'static str,
-    source: &'static str,
-    then: Then,
-    within: &'static str,
-    why: &'static str,
-) -> Rewrite {
-    Rewrite { made, source, then, within, why }
-}
-
-const NO_TEST: &str = "each access of a body is within, by the proof, and so it has no test";
-const SAME_CALL: &str = "the same call, which the feature `checked` tests";
-const TWIN: &str = "`look` is safe in Rust, and panics; bodies call its twin, which has no test";
-const UPPERCASE: &str = "get_unchecked_mut!($of, $at).make_ascii_uppercase()";
-const LOWERCASE: &str = "get_unchecked_mut!($of, $at).make_ascii_lowercase()";
-const UTF8: &str = "arraystring_base::utf8";
-
-const REWRITES: &[Rewrite] = &[
-    rewrite("*get_unchecked!($of, $at)", "$of[$at]", NoPostfix, "", NO_TEST),
-    rewrite("*get_unchecked_mut!($of, $at)", "$of[$at]", NoPostfix, "", NO_TEST),
-    rewrite("get_unchecked!($of, $at)", "&$of[$at]", End, "", NO_TEST),
-    rewrite("get_unchecked_mut!($of, $at)", "&mut $of[$at]", End, "", NO_TEST),
-    rewrite(UPPERCASE, "$of[$at].make_ascii_uppercase()", End, "", NO_TEST),
-    rewrite(LOWERCASE, "$of[$at].make_ascii_lowercase()", End, "", NO_TEST),
-    rewrite("copy_from_slice_unchecked!($of, $at, $given)", "$of[$at].copy_from_slice($given)", End, "", NO_TEST),
-    rewrite("copy_within_unchecked!($of, $at, $to)", "$of.copy_within($at, $to)", End, "", NO_TEST),
-    rewrite("unreachable_unchecked!()", "unreachable!()", End, "", "it is never reached, by the proof"),
-    rewrite("crate::by_hand::char::from_u32_unchecked(", "char::from_u32_unchecked(", Anything, UTF8, SAME_CALL),
-    rewrite("look_unchecked(", "look(", Anything, UTF8, TWIN),
-];
-
-/// Functions that a rewrite or a law knows by their names, and where they are defined. No other item of a source has such a name,
-/// and in a body it is that of a call and of nothing else: so no function or closure takes its place.
-const KNOWN_NAMES: &[(&str, &str)] = &[
-    ("look", "arraystring_base::steps::look"),
-    ("text_fits", "arraystring_core::laws::text_fits"),
-    ("only_reading", "arraystring_base::laws::only_reading"),
-];
-
-/// The same in the head of a function.
-const HEADS: &[Rewrite] = &[rewrite(
-    "fn fmt(&self, f: &mut fmt::Formatter<'_>) -> fmt::Result",
-    "fn fmt<W: fmt::Write>(&self, f: &mut fmt::Formatter<W>) -> fmt::Result",
-    Anything,
-    "",
-    "a formatter of Rattle has the type of what it writes to",
-)];
-
-/// A parameter that takes more types here, and that is asked once, by the first statement of the body.
-struct Asked {
-    generics: &'static str,
-    source: &'static str,
-    why: &'static str,
-}
-
-const ASKED: &[Asked] = &[
-    Asked { generics: "S: AsRef<str>", source: "&str", why: "as the Rust crate 0.3.0 does" },
-    Asked { generics: "B: AsRef<[u8]>", source: "&[u8]", why: "as the Rust crate 0.3.0 does" },
-    Asked { generics: "B: AsRef<[u16]>", source: "&[u16]", why: "as the Rust crate 0.3.0 does" },
-];
-
-/// The same of what an iterator gives: each is asked once, by the first statement of the walk over all.
-const ASKED_EACH: (&str, &str) = ("U: AsRef<str>, I: IntoIterator<Item = U>", "'a, I: IntoIterator<Item = &'a str>");
-const ASKED_EACH_WHY: &str = "as the Rust crate 0.3.0 does";
-const WALK: (&str, &str) = ("for $item in $all { let $item = $item.as_ref();", "for $item in $all {");
-
-const UNSAFE_BLOCK: &str = "`unsafe { }` around one call";
-const UNSAFE_FN: &str = "`unsafe fn`";
-const KNOWN: &str = "`known!(..)`";
-const DROP_BOUND: &str = "`+ Drop`";
-const PROVE: &str = "`prove!(..);`";
-
-/// The rewrites that code makes below, since a pattern would not say them.
-const BY_CODE: &[(&str, &str)] = &[
-    (UNSAFE_BLOCK, "the function is declared `unsafe fn` in the Rust crate, and what it requires is proved"),
-    (UNSAFE_FN, "the source has a `requires`; where it has one and is safe here, `SAFE` says why"),
-    (KNOWN, "its words are those of the named clause of the function, told to rustc"),
-    (DROP_BOUND, "a bound that a value may be dropped, which each may be in Rust"),
-    (PROVE, "a step of a proof"),
-];
-
-/// Attributes that may differ, since they change no result.
-const FREE_ATTRIBUTES: &[(&str, &str)] = &[
-    ("inline", "how fast it is"),
-    ("inline(always)", "how fast it is"),
-    ("inline(never)", "how fast it is"),
-    ("must_use", "a warning for who does not look at a result"),
-    ("track_caller", "which line a panic names"),
-];
-
-/// A path of a `use` that is another one here, or none. `within` is a module, or empty for each.
-struct Uses {
-    source: &'static str,
-    made: Option<&'static str>,
-    within: &'static str,
-    why: &'static str,
-}
-
-const USES: &[Uses] = &[
-    Uses {
-        source: "core::marker::Model",
-        made: None,
-        within: "",
-        why: "the trait of what a type means in a proof; it has ghost items alone",
-    },
-    Uses {
-        source: "core::str",
-        made: Some("crate::by_hand::str"),
-        within: "",
-        why: "the calls of std that are used, one of which the feature `checked` tests",
-    },
-    Uses {
-        source: "core::simd::Simd",
-        made: Some("crate::by_hand::simd::Simd"),
-        within: "arraystring_base::moves",
-        why: "stable Rust has no vectors: they are arrays or words",
-    },
-    Uses {
-        source: "crate::arraystring_base::steps::look",
-        made: Some("crate::arraystring_base::steps::look_unchecked"),
-        within: "arraystring_base::utf8",
-        why: "bodies call the twin of `look`",
-    },
-];
-
-/// A law that a body calls for its proof alone: a function of the sources, and its body, which changes nothing. Calls of it are
-/// left out.
-struct Law {
-    path: &'static str,
-    body: &'static str,
-    why: &'static str,
-}
-
-const LAWS: &[Law] = &[
-    Law {
-        path: "crate::arraystring_core::laws::text_fits",
-        body: "{ let _ = string.len(); }",
-        why: "its contract is a step of a proof; it reads a length",
-    },
-    Law { path: "crate::arraystring_base::laws::only_reading", body: "{}", why: "its contract is a step of a proof" },
-];
 
 // ---- Rewrites ----
 
@@ -1114,8 +1021,18 @@ impl Reading {
 }
 
 /// The tokens of a pattern or of a text of a list.
-fn pattern(text: &str) -> Vec<Token> {
+pub fn pattern(text: &str) -> Vec<Token> {
     tokens(text, Language::Rust).unwrap_or_else(|fault| panic!("`{text}` of a list: {}", fault.why))
+}
+
+/// Words that are no name. `return` and its like are operands all the same, and what has one ends there.
+const KEYWORDS: &[&str] = &[
+    "as", "async", "await", "break", "const", "continue", "dyn", "else", "false", "for", "if", "impl", "in", "let",
+    "loop", "match", "move", "mut", "pub", "ref", "return", "static", "true", "unsafe", "where", "while", "yield",
+];
+
+fn is_name(token: &Token) -> bool {
+    token.kind == Kind::Word && !KEYWORDS.contains(&token.text.as_str())
 }
 
 /// What the names of a pattern stand for.
@@ -1130,8 +1047,9 @@ fn matched(pattern: &[Token], tokens: &[Token], from: usize, bound: &mut Bound) 
             let end = end_of_part(tokens, at, pattern.get(part + 2));
             let found = &tokens[at..end];
             let is_allowed = match name.as_str() {
-                "of" => is_path_of_fields(found),
-                "item" => found.len() == 1 && found[0].kind == Kind::Word,
+                "of" => is_path_of_fields(found, true),
+                "fields" => is_path_of_fields(found, false),
+                "item" => found.len() == 1 && is_name(&found[0]),
                 _ => !found.is_empty(),
             };
             let before = bound.entry(name.clone()).or_insert_with(|| found.to_vec());
@@ -1162,16 +1080,17 @@ fn end_of_part(tokens: &[Token], from: usize, next: Option<&Token>) -> usize {
     at
 }
 
-/// Whether tokens are names with points between, each a field or a call without an argument: evaluated before or after
-/// another operand, it is the same.
-fn is_path_of_fields(tokens: &[Token]) -> bool {
+/// Whether tokens are names with points between, each a field or, where that is allowed, a call without an argument. A macro may
+/// have fields in another order among its operands than the source; calls are evaluated in the same.
+fn is_path_of_fields(tokens: &[Token], may_call: bool) -> bool {
     let mut at = 0;
     loop {
-        if !tokens.get(at).is_some_and(|token| matches!(token.kind, Kind::Word | Kind::Number)) {
+        if !tokens.get(at).is_some_and(|token| is_name(token) || token.kind == Kind::Number && at > 0) {
             return false;
         }
         at += 1;
-        if tokens.get(at).is_some_and(|token| token.is("(")) && tokens.get(at + 1).is_some_and(|token| token.is(")")) {
+        let is_call = matches!(&tokens[at..], [open, close, ..] if open.is("(") && close.is(")"));
+        if may_call && is_call {
             at += 2;
         }
         match tokens.get(at) {
@@ -1204,15 +1123,15 @@ fn put(tokens: &mut Vec<Token>, range: std::ops::Range<usize>, mut with: Vec<Tok
 fn may_follow(then: Then, tokens: &[Token], start: usize, end: usize) -> bool {
     let next = |texts: &[&str]| tokens.get(end).is_some_and(|token| texts.iter().any(|text| token.is(text)));
     match then {
-        End => next(&[")", ",", ";", "}"]) && !(start > 0 && tokens[start - 1].is("*")),
-        NoPostfix => !next(&[".", "?", "[", "("]),
-        Anything => true,
+        Then::End => next(&[")", ",", ";", "}"]) && !(start > 0 && tokens[start - 1].is("*")),
+        Then::NoPostfix => !next(&[".", "?", "[", "("]),
+        Then::Anything => true,
     }
 }
 
 /// Undoes the rewrites of a list in tokens of a made item. What is inside others is undone first: it stands to the right.
 fn undone(mut made: Vec<Token>, list: &[Rewrite], path: &str, reading: &mut Reading) -> Vec<Token> {
-    let list = list.iter().filter(|rewrite| path.starts_with(rewrite.within));
+    let list = list.iter().filter(|rewrite| rewrite.within.is_empty() || is_in_module(path, rewrite.within));
     let patterns: Vec<_> = list.map(|rewrite| (pattern(rewrite.made), rewrite)).collect();
     for start in (0..made.len()).rev() {
         for (pattern_made, rewrite) in &patterns {
@@ -1228,7 +1147,11 @@ fn undone(mut made: Vec<Token>, list: &[Rewrite], path: &str, reading: &mut Read
     made
 }
 
-/// A body without `unsafe { }` around one call.
+fn is_in_module(path: &str, module: &str) -> bool {
+    path.strip_prefix(module).is_some_and(|rest| rest.starts_with("::"))
+}
+
+/// A body without `unsafe { }` around one call, or around one access.
 fn without_unsafe_blocks(mut body: Vec<Token>, reading: &mut Reading) -> Vec<Token> {
     for start in (0..body.len()).rev() {
         without_unsafe(&mut body, start, reading);
@@ -1236,7 +1159,8 @@ fn without_unsafe_blocks(mut body: Vec<Token>, reading: &mut Reading) -> Vec<Tok
     body
 }
 
-/// Takes `unsafe { }` away that begins at an index, if one call is in it, and nothing else, of a function that is `unsafe`.
+/// Takes `unsafe { }` away that begins at an index, if one call of a function that is `unsafe` is in it, or one access without a test,
+/// and nothing else. (rustc refuses an access that stands in none.)
 fn without_unsafe(tokens: &mut Vec<Token>, start: usize, reading: &mut Reading) {
     if !tokens.get(start).is_some_and(|token| token.is("unsafe")) {
         return;
@@ -1246,7 +1170,7 @@ fn without_unsafe(tokens: &mut Vec<Token>, start: usize, reading: &mut Reading) 
         return;
     }
     let inside = tokens[start + 2..end - 1].to_vec();
-    if called(&inside).is_some_and(|name| reading.unsafe_names.contains(name)) {
+    if called(&inside).is_some_and(|name| reading.unsafe_names.contains(name)) || is_access(&inside) {
         put(tokens, start..end, inside);
         reading.note(UNSAFE_BLOCK);
     }
@@ -1275,25 +1199,31 @@ fn called(tokens: &[Token]) -> Option<&str> {
     (behind_group(tokens, at)? == tokens.len()).then_some(name?)
 }
 
-/// The tokens without commas that change nothing: before a bracket that closes several, or a call's, or any but a round one.
+/// Whether tokens are one macro of an access, as the list of rewrites has it, and nothing else.
+fn is_access(tokens: &[Token]) -> bool {
+    let [name, sign, ..] = tokens else { return false };
+    let is_of_list = |made: &str| made.trim_start_matches('*').split_once('!').is_some_and(|(of, _)| name.is(of));
+    sign.is("!")
+        && REWRITES.iter().any(|rewrite| is_of_list(rewrite.made))
+        && behind_group(tokens, 2) == Some(tokens.len())
+}
+
+/// The tokens without commas that change nothing: before a closing bracket, but for one that may close a tuple, `(a,)`.
 fn without_commas(tokens: Vec<Token>, is_head: bool) -> Vec<Token> {
     let mut made: Vec<Token> = Vec::new();
-    let mut open: Vec<(bool, usize)> = Vec::new();
+    let mut may_be_tuple = Vec::new();
     for token in tokens {
         if token.kind == Kind::Sign {
-            match token.text.as_str() {
-                "(" | "[" | "{" => open.push((token.is("(") && !is_call(made.last(), is_head), 0)),
-                "," => open.iter_mut().last().into_iter().for_each(|group| group.1 += 1),
-                ")" | "]" | "}" => {
-                    let (may_be_tuple, commas) = open.pop().unwrap_or((true, 1));
-                    if made.last().is_some_and(|last| last.is(",")) && !(may_be_tuple && commas == 1) {
-                        made.pop();
-                    }
+            let is_free = match token.text.as_str() {
+                "(" | "[" | "{" => {
+                    may_be_tuple.push(token.is("(") && !is_call(&made, is_head));
+                    false
                 }
-                ">" if is_head && made.last().is_some_and(|last| last.is(",")) => {
-                    made.pop();
-                }
-                _ => {}
+                ")" | "]" | "}" => may_be_tuple.pop() == Some(false),
+                sign => sign == ">" && is_head,
+            };
+            if is_free && made.last().is_some_and(|last| last.is(",")) {
+                made.pop();
             }
         }
         made.push(token);
@@ -1301,20 +1231,27 @@ fn without_commas(tokens: Vec<Token>, is_head: bool) -> Vec<Token> {
     made
 }
 
-/// Whether a round bracket behind this token begins the arguments of a call, or the parameters of a function.
-fn is_call(before: Option<&Token>, is_head: bool) -> bool {
-    const KEYWORDS: &[&str] = &[
-        "return", "in", "match", "if", "else", "break", "while", "move", "mut", "ref", "as", "let", "for", "dyn",
-        "impl", "where",
-    ];
-    before.is_some_and(|token| match token.kind {
-        Kind::Word => !KEYWORDS.contains(&token.text.as_str()),
-        _ => token.is(">") && is_head || token.is("!"),
-    })
+/// Whether a round bracket behind these tokens begins the arguments of a call, or the parameters of a function.
+fn is_call(before: &[Token], is_head: bool) -> bool {
+    let name = match before.last() {
+        Some(last) if last.is(">") && is_head => before_generics(before),
+        last => last,
+    };
+    name.is_some_and(|token| is_name(token) || token.is("!"))
+}
+
+/// What stands before the `<` that the last token, a `>`, closes.
+fn before_generics(tokens: &[Token]) -> Option<&Token> {
+    let mut depth = 0;
+    let open = tokens.iter().rposition(|token| {
+        depth += i32::from(token.is(">")) - i32::from(token.is("<"));
+        depth == 0
+    })?;
+    tokens[..open].last()
 }
 
 /// `>>` in the head of a function closes two lists of types.
-fn with_single_closings(tokens: Vec<Token>) -> Vec<Token> {
+pub fn with_single_closings(tokens: Vec<Token>) -> Vec<Token> {
     let mut made = Vec::new();
     for token in tokens {
         let count = if token.is(">>") { 2 } else { 1 };
@@ -1328,11 +1265,11 @@ fn count_of(tokens: &[Token], text: &str) -> usize {
     tokens.iter().filter(|token| token.is(text)).count()
 }
 
-fn position(tokens: &[Token], of: &[Token]) -> Option<usize> {
+pub fn position(tokens: &[Token], of: &[Token]) -> Option<usize> {
     tokens.windows(of.len()).position(|window| window == of)
 }
 
-/// Undoes `ASKED` in a made function.
+/// Undoes `ASKED` in a made function: its type parameter is the first one, of one parameter and of nothing else.
 fn undo_asked(head: &mut Vec<Token>, body: &mut Vec<Token>, reading: &mut Reading) {
     for asked in ASKED {
         let generics = with_single_closings(pattern(asked.generics));
@@ -1341,10 +1278,9 @@ fn undo_asked(head: &mut Vec<Token>, body: &mut Vec<Token>, reading: &mut Readin
         let end = open + 1 + generics.len();
         let is_first = head.get(open + 1..end) == Some(&generics[..]);
         let parameter = pattern(&format!(": {letter}"));
+        let is_alone = count_of(head, &letter) == 2 && count_of(body, &letter) == 0;
         let found = position(&head[open..], &parameter).map(|found| open + found);
-        let (true, Some(at), 2, 0) = (is_first, found, count_of(head, &letter), count_of(body, &letter)) else {
-            continue;
-        };
+        let Some(at) = found.filter(|_| is_first && is_alone) else { continue };
         let name = head[at - 1].text.clone();
         let line = pattern(&format!("let {name} = {name}.as_ref();"));
         if body.get(1..1 + line.len()) != Some(&line[..]) {
@@ -1379,21 +1315,28 @@ fn undo_asked_each(head: &mut Vec<Token>, body: &mut Vec<Token>, reading: &mut R
     }
 }
 
-/// Undoes `known!(name: fact);` at the start of a body, if the clause of that name says so.
+/// Undoes `unsafe { known!(name: fact) };` at the start of the body of an `unsafe fn`, if the clause of that name says so: a safe function is
+/// called where its clauses do not hold.
 fn undo_known(body: &mut Vec<Token>, source: &Item, reading: &mut Reading) {
-    while body.len() > 4 && body[1].is("known") && body[2].is("!") {
-        let Some(end) = behind_group(body, 3).filter(|end| body.get(*end).is_some_and(|token| token.is(";"))) else {
-            return;
-        };
-        let (name, fact) = (body[4].text.clone(), shown(&body[6..end - 1]));
+    let line = pattern("unsafe { known!($item: $fact) };");
+    let mut bound = Bound::new();
+    while let Some(end) = matched(&line, body, 1, &mut bound) {
+        let (name, fact) = (shown(&bound["item"]), shown(&bound["fact"]));
         let clause = format!("requires {name} {{ {} }}", fact.replace("<=", "≤"));
         let is_so = |clauses: &Token| clauses.text.split_whitespace().collect::<Vec<_>>().join(" ") == clause;
-        if !body[5].is(":") || !source.clauses.iter().any(is_so) {
+        if !source.clauses.iter().any(is_so) {
             return;
         }
-        put(body, 1..end + 1, Vec::new());
+        put(body, 1..end, Vec::new());
         reading.note(KNOWN);
+        bound.clear();
     }
+}
+
+/// Where the `unsafe` of a function stands in its head, and not that of the type of a parameter.
+fn unsafe_of(head: &[Token]) -> Option<usize> {
+    let before = head.iter().position(|token| token.is("fn"))?.checked_sub(1)?;
+    head[before].is("unsafe").then_some(before)
 }
 
 /// A made item as its source has it, if it is made of that.
@@ -1402,31 +1345,52 @@ fn as_in_source(made: &Item, source: &Item, reading: &mut Reading) -> Item {
     let mut body = without_commas(made.body.clone(), false);
     if made.is_function {
         let requires = source.clauses.iter().any(|clause| clause.text.starts_with("requires"));
-        if let Some(at) = position(&head, &pattern("unsafe fn")).filter(|_| requires) {
+        let is_unsafe = unsafe_of(&head).filter(|_| requires);
+        if let Some(at) = is_unsafe {
             head.remove(at);
             reading.note(UNSAFE_FN);
         }
         head = undone(head, HEADS, &made.path, reading);
         undo_asked(&mut head, &mut body, reading);
         undo_asked_each(&mut head, &mut body, reading);
-        undo_known(&mut body, source, reading);
+        if is_unsafe.is_some() {
+            undo_known(&mut body, source, reading);
+        }
         body = undone(without_unsafe_blocks(body, reading), REWRITES, &made.path, reading);
     }
     Item { head, body, ..made.clone() }
 }
 
-/// No name that is known is that of something in the body, and no function is in it.
+/// Names that a law or a rewrite knows: those of the list, and those of a call or a macro that a pattern begins with.
+fn known_names() -> BTreeSet<String> {
+    let first = |text: &str| {
+        let tokens = pattern(text);
+        let pair = tokens.windows(2).find(|pair| !pair[0].is("*"))?;
+        (pair[1].is("(") || pair[1].is("!")).then(|| pair[0].text.clone())
+    };
+    let patterns = REWRITES.iter().flat_map(|rewrite| [rewrite.made, rewrite.source]).filter_map(first);
+    let listed = KNOWN_NAMES
+        .iter()
+        .map(|(name, _)| *name)
+        .chain(["known", "required", "required_of_each", "prove"])
+        .map(str::to_string);
+    patterns.chain(listed).collect()
+}
+
+/// No name that is known is that of something in the function.
 fn names_are_of_calls(source: &Item) -> Result<(), Fault> {
-    let is_known = |token: &Token| KNOWN_NAMES.iter().any(|(name, _)| token.is(name));
+    let names = known_names();
+    let is_known = |token: &Token| names.contains(&token.text);
     let parameter = source.head.windows(2).find(|pair| is_known(&pair[1]) && !pair[0].is("fn")).map(|pair| &pair[1]);
-    let other = source.body.windows(2).find(|pair| is_known(&pair[0]) && !pair[1].is("(")).map(|pair| &pair[0]);
+    let other = source
+        .body
+        .windows(2)
+        .find(|pair| is_known(&pair[0]) && !pair[1].is("(") && !pair[1].is("!"))
+        .map(|pair| &pair[0]);
     if let Some(token) = parameter.or(other).filter(|_| source.is_function) {
         return fault(token.line, format!("`{}` is the name of a call that is known, and of none here", token.text));
     }
-    match source.body.windows(2).find(|pair| pair[0].is("fn") && pair[1].kind == Kind::Word) {
-        Some(pair) => fault(pair[0].line, "a function in a function"),
-        None => Ok(()),
-    }
+    Ok(())
 }
 
 /// The body of a source without the steps of proofs, each of which is a statement.
@@ -1469,7 +1433,7 @@ fn without_laws(mut body: Vec<Token>, laws: &[&str], reading: &mut Reading) -> V
 /// An item of a source without what Rattle alone has. `laws` are those that its file uses, by their names.
 fn without_ghosts(source: &Item, laws: &[&str], reading: &mut Reading) -> Result<Item, Fault> {
     let mut head = source.head.clone();
-    while let Some(at) = position(&head, &pattern("+ Drop")) {
+    while let Some(at) = position(&head, &pattern("+ Drop")).filter(|_| source.is_function) {
         head.drain(at..at + 2);
         reading.note(DROP_BOUND);
     }
@@ -1479,382 +1443,18 @@ fn without_ghosts(source: &Item, laws: &[&str], reading: &mut Reading) -> Result
     Ok(Item { head, body: without_unsafe_blocks(body, reading), ..source.clone() })
 }
 
-// ---- The list of places ----
-
-/// An item that is another one here. `source` is the checksum of its source, from its attributes to its closing brace,
-/// contract and comments included: who changes the source reads the place anew.
-struct Place {
-    path: &'static str,
-    source: u64,
-    here: &'static str,
-    why: &'static str,
+/// An item with the lines of the list that test what it requires.
+fn with_required(mut item: Item, required: &Required) -> Result<Item, Fault> {
+    let behind = pattern(required.behind);
+    let start = if behind.is_empty() { Some(0) } else { position(&item.body, &behind) };
+    let Some(start) = start else {
+        let why = format!("`{}` has no `{}`, behind which it tests what it requires", item.path, required.behind);
+        return fault(item.line, why);
+    };
+    let at = start + behind.len().max(1);
+    item.body.splice(at..at, pattern(required.lines));
+    Ok(item)
 }
-
-const MEMCMP: &str = "std compares by `memcmp`, which has larger vectors";
-const SPLITS: &str = "it is `const`: the array is split twice, since stable Rust has no index of a slice in a constant";
-const LIKE_STR: &str = "no precondition bounds the range: it panics as the index of `str` does";
-const COUNT_STOPS: &str = "no precondition bounds the count, which stops at 2^64 - 1";
-
-const PLACES: &[Place] = &[
-    Place {
-        path: "arraystring_base::steps::Steps::count_moves",
-        source: 0x0ECD_4EB4_8C1A_0C39,
-        here: "
-            pub(crate) fn count_moves(&mut self, len: usize) {
-                self.moved = self.moved.saturating_add(len as u64);
-            }",
-        why: COUNT_STOPS,
-    },
-    Place {
-        path: "arraystring_base::steps::look",
-        source: 0xE066_8B4E_3280_08A5,
-        here: "
-            pub fn look(bytes: &[u8], at: usize, steps: &mut Steps) -> u8 {
-                steps.looked = steps.looked.saturating_add(1);
-                bytes[at]
-            }",
-        why: "no precondition bounds the count or the index: it panics as that of a slice; bodies call its twin",
-    },
-    Place {
-        path: "arraystring_base::utf16::struct Units",
-        source: 0xA3D2_D553_3C77_05B6,
-        here: "
-            #[derive(Clone, Debug)]
-            pub struct Units<'a> {
-                rest: &'a [u16],
-            }",
-        why: "an iterator is cloned and printed in Rust, as each of std's is",
-    },
-    Place {
-        path: "arraystring_base::utils::is_inside_boundary",
-        source: 0x55A0_AD80_A420_6DD4,
-        here: "
-            pub fn is_inside_boundary<S: Into<usize>, L: Into<usize>>(size: S, limit: L) -> Result<(), OutOfBounds> {
-                let (size, limit) = (size.into(), limit.into());
-                if size > limit {
-                    return Err(OutOfBounds);
-                }
-                Ok(())
-            }",
-        why: "it takes more types, as the Rust crate 0.3.0 does, and each is asked once",
-    },
-    Place {
-        path: "arraystring_core::array_string::ArrayString::as_str",
-        source: 0xCFC6_A0FD_1160_7E8D,
-        here: "
-            pub const fn as_str(&self) -> &str {
-                let (size, start) = (self.size as usize, self.start as usize);
-                let (_, text) = split_at_unchecked!(split_at_unchecked!(self.array, start + size).0, start);
-                unsafe { str::from_utf8_unchecked(text) }
-            }",
-        why: SPLITS,
-    },
-    Place {
-        path: "arraystring_core::array_string::ArrayString::as_bytes",
-        source: 0x1CAC_2A40_CCBA_ED84,
-        here: "
-            pub const fn as_bytes(&self) -> &[u8] {
-                let (size, start) = (self.size as usize, self.start as usize);
-                split_at_unchecked!(split_at_unchecked!(self.array, start + size).0, start).1
-            }",
-        why: SPLITS,
-    },
-    Place {
-        path: "arraystring_core::array_string::range::ArrayString::slice",
-        source: 0xB09A_1F3E_A40D_7C6C,
-        here: "
-            pub fn slice<R: RangeBounds<u8>>(&self, range: R) -> &str {
-                let (start, end) = plain_ends(range, self.len());
-                &self.as_str()[start..end]
-            }",
-        why: LIKE_STR,
-    },
-    Place {
-        path: "arraystring_core::array_string::range::ArrayString::get",
-        source: 0x4914_C8A9_BF9F_A62C,
-        here: "
-            pub fn get<R: RangeBounds<u8>>(&self, range: R) -> Option<&str> {
-                let (start, end) = plain_ends(range, self.len());
-                self.as_str().get(start..end)
-            }",
-        why: "std makes the same tests, and the index behind them makes none again",
-    },
-    Place {
-        path: "arraystring_core::array_string::range::ArrayString::make_ascii_uppercase_in",
-        source: 0x9FBB_390C_DFBC_CBB7,
-        here: "
-            pub fn make_ascii_uppercase_in<R: RangeBounds<u8>>(&mut self, range: R) {
-                let (start, end) = plain_ends(range, self.len());
-                let _ = &self.as_str()[start..end];
-                unsafe { self.uppercase_between(start, end) };
-            }",
-        why: LIKE_STR,
-    },
-    Place {
-        path: "arraystring_core::array_string::range::ArrayString::make_ascii_lowercase_in",
-        source: 0xA4C7_FDF2_F207_E58E,
-        here: "
-            pub fn make_ascii_lowercase_in<R: RangeBounds<u8>>(&mut self, range: R) {
-                let (start, end) = plain_ends(range, self.len());
-                let _ = &self.as_str()[start..end];
-                unsafe { self.lowercase_between(start, end) };
-            }",
-        why: LIKE_STR,
-    },
-    Place {
-        path: "arraystring_core::fast::equal::equal",
-        source: 0x6684_9168_2648_7990,
-        here: "
-            pub(crate) fn equal(text: &str, other: &str) -> bool {
-                text == other
-            }",
-        why: MEMCMP,
-    },
-    Place {
-        path: "arraystring_core::fast::order::order",
-        source: 0x4B09_0F8C_F8C2_9B50,
-        here: "
-            pub(crate) fn order<const N: usize>(text: &str, other: &str) -> Ordering {
-                text.cmp(other)
-            }",
-        why: MEMCMP,
-    },
-    Place {
-        path: "arraystring_core::fast::well_formed::read_utf8",
-        source: 0x1D1E_0447_27C5_0A8D,
-        here: "
-            pub(crate) fn read_utf8(given: &[u8]) -> Result<&str, Utf8> {
-                let (blocks, last) = (given.len() / 32 * 32, given.len().saturating_sub(32));
-                if get_unchecked!(given, ..blocks).is_ascii() && get_unchecked!(given, last..).is_ascii() {
-                    return Ok(unsafe { str::from_utf8_unchecked(given) });
-                }
-                str::from_utf8(given).map_err(Utf8::from)
-            }",
-        why: "std tests UTF-8 by the vectors of the machine, behind a test for ASCII: the blocks of 32 bytes in front and the \
-              last 32 bytes are all bytes",
-    },
-];
-
-/// Functions that require something in their sources, and are safe here, by the clauses, as they are written.
-struct Safe {
-    requires: &'static [&'static str],
-    functions: &'static [&'static str],
-    why: &'static str,
-}
-
-const ENDS: &str =
-    "an iterator that never ends keeps the call, which writes nothing that does not fit; nothing rests on the end";
-const COUNTS: &str = "a count stops at 2^64 - 1, and nothing rests on it";
-const CLOSURES: &str = "a closure that panics leaves what was kept until then; nothing rests on its return";
-
-const SAFE: &[Safe] = &[
-    Safe {
-        requires: &["requires { IsFiniteIterable I.into_iter_gives I.IntoIter.can_next I.IntoIter.remaining pieces }"],
-        functions: &[
-            "cache_string::CacheString::try_from_iterator",
-            "cache_string::CacheString::from_iterator",
-            "arraystring_core::array_string::append::ArrayString::add_strs",
-            "arraystring_core::array_string::construct::ArrayString::try_from_iterator",
-            "arraystring_core::array_string::construct::ArrayString::from_iterator",
-            "arraystring_core::array_string::push::ArrayString::extend_strs",
-        ],
-        why: ENDS,
-    },
-    Safe {
-        requires: &[
-            "requires { IsFiniteIterable I.into_iter_gives I.IntoIter.can_next I.IntoIter.remaining characters }",
-        ],
-        functions: &[
-            "cache_string::CacheString::try_from_chars",
-            "cache_string::CacheString::from_chars",
-            "arraystring_core::array_string::append::ArrayString::add_chars",
-            "arraystring_core::array_string::construct::ArrayString::try_from_chars",
-            "arraystring_core::array_string::construct::ArrayString::from_chars",
-            "arraystring_core::array_string::push::ArrayString::extend_chars",
-        ],
-        why: ENDS,
-    },
-    Safe {
-        requires: &["requires looks { steps.old.looked ≤ 2 ^ 63 }", "requires moves { steps.old.moved ≤ 2 ^ 63 }"],
-        functions: &[
-            "arraystring_core::array_string::insert::ArrayString::try_insert_str_counted",
-            "arraystring_core::array_string::range::ArrayString::drain_counted",
-            "arraystring_core::array_string::range::ArrayString::replace_range_counted",
-            "arraystring_core::array_string::remove::ArrayString::pop_counted",
-            "arraystring_core::array_string::remove::ArrayString::remove_counted",
-            "arraystring_core::array_string::trim::ArrayString::trim_counted",
-        ],
-        why: COUNTS,
-    },
-    Safe {
-        requires: &["requires { steps.old.looked ≤ 2 ^ 63 }"],
-        functions: &["arraystring_base::utf8::truncate_str_counted"],
-        why: COUNTS,
-    },
-    Safe {
-        requires: &["requires { steps.old.looked + 4 < 2 ^ 64 }"],
-        functions: &["arraystring_base::utf8::last_char"],
-        why: COUNTS,
-    },
-    Safe {
-        requires: &["requires { steps.old.moved ≤ 2 ^ 63 }"],
-        functions: &["arraystring_core::array_string::range::ArrayString::replace_between"],
-        why: COUNTS,
-    },
-    Safe {
-        requires: &["requires { IsCallableInTurn F.pre F.step f self.old.text }"],
-        functions: &["arraystring_core::array_string::remove::ArrayString::retain"],
-        why: CLOSURES,
-    },
-    Safe {
-        requires: &["requires callable { F.IsAlwaysCallable drops }", "requires looks { steps.old.looked ≤ 2 ^ 63 }"],
-        functions: &["arraystring_core::array_string::trim::ArrayString::drop_trailing"],
-        why: CLOSURES,
-    },
-    Safe {
-        requires: &["requires callable { F.IsAlwaysCallable drops }"],
-        functions: &[
-            "arraystring_core::array_string::trim::ArrayString::drop_leading",
-            "arraystring_core::array_string::trim::ArrayString::drop_leading_decoded",
-        ],
-        why: CLOSURES,
-    },
-    Safe {
-        requires: &["requires callable { F.IsAlwaysCallable drops.now }"],
-        functions: &["arraystring_core::array_string::trim::ArrayString::drop_leading_ascii"],
-        why: CLOSURES,
-    },
-];
-
-/// What a made file has not of its source.
-const LEFT_OUT: &[(&str, &str)] = &[
-    ("mod integration", SERDE),
-    ("arraystring_core::mod integration", SERDE),
-    ("mod laws", NO_PROOF),
-    ("arraystring_base::mod laws", NO_PROOF),
-    ("arraystring_core::mod laws", NO_PROOF),
-    (
-        "arraystring_base::utils::use crate::arraystring_base::moves::move_run",
-        "nothing of the crate moves without a count, and no program reaches it",
-    ),
-    (
-        "arraystring_core::array_string::range::ArrayString::between",
-        "`get` asks std for the part, and `slice` has the index itself",
-    ),
-    ("arraystring_core::fast::equal::use core::simd::Simd", BY_STD),
-    ("arraystring_core::fast::equal::equal_few", BY_STD),
-    ("arraystring_core::fast::equal::equal_by_blocks", BY_STD),
-    ("arraystring_core::fast::equal::equal_by_four", BY_STD),
-    ("arraystring_core::fast::equal::equal_by_two", BY_STD),
-    ("arraystring_core::fast::equal::equal_block", BY_STD),
-    ("arraystring_core::fast::order::use crate::arraystring_core::fast::equal::equal_block", BY_STD),
-    ("arraystring_core::fast::order::use core::simd::Simd", BY_STD),
-    ("arraystring_core::fast::order::order_by_bytes", BY_STD),
-    ("arraystring_core::fast::order::order_by_ends", BY_STD),
-    ("arraystring_core::fast::order::words", BY_STD),
-    ("arraystring_core::fast::order::halves", BY_STD),
-    ("arraystring_core::fast::order::order_of_lengths", BY_STD),
-    ("arraystring_core::fast::order::order_of_different", BY_STD),
-    ("arraystring_core::fast::order::order_by_blocks", BY_STD),
-    ("arraystring_core::fast::order::order_by_groups", BY_STD),
-    ("arraystring_core::fast::order::equal_groups", BY_STD),
-    ("arraystring_core::fast::order::order_by_block", BY_STD),
-    ("arraystring_core::fast::order::block_order", BY_STD),
-    ("arraystring_core::fast::well_formed::use core::simd::Simd", BY_STD),
-    ("arraystring_core::fast::well_formed::read_characters", BY_STD),
-    ("arraystring_core::fast::well_formed::behind_characters", BY_STD),
-    ("arraystring_core::fast::well_formed::characters_at_front", BY_STD),
-    ("arraystring_core::fast::well_formed::character_at_front", BY_STD),
-    ("arraystring_core::fast::well_formed::is_second", BY_STD),
-    ("arraystring_core::fast::well_formed::is_later", BY_STD),
-    ("arraystring_core::fast::well_formed::ascii_at_front", BY_STD),
-    ("arraystring_core::fast::well_formed::is_ascii", BY_STD),
-    ("arraystring_core::fast::well_formed::is_ascii_by_blocks", BY_STD),
-    ("arraystring_core::fast::well_formed::is_ascii_block", BY_STD),
-];
-
-const SERDE: &str = "it stands on `serde_json`, and the Rust crate has no dependency";
-const NO_PROOF: &str = "a Rust program has no proof that could cite a law";
-const BY_STD: &str = "std does here what it is for, and nothing else calls it";
-
-/// Items that a made file has beyond its source.
-struct Added {
-    module: &'static str,
-    items: &'static str,
-    why: &'static str,
-}
-
-const ADDED: &[Added] = &[
-    Added {
-        module: "",
-        items: "
-            #![doc = include_str!(\"../README.md\")]
-            #![no_std]
-            #![deny(unsafe_op_in_unsafe_fn, missing_docs)]
-            #[cfg(not(any(target_pointer_width = \"32\", target_pointer_width = \"64\")))]
-            compile_error!(\"the crate was tried where a `usize` has 32 or 64 bits, and nowhere else\");
-            #[macro_use]
-            #[path = \"by_hand/access.rs\"]
-            mod access;
-            mod arraystring_base;
-            mod arraystring_core;
-            mod by_hand;
-            pub use by_hand::{contracts, trust};",
-        why: "the root of the Rust crate: its page, the other crates as modules, and what is by hand",
-    },
-    Added {
-        module: "arraystring_base::steps",
-        items: "
-            pub(crate) unsafe fn look_unchecked(bytes: &[u8], at: usize, steps: &mut Steps) -> u8 {
-                steps.looked = steps.looked.saturating_add(1);
-                *get_unchecked!(bytes, at)
-            }
-            #[cfg(test)]
-            #[path = \"../by_hand/count_tests.rs\"]
-            mod tests;",
-        why: "the twin of `look`, for bodies, which prove its precondition; and tests that set the counts",
-    },
-    Added {
-        module: "arraystring_core::array_string",
-        items: "
-            #[path = \"../by_hand/constant.rs\"]
-            mod constant;
-            #[path = \"../by_hand/room.rs\"]
-            mod room;
-            #[path = \"../by_hand/write.rs\"]
-            mod write;",
-        why: "calls of the string that are by hand",
-    },
-    Added {
-        module: "arraystring_core::drain::traits",
-        items: "
-            impl<const N: usize> Iterator for Drain<N> {
-                fn size_hint(&self) -> (usize, Option<usize>) {
-                    let len = self.as_str().len();
-                    (len.div_ceil(4), Some(len))
-                }
-            }",
-        why: "callers that make room ask for it",
-    },
-];
-
-/// The files by hand. Each other one is made of the source of its path.
-const BY_HAND: &[&str] = &[
-    "by_hand.rs",
-    "by_hand/access.rs",
-    "by_hand/constant.rs",
-    "by_hand/contracts.rs",
-    "by_hand/count_tests.rs",
-    "by_hand/owned.rs",
-    "by_hand/room.rs",
-    "by_hand/simd.rs",
-    "by_hand/traits.rs",
-    "by_hand/write.rs",
-];
-
-/// Modules in a made file that only give the calls of a type their order in the reference: the module around them, and their
-/// names. What is in them counts as if it stood around them.
-const ORDERS: &[(&str, &[&str])] = &[("arraystring_core::array_string", &["empty", "views"])];
 
 // ---- The comparison of a file ----
 
@@ -1864,13 +1464,21 @@ struct Lists {
     added: &'static [Added],
     places: &'static [Place],
     safe: &'static [Safe],
-    by_hand: &'static [&'static str],
+    required: &'static [Required],
+    by_hand: &'static [(&'static str, &'static str)],
     /// Modules that keep an order alone: the path of the module around them, and their names.
     orders: &'static [(&'static str, &'static [&'static str])],
 }
 
-const LISTS: Lists =
-    Lists { left_out: LEFT_OUT, added: ADDED, places: PLACES, safe: SAFE, by_hand: BY_HAND, orders: ORDERS };
+const LISTS: Lists = Lists {
+    left_out: LEFT_OUT,
+    added: ADDED,
+    places: PLACES,
+    safe: SAFE,
+    required: REQUIRED,
+    by_hand: BY_HAND,
+    orders: ORDERS,
+};
 
 /// FNV-1a of 64 bits: it tells a change that somebody made unawares. It is no seal.
 fn checksum(text: &str) -> u64 {
@@ -1927,7 +1535,9 @@ impl Comparison {
             Ok(expected) => self.match_items(expected, here, made.path),
             Err(fault) => self.differences.push(format!("{}:{}: {}", source.path, fault.line, fault.why)),
         }
-        orders.iter().for_each(|name| self.reading.note(&format!("order {module} {name}")));
+        for name in orders.iter().filter(|name| made.text.contains(&format!("\nmod {name} {{"))) {
+            self.reading.note(&format!("order {module} {name}"));
+        }
     }
 
     /// The items of a file, or `None` where it can't be read, which is a difference.
@@ -1935,9 +1545,9 @@ impl Comparison {
         items.map_err(|fault| self.differences.push(format!("{path}:{}: {}", fault.line, fault.why))).ok()
     }
 
-    /// What the made file has to have.
+    /// What the made file has to have. A law that it uses is left out, with its calls, which go by the last name of its path.
     fn expected(&mut self, file: File, items: Vec<Item>, krate: &str, module: &str) -> Result<Vec<Expected>, Fault> {
-        let is_used = |law: &&str| items.iter().any(|item| item.key == format!("use {law}"));
+        let is_used = |law: &&str| items.iter().any(|item| item.key == format!("use {law}") && is_private_use(item));
         let used: Vec<&str> = LAWS.iter().map(|law| law.path).filter(is_used).collect();
         let names: Vec<&str> = used.iter().filter_map(|law| law.rsplit("::").next()).collect();
         let mut expected = Vec::new();
@@ -1953,6 +1563,8 @@ impl Comparison {
                 Some(place) => self.in_its_place(place, file, source, said_at)?,
                 None => {
                     let item = without_ghosts(&source, &names, &mut self.reading)?;
+                    let required = self.lists.required.iter().find(|required| required.path == source.path);
+                    let item = required.map_or(Ok(item.clone()), |required| with_required(item, required))?;
                     Expected { item, source: Some(source), said_at }
                 }
             });
@@ -1976,13 +1588,13 @@ impl Comparison {
         is_it
     }
 
-    /// Gives a `use` the path that it has here. Returns false if it has none.
+    /// Gives a `use` the path that it has here. Returns false if it has none, and nobody else could use it.
     fn other_use(&mut self, source: &mut Item, module: &str) -> bool {
         let Some(path) = source.key.strip_prefix("use ") else { return true };
         let is_meant = |uses: &&Uses| uses.source == path && (uses.within.is_empty() || uses.within == module);
         let Some(uses) = USES.iter().find(is_meant) else { return true };
         self.reading.note(&format!("use {}", uses.source));
-        let Some(made) = uses.made else { return false };
+        let Some(made) = uses.made else { return !is_private_use(source) };
         source.key = format!("use {made}");
         source.path = joined(module, &source.key);
         true
@@ -1999,9 +1611,11 @@ impl Comparison {
             ));
         }
         let origin = Origin { language: Language::Rust, krate: "", module: "", orders: &[] };
-        let listed = items_of_list(place.here, origin).next();
-        let Some(listed) = listed else { return fault(source.line, format!("`{}` is no item", place.here)) };
-        let Item { attributes, head, body, .. } = listed;
+        let listed: Vec<Item> = items_of_list(place.here, origin).collect();
+        let [Item { attributes, head, body, .. }] = &listed[..] else {
+            return fault(source.line, format!("`{}` is not one item", place.here));
+        };
+        let (attributes, head, body) = (attributes.clone(), head.clone(), body.clone());
         Ok(Expected { item: Item { attributes, head, body, ..source }, source: None, said_at })
     }
 
@@ -2051,22 +1665,36 @@ impl Comparison {
 
     /// The attributes that have to be the same.
     fn strict<'a>(&mut self, attributes: &'a [String]) -> Vec<&'a str> {
-        let (free, strict): (Vec<_>, Vec<_>) = attributes
-            .iter()
-            .map(String::as_str)
-            .partition(|words| FREE_ATTRIBUTES.iter().any(|(free, _)| free == words));
-        free.iter().for_each(|words| self.reading.note(&format!("attribute {words}")));
+        let mut strict = Vec::new();
+        for words in attributes {
+            match FREE_ATTRIBUTES.iter().find(|(free, _)| is_free(words, free)) {
+                Some((free, _)) => self.reading.note(&format!("attribute {free}")),
+                None => strict.push(words.as_str()),
+            }
+        }
         strict
     }
 
-    /// A function that requires something is an `unsafe fn`, or the list says why not.
+    /// A function that requires something is an `unsafe fn`, or the list says why not. One that is public tests what it requires, as the
+    /// list says, which was written for these clauses.
     fn precondition(&mut self, source: &Item, made: &Item, places: &str) {
         let requires: Vec<_> = source.clauses.iter().filter(|clause| clause.text.starts_with("requires")).collect();
-        if requires.is_empty() || position(&made.head, &pattern("unsafe fn")).is_some() {
+        if requires.is_empty() {
             return;
         }
         let texts: Vec<_> = requires.iter().map(|clause| clause.text.as_str()).collect();
         let path = source.path.as_str();
+        if unsafe_of(&made.head).is_some() {
+            let is_public = made.head[0].is("pub") && !made.head[1].is("(");
+            match self.lists.required.iter().find(|required| required.path == path) {
+                Some(required) if required.requires == texts => self.reading.note(&format!("required {path}")),
+                None if !is_public => {}
+                _ => self.differences.push(format!(
+                    "{places}: `{path}` is a public `unsafe fn`, and the list does not say how it tests what it requires: {texts:?}"
+                )),
+            }
+            return;
+        }
         match self.lists.safe.iter().find(|safe| safe.functions.contains(&path) && safe.requires == texts) {
             Some(_) => self.reading.note(&format!("safe {path}")),
             None => self.differences.push(format!(
@@ -2076,16 +1704,31 @@ impl Comparison {
     }
 }
 
-/// Whether an item of a source has a name that a rewrite or a path takes for something else.
+/// Whether an attribute is one of the list, in which `".."` stands for any text.
+fn is_free(words: &str, free: &str) -> bool {
+    let Some((before, behind)) = free.split_once("\"..\"") else { return words == free };
+    let text = words.strip_prefix(before).and_then(|rest| rest.strip_suffix(behind));
+    let is_one = |found: Vec<Token>| matches!(&found[..], [one] if one.kind == Kind::Text);
+    text.is_some_and(|text| tokens(text, Language::Rust).is_ok_and(is_one))
+}
+
+/// Whether a `use` is seen in its module alone, and always there.
+fn is_private_use(item: &Item) -> bool {
+    item.attributes == ["visibility "]
+}
+
+/// Whether an item of a source has a name that a rewrite or a path takes for something else. A `use` may bring what std has by it.
 fn is_misleading(item: &Item) -> bool {
     let key = item.key.rsplit(" / ").next().unwrap_or_default();
-    let name = key.rsplit([':', ' ']).next().unwrap_or_default();
+    let name = key.trim_end_matches("::self").rsplit([':', ' ']).next().unwrap_or_default();
     let is_use = key.starts_with("use ");
-    let is_named_here = !is_use || key.contains(" as ");
-    let is_known = KNOWN_NAMES.iter().any(|(known, path)| name == *known && item.path != *path);
-    let is_crate = ["std", "core", "alloc", "crate"].contains(&name) || CRATES.contains(&name);
-    let is_std = ["char", "str"].contains(&name) && key != format!("use core::{name}");
-    is_named_here && is_known || (is_use || key.starts_with("mod ")) && (is_crate || is_std)
+    let has_alias = key.contains(" as ");
+    let is_known = match KNOWN_NAMES.iter().find(|(known, _)| name == *known) {
+        Some((_, path)) => item.path != *path,
+        None => known_names().contains(name),
+    };
+    let is_of_std = key.starts_with("use core::") && !has_alias;
+    (!is_use || has_alias) && is_known || is_reserved(name) && !is_of_std
 }
 
 /// The items that an entry of a list has.
@@ -2113,13 +1756,13 @@ fn first_difference(has_to_be: &[Token], is: &[Token]) -> Option<String> {
 
 // ---- The comparison of all ----
 
-const MADE: &str = "rust/arraystring/src/";
+pub const MADE: &str = "rust/arraystring/src/";
 
 /// All files below the folders of the sources and of what is made, by their paths.
-type Files = BTreeMap<String, String>;
+pub type Files = BTreeMap<String, String>;
 
 /// The crate and the module of a source, by its path.
-fn module_of(path: &str) -> Option<(&str, String)> {
+pub fn module_of(path: &str) -> Option<(&str, String)> {
     let (krate, module) = path.strip_prefix("crates/")?.strip_suffix(".rt")?.split_once("/src/")?;
     let module = if module == "lib" { String::new() } else { module.replace('/', "::") };
     let is_root = CRATES.last() == Some(&krate);
@@ -2128,12 +1771,13 @@ fn module_of(path: &str) -> Option<(&str, String)> {
 }
 
 /// The path of the made file of a module.
-fn path_of_made(module: &str) -> String {
+pub fn path_of_made(module: &str) -> String {
     let module = if module.is_empty() { "lib" } else { module };
     format!("{MADE}{}.rs", module.replace("::", "/"))
 }
 
-/// The names of all functions that are `unsafe` in the Rust crate.
+/// The names of all functions that are `unsafe` in the Rust crate, whatever their paths: a block around a call of another function
+/// of that name changes nothing, and rustc refuses a call that lacks one.
 fn unsafe_names(files: &Files) -> BTreeSet<String> {
     let mut names = BTreeSet::new();
     for text in files.iter().filter(|(path, _)| path.starts_with(MADE)).map(|(_, text)| text) {
@@ -2160,7 +1804,7 @@ fn compare(files: &Files, lists: &'static Lists) -> Comparison {
         }
         left.remove(made.as_str());
     }
-    for name in lists.by_hand {
+    for (name, _) in lists.by_hand {
         if left.remove(format!("{MADE}{name}").as_str()) {
             comparison.reading.note(&format!("by hand {name}"));
         }
@@ -2179,7 +1823,7 @@ fn is_left_out(lists: &Lists, module: &str) -> bool {
     })
 }
 
-/// Each law that a body calls still has the body that was read.
+/// Each law that a body calls still has the parameters and the body that were read.
 fn laws_do_nothing(files: &Files, comparison: &mut Comparison) {
     for law in LAWS {
         let path = law.path.trim_start_matches("crate::");
@@ -2189,11 +1833,11 @@ fn laws_do_nothing(files: &Files, comparison: &mut Comparison) {
             let origin = Origin { language: Language::Rattle, krate, module: &module, orders: &[] };
             items(text, origin).ok()?.into_iter().find(|item| item.key == format!("fn {name}"))
         });
-        if found.is_none_or(|item| item.body != pattern(law.body)) {
-            let (path, body) = (law.path, law.body);
-            comparison
-                .differences
-                .push(format!("`{path}` is no function with the body `{body}`, and calls of it are left out"));
+        if found.is_none_or(|item| item.head != pattern(law.head) || item.body != pattern(law.body)) {
+            let (path, head, body) = (law.path, law.head, law.body);
+            comparison.differences.push(format!(
+                "`{path}` is no function with the body `{body}` behind `{head}`: calls of it are left out"
+            ));
         }
     }
 }
@@ -2214,7 +1858,8 @@ fn entries(lists: &'static Lists) -> Vec<(String, &'static str)> {
     entries.extend(lists.places.iter().map(|place| (format!("place {}", place.path), place.why)));
     let functions = |safe: &'static Safe| safe.functions.iter().map(|path| (format!("safe {path}"), safe.why));
     entries.extend(lists.safe.iter().flat_map(functions));
-    entries.extend(lists.by_hand.iter().map(|name| (format!("by hand {name}"), "by hand")));
+    entries.extend(lists.required.iter().map(|required| (format!("required {}", required.path), required.why)));
+    entries.extend(lists.by_hand.iter().map(|(name, what)| (format!("by hand {name}"), *what)));
     let names =
         |(module, names): &(&str, &'static [&str])| names.iter().map(|name| format!("order {module} {name}")).collect();
     entries
@@ -2253,7 +1898,7 @@ fn read_below(root: &Path, folder: &str, ending: &str, files: &mut Files) -> Res
     Ok(())
 }
 
-fn read_all(root: &Path) -> Result<Files, String> {
+pub fn read_all(root: &Path) -> Result<Files, String> {
     let mut files = Files::new();
     for krate in CRATES {
         read_below(root, &format!("crates/{krate}/src"), ".rt", &mut files)?;
@@ -2294,7 +1939,7 @@ fn report(comparison: &Comparison) -> ExitCode {
     let Comparison { functions, items, lists, .. } = comparison;
     let rewrites = REWRITES.len() + HEADS.len() + ASKED.len() + 1 + BY_CODE.len() + USES.len() + LAWS.len();
     let safe: usize = lists.safe.iter().map(|safe| safe.functions.len()).sum();
-    let places = lists.places.len() + safe + lists.left_out.len() + lists.added.len();
+    let places = lists.places.len() + safe + lists.required.len() + lists.left_out.len() + lists.added.len();
     if text.is_empty() {
         println!(
             "compare: {functions} functions and {items} items are as in the sources; {rewrites} rewrites, {places} places"

@@ -77,7 +77,7 @@ fn free_ranges(file: File, language: Language) -> Vec<(usize, usize)> {
             "[" if at > 0 && (tokens[at - 1].is("#") || tokens[at - 1].is("!")) => {
                 let end = behind_group(&tokens, at).expect("brackets");
                 let words: String = tokens[at + 1..end - 1].iter().map(|token| token.text.as_str()).collect();
-                let is_free = FREE_ATTRIBUTES.iter().any(|(free, _)| *free == words);
+                let is_free = FREE_ATTRIBUTES.iter().any(|(free, _)| is_free(&words, free));
                 let is_ghost =
                     language == Language::Rattle && (words.starts_with("tactic(") || words == "derive(Drop)");
                 let is_inner = tokens[at - 1].is("!");
@@ -229,22 +229,34 @@ fn what_is_made_of_no_source_is_seen() {
     let mut law = files;
     let path = "crates/arraystring_core/src/laws.rt";
     let text = law[path].replace("let _ = string.len();", "let _ = string.len(); loop {}");
-    law.insert(path.to_string(), text);
+    let text_before = law.insert(path.to_string(), text).expect("the laws");
+    seen(&law, "is no function with the body");
+    law.insert(
+        path.to_string(),
+        text_before.replace("text_fits<const N: usize>(string: &", "text_fits<const N: usize>(string: "),
+    );
     seen(&law, "is no function with the body");
 }
 
 #[test]
 fn an_entry_that_nothing_uses_is_a_fault() {
-    static LISTS: Lists = Lists { left_out: &[("mod nowhere", ""), ("mod laws", "a reason")], ..super::LISTS };
+    static LISTS: Lists = Lists {
+        left_out: &[("mod nowhere", ""), ("mod laws", "a reason")],
+        orders: &[("arraystring_core::array_string", &["views", "nowhere"])],
+        ..super::LISTS
+    };
     let faults = faults_of_lists(&compare(&tree(), &LISTS));
     assert!(faults.iter().any(|fault| fault.contains("nothing uses the entry `left out mod nowhere`")), "{faults:?}");
     assert!(faults.iter().any(|fault| fault.contains("`left out mod nowhere` of a list has no reason")), "{faults:?}");
     assert!(!faults.iter().any(|fault| fault.contains("`left out mod laws`")), "{faults:?}");
+    let orders: Vec<_> = faults.iter().filter(|fault| fault.contains("`order ")).collect();
+    assert!(orders.len() == 1 && orders[0].contains("array_string nowhere`"), "{orders:?}");
 }
 
 // ---- Pairs of small files ----
 
-static NONE: Lists = Lists { left_out: &[], added: &[], places: &[], safe: &[], by_hand: &[], orders: &[] };
+static NONE: Lists =
+    Lists { left_out: &[], added: &[], places: &[], safe: &[], required: &[], by_hand: &[], orders: &[] };
 
 /// The differences of a small source and a small made file, by lists.
 fn pair(lists: &'static Lists, source: &str, made: &str) -> Vec<String> {
@@ -275,7 +287,7 @@ const NO_CLAUSE: &str = "pub fn f(at: u8) -> u8 {\n    if at > 3 {\n        retu
 fn a_clause_that_could_end_early_is_refused() {
     same(CLAUSE, NO_CLAUSE);
     differs(CLAUSE, &NO_CLAUSE.replace("if at > 3 {\n        return 3;\n    }\n", ""), "`{ at }");
-    for sign in ["--\"", "--{", "--", "\"", "'", "//", "/*", "{-", "}"] {
+    for sign in ["--\"", "--{", "--", "\"", "'", "//", "/*", "/- {", "-/", "{-", "«{»", "}"] {
         let source = CLAUSE.replace("≡ at", &format!("≡ at {sign}"));
         let found = pair(&NONE, &source, NO_CLAUSE);
         assert!(found.len() == 1 && found[0].starts_with("crates/arraystring_base/src/a.rt:2: "), "{sign}: {found:?}");
@@ -322,7 +334,11 @@ fn a_ghost_item_ends_at_its_own_sign() {
 fn an_attribute_takes_nothing_of_its_line_along() {
     same("#[inline] pub const A: u8 = 1;\n", "pub const A: u8 = 1;\n");
     differs("#[tactic(auto)] pub const A: u8 = 1;\n", "", "`arraystring_base::a::const A` is missing");
+    for tactic in ["tactic(auto --)", "tactic(\")\")", "tactic('a)", "tactic(a - b)"] {
+        differs(&format!("#[{tactic}]\nfn f() {{}} // )]\n"), "fn f() {}\n", "a tactic that is more than paths");
+    }
     differs("#[inline] #[cfg(test)] fn f() {}\n", "#[inline]\nfn f() {}\n", "[] for [\"cfg(test)\"]");
+    differs("#[tactic::more]\nfn f() {}\n", "fn f() {}\n", "[] for [\"tactic::more\"]");
     differs("fn f() {}\n", "#[cold]\nfn f() {}\n", "[\"cold\"] for []");
     differs("#[derive(Clone)]\nstruct A;\n", "#[derive(Clone, Copy)]\nstruct A;\n", "derive(Clone,Copy)");
 }
@@ -333,7 +349,8 @@ fn a_path_is_compared_as_what_it_means_here() {
         "use crate::b::{c, d as e};\n",
         "use crate::arraystring_base::b::c;\nuse crate::arraystring_base::b::d as e;\n",
     );
-    same("use std::fmt::{self, Write};\n", "use core::{fmt, fmt::Write};\n");
+    same("use std::fmt::{self, Write};\n", "use core::{fmt::Write, fmt::{self}};\n");
+    differs("use std::fmt::{self};\n", "use core::fmt;\n", "use core::fmt::self` is missing");
     same("use arraystring_core::A;\n", "use crate::arraystring_core::A;\n");
     same(
         "fn f() { crate::g(std::mem::size_of::<u8>()) }\n",
@@ -348,8 +365,27 @@ fn a_path_is_compared_as_what_it_means_here() {
     differs("fn f() { crate::g() }\n", "fn f() { crate::g() }\n", "for `{ crate :: arraystring_base :: g");
     differs("fn f() { use crate::g; g() }\n", "fn f() { use crate::g; g() }\n", "`use` in a function");
     differs("mod std { }\nfn f() { std::g() }\n", "mod std { }\nfn f() { core::g() }\n", "has the name of a crate");
-    differs("use crate::b as str;\n", "use crate::arraystring_base::b as str;\n", "has the name of a crate");
+    for item in [
+        "use super::b as str;",
+        "use super::str::{self};",
+        "enum std { g }",
+        "struct char;",
+        "mod core {}",
+        "fn str() {}",
+        "type Drop = u8;",
+        "use core::marker::Copy as Drop;",
+    ] {
+        differs(item, item, "has the name of a crate");
+    }
+    for item in
+        ["fn f<char: A>() {}", "impl<std: A> B {}", "fn f<T>() where core: A {}", "struct A<const Drop: usize>;"]
+    {
+        differs(item, item, "as the name of a parameter");
+    }
     differs("pub use b::c;\n", "use b::c;\n", "visibility");
+    differs("use super::b::*;\n", "use super::b::*;\n", "a `use` of all names");
+    differs("pub use std::marker::Model;\n", "", "use core::marker::Model` is missing");
+    same("use std::marker::Model;\n", "");
 }
 
 #[test]
@@ -375,6 +411,21 @@ fn a_function_that_is_moved_means_the_same() {
         pair(&ORDERED, source, &made("1").replace("use super::*;", "use super::*; use b::c;"))[0].contains("`use` in")
     );
     differs(source, &made("1"), "is missing");
+    // (each would mean something else outside, or be seen from elsewhere)
+    for item in [
+        "impl super::B { pub fn g() {} }",
+        "impl B for super::A {}",
+        "const B: u8 = super::C;",
+        "pub(crate) fn g() {}",
+        "pub(crate) struct B;",
+        "mod inner { pub type B = super::C; }",
+        "#![allow(unused)]",
+        "impl A { type B = u8; }",
+    ] {
+        let moved = made("1").replace("*;", &format!("*; {item}"));
+        let found = pair(&ORDERED, &format!("{item}\n{source}"), &moved);
+        assert!(found.len() == 1 && found[0].contains(" a module of the order"), "{item}: {found:?}");
+    }
 }
 
 #[test]
@@ -403,9 +454,20 @@ fn a_literal_is_the_same_byte_for_byte() {
 }
 
 #[test]
+fn an_item_that_no_file_has_is_refused() {
+    for item in ["pub trait A {}", "macro_rules! a { () => {} }", "static A: u8 = 1;", "union A { a: u8 }", "a!();"] {
+        assert!(pair(&NONE, item, item)[0].contains("begins no item"), "{item}");
+    }
+    for item in ["use crate::g;", "struct g(u8);", "macro_rules! g { () => {} }", "const g: u8 = 1;", "impl B {}"] {
+        let program = format!("fn f() {{ {item} g() }}\n");
+        differs(&program, &program, "in a function, which would not be looked at");
+    }
+}
+
+#[test]
 fn what_others_may_take_for_another_token_is_refused() {
-    for program in ["fn f() { g(rb\"\\\") }\n", "fn f() { g(k'a') }\n"] {
-        differs(program, program, "a.rt:1: a word with a quote behind it");
+    for program in ["fn f() { g(rb\"\\\") }\n", "fn f() { g(k'a') }\n", "fn r#f() {}\n"] {
+        differs(program, program, "a.rt:1: a word with a quote or a `#` behind it");
     }
     for sign in ["\u{A0}", "é", "≡", "\u{3000}", "\u{FEFF}"] {
         let program = format!("fn f() {{ g{sign}() }}\n");
@@ -453,6 +515,9 @@ fn a_place_is_of_one_source_and_of_one_path() {
         assert!(found.first().is_some_and(|first| first.contains("read both, and enter 0x")), "{from}: {found:?}");
     }
     assert!(pair(&LISTED, PEEK, &made.replace('2', "1"))[0].contains("for `"));
+    static TWO: Lists =
+        Lists { places: &[Place { here: "pub fn peek() -> u8 { 2 } fn more() {}", ..LISTED.places[0] }], ..NONE };
+    assert!(pair(&TWO, PEEK, made)[0].contains("is not one item"));
     let inner = |text: &str| format!("mod inner {{\n{text}}}\n{text}");
     let found = pair(&LISTED, &inner(PEEK), &inner(made));
     assert!(found.len() == 1 && found[0].contains("`arraystring_base::a::inner::peek`"), "{found:?}");
@@ -466,6 +531,7 @@ fn an_access_is_of_the_same_operand_at_the_same_index() {
         ("a[b + 1]", "*get_unchecked!(a, b + 1)"),
         ("&self.a[b..c]", "get_unchecked!(self.a, b..c)"),
         ("&mut a[..]", "get_unchecked_mut!(a, ..)"),
+        ("a.b[c()].copy_from_slice(d)", "copy_from_slice_unchecked!(a.b, c(), d)"),
         ("&h()[..3]", "get_unchecked!(h(), ..3)"),
         ("&a[b[1]..]", "get_unchecked!(a, *get_unchecked!(b, 1)..)"),
     ] {
@@ -479,10 +545,20 @@ fn an_access_is_of_the_same_operand_at_the_same_index() {
         ("&a[b].c()", "get_unchecked!(a, b).c()"),
         ("a[b].c()", "*get_unchecked!(a, b).c()"),
         ("&h(&mut d)[..d]", "get_unchecked!(h(&mut d), ..d)"),
+        ("a.b()[c()].copy_from_slice(d)", "copy_from_slice_unchecked!(a.b(), c(), d)"),
+        ("a.b().copy_within(c(), d())", "copy_within_unchecked!(a.b(), c(), d())"),
         ("&a + c[b]", "get_unchecked!(a + c, b)"),
+        ("&return[a]", "get_unchecked!(return, a)"),
     ] {
         assert!(test(there, here)[0].contains("for `"), "{there} {here}");
     }
+}
+
+#[test]
+fn a_rewrite_of_a_module_is_of_no_other() {
+    assert!(is_in_module("arraystring_base::utf8::encode", "arraystring_base::utf8"));
+    assert!(!is_in_module("arraystring_base::utf8_more::encode", "arraystring_base::utf8"));
+    assert!(!is_in_module("arraystring_base::a::f", "arraystring_base::utf8"));
 }
 
 #[test]
@@ -496,15 +572,152 @@ fn unsafe_stands_around_one_call_of_what_is_unsafe() {
 }
 
 #[test]
+fn unsafe_stands_around_one_access_and_no_more() {
+    let source = |text: &str| format!("fn f(a: &mut [u8]) {{ {text}; }}\n");
+    let test = |there: &str, here: &str| pair(&NONE, &source(there), &source(here));
+    for (there, here) in [
+        ("let b = a[c]", "let b = *unsafe { get_unchecked!(a, c) }"),
+        ("a[b] = c[d]", "*unsafe { get_unchecked_mut!(a, b) } = *unsafe { get_unchecked!(c, d) }"),
+        ("g(&a[b..c])", "g(unsafe { get_unchecked!(a, b..c) })"),
+        ("a[b..].make_ascii_uppercase()", "unsafe { get_unchecked_mut!(a, b..) }.make_ascii_uppercase()"),
+        ("a[b..c].copy_from_slice(d)", "unsafe { copy_from_slice_unchecked!(a, b..c, d) }"),
+        ("a.copy_within(b..c, d)", "unsafe { copy_within_unchecked!(a, b..c, d) }"),
+        ("unreachable!()", "unsafe { unreachable_unchecked!() }"),
+        // (one inside another one, or inside a call, is in the `unsafe` of that)
+        ("let b = a[c[d]]", "let b = *unsafe { get_unchecked!(a, *get_unchecked!(c, d)) }"),
+        ("put(&a[b..])", "unsafe { put(get_unchecked!(a, b..)) }"),
+    ] {
+        assert_eq!(test(there, here), [""; 0]);
+    }
+    for (there, here) in [
+        ("let b = a[c]", "let b = unsafe { *get_unchecked!(a, c) }"),
+        ("let b = a[c] + d()", "let b = unsafe { *get_unchecked!(a, c) + d() }"),
+        ("g(&a[b..c])", "unsafe { g(get_unchecked!(a, b..c)) }"),
+        ("a[b] = c", "unsafe { *get_unchecked_mut!(a, b) = c }"),
+        ("a[b..].make_ascii_uppercase()", "unsafe { get_unchecked_mut!(a, b..).make_ascii_uppercase() }"),
+        ("unreachable!()", "unsafe { g(); unreachable_unchecked!() }"),
+        ("unreachable!()", "unsafe { unreachable_unchecked!(); }"),
+        ("a[b]; c[d]", "unsafe { *get_unchecked!(a, b); *get_unchecked!(c, d) }"),
+        ("h!(a)", "unsafe { h!(a) }"),
+        ("let b = &a[c..]", "let b = unsafe { unsafe { get_unchecked!(a, d..) } }"),
+    ] {
+        assert!(test(there, here)[0].contains("for `"), "{there} {here}");
+    }
+}
+
+#[test]
 fn what_is_required_makes_a_function_unsafe() {
     let source = "fn f(a: u8)\n    requires small { a ≤ b }\n{\n    g(a);\n}\n";
     same(source, "unsafe fn f(a: u8) {\n    g(a);\n}\n");
     differs(source, "fn f(a: u8) {\n    g(a);\n}\n", "is no `unsafe fn`, and the list does not say why");
     differs("fn f(a: u8) {\n    g(a);\n}\n", "unsafe fn f(a: u8) {\n    g(a);\n}\n", "for `fn f");
-    same(source, "unsafe fn f(a: u8) {\n    known!(small: a <= b);\n    g(a);\n}\n");
-    differs(source, "unsafe fn f(a: u8) {\n    known!(small: a <= c);\n    g(a);\n}\n", "known");
-    differs(source, "unsafe fn f(a: u8) {\n    known!(other: a <= b);\n    g(a);\n}\n", "known");
-    differs(source, "unsafe fn f(a: u8) {\n    g(a);\n    known!(small: a <= b);\n}\n", "known");
+    same(source, "unsafe fn f(a: u8) {\n    unsafe { known!(small: a <= b) };\n    g(a);\n}\n");
+    differs(source, "unsafe fn f(a: u8) {\n    unsafe { known!(small: a <= c) };\n    g(a);\n}\n", "known");
+    differs(source, "unsafe fn f(a: u8) {\n    unsafe { known!(other: a <= b) };\n    g(a);\n}\n", "known");
+    differs(source, "unsafe fn f(a: u8) {\n    known!(small: a <= b);\n    g(a);\n}\n", "known");
+    differs(source, "unsafe fn f(a: u8) {\n    g(a);\n    unsafe { known!(small: a <= b) };\n}\n", "known");
+    let pointer = source.replace("a: u8", "a: u8, b: fn(u8)");
+    differs(&pointer, "fn f(a: u8, b: unsafe fn(u8)) {\n    g(a);\n}\n", "for `u8 , b : fn");
+    // (a call of a safe function may be where its clause does not hold)
+    static SAFE: Lists = Lists {
+        safe: &[Safe {
+            requires: &["requires small { a ≤ b }"],
+            functions: &["arraystring_base::a::f"],
+            why: "a test",
+        }],
+        ..NONE
+    };
+    assert_eq!(pair(&SAFE, source, "fn f(a: u8) {\n    g(a);\n}\n"), [""; 0]);
+    let found = pair(&SAFE, source, "fn f(a: u8) {\n    unsafe { known!(small: a <= b) };\n    g(a);\n}\n");
+    assert!(found.len() == 1 && found[0].contains("known"), "{found:?}");
+}
+
+#[test]
+fn a_cast_may_be_expected_with_a_reason_and_nothing_else() {
+    let source = "fn f(a: u16) -> u8 {\n    a as u8\n}\n";
+    let attribute = "#[expect(clippy::cast_possible_truncation, reason = \"it is small, as `a] )` is\")]\n";
+    same(source, &format!("{attribute}{source}"));
+    for (from, to) in [
+        ("cast_possible_truncation", "cast_sign_loss"),
+        ("expect", "allow"),
+        ("\")]", "\"), cfg(test)]"),
+        ("\")]", "\", unused)]"),
+        (", reason = \"it is small, as `a] )` is\"", ""),
+        ("\"it", "b\"\", \"it"),
+        ("#[expect", "#[cfg_attr(all(), expect"),
+    ] {
+        let changed = attribute.replace(from, to);
+        let closed = if to.contains("cfg_attr") { changed.replace(")]\n", "))]\n") } else { changed };
+        differs(source, &format!("{closed}{source}"), "`arraystring_base::a::f`: [");
+    }
+}
+
+#[test]
+fn a_public_function_tests_what_it_requires() {
+    static TESTS: Lists = Lists {
+        required: &[
+            Required {
+                path: "arraystring_base::a::f",
+                requires: &["requires small { size a ≤ b }"],
+                behind: "",
+                lines: "required!(a.len() <= b);",
+                why: "a test",
+            },
+            Required {
+                path: "arraystring_base::a::g",
+                requires: &["requires { c }"],
+                behind: "for one in all {",
+                lines: "required!(one < 3);",
+                why: "a test",
+            },
+        ],
+        ..NONE
+    };
+    let source = "pub fn f(a: &str)\n    requires small { size a ≤ b }\n{\n    h(a);\n}\n";
+    let made = "pub unsafe fn f(a: &str) {\n    required!(a.len() <= b);\n    h(a);\n}\n";
+    assert_eq!(pair(&TESTS, source, made), [""; 0]);
+    let asked =
+        "pub unsafe fn f<S: AsRef<str>>(a: S) {\n    let a = a.as_ref();\n    required!(a.len() <= b);\n    h(a);\n}\n";
+    assert_eq!(pair(&TESTS, source, asked), [""; 0]);
+    let line = "    required!(a.len() <= b);\n";
+    for (from, to) in [
+        (line, ""),
+        ("<= b", "<= c"),
+        ("<= b)", "< b)"),
+        (line, "    if true { required!(a.len() <= b); }\n"),
+        (line, "    required!(a.len() <= b);\n    required!(a.len() <= b);\n"),
+        ("    required!(a.len() <= b);\n    h(a);\n", "    h(a);\n    required!(a.len() <= b);\n"),
+        ("required!", "assert!"),
+    ] {
+        let found = pair(&TESTS, source, &made.replace(from, to));
+        assert!(found.len() == 1 && found[0].contains("for `"), "{from} {to}: {found:?}");
+    }
+    // (another clause, one more, or none of the list)
+    for other in ["size a < b }", "size a ≤ b }\n    requires more { c }"] {
+        let found = pair(&TESTS, &source.replace("size a ≤ b }", other), made);
+        assert!(found.len() == 1 && found[0].contains("does not say how it tests"), "{other}: {found:?}");
+    }
+    let none = source.replace("pub fn f", "pub fn e");
+    differs(&none, &made.replace(line, "").replace("fn f", "fn e"), "does not say how it tests what it requires");
+    same(&none.replace("pub ", ""), &made.replace(line, "").replace("pub unsafe fn f", "unsafe fn e"));
+    differs(&none, &made.replace("fn f", "fn e"), "for `{ h ( a )");
+    let walk = "pub fn g()\n    requires { c }\n{\n    for one in all {\n        h(one);\n    }\n}\n";
+    let walked = "pub unsafe fn g() {\n    for one in all {\n        required!(one < 3);\n        h(one);\n    }\n}\n";
+    assert_eq!(pair(&TESTS, walk, walked), [""; 0]);
+    assert!(pair(&TESTS, walk, &walked.replace("        required!(one < 3);\n", ""))[0].contains("for `"));
+    let other = walk.replace("in all", "in some");
+    assert!(pair(&TESTS, &other, &walked.replace("in all", "in some"))[0].contains("has no `for one in all {`"));
+}
+
+#[test]
+fn a_change_of_what_a_public_function_tests_is_seen() {
+    let files = tree();
+    for required in LISTS.required {
+        let (file, item) = listed(&files, required.path);
+        for clause in item.clauses.iter().filter(|clause| clause.text.starts_with("requires")) {
+            assert!(is_seen(&files, file, clause.at.1 - 1), "{}", required.path);
+        }
+    }
 }
 
 #[test]
@@ -545,23 +758,33 @@ fn a_name_that_is_known_is_that_of_a_call() {
     let source = |body: &str| format!("{uses}fn f(a: u8) {{\n    {body}\n    g(a);\n}}\n");
     let made = "fn f(a: u8) {\n    g(a);\n}\n";
     same(&source("only_reading(a);"), made);
-    differs(&source("only_reading(h(a));"), made, "for `");
+    for argument in ["h(a)", "return", "break", "a, b", ""] {
+        differs(&source(&format!("only_reading({argument});")), made, "for `");
+    }
     differs(
         &source("let only_reading = h; only_reading(a);"),
         made,
         "is the name of a call that is known, and of none here",
     );
-    differs(&source("fn only_reading(a: u8) {} only_reading(a);"), made, "a function in a function");
+    differs(&source("fn only_reading(a: u8) {} only_reading(a);"), made, "`fn` in a function");
     differs(&source("only_reading(a);").replace(uses, ""), made, "for `");
+    differs(&source("only_reading(a);").replace("use", "pub use"), made, "only_reading` is missing");
     differs("fn f(look: u8) { look(a) }\n", "fn f(look: u8) { look(a) }\n", "is the name of a call that is known");
-    let inner = "mod inner {\n    use super::*;\n    fn look(a: u8) {}\n    fn f() { look(a) }\n}\n";
+    let inner = "mod inner {\n    fn look(a: u8) {}\n    fn f() { look(a) }\n}\n";
     differs(inner, inner, "`arraystring_base::a::inner::look` has the name");
     differs(
         "impl A { fn look(&self) {} }\n",
         "impl A { fn look(&self) {} }\n",
         "`arraystring_base::a::A::look` has the name",
     );
-    differs("use crate::b as look;\n", "use crate::arraystring_base::b as look;\n", "of what a rewrite knows");
+    for name in ["look", "look_unchecked", "get_unchecked", "unreachable", "known", "prove"] {
+        let program = format!("use super::b as {name};\n");
+        differs(&program, &program, "of what a rewrite knows");
+    }
+    // (in a module of the rewrite `look_unchecked(` would stand for `look(`)
+    let local = "fn f() { let look_unchecked = h; look(a) }\n";
+    differs(local, local, "`look_unchecked` is the name of a call that is known");
+    differs("mod inner { fn look_unchecked() {} }", "", "`arraystring_base::a::inner::look_unchecked` has the name");
     differs("fn f() { look(a) }\n", "fn f() { look_unchecked(a) }\n", "for `");
 }
 
@@ -574,10 +797,22 @@ fn a_checksum_is_that_of_the_definition() {
 
 #[test]
 fn a_comma_that_makes_a_tuple_is_compared() {
-    same("fn f(\n    a: u8,\n) {\n    g(a, [1, 2,], (1, 2,),);\n}\n", "fn f(a: u8) {\n    g(a, [1, 2], (1, 2));\n}\n");
+    same(
+        "fn f<T>(\n    a: T,\n) {\n    g(a, [1, 2,], (1, 2),);\n}\n",
+        "fn f<T>(a: T) {\n    g(a, [1, 2], (1, 2));\n}\n",
+    );
     differs("fn f() { g((1,)) }\n", "fn f() { g((1)) }\n", "for `");
     differs("fn f() { return (1,); }\n", "fn f() { return (1); }\n", "for `");
-    differs("fn f() -> (u8,) { g() }\n", "fn f() -> (u8) { g() }\n", "for `");
+    for tuple in [
+        "fn f() -> (u8,) { g() }",
+        "fn f() -> (A<u8, u8>,) { g() }",
+        "fn f() { g((|a, b| a,)) }",
+        "fn f(a: *const (u8,)) {}",
+        "fn f() where for<'a> (A<'a>,): B {}",
+        "struct A(pub (u8,));",
+    ] {
+        differs(tuple, &tuple.replace(",)", ")"), "for `");
+    }
 }
 
 #[test]
@@ -591,6 +826,7 @@ fn each_item_is_there_once_and_no_other() {
     differs("impl A for B {}\n", "", "`arraystring_base::a::<B as A>` is missing");
     differs("impl A { fn f() {} }\n", "impl B { fn f() {} }\n", "is missing");
     differs("struct A { a: u8, b: u8 }\n", "struct A { b: u8, a: u8 }\n", "for `");
+    differs("const A: u8 = B + Drop;\n", "const A: u8 = B;\n", "for `");
     differs("fn f() {}\n", "#![allow(unused)]\nfn f() {}\n", "attribute #![allow(unused)]");
     differs("fn f() {}\n", "fn f() {}\nmod more {\n}\n", "mod more");
     differs("pub(crate) fn f() {}\n", "pub fn f() {}\n", "for `pub ( crate )");

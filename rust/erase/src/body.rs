@@ -1,42 +1,29 @@
-//! The body of a function as tokens, and its paths.
+//! The body of a function as tokens.
 
-use std::ops::Range;
+use std::ops::{Range, RangeInclusive};
 
-use crate::contracts::Called;
 use crate::cursor::{Fault, Kind, Token};
-use crate::edits::Edits;
-use crate::erase::Tally;
-use crate::rules::CRATES;
+use crate::places::unchecked;
+use crate::rules::BOUNDED_FIELDS;
 
-/// Rewrites the paths that begin with the name of a crate.
-pub fn paths(source: &str, tokens: &[Token], krate: &str, edits: &mut Edits, tally: &mut Tally) {
-    let body = Body::new(source, tokens);
-    for (at, token) in tokens.iter().enumerate() {
-        let is_path = body.text(at + 1) == ":" && body.text(at + 2) == ":";
-        if !is_path || (at > 1 && body.text(at - 1) == ":" && body.text(at - 2) == ":") {
-            continue;
-        }
-        let name = body.text(at);
-        let put = match name {
-            "std" if body.text(at + 3) == "simd" => "crate::by_hand".to_string(),
-            // The module, and not what is in it.
-            "std" if body.text(at + 3) == "str" && body.text(at + 4) != ":" => "crate::by_hand".to_string(),
-            "char" if body.text(at + 3) == "from_u32_unchecked" => "crate::by_hand::char".to_string(),
-            "std" => "core".to_string(),
-            "crate" if body.text(at + 3) == "by_hand" || CRATES.last() == Some(&krate) => continue,
-            "crate" => format!("crate::{krate}"),
-            name if CRATES.contains(&name) => format!("crate::{name}"),
-            _ => continue,
-        };
-        edits.replace(token.at.clone(), put);
-        tally.count("paths");
-    }
+/// How a call names what it calls.
+pub enum Called<'a> {
+    /// Behind a dot.
+    Method,
+    /// Behind the name of a type or module.
+    Behind(&'a str),
+    /// By its name alone.
+    Free,
 }
+
+/// Words behind which a bracket begins an array, and no index.
+const NO_OPERANDS: &[&str] =
+    &["mut", "in", "return", "as", "else", "match", "if", "while", "let", "ref", "move", "break"];
 
 /// The tokens of a body.
 pub struct Body<'a> {
-    source: &'a str,
-    tokens: &'a [Token],
+    pub source: &'a str,
+    pub tokens: &'a [Token],
 }
 
 impl<'a> Body<'a> {
@@ -128,7 +115,7 @@ impl<'a> Body<'a> {
     }
 
     /// Whether a function is called by its name alone.
-    pub fn calls(&self, name: &str) -> bool {
+    pub fn calls_by_name(&self, name: &str) -> bool {
         let is_call = |at: usize| self.text(at) == name && self.text(at + 1) == "(";
         (0..self.tokens.len()).any(|at| is_call(at) && matches!(self.called(at), Called::Free))
     }
@@ -143,17 +130,114 @@ impl<'a> Body<'a> {
         }
     }
 
-    /// Takes out the statement that is the call at `at`, whose bracket opens at `opens`.
-    pub fn leave_out(&self, at: usize, opens: usize, edits: &mut Edits) -> Result<(), Fault> {
-        let start = self.tokens[at].at.start;
-        let end = self.tokens.get(self.closing(opens)? + 1).map_or(start, |token| token.at.end);
-        let line = self.source[..start].rfind('\n').map_or(0, |end| end + 1);
-        let is_statement = self.source[line..start].trim().is_empty() && self.source[..end].ends_with(';');
-        if !is_statement || !self.source[end..].starts_with('\n') {
-            return Err(Fault::new(start, "a call for the proof alone that is no statement on a line of its own"));
+    /// The calls: where the name of each is, and where its bracket opens.
+    pub fn calls(&self) -> Vec<(usize, usize)> {
+        (0..self.tokens.len()).filter_map(|at| Some((at, self.opens_call(at)?))).collect()
+    }
+
+    /// The calls that stand in no `unsafe` block.
+    pub fn calls_outside_unsafe(&self) -> Result<Vec<(usize, usize)>, Fault> {
+        let mut calls = self.calls();
+        for at in (0..self.tokens.len()).filter(|at| self.text(*at) == "unsafe" && self.text(at + 1) == "{") {
+            let closes = self.closing(at + 1)?;
+            calls.retain(|(call, _)| *call < at || *call >= closes);
         }
-        edits.replace(line..end + 1, "");
-        Ok(())
+        Ok(calls)
+    }
+
+    /// Whether an access begins at a token that could be past an end, or what is not reached.
+    pub fn is_access(&self, at: usize) -> Result<bool, Fault> {
+        let is_operand = |at: usize| match self.kind(at) {
+            Kind::Word => !NO_OPERANDS.contains(&self.text(at)),
+            _ => [")", "]", "?"].contains(&self.text(at)),
+        };
+        match self.text(at) {
+            "[" if at > 0 && is_operand(at - 1) => {
+                let closes = self.closing(at)?;
+                Ok(!(closes == at + 3 && self.has_range(at, closes)))
+            }
+            "unreachable" => Ok(self.text(at + 1) == "!"),
+            "copy_within" => Ok(at > 1 && self.text(at - 1) == "." && self.text(at + 1) == "("),
+            _ => Ok(false),
+        }
+    }
+
+    /// The tokens of the access that begins at a token: its operand, and what is behind it up to a bracket that closes.
+    pub fn access(&self, at: usize) -> Result<RangeInclusive<usize>, Fault> {
+        match self.text(at) {
+            "[" => {
+                let closes = self.closing(at)?;
+                let is_copied = self.text(closes + 1) == "." && self.text(closes + 2) == "copy_from_slice";
+                let end = if is_copied && self.has_range(at, closes) { self.closing(closes + 3)? } else { closes };
+                Ok(self.operand_start(at - 1)?..=end)
+            }
+            "copy_within" => Ok(self.operand_start(at - 2)?..=self.closing(at + 1)?),
+            _ => Ok(at..=self.closing(at + 2)?),
+        }
+    }
+
+    /// The token with which the path of names, fields and calls begins that ends at `at`.
+    pub fn operand_start(&self, at: usize) -> Result<usize, Fault> {
+        let mut start = at;
+        loop {
+            if [")", "]"].contains(&self.text(start)) {
+                start = self.opening(start)?.saturating_sub(1);
+            }
+            if self.kind(start) != Kind::Word {
+                return Err(Fault::new(self.at(at).start, "an index of what has no name"));
+            }
+            let before = |steps: usize| start.checked_sub(steps).map_or("", |at| self.text(at));
+            start -= match (before(1), before(2)) {
+                (".", ".") => return Ok(start),
+                (".", _) => 2,
+                (":", ":") => 3,
+                _ => return Ok(start),
+            };
+        }
+    }
+
+    /// Whether a bounded field is written at a token, by its name or through one of these parameters, or a value that has one is made.
+    pub fn is_write(&self, at: usize, parameters: &[&str]) -> bool {
+        let before = at.checked_sub(1).map_or("", |at| self.text(at));
+        let is_field = |name: &str| BOUNDED_FIELDS.iter().any(|(_, fields)| fields.contains(&name));
+        let name = self.text(at);
+        match before {
+            "." => is_field(name) && self.is_assigned(at + 1),
+            "*" => parameters.contains(&name) && self.is_assigned(at + 1),
+            _ => self.text(at + 1) == "{" && BOUNDED_FIELDS.iter().any(|(of, _)| *of == name || name == "Self"),
+        }
+    }
+
+    /// Whether a number is cast to a `u8`.
+    pub fn has_cast(&self) -> bool {
+        (0..self.tokens.len()).any(|at| self.text(at) == "as" && self.text(at + 1) == "u8")
+    }
+
+    /// Whether something is assigned to what ends before a token.
+    fn is_assigned(&self, at: usize) -> bool {
+        match self.text(at) {
+            "=" => !["=", ">"].contains(&self.text(at + 1)),
+            "+" | "-" | "*" | "/" | "%" | "&" | "|" | "^" => self.text(at + 1) == "=",
+            _ => false,
+        }
+    }
+
+    /// Whether an access without a test begins at a token of Rust.
+    pub fn is_unchecked(&self, at: usize) -> bool {
+        self.text(at + 1) == "!" && unchecked().any(|name| name == self.text(at))
+    }
+
+    /// Whether `..` stands between two brackets, and in none inside them.
+    pub fn has_range(&self, opens: usize, closes: usize) -> bool {
+        let mut depth = 0;
+        (opens + 1..closes).any(|at| {
+            match self.text(at) {
+                "(" | "[" | "{" => depth += 1,
+                ")" | "]" | "}" => depth -= 1,
+                _ => {}
+            }
+            depth == 0 && self.text(at) == "." && self.text(at + 1) == "."
+        })
     }
 
     /// The token with which the path to a call begins.

@@ -132,6 +132,12 @@ impl<'a> Cursor<'a> {
     }
 }
 
+/// The tokens of a part of a text, comments left out.
+pub fn tokens(text: &str, at: Range<usize>) -> Vec<Token> {
+    let mut cursor = Cursor { source: &text[..at.end], at: at.start };
+    std::iter::from_fn(|| cursor.next_code().ok().flatten()).collect()
+}
+
 fn comment(rest: &str) -> (Kind, usize) {
     let is_doc = rest.starts_with("//!") || (rest.starts_with("///") && !rest.starts_with("////"));
     let kind = if is_doc { Kind::Doc } else { Kind::Comment };

@@ -1,5 +1,6 @@
 //! Changes of a text, each at its range.
 
+use std::cmp::Reverse;
 use std::ops::Range;
 
 /// Changes that do not overlap.
@@ -25,47 +26,18 @@ impl Edits {
     }
 
     /// The text with all changes made. What lies in a larger part that is taken out goes with it.
-    pub fn apply(mut self, text: &str) -> Changed {
-        self.edits.sort_by_key(|(range, _)| (range.start, range.end != range.start));
-        let (mut out, mut kept, mut done) = (String::new(), Vec::new(), 0);
+    pub fn apply(mut self, text: &str) -> String {
+        self.edits.sort_by_key(|(range, _)| (range.start, range.end != range.start, Reverse(range.end)));
+        let (mut out, mut done) = (String::new(), 0);
         for (range, put) in self.edits {
             if range.start < done {
                 continue;
             }
-            kept.push((done..range.start, out.len()));
             out += &text[done..range.start];
             out += &put;
             done = range.end;
         }
-        kept.push((done..text.len(), out.len()));
-        Changed { text: out + &text[done..], kept }
-    }
-
-    /// The same changes in what became of their text. Those of a part that was taken out go.
-    pub fn moved(self, to: &Changed) -> Self {
-        let moved = |(at, put): (Range<usize>, String)| Some((to.now(at.start)?..to.now(at.end)?, put));
-        Edits { edits: self.edits.into_iter().filter_map(moved).collect() }
-    }
-
-    /// Adds the changes of a text that begins at `start`.
-    pub fn extend(&mut self, start: usize, more: Edits) {
-        let shifted = more.edits.into_iter().map(|(at, put)| (start + at.start..start + at.end, put));
-        self.edits.extend(shifted);
-    }
-}
-
-/// A text whose changes were made.
-pub struct Changed {
-    pub text: String,
-    /// The parts that stayed, by their place before, and where each begins now.
-    kept: Vec<(Range<usize>, usize)>,
-}
-
-impl Changed {
-    /// Where that is now which was at `at`; `None` if it was taken out. What was put there stands behind it.
-    pub fn now(&self, at: usize) -> Option<usize> {
-        let (part, start) = self.kept.iter().find(|(part, _)| at <= part.end)?;
-        at.checked_sub(part.start).map(|behind| start + behind)
+        out + &text[done..]
     }
 }
 
@@ -78,6 +50,19 @@ pub fn line_start(text: &str, at: usize) -> usize {
 pub fn indent(text: &str, at: usize) -> String {
     let line = &text[line_start(text, at)..];
     line[..line.len() - line.trim_start_matches(' ').len()].to_string()
+}
+
+/// The whole lines of a part.
+pub fn lines(text: &str, at: Range<usize>) -> Range<usize> {
+    let end = text[at.end..].find('\n').map_or(text.len(), |end| at.end + end + 1);
+    line_start(text, at.start)..end
+}
+
+/// The lines of a part, without the spaces that its first line has before it.
+pub fn dedented(text: &str, at: Range<usize>) -> String {
+    let indent = indent(text, at.start);
+    let lines = text[at].lines().map(|line| line.strip_prefix(&indent).unwrap_or(line));
+    lines.collect::<Vec<_>>().join("\n")
 }
 
 /// The text with no blank line at its start, behind an opening bracket or before a closing one, and no two in a row.
@@ -110,28 +95,9 @@ mod tests {
         edits.insert(1, "<");
         edits.replace(1..3, "");
         edits.replace(2..3, "lost with what is round it");
+        edits.replace(1..2, "lost with what begins there, too");
         edits.insert(6, ">");
-        assert_eq!(edits.apply("abcdef").text, "a<dEf>");
-    }
-
-    #[test]
-    fn changes_move_with_what_they_are_put_to() {
-        let mut edits = Edits::default();
-        edits.replace(1..3, "-----");
-        edits.insert(4, "+");
-        let changed = edits.apply("abcdef");
-        assert_eq!(changed.text, "a-----d+ef");
-        let now = [0, 1, 2, 3, 4, 5, 6, 7].map(|at| changed.now(at));
-        assert_eq!(now, [Some(0), Some(1), None, Some(6), Some(7), Some(9), Some(10), None]);
-        let mut more = Edits::default();
-        more.insert(0, "<");
-        more.insert(2, "lost with what was there");
-        more.replace(3..4, "D");
-        let mut last = Edits::default();
-        last.insert(1, ">");
-        let mut more = more.moved(&changed);
-        more.extend(9, last);
-        assert_eq!(more.apply(&changed.text).text, "<a-----D+ef>");
+        assert_eq!(edits.apply("abcdef"), "a<dEf>");
     }
 
     #[test]

@@ -1,13 +1,17 @@
-//! One file, by two passes: its proofs go and the rest of its code stays line for line, and then its contracts become documentation.
+//! One file, by two passes: the first makes Rust of its source, and the second one adds the documentation, the comments, the attributes
+//! and the order. Before that all sources are read.
 
 use std::collections::{BTreeMap, BTreeSet};
 
+use crate::code::code;
 use crate::contracts::Contracts;
-use crate::cursor::{Cursor, Fault};
-use crate::decorated::{Code, decorated};
-use crate::items::File;
+use crate::cursor::Fault;
+use crate::decoration::{decorated, sections};
+use crate::items::{Item, items};
+use crate::lists::CRATES;
+use crate::names;
+use crate::needs::needs;
 use crate::reasons::Reasons;
-use crate::rules::REPLACED;
 
 /// A source that is erased.
 pub struct Source<'a> {
@@ -18,13 +22,22 @@ pub struct Source<'a> {
     pub text: &'a str,
 }
 
-/// What came of a source.
-pub struct Erased {
-    pub text: String,
-    /// The modules that have a file of their own.
-    pub modules: Vec<String>,
-    /// Those that were dropped.
-    pub dropped: Vec<String>,
+impl Source<'_> {
+    /// The path of its module, which begins with its crate.
+    pub fn whole(&self) -> String {
+        let module = self.path.trim_end_matches(".rt").replacen("/src/", "::", 1).replace('/', "::");
+        module.trim_end_matches("::lib").to_string()
+    }
+
+    /// The path of its module in the Rust crate, of which the last crate is the root.
+    pub fn module(&self) -> String {
+        let whole = self.whole();
+        match CRATES.last().and_then(|root| whole.strip_prefix(root)) {
+            Some("") => String::new(),
+            Some(rest) if rest.starts_with("::") => rest["::".len()..].to_string(),
+            _ => whole,
+        }
+    }
 }
 
 /// How often each thing was done, and which rules matched.
@@ -32,12 +45,8 @@ pub struct Erased {
 pub struct Tally {
     pub counts: BTreeMap<&'static str, usize>,
     pub used: BTreeSet<String>,
-    /// What was read of all functions before.
-    pub contracts: Contracts,
     /// Why what workers require is true.
     pub reasons: &'static [Reasons],
-    /// Where each function with reasons stands in its file, by its whole path.
-    pub places: BTreeMap<String, usize>,
 }
 
 impl Tally {
@@ -56,47 +65,37 @@ pub fn line_of(text: &str, at: usize) -> usize {
     text[..at.min(text.len())].matches('\n').count() + 1
 }
 
-/// Erases one file: the first pass changes its code, and the second one documents what came of that.
-pub fn erase(source: &Source, tally: &mut Tally) -> Result<Erased, Fault> {
-    let text = replaced(source, tally)?;
-    let file = File::read(source, &text, tally)?;
-    let code = Code::of(file.code, file.decoration);
-    let (modules, dropped) = (file.modules, file.dropped);
-    no_proof_is_left(&code.text)?;
-    Ok(Erased { text: decorated(code, tally)?, modules, dropped })
+/// A source and what is in it.
+pub struct Read<'a> {
+    pub source: Source<'a>,
+    items: Vec<Item<'a>>,
 }
 
-/// The source with the lines that are others in Rust.
-fn replaced(source: &Source, tally: &mut Tally) -> Result<String, Fault> {
-    let mut text = source.text.to_string();
-    for rule in REPLACED.iter().filter(|rule| rule.file == source.path) {
-        let whole = format!("\n{}\n", text);
-        let found: Vec<_> = whole.lines().filter(|line| line.trim() == rule.from).collect();
-        let [line] = found[..] else {
-            return Err(Fault::new(0, format!("the line `{}` is there {} times", rule.from, found.len())));
-        };
-        let put = line.replace(rule.from, rule.to);
-        text = whole.replacen(&format!("\n{line}\n"), &format!("\n{put}\n"), 1)[1..].to_string();
-        text.pop();
-        tally.count("lines that are others in Rust");
-        tally.used.insert(format!("line {}", rule.from));
+impl<'a> Read<'a> {
+    /// Reads a source, and notes the contracts of its functions.
+    pub fn new(source: Source<'a>, known: &mut Contracts, tally: &mut Tally) -> Result<Self, Fault> {
+        let items = items(&source, source.text)?;
+        sections::examples_end(source.text, &items)?;
+        names::are_meant(&source, &items, tally)?;
+        known.read(&source, &items, tally)?;
+        Ok(Read { source, items })
     }
-    Ok(text)
-}
 
-/// What was made has no word of proofs outside comments.
-fn no_proof_is_left(made: &str) -> Result<(), Fault> {
-    let mut cursor = Cursor::new(made);
-    while let Some(token) = cursor.next_code()? {
-        let text = cursor.text(&token);
-        if ["ghost", "requires", "ensures", "tactic", "Model", "Drop"].contains(&text) {
-            let line = made[..token.at.start].rsplit('\n').next().unwrap_or_default();
-            return Err(Fault::new(0, format!("`{text}` is left behind `{}`", line.trim())));
+    /// Notes what the bodies of its functions need, when the contracts of all sources are known.
+    pub fn note_needs(&self, known: &mut Contracts, tally: &mut Tally) -> Result<(), Fault> {
+        for (path, needs) in needs(&self.source, &self.items, known, tally)? {
+            known.of.entry(path).and_modify(|contract| contract.needs = needs);
         }
+        Ok(())
     }
-    Ok(())
+
+    /// Makes its file.
+    pub fn erased(&self, known: &Contracts, tally: &mut Tally) -> Result<String, Fault> {
+        let code = code(&self.source, &self.items, known, tally)?;
+        decorated(&self.source, &code, known, tally)
+    }
 }
 
 #[cfg(test)]
 #[path = "tests.rs"]
-mod tests;
+pub mod tests;

@@ -6,15 +6,17 @@ use std::io::Write;
 use std::path::{Path, PathBuf};
 use std::process::{Command, Stdio};
 
+use crate::code::is_test;
+use crate::contracts::{Contracts, given_up};
 use crate::cursor::{Cursor, Fault};
-use crate::erase::{Source, Tally, erase, line_of};
-use crate::names;
+use crate::decoration::reference::{ALIASES, BY_STD, FATES, MORE, ONCE, OTHERS};
+use crate::erase::{Read, Source, Tally, line_of};
+use crate::items::{What, items};
+use crate::lists::{ADDED, BY_HAND, CRATES, LEFT_OUT, PLACES, REQUIRED};
+use crate::names::{self, named};
+use crate::places::{is_left_out, twins};
 use crate::reasons::{self, Reasons};
-use crate::reference::{MORE, ONCE};
-use crate::rules::{
-    ADDED, BODIES, BY_HAND, BY_STD, CONSTANT, CRATES, FATES, GIVEN_UP, KNOWN, LEFT_OUT, NAMED, ORDER, REPLACED, TESTED,
-    TWINS, WIDER,
-};
+use crate::rules::{KNOWN, ORDER, WIDER};
 use crate::width;
 
 /// Each file of the Rust crate that is made, by its path in `src`.
@@ -22,20 +24,45 @@ pub type Made = BTreeMap<String, String>;
 
 /// Makes all files out of the sources in a folder of crates.
 pub fn made(crates: &Path) -> Result<(Made, Tally), String> {
-    // Read twice: a call is `unsafe` by the contract of what it calls, which may come later.
-    let reasons = reasons::all()?;
-    let (_, mut read) = read_all(crates, Tally::of(reasons))?;
-    read.contracts.is_whole = true;
-    let (made, tally) = read_all(crates, Tally { contracts: read.contracts, ..Tally::of(reasons) })?;
+    let (mut known, mut tally) = (Contracts::default(), Tally::of(reasons::all()?));
+    let texts = texts(crates)?;
+    let mut all = Vec::new();
+    for Text { krate, path, text, .. } in &texts {
+        let read = Read::new(Source { krate, path, text }, &mut known, &mut tally);
+        all.push(read.map_err(|fault| told(path, text, fault))?);
+    }
+    for read in &all {
+        let Source { path, text, .. } = read.source;
+        read.note_needs(&mut known, &mut tally).map_err(|fault| told(path, text, fault))?;
+    }
+    let mut made = Made::new();
+    for (read, Text { krate, module, .. }) in all.iter().zip(&texts) {
+        let Source { path, text, .. } = read.source;
+        let text = read.erased(&known, &mut tally).map_err(|fault| told(path, text, fault))?;
+        made.insert(target(krate, module), text);
+    }
     all_used(&tally)?;
     names::laws_change_nothing(|path| self::read(&crates.join(path)))?;
     width::bounded(&made)?;
     Ok((made, tally))
 }
 
-/// Makes all files by what is known of the contracts.
-fn read_all(crates: &Path, mut tally: Tally) -> Result<(Made, Tally), String> {
-    let mut made = Made::new();
+/// A fault with the line of its source.
+fn told(path: &str, text: &str, fault: Fault) -> String {
+    format!("crates/{path}:{}: {}", line_of(text, fault.at), fault.why)
+}
+
+/// A source with its places: its crate, its path in the folder of crates, and its module in its crate.
+struct Text {
+    krate: &'static str,
+    path: String,
+    module: String,
+    text: String,
+}
+
+/// All sources that the modules of a folder of crates name, but for tests and what the Rust crate has not.
+fn texts(crates: &Path) -> Result<Vec<Text>, String> {
+    let mut texts = Vec::new();
     for krate in CRATES {
         let mut left = sources(&crates.join(krate).join("src"))?;
         let mut waiting = vec!["lib".to_string()];
@@ -43,21 +70,23 @@ fn read_all(crates: &Path, mut tally: Tally) -> Result<(Made, Tally), String> {
             let path = format!("{krate}/src/{module}.rt");
             let text = read(&crates.join(&path))?;
             left.remove(&format!("{module}.rt"));
-            let source = Source { krate, path: &path, text: &text };
-            let erased = erase(&source, &mut tally)
-                .map_err(|fault| format!("crates/{path}:{}: {}", line_of(&text, fault.at), fault.why))?;
-            let below = |name: &String| if module == "lib" { name.clone() } else { format!("{module}/{name}") };
-            waiting.extend(erased.modules.iter().map(below));
-            for dropped in erased.dropped.iter().map(below) {
-                left.retain(|path| *path != format!("{dropped}.rt") && !path.starts_with(&format!("{dropped}/")));
+            let items = items(&Source { krate, path: &path, text: &text }, &text);
+            for item in items.map_err(|fault| told(&path, &text, fault))?.iter().filter(|item| item.what == What::File)
+            {
+                let below = if module == "lib" { item.name.to_string() } else { format!("{module}/{}", item.name) };
+                if is_left_out(&item.path) || is_test(&text, item) {
+                    left.retain(|path| *path != format!("{below}.rt") && !path.starts_with(&format!("{below}/")));
+                } else {
+                    waiting.push(below);
+                }
             }
-            made.insert(target(krate, &module), erased.text);
+            texts.push(Text { krate, path, module, text });
         }
         if let Some(path) = left.first() {
             return Err(format!("crates/{krate}/src/{path}: no module names this file"));
         }
     }
-    Ok((made, tally))
+    Ok(texts)
 }
 
 /// The path of a module in the Rust crate.
@@ -69,27 +98,27 @@ fn target(krate: &str, module: &str) -> String {
     }
 }
 
-/// The entries of all lists of rules, each of which has to match.
+/// The entries of all lists and rules that the eraser makes something by, each of which has to match.
 pub fn entries(reasons: &[Reasons]) -> Vec<String> {
-    let names = FATES.iter().map(|(name, _)| name.to_string());
-    let names = names.chain(WIDER.iter().map(|rule| format!("wider {}", rule.call)));
-    let names = names.chain(REPLACED.iter().map(|rule| format!("line {}", rule.from)));
-    let names = names.chain(BY_STD.iter().map(|rule| format!("by std {}", rule.file)));
-    let names = names.chain(BY_STD.iter().flat_map(|rule| rule.calls).map(|call| format!("by std {call}")));
-    let names = names.chain(KNOWN.iter().map(|(call, clause)| format!("known {call} {clause}")));
-    let names = names.chain(reasons.iter().flat_map(Reasons::entries));
-    let names = names.chain(GIVEN_UP.iter().map(|clause| format!("given up `{clause}`")));
-    let names = names.chain(NAMED.iter().flat_map(|named| named.paths).map(|path| format!("named {path}")));
-    let names = names.chain(BODIES.iter().map(|rule| format!("body {}", rule.call)));
-    let names = names.chain(CONSTANT.iter().map(|call| format!("constant {call}")));
-    let names = names.chain(ADDED.iter().map(|rule| format!("added {}", rule.head)));
-    let names = names.chain(ONCE.iter().map(|rule| format!("once {}", rule.file)));
-    let names = names.chain(ORDER.iter().map(|rule| format!("order {}", rule.file)));
-    let names = names.chain(MORE.iter().map(|rule| format!("more {}", rule.of)));
-    let names = names.chain(TWINS.iter().map(|rule| format!("twin called {}", rule.call)));
-    let names = names.chain(TWINS.iter().map(|rule| format!("twin {}", rule.of)));
-    let names = names.chain(TESTED.iter().map(|rule| format!("tests {}", rule.path)));
-    names.chain(LEFT_OUT.iter().map(|rule| rule.name.to_string())).collect()
+    let mut names: Vec<String> = FATES.iter().map(|(name, _)| name.to_string()).collect();
+    names.extend(ALIASES.iter().map(|(call, alias)| format!("alias {call} {alias}")));
+    names.extend(WIDER.iter().flat_map(|(_, calls)| *calls).map(|call| format!("wider {call}")));
+    names.extend(PLACES.iter().map(|place| format!("place {}", place.path)));
+    names.extend(REQUIRED.iter().map(|required| format!("required {}", required.path)));
+    names.extend(OTHERS.iter().map(|(path, _)| format!("other {path}")));
+    names.extend(BY_STD.iter().map(|rule| format!("by std {}", rule.path)));
+    names.extend(BY_STD.iter().flat_map(|rule| rule.calls).map(|call| format!("by std {call}")));
+    names.extend(KNOWN.iter().map(|(call, clause)| format!("known {call} {clause}")));
+    names.extend(reasons.iter().flat_map(Reasons::entries));
+    names.extend(given_up().iter().map(|clause| format!("given up `{clause}`")));
+    names.extend(named().iter().flat_map(|named| &named.paths).map(|path| format!("named {path}")));
+    names.extend(ADDED.iter().enumerate().map(|(number, _)| format!("added {number}")));
+    names.extend(LEFT_OUT.iter().map(|(path, _)| format!("left out {path}")));
+    names.extend(ONCE.iter().map(|rule| format!("once {}", rule.file)));
+    names.extend(ORDER.iter().map(|rule| format!("order {}", rule.file)));
+    names.extend(MORE.iter().map(|rule| format!("more {}", rule.of)));
+    names.extend(twins().map(|rule| format!("twin called {}", rule.call)));
+    names
 }
 
 /// Each rule has matched.

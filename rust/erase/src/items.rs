@@ -1,33 +1,31 @@
-//! The walk over the items of a file.
+//! The items of a text: of a source, or of the code that was made of it. Nothing is changed here.
 
 use std::ops::Range;
 
-use crate::body;
-use crate::contracts::{is_type, shown};
+use crate::contracts::is_type;
 use crate::cursor::{Cursor, Fault, Kind, Token};
-use crate::decorated::{Decoration, out_of_order};
-use crate::edits::{Edits, indent, line_start};
-use crate::erase::{Source, Tally};
-use crate::reference::ROOT_DOCS;
-use crate::rules::{ADDED, BY_STD, LEFT_OUT, ORDER, PROOFS_ALONE, Part, ROOT, TESTED};
+use crate::edits::line_start;
+use crate::erase::Source;
+use crate::lists::ORDERS;
 
-/// Where items are read.
-pub struct Inside<'a> {
-    /// The type of an impl, else the name of the file or module.
-    pub owner: &'a str,
-    pub of_trait: bool,
-    /// Whether a bracket ends them.
-    pub is_block: bool,
-}
-
-impl Inside<'_> {
-    /// Whether they are those of a type.
-    pub fn is_type(&self) -> bool {
-        is_type(self.owner)
-    }
+/// What an item is.
+#[derive(Clone, Copy, PartialEq, Eq)]
+pub enum What {
+    Use,
+    /// A module that has a file of its own.
+    File,
+    /// A module in this file.
+    Module,
+    Type,
+    Function,
+    Impl,
+    Ghost,
+    /// A call of a macro.
+    Macro,
 }
 
 /// What comes before an item.
+#[derive(Default)]
 pub struct Lead {
     /// Where its first line begins.
     pub start: usize,
@@ -35,107 +33,165 @@ pub struct Lead {
     pub docs_end: usize,
     pub has_docs: bool,
     pub docs: Vec<Token>,
-    /// Where the section on a precondition is, if there is one.
-    pub precondition: Option<Range<usize>>,
-    is_test: bool,
-    /// Whether an attribute says where it is inlined.
-    pub is_inlined: bool,
+    /// Where its attributes are.
+    pub attributes: Vec<Range<usize>>,
 }
 
-/// A file while it is read.
-pub struct File<'a, 't> {
-    pub source: &'a Source<'a>,
-    pub text: &'a str,
-    /// What the first pass changes.
-    pub code: Edits,
-    /// What the second pass adds.
-    pub decoration: Decoration<'a>,
-    pub tally: &'t mut Tally,
-    /// What those bodies of an impl do that are others here, and whose contract is that of the impl.
-    pub others: Vec<&'static str>,
-    /// The functions that rules know by their names, and that it imports or defines.
-    pub named: Vec<&'static str>,
-    /// The modules within the file around what is read.
-    pub around: Vec<&'a str>,
-    /// The modules that have a file of their own.
-    pub modules: Vec<String>,
-    /// Those that were dropped.
-    pub dropped: Vec<String>,
-    /// Whether the function was found that is left where std does the work of the file.
-    pub has_function_of_std: bool,
-    /// The parts of the impl that is read which are still to come, if it is split: the last one comes first.
-    pub parts: Option<Vec<(&'static str, &'static str)>>,
+/// A precondition as it is written.
+pub struct Required {
+    pub at: usize,
+    /// Its name, or `""`.
+    pub name: String,
+    pub text: String,
 }
 
-impl<'a, 't> File<'a, 't> {
-    /// Reads a whole file.
-    pub fn read(source: &'a Source<'a>, text: &'a str, tally: &'t mut Tally) -> Result<Self, Fault> {
-        let mut file = File {
-            source,
-            text,
-            code: Edits::default(),
-            decoration: Decoration::new(source.path, text),
-            tally,
-            others: Vec::new(),
-            named: Vec::new(),
-            around: Vec::new(),
-            modules: Vec::new(),
-            dropped: Vec::new(),
-            has_function_of_std: false,
-            parts: None,
-        };
-        let name = source.path.rsplit('/').next().unwrap_or(source.path);
-        let owner = name.strip_suffix(".rt").unwrap_or(name);
-        file.items(&mut Cursor::new(text), &Inside { owner, of_trait: false, is_block: false })?;
-        file.root()?;
-        file.tests_by_hand();
-        match BY_STD.iter().find(|rule| rule.file == source.path && !file.has_function_of_std) {
-            Some(rule) => {
-                let why = format!("the function `{}` with its contract is not there", rule.function);
-                Err(Fault::new(0, why))
+/// The clauses of a function: where they are, and its preconditions.
+type Clauses = (Option<Range<usize>>, Vec<Required>);
+
+pub struct Item<'a> {
+    pub what: What,
+    pub name: &'a str,
+    /// Its path in the Rust crate, as the lists have it.
+    pub path: String,
+    /// Its crate, its modules, its type if it has one, and its name, by which its reasons are found.
+    pub whole: String,
+    /// Its type, or the name of its file or module; that of an impl is its type.
+    pub owner: &'a str,
+    /// Whether it is of a trait.
+    pub of_trait: bool,
+    pub lead: Lead,
+    pub is_public: bool,
+    /// Where its first word begins.
+    pub start: usize,
+    /// From its `fn`, or its first word, to the last sign before its clauses, its body or its end.
+    pub head: Range<usize>,
+    /// Where the clauses of a function are.
+    pub clauses: Option<Range<usize>>,
+    pub required: Vec<Required>,
+    /// Behind the bracket of its body.
+    pub body: usize,
+    /// Behind its last sign.
+    pub end: usize,
+    /// What is in the body of a function, attributes aside.
+    pub tokens: Vec<Token>,
+    /// Where the attributes in it are.
+    pub inner: Vec<Range<usize>>,
+    /// What is in an impl or a module.
+    pub items: Vec<Item<'a>>,
+}
+
+impl Item<'_> {
+    /// The name of a function, behind that of its type or file.
+    pub fn call(&self) -> String {
+        format!("{}::{}", self.owner, self.name)
+    }
+
+    /// Whether it is the impl of what a type means in a proof.
+    pub fn is_model(&self) -> bool {
+        self.what == What::Impl && self.path.ends_with(" as Model>")
+    }
+}
+
+/// Where items are read.
+struct Inside<'a> {
+    /// The path in the Rust crate.
+    path: String,
+    whole: String,
+    /// The type of an impl, else the name of the file or module.
+    owner: &'a str,
+    of_trait: bool,
+    /// Whether a bracket ends them.
+    is_block: bool,
+}
+
+/// Reads all items of a text that has the place of a source.
+pub fn items<'a>(source: &Source<'a>, text: &'a str) -> Result<Vec<Item<'a>>, Fault> {
+    let name = source.path.rsplit('/').next().unwrap_or(source.path);
+    let owner = name.strip_suffix(".rt").unwrap_or(name);
+    let inside = Inside { path: source.module(), whole: source.whole(), owner, of_trait: false, is_block: false };
+    Reader { text, cursor: Cursor::new(text), module: source.module() }.items(&inside)
+}
+
+/// A path with a name behind it.
+fn below(path: &str, name: &str) -> String {
+    if path.is_empty() { name.to_string() } else { format!("{path}::{name}") }
+}
+
+struct Reader<'a> {
+    text: &'a str,
+    cursor: Cursor<'a>,
+    /// The path of the file's module in the Rust crate.
+    module: String,
+}
+
+impl<'a> Reader<'a> {
+    /// Reads the items up to the end of the file or of the block.
+    fn items(&mut self, inside: &Inside<'a>) -> Result<Vec<Item<'a>>, Fault> {
+        let mut items = Vec::new();
+        loop {
+            let (lead, token) = self.lead()?;
+            let is_end = token.as_ref().is_none_or(|token| inside.is_block && self.cursor.text(token) == "}");
+            if let Some(at) = lead.attributes.first().filter(|_| is_end) {
+                return Err(Fault::new(at.start, format!("the attribute `{}` of no item", &self.text[at.clone()])));
             }
-            None => Ok(file),
+            let Some(token) = token else {
+                let why = "a block without its end";
+                return if inside.is_block { Err(Fault::new(self.cursor.at, why)) } else { Ok(items) };
+            };
+            let begun = self.begun(lead, &token, inside);
+            items.push(match self.cursor.text(&token) {
+                "}" if is_end => return Ok(items),
+                "ghost" => self.ghost(begun)?,
+                "impl" => self.implementation(begun, inside)?,
+                "use" => self.import(begun)?,
+                "pub" | "fn" | "const" | "unsafe" | "struct" | "enum" | "type" | "mod" => {
+                    self.item(begun, token, inside)?
+                }
+                _ if self.cursor.peek_code()? == "!" => {
+                    let head = self.up_to(token.at.start, &[";"])?;
+                    Item { what: What::Macro, head, end: self.cursor.at, ..begun }
+                }
+                other => return Err(Fault::new(token.at.start, format!("an item that begins with `{other}`"))),
+            });
         }
     }
 
-    /// Reads the items up to the end of the file or of the block.
-    fn items(&mut self, cursor: &mut Cursor<'a>, inside: &Inside) -> Result<Vec<Range<usize>>, Fault> {
-        let mut ghosts = Vec::new();
-        loop {
-            let (lead, token) = self.lead(cursor)?;
-            let Some(token) = token else {
-                return if inside.is_block {
-                    Err(Fault::new(cursor.at, "a block without its end"))
-                } else {
-                    Ok(ghosts)
-                };
-            };
-            match cursor.text(&token) {
-                "}" if inside.is_block => return Ok(ghosts),
-                "ghost" => ghosts.push(self.ghost(cursor, &token)?),
-                "impl" => self.implementation(cursor, &lead, &token)?,
-                "use" => self.item_to_its_end(cursor, &token)?,
-                "pub" | "fn" | "const" | "struct" | "enum" | "type" | "mod" => {
-                    self.item(cursor, &lead, token, inside)?;
-                }
-                other => return Err(Fault::new(token.at.start, format!("an item that begins with `{other}`"))),
-            }
+    /// An item that begins with a token.
+    fn begun(&self, lead: Lead, first: &Token, inside: &Inside<'a>) -> Item<'a> {
+        let start = first.at.start;
+        Item {
+            what: What::Ghost,
+            name: self.cursor.text(first),
+            path: inside.path.clone(),
+            whole: inside.whole.clone(),
+            owner: inside.owner,
+            of_trait: inside.of_trait,
+            lead,
+            is_public: false,
+            start,
+            head: start..first.at.end,
+            clauses: None,
+            required: Vec::new(),
+            body: first.at.end,
+            end: first.at.end,
+            tokens: Vec::new(),
+            inner: Vec::new(),
+            items: Vec::new(),
         }
     }
 
     /// Reads comments and attributes, and the first token after them.
-    fn lead(&mut self, cursor: &mut Cursor<'a>) -> Result<(Lead, Option<Token>), Fault> {
-        let (docs_end, has_docs, docs, precondition, is_test, is_inlined) = Default::default();
-        let mut lead = Lead { start: usize::MAX, docs_end, has_docs, docs, precondition, is_test, is_inlined };
+    fn lead(&mut self) -> Result<(Lead, Option<Token>), Fault> {
+        let mut lead = Lead { start: usize::MAX, ..Lead::default() };
         loop {
-            let Some(token) = cursor.next()? else { return Ok((lead, None)) };
+            let Some(token) = self.cursor.next()? else { return Ok((lead, None)) };
             let line = line_start(self.text, token.at.start);
-            if token.kind == Kind::Doc && cursor.text(&token).starts_with("//!") {
+            if token.kind == Kind::Doc && self.cursor.text(&token).starts_with("//!") {
                 lead.start = usize::MAX;
                 continue;
             }
             lead.start = lead.start.min(line);
-            match (token.kind, cursor.text(&token)) {
+            match (token.kind, self.cursor.text(&token)) {
                 (Kind::Doc, _) => {
                     lead.has_docs = true;
                     lead.docs_end = token.at.end + 1;
@@ -146,330 +202,219 @@ impl<'a, 't> File<'a, 't> {
                     if !lead.has_docs && lead.docs_end == 0 {
                         lead.docs_end = line;
                     }
-                    lead.is_test |= self.attribute(cursor, &token)?;
-                    lead.is_inlined |=
-                        ["#[inline", "#[cold"].iter().any(|hint| self.text[token.at.start..].starts_with(hint));
+                    lead.attributes.push(self.attribute(&token)?);
                 }
                 _ => {
                     if lead.docs_end == 0 {
                         lead.docs_end = line;
                     }
-                    lead.precondition = self.decoration.documentation(&lead.docs, self.tally)?;
                     return Ok((lead, Some(token)));
                 }
             }
         }
     }
 
-    /// Reads an attribute, and takes it out where Rust has none of its name. Returns whether the item is for tests alone.
-    pub fn attribute(&mut self, cursor: &mut Cursor<'a>, sign: &Token) -> Result<bool, Fault> {
-        let inner = cursor.peek_code()? == "!";
-        if inner {
-            cursor.expect("!")?;
+    /// Passes an attribute whose sign was taken, and returns where it is.
+    fn attribute(&mut self, sign: &Token) -> Result<Range<usize>, Fault> {
+        if self.cursor.peek_code()? == "!" {
+            self.cursor.expect("!")?;
         }
-        cursor.expect("[")?;
-        let Some(name) = cursor.next_code()? else {
-            return Err(Fault::new(sign.at.start, "an attribute without its end"));
-        };
+        self.cursor.expect("[")?;
         let mut depth = 1;
         while depth > 0 {
-            let Some(token) = cursor.next_code()? else {
-                return Err(Fault::new(sign.at.start, "an attribute without its end"));
-            };
-            match cursor.text(&token) {
+            match self.next_of(sign.at.start, "an attribute without its end")? {
                 "[" => depth += 1,
                 "]" => depth -= 1,
                 _ => {}
             }
         }
-        let whole = &self.text[sign.at.start..cursor.at];
-        match cursor.text(&name) {
-            "tactic" => {
-                self.code.replace(self.lines(sign.at.start..cursor.at), "");
-                self.tally.count("tactics");
-            }
-            "derive" if whole == "#[derive(Drop)]" => {
-                self.code.replace(self.lines(sign.at.start..cursor.at), "");
-                self.tally.count("derives of `Drop`");
-            }
-            "derive" if whole.contains("Drop") => {
-                return Err(Fault::new(sign.at.start, "a derive of `Drop` and others"));
-            }
-            "derive" | "inline" | "cold" | "must_use" | "allow" if !inner => {}
-            "cfg" if whole == "#[cfg(test)]" => return Ok(true),
-            _ => return Err(Fault::new(sign.at.start, format!("the attribute `{whole}`"))),
-        }
-        Ok(false)
+        Ok(sign.at.start..self.cursor.at)
     }
 
-    /// Takes a ghost part out, and returns where it is.
-    fn ghost(&mut self, cursor: &mut Cursor<'a>, word: &Token) -> Result<Range<usize>, Fault> {
-        let name = cursor.peek_code()?;
-        if name.starts_with("can_") {
-            return Err(Fault::new(
-                word.at.start,
-                format!("`{name}`: a precondition of a trait's call, which Rust can't ask"),
-            ));
+    /// Takes the next token, which has to be there, or what began at `start` has no end.
+    fn next_of(&mut self, start: usize, why: &str) -> Result<&'a str, Fault> {
+        match self.cursor.next_code()? {
+            Some(token) => Ok(self.cursor.text(&token)),
+            None => Err(Fault::new(start, why)),
         }
-        let is_use = name == "use";
+    }
+
+    /// Reads a ghost part. Its name is what it gives, or `use`.
+    fn ghost(&mut self, begun: Item<'a>) -> Result<Item<'a>, Fault> {
+        let name = self.cursor.peek_code()?;
         loop {
-            let Some(token) = cursor.next_code()? else {
-                return Err(Fault::new(word.at.start, "a ghost part without its end"));
-            };
-            match cursor.text(&token) {
-                "{" | "(" => cursor.pass_clause()?,
-                ";" => break,
+            match self.next_of(begun.start, "a ghost part without its end")? {
+                "{" | "(" => self.cursor.pass_clause()?,
+                ";" => return Ok(Item { name, head: begun.start..self.cursor.at, end: self.cursor.at, ..begun }),
                 _ => {}
             }
         }
-        self.code.replace(self.lines(word.at.start..cursor.at), "");
-        self.tally.count(if is_use { "ghost imports" } else { "ghost members" });
-        Ok(if is_use { cursor.at..cursor.at } else { word.at.start..cursor.at })
     }
 
-    /// Reads an impl. That of `Model` goes.
-    fn implementation(&mut self, cursor: &mut Cursor<'a>, lead: &Lead, word: &Token) -> Result<(), Fault> {
-        let head = self.up_to(cursor, word.at.start, &["{"])?;
-        let header = &self.text[head.clone()];
+    /// Reads an import.
+    fn import(&mut self, begun: Item<'a>) -> Result<Item<'a>, Fault> {
+        let head = self.up_to(begun.start, &[";"])?;
+        Ok(Item { what: What::Use, head, end: self.cursor.at, ..begun })
+    }
+
+    /// Reads an impl, and what is in it.
+    fn implementation(&mut self, begun: Item<'a>, inside: &Inside<'a>) -> Result<Item<'a>, Fault> {
+        let head = self.up_to(begun.start, &["{"])?;
+        let body = self.cursor.at;
+        let header = without_generics(self.text[head.clone()].trim_start_matches("impl"));
         let (of, name) = header.split_once(" for ").unwrap_or(("", header));
-        let name = name.trim_start_matches("impl").trim();
-        let name = if name.starts_with('<') { name.split_once("> ").map_or(name, |(_, rest)| rest) } else { name };
         let end = name.find(|ch: char| !ch.is_alphanumeric()).unwrap_or(name.len());
-        let owner = name[..end].to_string();
-        let is_model = of.ends_with("Model");
-        if !is_model {
-            self.head(head.clone());
-        }
-        let inside = Inside { owner: &owner, of_trait: !of.is_empty(), is_block: true };
-        self.split(header, lead);
-        let ghosts = self.items(cursor, &inside)?;
-        self.end_split(cursor.at)?;
-        let others = std::mem::take(&mut self.others);
-        self.added(&head, line_start(self.text, cursor.at));
-        if is_model {
-            self.code.replace(self.lines(lead.start..cursor.at), "");
-            self.tally.count("models");
-            return Ok(());
-        }
-        self.decoration.linked(lead, "", self.tally);
-        let members = ghosts.iter().filter(|at| !at.is_empty()).map(|at| self.dedented(at.clone()));
-        let members: Vec<_> = members.map(|member| member.trim_start_matches("ghost ").to_string()).collect();
-        if !members.is_empty() {
-            let shown: Vec<_> = members.iter().map(|member| shown(member)).collect();
-            self.decoration.folded(lead.docs_end, &shown.join("\n"), lead.has_docs, &others, self.tally);
-        }
-        Ok(())
+        let owner = &name[..end];
+        let of_trait = !of.is_empty();
+        let shown = if of_trait { format!("<{owner} as {of}>") } else { owner.to_string() };
+        let whole = if is_type(owner) { below(&inside.whole, owner) } else { inside.whole.clone() };
+        let inner = Inside { path: below(&inside.path, &shown), whole, owner, of_trait, is_block: true };
+        let items = self.items(&inner)?;
+        let Inside { path, whole, .. } = inner;
+        Ok(Item { what: What::Impl, path, whole, owner, of_trait, head, body, end: self.cursor.at, items, ..begun })
     }
 
-    /// Puts an impl into modules of its own, if the reference has its calls in parts. Begins the first one.
-    fn split(&mut self, header: &str, lead: &Lead) {
-        let rule = ORDER.iter().find(|rule| rule.file == self.source.path && rule.head == header);
-        let parts = rule.map(|rule| rule.parts.iter().rev().filter_map(Part::calls).collect::<Vec<_>>());
-        if let Some((name, _)) = parts.as_ref().and_then(|parts| parts.last()) {
-            self.code.insert(lead.start, format!("mod {name} {{\nuse super::*;\n\n"));
-        }
-        self.parts = parts;
-    }
-
-    /// Ends a part of an impl that is split behind its last function, and begins the next one.
-    pub fn part(&mut self, name: &str, end: usize) -> Result<(), Fault> {
-        let Some(parts) = &mut self.parts else { return Ok(()) };
-        let Some((_, last)) = parts.last() else {
-            return Err(out_of_order(self.source.path, "a call of its impl has no place in it"));
-        };
-        if *last != name {
-            return Ok(());
-        }
-        parts.pop();
-        if let Some((next, _)) = parts.last() {
-            let head = ORDER.iter().find(|rule| rule.file == self.source.path).map_or("", |rule| rule.head);
-            self.code.insert(end, format!("\n}}\n}}\n\nmod {next} {{\nuse super::*;\n\n{head} {{\n"));
-        }
-        Ok(())
-    }
-
-    /// Ends the last part of an impl that is split, and names the modules by hand that stand between the parts.
-    fn end_split(&mut self, end: usize) -> Result<(), Fault> {
-        let Some(parts) = self.parts.take() else { return Ok(()) };
-        if let Some((_, last)) = parts.last() {
-            return Err(out_of_order(self.source.path, &format!("`{last}` is not there")));
-        }
-        self.code.insert(end, "\n}\n");
-        for part in ORDER.iter().filter(|rule| rule.file == self.source.path).flat_map(|rule| rule.parts) {
-            if let Part::ByHand(name, path) = part {
-                self.code.insert(end, format!("\n#[path = \"{path}\"]\nmod {name};\n"));
-            }
-        }
-        Ok(())
-    }
-
-    /// Begins the root of the Rust crate, which has another documentation.
-    fn root(&mut self) -> Result<(), Fault> {
-        if self.source.path != "arraystring/src/lib.rt" {
-            return Ok(());
-        }
-        let end = self.text.lines().take_while(|line| line.starts_with("//!")).map(|line| line.len() + 1).sum();
-        if end == 0 {
-            return Err(Fault::new(0, "a root without documentation"));
-        }
-        self.code.replace(0..end, ROOT);
-        self.decoration.edits.insert(0, ROOT_DOCS);
-        Ok(())
-    }
-
-    /// Names the tests by hand of a module.
-    fn tests_by_hand(&mut self) {
-        for rule in TESTED.iter().filter(|rule| rule.file == self.source.path) {
-            let end = self.text.len();
-            self.code.insert(end, format!("\n#[cfg(test)]\n#[path = \"{}\"]\nmod tests;\n", rule.path));
-            self.tally.count("modules of tests by hand");
-            self.tally.used.insert(format!("tests {}", rule.path));
-        }
-    }
-
-    /// Puts the lines into an impl that it has beyond its source, before its last line, which begins at `end`.
-    fn added(&mut self, head: &Range<usize>, end: usize) {
-        for rule in ADDED.iter().filter(|rule| rule.file == self.source.path && rule.head == &self.text[head.clone()]) {
-            let lines: String = rule.lines.iter().map(|line| format!("\n    {line}")).collect();
-            self.code.insert(end, format!("{lines}\n"));
-            self.tally.count("functions beyond the source");
-            self.tally.used.insert(format!("added {}", rule.head));
-        }
-    }
-
-    /// Reads an item that is no impl and no import.
-    fn item(&mut self, cursor: &mut Cursor<'a>, lead: &Lead, first: Token, inside: &Inside) -> Result<(), Fault> {
-        let mut is_public = false;
-        let mut token = first.clone();
+    /// Reads an item that begins with one of these words: no impl, and no import that is private.
+    fn item(&mut self, begun: Item<'a>, first: Token, inside: &Inside<'a>) -> Result<Item<'a>, Fault> {
+        let (mut is_public, mut token) = (false, first);
         loop {
-            match cursor.text(&token) {
+            match self.cursor.text(&token) {
                 "pub" => {
-                    is_public = cursor.peek_code()? != "(";
+                    is_public = self.cursor.peek_code()? != "(";
                     if !is_public {
-                        self.up_to(cursor, token.at.start, &[")"])?;
+                        self.up_to(token.at.start, &[")"])?;
                     }
                 }
-                "const" => {}
-                "use" => return self.item_to_its_end(cursor, &first),
-                "fn" => return self.function(cursor, lead, &token, is_public, inside),
-                "mod" => return self.module(cursor, lead),
-                "struct" | "enum" | "type" => return self.declared(cursor, lead, &first),
+                "const" | "unsafe" => {}
+                "use" => return self.import(Item { is_public, ..begun }),
+                "fn" => return self.function(Item { is_public, ..begun }, &token, inside),
+                "mod" => return self.module(Item { is_public, ..begun }, inside),
+                word @ ("struct" | "enum" | "type") => return self.declared(Item { is_public, ..begun }, word),
                 other => return Err(Fault::new(token.at.start, format!("an item with `{other}`"))),
             }
-            let Some(next) = cursor.next_code()? else {
-                return Err(Fault::new(first.at.start, "an item without its end"));
+            let Some(next) = self.cursor.next_code()? else {
+                return Err(Fault::new(begun.start, "an item without its end"));
             };
             token = next;
         }
     }
 
     /// Reads a type.
-    fn declared(&mut self, cursor: &mut Cursor<'a>, lead: &Lead, first: &Token) -> Result<(), Fault> {
-        let Some(name) = cursor.next_code()? else { return Err(Fault::new(first.at.start, "a type without its name")) };
-        let name = cursor.text(&name);
-        self.decoration.linked(lead, name, self.tally);
-        self.decoration.more(name, lead, self.tally);
+    fn declared(&mut self, begun: Item<'a>, word: &str) -> Result<Item<'a>, Fault> {
+        let name = self.next_of(begun.start, "a type without its name")?;
         let mut depth = 0;
         loop {
-            let Some(token) = cursor.next_code()? else {
-                return Err(Fault::new(first.at.start, "a type without its end"));
-            };
-            match cursor.text(&token) {
+            let at = self.cursor.at;
+            match self.next_of(begun.start, "a type without its end")? {
                 "{" => depth += 1,
                 "}" if depth == 1 => break,
                 "}" => depth -= 1,
                 ";" if depth == 0 => break,
-                "ghost" => return Err(Fault::new(token.at.start, "a ghost field")),
+                "ghost" => {
+                    let blanks = self.text[at..].len() - self.text[at..].trim_start().len();
+                    return Err(Fault::new(at + blanks, "a ghost field"));
+                }
                 _ => {}
             }
         }
-        self.head(first.at.start..cursor.at);
-        Ok(())
-    }
-
-    /// Reads an import, or another item that ends with `;`.
-    fn item_to_its_end(&mut self, cursor: &mut Cursor<'a>, first: &Token) -> Result<(), Fault> {
-        let at = self.up_to(cursor, first.at.start, &[";"])?;
-        if &self.text[at.clone()] == "use std::marker::Model" {
-            self.code.replace(self.lines(at.start..cursor.at), "");
-            self.tally.count("imports of `Model`");
-            return Ok(());
-        }
-        self.import(at.clone())?;
-        if PROOFS_ALONE.iter().any(|law| self.text[at.clone()].ends_with(&format!("::laws::{law}"))) {
-            self.code.replace(self.lines(at.start..cursor.at), "");
-            return Ok(());
-        }
-        for rule in LEFT_OUT {
-            let name = format!("{},", rule.name);
-            if let Some(found) = self.text[at.clone()].find(&name) {
-                let start = at.start + found;
-                let end = start + name.len();
-                self.code.replace(start..end + usize::from(self.text[end..].starts_with(' ')), "");
-            }
-        }
-        self.head(at);
-        Ok(())
+        let (end, path) = (self.cursor.at, below(&begun.path, &format!("{word} {name}")));
+        Ok(Item { what: What::Type, name, path, head: begun.start..end, end, ..begun })
     }
 
     /// Reads a module.
-    fn module(&mut self, cursor: &mut Cursor<'a>, lead: &Lead) -> Result<(), Fault> {
-        let Some(name) = cursor.next_code()? else { return Err(Fault::new(lead.start, "a module without its name")) };
-        let text = cursor.text(&name);
-        if cursor.peek_code()? == "{" {
-            cursor.expect("{")?;
-            self.around.push(text);
-            self.items(cursor, &Inside { owner: text, of_trait: false, is_block: true })?;
-            self.around.pop();
-            return Ok(());
+    fn module(&mut self, begun: Item<'a>, inside: &Inside<'a>) -> Result<Item<'a>, Fault> {
+        let name = self.next_of(begun.lead.start, "a module without its name")?;
+        if self.cursor.peek_code()? != "{" {
+            self.cursor.expect(";")?;
+            let path = below(&begun.path, &format!("mod {name}"));
+            return Ok(Item { what: What::File, name, path, end: self.cursor.at, ..begun });
         }
-        cursor.expect(";")?;
-        let is_left_out = LEFT_OUT.iter().any(|rule| rule.name == text);
-        if lead.is_test || is_left_out {
-            self.code.replace(self.lines(lead.start..cursor.at), "");
-            self.tally.count(if is_left_out { "modules left out" } else { "modules of tests" });
-            self.dropped.push(text.to_string());
-        } else {
-            self.modules.push(text.to_string());
-        }
-        if is_left_out {
-            self.tally.used.insert(text.to_string());
-        }
-        Ok(())
+        self.cursor.expect("{")?;
+        // What is in a module that keeps an order alone counts as if it stood around it.
+        let is_order = inside.path == self.module
+            && ORDERS.iter().any(|(path, names)| *path == self.module && names.contains(&name));
+        let path = if is_order { inside.path.clone() } else { below(&inside.path, name) };
+        let whole = if is_order { inside.whole.clone() } else { below(&inside.whole, name) };
+        let items = self.items(&Inside { path, whole, owner: name, of_trait: false, is_block: true })?;
+        let path = below(&inside.path, &format!("mod {name}"));
+        Ok(Item { what: What::Module, name, path, end: self.cursor.at, items, ..begun })
     }
 
-    /// What Rust has in place of the bounds, paths and formatters of a head.
-    pub fn head(&mut self, at: Range<usize>) {
-        let text = &self.text[at.clone()];
-        for (found, bound) in text.match_indices(" + Drop") {
-            self.code.replace(at.start + found..at.start + found + bound.len(), "");
-            self.tally.count("bounds `Drop`");
-        }
-        for (from, to) in [("fmt<W: fmt::Write>(", "fmt("), ("fmt::Formatter<W>", "fmt::Formatter<'_>")] {
-            if text.contains("fmt<W: fmt::Write>(") {
-                let found = at.start + text.find(from).unwrap_or_default();
-                self.code.replace(found..found + from.len(), to);
+    /// Reads a function. The word is its `fn`.
+    fn function(&mut self, begun: Item<'a>, word: &Token, inside: &Inside<'a>) -> Result<Item<'a>, Fault> {
+        let name = self.next_of(word.at.start, "a function without its name")?;
+        let head = self.up_to(word.at.start, &["{", "requires", "ensures"])?;
+        self.cursor.at = head.end;
+        let (clauses, required) = self.clauses()?;
+        let body = self.cursor.at;
+        let (tokens, inner) = self.block(body)?;
+        let (path, whole) = (below(&inside.path, name), below(&inside.whole, name));
+        let end = self.cursor.at;
+        Ok(Item { what: What::Function, name, path, whole, head, clauses, required, body, end, tokens, inner, ..begun })
+    }
+
+    /// Reads the clauses of a function up to its body, whose bracket is taken.
+    fn clauses(&mut self) -> Result<Clauses, Fault> {
+        let start = self.cursor.at;
+        let (mut found, mut required): (Option<Range<usize>>, _) = (None, Vec::new());
+        loop {
+            let Some(token) = self.cursor.next_code()? else {
+                return Err(Fault::new(start, "a function without its body"));
+            };
+            match self.cursor.text(&token) {
+                word @ ("requires" | "ensures") => {
+                    let mut name = String::new();
+                    if self.cursor.peek_code()? != "{" {
+                        name = self.cursor.next_code()?.map_or("", |token| self.cursor.text(&token)).to_string();
+                    }
+                    let opened = self.cursor.expect("{")?;
+                    self.cursor.pass_clause()?;
+                    let text = self.text[opened.at.end..self.cursor.at - 1].trim().to_string();
+                    if word == "requires" {
+                        required.push(Required { at: token.at.start, name, text });
+                    }
+                    found = Some(found.map_or(token.at.start, |at| at.start)..self.cursor.at);
+                }
+                "{" => return Ok((found, required)),
+                other => return Err(Fault::new(token.at.start, format!("`{other}` among the clauses of a function"))),
             }
         }
-        if text.contains("fmt<W: fmt::Write>(") {
-            self.tally.count("formatters without a type parameter");
-        }
-        let tokens = self.tokens(at);
-        body::paths(self.text, &tokens, self.source.krate, &mut self.code, self.tally);
     }
 
-    /// The tokens of a part, comments left out.
-    pub fn tokens(&self, at: Range<usize>) -> Vec<Token> {
-        let mut cursor = Cursor { source: &self.text[..at.end], at: at.start };
-        std::iter::from_fn(|| cursor.next_code().ok().flatten()).collect()
+    /// The tokens of the block whose bracket was taken, without its brackets, and its attributes.
+    fn block(&mut self, start: usize) -> Result<(Vec<Token>, Vec<Range<usize>>), Fault> {
+        let (mut depth, mut tokens, mut attributes) = (1, Vec::new(), Vec::new());
+        loop {
+            let Some(token) = self.cursor.next_code()? else {
+                return Err(Fault::new(start, "a block without its end"));
+            };
+            match self.cursor.text(&token) {
+                "{" => depth += 1,
+                "}" => depth -= 1,
+                word @ ("ghost" | "requires" | "ensures") => {
+                    return Err(Fault::new(token.at.start, format!("`{word}` in a body")));
+                }
+                "#" => {
+                    attributes.push(self.attribute(&token)?);
+                    continue;
+                }
+                _ => {}
+            }
+            if depth == 0 {
+                return Ok((tokens, attributes));
+            }
+            tokens.push(token);
+        }
     }
 
     /// Passes over a head up to one of these words, which is taken, and returns where the head is.
-    pub fn up_to(&mut self, cursor: &mut Cursor<'a>, start: usize, ends: &[&str]) -> Result<Range<usize>, Fault> {
-        let mut end = cursor.at;
+    fn up_to(&mut self, start: usize, ends: &[&str]) -> Result<Range<usize>, Fault> {
+        let mut end = self.cursor.at;
         loop {
-            let Some(token) = cursor.next_code()? else { return Err(Fault::new(start, "an item without its end")) };
-            let text = cursor.text(&token);
+            let Some(token) = self.cursor.next_code()? else {
+                return Err(Fault::new(start, "an item without its end"));
+            };
+            let text = self.cursor.text(&token);
             if ends.contains(&text) {
                 return Ok(start..end);
             }
@@ -479,17 +424,10 @@ impl<'a, 't> File<'a, 't> {
             end = token.at.end;
         }
     }
+}
 
-    /// The whole lines of a part.
-    pub fn lines(&self, at: Range<usize>) -> Range<usize> {
-        let end = self.text[at.end..].find('\n').map_or(self.text.len(), |end| at.end + end + 1);
-        line_start(self.text, at.start)..end
-    }
-
-    /// The lines of a part, without the spaces that its first line has before it.
-    pub fn dedented(&self, at: Range<usize>) -> String {
-        let indent = indent(self.text, at.start);
-        let lines = self.text[at].lines().map(|line| line.strip_prefix(&indent).unwrap_or(line));
-        lines.collect::<Vec<_>>().join("\n")
-    }
+/// The head of an impl behind its type parameters.
+fn without_generics(head: &str) -> &str {
+    let head = head.trim();
+    if head.starts_with('<') { head.split_once("> ").map_or(head, |(_, rest)| rest) } else { head }
 }

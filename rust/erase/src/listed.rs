@@ -1,15 +1,15 @@
-//! The list in TRUST.md of what is written by hand or changed by a rule, made from the rules.
+//! The list in TRUST.md of what is written by hand or is another one than in its source, made from the lists and the rules.
 
 use std::collections::BTreeMap;
 use std::fs;
 use std::path::Path;
 
+use crate::decoration::reference::{BY_STD, OTHERS, other};
+use crate::decoration::sections::lines;
 use crate::files::read;
-use crate::rules::{
-    ADDED, BODIES, BY_HAND, BY_STD, CONSTANT, FATES, Fate, KNOWN, LEFT_OUT, REPLACED, Replaced, TESTS_RANGE, TWINS,
-    WIDER,
-};
-use crate::sections::lines;
+use crate::lists::{ADDED, ASKED_EACH, BY_HAND, BY_STD as WHY_BY_STD, LEFT_OUT, PLACES};
+use crate::places::{asked, taken, twins};
+use crate::rules::{KNOWN, WIDER};
 
 /// The page, from the top of the repository.
 const PAGE: &str = "rust/arraystring/TRUST.md";
@@ -60,21 +60,12 @@ fn list() -> String {
 /// What runs in place of proved bodies, each with what it runs in.
 fn others() -> BTreeMap<&'static str, Vec<String>> {
     let mut others = BTreeMap::<_, Vec<String>>::new();
-    for rule in BODIES {
-        others.entry(rule.here).or_default().push(quoted(&[rule.call]));
+    let is_by_std = |path: &str| BY_STD.iter().any(|rule| rule.path == path);
+    for (path, here) in OTHERS.iter().filter(|(path, _)| !is_by_std(path)) {
+        others.entry(*here).or_default().push(quoted(&[short(path)]));
     }
-    for rule in BY_STD {
-        others.entry(rule.here).or_default().push(quoted(rule.calls));
-    }
-    for (call, fate) in FATES {
-        if let Fate::Panics(_, Some(_)) = fate {
-            others.entry(TESTS_RANGE).or_default().push(quoted(&[call]));
-        }
-    }
-    for Replaced { file, from, here, .. } in REPLACED {
-        if let Some(here) = here {
-            others.entry(here).or_default().push(line(from, file));
-        }
+    for (rule, here) in BY_STD.iter().filter_map(|rule| Some((rule, other(rule.path)?))) {
+        others.entry(here).or_default().push(quoted(rule.calls));
     }
     others
 }
@@ -82,39 +73,66 @@ fn others() -> BTreeMap<&'static str, Vec<String>> {
 /// The items of what else is changed.
 fn changed() -> Vec<String> {
     let mut items = Vec::new();
-    for rule in REPLACED.iter().filter(|rule| rule.here.is_none()) {
-        items.push(item(&line(rule.from, rule.file), rule.why));
+    for place in PLACES.iter().filter(|place| other(place.path).is_none()) {
+        items.push(item(&quoted(&[short(place.path)]), place.why));
     }
-    items.extend(ADDED.iter().map(|rule| item(&format!("more calls in `{}`", rule.head), rule.why)));
-    items.extend(LEFT_OUT.iter().map(|rule| item(&format!("`{}` is left out", rule.name), rule.why)));
-    items.push(item(&quoted(CONSTANT), "they are `const`"));
-    items.extend(
-        TWINS.iter().map(|rule| item(&quoted(&[rule.of]), &format!("bodies call `{}`, without a test", rule.twin))),
-    );
+    for entry in ADDED {
+        if let Some((head, _)) = entry.items.trim().split_once(" {").filter(|(head, _)| head.starts_with("impl")) {
+            items.push(item(&format!("more calls in `{head}`"), entry.why));
+        }
+    }
+    items.extend(left_out().iter().map(|(name, why)| item(&format!("`{name}` is left out"), why)));
+    let constant: Vec<_> = PLACES.iter().filter(|place| place.here.contains("const fn")).collect();
+    let constant: Vec<_> = constant.iter().map(|place| short(place.path)).collect();
+    items.push(item(&quoted(&constant), "they are `const`"));
+    items
+        .extend(twins().map(|rule| item(&quoted(&[rule.of]), &format!("bodies call `{}`, without a test", rule.twin))));
     let known: Vec<_> = KNOWN.iter().map(|(call, _)| *call).collect();
     items.push(item(&quoted(&known), "a clause of each is told to rustc at the start of its body"));
-    let mut wider = BTreeMap::<_, usize>::new();
-    for rule in WIDER {
-        *wider.entry((rule.from, rule.to, rule.generics)).or_default() += 1;
-    }
-    for ((from, to, generics), calls) in wider {
-        let of = if generics.is_empty() { String::new() } else { format!(" of `{generics}`") };
-        let plural = if calls == 1 { "call" } else { "calls" };
-        items
-            .push(item(&format!("`{from}` of {calls} {plural}"), &format!("`{to}`{of}, asked once before it is used")));
-    }
+    items.extend(wider());
     items
 }
 
-/// A line of a file. One with backticks stands between two.
-fn line(line: &str, file: &str) -> String {
-    let quotes = if line.contains('`') { "``" } else { "`" };
-    format!("{quotes}{line}{quotes} in `{file}`")
+/// The items of what calls take more types for.
+fn wider() -> Vec<String> {
+    let mut items = BTreeMap::new();
+    for (parameter, calls) in WIDER {
+        let (to, of) = match asked(parameter) {
+            Some((name, asked)) => (taken(name, asked), format!(" of `{}`", asked.generics)),
+            None => (ASKED_EACH.0.to_string(), String::new()),
+        };
+        let (count, plural) = (calls.len(), if calls.len() == 1 { "call" } else { "calls" });
+        let said =
+            item(&format!("`{parameter}` of {count} {plural}"), &format!("`{to}`{of}, asked once before it is used"));
+        items.insert(*parameter, said);
+    }
+    items.into_values().collect()
+}
+
+/// What the Rust crate has not, each name once, but for what std does there.
+fn left_out() -> Vec<(String, &'static str)> {
+    let mut names = Vec::<(String, &str)>::new();
+    for (path, why) in LEFT_OUT.iter().filter(|(_, why)| *why != WHY_BY_STD) {
+        let name = match path.split_once("use ") {
+            Some((module, name)) => short(&format!("{module}{}", name.rsplit("::").next().unwrap_or(name))),
+            None => path.rsplit(['"', ':', ' ']).next().unwrap_or(path).to_string(),
+        };
+        if names.iter().all(|(found, _)| *found != name) {
+            names.push((name, why));
+        }
+    }
+    names
+}
+
+/// The last two names of a path.
+fn short(path: &str) -> String {
+    let names: Vec<_> = path.split("::").map(|name| name.trim_start_matches("struct ")).collect();
+    names[names.len().saturating_sub(2)..].join("::")
 }
 
 /// Names between backticks.
-fn quoted(names: &[&str]) -> String {
-    names.iter().map(|name| format!("`{name}`")).collect::<Vec<_>>().join(", ")
+fn quoted(names: &[impl AsRef<str>]) -> String {
+    names.iter().map(|name| format!("`{}`", name.as_ref())).collect::<Vec<_>>().join(", ")
 }
 
 /// An item of a list.
@@ -166,23 +184,31 @@ mod tests {
             assert!(list.contains(&words), "{words}\n{list}");
         };
         BY_HAND.iter().for_each(|(file, what)| has(&format!("- `{file}`: {what}.")));
-        BODIES.iter().for_each(|rule| has(&format!("`{}`", rule.call)));
-        BY_STD.iter().flat_map(|rule| rule.calls).for_each(|call| has(&format!("`{call}`")));
-        REPLACED.iter().for_each(|rule| has(&line(rule.from, rule.file)));
-        TWINS.iter().for_each(|rule| has(&format!("- `{}`: bodies call `{}`", rule.of, rule.twin)));
-        KNOWN.iter().for_each(|(call, _)| has(&format!("`{call}`")));
-        FATES.iter().filter(|(_, fate)| matches!(fate, Fate::Panics(_, Some(_)))).for_each(|(call, _)| has(call));
-        assert_eq!([line("a", "f"), line("a `b` c", "f")], ["`a` in `f`", "``a `b` c`` in `f`"]);
-        ADDED.iter().for_each(|rule| has(&format!("`{}`: {}.", rule.head, rule.why)));
-        LEFT_OUT.iter().for_each(|rule| has(&format!("- `{}` is left out: {}.", rule.name, rule.why)));
-        for rule in WIDER {
-            let calls =
-                WIDER.iter().filter(|it| (it.from, it.to, it.generics) == (rule.from, rule.to, rule.generics)).count();
-            has(&format!("`{}` of {calls} call", rule.from));
-            has(&format!(": `{}`", rule.to));
+        for place in PLACES {
+            let by_std = BY_STD.iter().find(|rule| rule.path == place.path);
+            match (other(place.path), by_std) {
+                (Some(_), Some(rule)) => rule.calls.iter().for_each(|call| has(&format!("`{call}`"))),
+                (Some(here), None) => {
+                    [quoted(&[short(place.path)]), format!(": {here}.")].iter().for_each(|part| has(part))
+                }
+                (None, _) => has(&format!("- `{}`: {}.", short(place.path), place.why)),
+            }
         }
-        for here in BODIES.iter().map(|rule| rule.here).chain(BY_STD.iter().map(|rule| rule.here)) {
-            has(&format!(": {here}."));
+        OTHERS.iter().for_each(|(_, here)| has(&format!(": {here}.")));
+        twins().for_each(|rule| has(&format!("- `{}`: bodies call `{}`", rule.of, rule.twin)));
+        KNOWN.iter().for_each(|(call, _)| has(&format!("`{call}`")));
+        assert_eq!(ADDED.iter().filter(|entry| list.contains(&format!("`: {}.", entry.why))).count(), 2);
+        has("- more calls in `impl<const N: usize> Iterator for Drain<N>`: callers that make room ask for it.");
+        has("- more calls in `impl<'a> Iterator for Units<'a>`: callers that make room ask for it.");
+        for (path, why) in LEFT_OUT.iter().filter(|(_, why)| *why != WHY_BY_STD) {
+            has(&format!("{}` is left out: {why}.", path.rsplit([':', ' ']).next().unwrap()));
+        }
+        for (parameter, calls) in WIDER {
+            has(&format!("`{parameter}` of {} call", calls.len()));
+            has(&format!(
+                ": `{}`",
+                asked(parameter).map_or(ASKED_EACH.0.to_string(), |(name, asked)| taken(name, asked))
+            ));
         }
     }
 

@@ -1,8 +1,9 @@
 //! Makes the Rust crate `arraystring` out of the proved sources: contracts become documentation, proofs go, and the bodies
-//! stay line for line, but where a rule says otherwise, as the list in TRUST.md of the crate says, which is made, too.
+//! stay line for line, but where a list says otherwise (`rust/lists.rs`), as that in TRUST.md of the crate says, which is made, too.
 //!
-//! Each file is made in two passes. The first one erases code. The second one adds documentation, comments, attributes and order, and
-//! stops where the code behind it is not that before it (`decorated.rs`).
+//! All sources are read first, for what is known of the contracts. Then each file is made in two passes. The first one (`code`) makes
+//! Rust of a source, by the same lists as the comparison. The second one (`decoration`) adds documentation, comments, attributes and
+//! order to that, and stops where the code behind it is not that before it.
 //!
 //!     cargo run --release --offline --manifest-path rust/erase/Cargo.toml -- [--check] [--unproved] [--root FOLDER]
 //!
@@ -10,28 +11,29 @@
 //! the repository, by default the one that the eraser was built in. What it can't read stops it, and so does a source that is
 //! not as it was when it was proved. With `--unproved` each file that is made says so instead.
 
-mod access;
-mod attributes;
 mod body;
-mod calls;
-mod clauses;
 mod checksum;
+mod clauses;
+mod code;
 mod contracts;
 mod cursor;
-mod decorated;
+mod decoration;
 mod edits;
 mod erase;
 mod files;
-mod functions;
 mod items;
 mod listed;
+// (the comparison reads the rest)
+#[allow(dead_code)]
+#[path = "../../lists.rs"]
+mod lists;
 mod names;
+mod needs;
+mod places;
 mod proved;
 mod reasons;
-mod reference;
 mod rules;
-mod sections;
-mod sentences;
+mod uses;
 mod width;
 mod words;
 
@@ -80,26 +82,17 @@ fn run(root: &std::path::Path, is_check: bool, is_unproved_allowed: bool) -> Res
         println!("{count:5} {what}");
     }
     println!("{explained:5} contracts that the reference shows, and whose words {} has", words::PAGE);
-    for rule in rules::LEFT_OUT {
-        println!("left out: `{}`: {}", rule.name, rule.why);
+    for (path, why) in lists::LEFT_OUT {
+        println!("left out: `{path}`: {why}");
     }
-    for rule in rules::REPLACED {
-        println!("another line: {}: `{}` is `{}`: {}", rule.file, rule.from, rule.to, rule.why);
+    for place in lists::PLACES {
+        println!("another item: `{}`: {}", place.path, place.why);
     }
-    for rule in rules::BODIES {
-        println!("another body: `{}`: {}", rule.call, rule.why);
-    }
-    for rule in rules::ADDED {
-        println!("more lines: {}: `{}`: {}", rule.file, rule.head, rule.why);
-    }
-    for rule in rules::BY_STD {
-        println!("by std: {}: `{}`: {}", rule.file, rule.body, rule.why);
+    for added in lists::ADDED {
+        println!("more items: `{}`: {}", added.module, added.why);
     }
     for rule in width::BOUNDED {
         println!("products and shifts: {}: {} in `{}`: {}", rule.file, rule.count, rule.function, rule.why);
-    }
-    for rule in rules::TESTED {
-        println!("tests by hand: {} has {}: {}", rule.file, rule.path, rule.why);
     }
     if !is_formatted {
         println!("rustfmt is not there: no file was formatted, and files are compared without their layout");

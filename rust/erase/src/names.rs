@@ -1,41 +1,40 @@
 //! Functions that a rule knows by their names: each such name means that function, or the eraser stops.
 
-use std::ops::Range;
+use crate::body::{Body, Called};
+use crate::contracts::is_type;
+use crate::cursor::{Fault, Token, tokens};
+use crate::erase::{Source, Tally};
+use crate::items::{Item, What};
+use crate::lists::KNOWN_NAMES;
+use crate::places::{functions, is_left_out, laws};
+use crate::rules::ELSEWHERE;
+use crate::uses::leaves;
 
-use crate::body::Body;
-use crate::contracts::Called;
-use crate::cursor::{Fault, Token};
-use crate::items::{File, Inside};
-use crate::rules::{NAMED, Named, PROOFS_ALONE, TWINS};
-
-/// The entry of a name.
-fn entry(name: &str) -> Option<&'static Named> {
-    NAMED.iter().find(|named| named.name == name)
+/// A function that a rule knows by its name: the list of rewrites has where it is defined.
+pub struct Named {
+    pub name: &'static str,
+    /// Its path, and those by which it is public elsewhere.
+    pub paths: Vec<&'static str>,
 }
 
-/// The paths of an import, from behind its `use`, each with what it is called.
-fn paths(import: &str) -> Vec<String> {
-    let Some((before, rest)) = import.split_once('{') else { return vec![import.trim().to_string()] };
-    let inner = rest.trim_end().trim_end_matches('}');
-    let (mut depth, mut start, mut found) = (0, 0, Vec::new());
-    for (at, sign) in inner.char_indices().chain([(inner.len(), ',')]) {
-        match sign {
-            '{' => depth += 1,
-            '}' => depth -= 1,
-            ',' if depth <= 0 || at == inner.len() => {
-                found.extend(paths(&inner[start..at]));
-                start = at + 1;
-            }
-            _ => {}
-        }
-    }
-    found.into_iter().map(|path| format!("{}{path}", before.trim())).collect()
+/// All of them.
+pub fn named() -> Vec<Named> {
+    let paths = |name: &str, path| {
+        let elsewhere = ELSEWHERE.iter().filter(|(of, _)| *of == name).map(|(_, path)| *path);
+        std::iter::once(path).chain(elsewhere).collect()
+    };
+    KNOWN_NAMES.iter().map(|(name, path)| Named { name, paths: paths(name, path) }).collect()
+}
+
+/// The entry of a name.
+fn entry(name: &str) -> Option<Named> {
+    named().into_iter().find(|named| named.name == name)
 }
 
 /// Whether the laws whose calls go change nothing and return nothing, as their heads say. The files of the sources are read by their
 /// paths in the folder of crates.
 pub fn laws_change_nothing(read: impl Fn(&str) -> Result<String, String>) -> Result<(), String> {
-    for law in PROOFS_ALONE.iter().filter_map(|law| entry(law)) {
+    for law in laws().filter_map(entry) {
         let module = law.paths[0].trim_end_matches(law.name).trim_end_matches("::");
         let path = module.replacen("::", "/src/", 1).replace("::", "/") + ".rt";
         let text = read(&path)?;
@@ -52,58 +51,75 @@ pub fn laws_change_nothing(read: impl Fn(&str) -> Result<String, String>) -> Res
     Ok(())
 }
 
-impl File<'_, '_> {
-    /// The path of the file's module, which begins with its crate.
-    fn module_path(&self) -> String {
-        let module = self.source.path.trim_end_matches(".rt").replacen("/src/", "::", 1).replace('/', "::");
-        module.trim_end_matches("::lib").to_string()
+/// Whether each such name in a source means what the rules take it for.
+pub fn are_meant(source: &Source, items: &[Item], tally: &mut Tally) -> Result<(), Fault> {
+    let mut names = Names { source, found: Vec::new() };
+    names.found(items, tally)?;
+    names.used(items)
+}
+
+/// The names of a source.
+struct Names<'a> {
+    source: &'a Source<'a>,
+    /// Those that it imports or defines.
+    found: Vec<&'static str>,
+}
+
+impl Names<'_> {
+    /// Reads what is imported and defined.
+    fn found(&mut self, items: &[Item], tally: &mut Tally) -> Result<(), Fault> {
+        for item in items.iter().filter(|item| !is_left_out(&item.path)) {
+            match item.what {
+                What::Use => self.import(item, tally)?,
+                What::Function => self.define(item)?,
+                _ => self.found(&item.items, tally)?,
+            }
+        }
+        Ok(())
     }
 
-    /// The whole path of a function: its crate, its modules, its type if it has one, and its name.
-    pub fn whole_path(&self, inside: &Inside, name: &str) -> String {
-        let of_type = inside.is_type().then_some(inside.owner);
-        let parts = self.around.iter().copied().chain(of_type).chain([name]);
-        parts.fold(self.module_path(), |path, part| path + "::" + part)
-    }
-
-    /// Reads the names of an import. A private one gets the twin of what panics.
-    pub fn import(&mut self, at: Range<usize>) -> Result<(), Fault> {
-        let import = &self.text[at.clone()];
-        let (before, tree) = import.split_once("use ").unwrap_or(("", import));
-        for path in paths(tree) {
-            let Some(named) = path.split(|ch: char| !ch.is_alphanumeric() && ch != '_').find_map(entry) else {
-                continue;
-            };
+    /// Reads the names of an import.
+    fn import(&mut self, item: &Item, tally: &mut Tally) -> Result<(), Fault> {
+        let tokens = tokens(self.source.text, item.head.clone());
+        let (leaves, _) = leaves(&Body::new(self.source.text, &tokens))?;
+        for leaf in leaves {
+            let Some(named) = leaf.names.iter().chain(&leaf.alias).find_map(|name| entry(name)) else { continue };
+            let path = leaf.with_alias(&leaf.names.join("::"));
             let below = path.strip_prefix("crate::");
             let whole = below.map_or(path.clone(), |below| format!("{}::{below}", self.source.krate));
             if !named.paths.contains(&whole.as_str()) {
                 let why = format!("`{}` is `{}`, and `{whole}` is imported", named.name, named.paths[0]);
-                return Err(Fault::new(at.start, why));
+                return Err(Fault::new(item.start, why));
             }
-            self.named.push(named.name);
-            self.tally.used.insert(format!("named {whole}"));
-        }
-        for token in self.tokens(at).iter().filter(|_| before.is_empty()) {
-            if let Some(rule) = TWINS.iter().find(|rule| rule.call == &self.text[token.at.clone()]) {
-                self.code.replace(token.at.clone(), rule.twin);
-            }
+            self.found.push(named.name);
+            tally.used.insert(format!("named {whole}"));
         }
         Ok(())
     }
 
-    /// Reads the name of a function, which is behind its `fn` at `at`.
-    pub fn define(&mut self, name: &str, inside: &Inside, at: usize) -> Result<(), Fault> {
-        let Some(named) = entry(name).filter(|_| !inside.is_type()) else { return Ok(()) };
-        if inside.is_block || format!("{}::{name}", self.module_path()) != named.paths[0] {
-            return Err(Fault::new(at, format!("`{name}` is `{}`, and another one is defined", named.paths[0])));
+    /// Reads the name of a function.
+    fn define(&mut self, item: &Item) -> Result<(), Fault> {
+        let Some(named) = entry(item.name).filter(|_| !is_type(item.owner)) else { return Ok(()) };
+        if item.whole != named.paths[0] {
+            let why = format!("`{}` is `{}`, and another one is defined", named.name, named.paths[0]);
+            return Err(Fault::new(item.head.start, why));
         }
-        self.named.push(named.name);
+        self.found.push(named.name);
         Ok(())
+    }
+
+    /// Whether each function calls what the names mean.
+    fn used(&self, items: &[Item]) -> Result<(), Fault> {
+        functions(items).into_iter().try_for_each(|item| {
+            // (behind `fn` and its name)
+            self.calls(&tokens(self.source.text, item.head.clone())[2..])?;
+            self.calls(&item.tokens)
+        })
     }
 
     /// Whether each such name in a part of a function calls what it means. Behind a dot or a path it is that of something else.
-    pub fn are_meant(&self, tokens: &[Token]) -> Result<(), Fault> {
-        let body = Body::new(self.text, tokens);
+    fn calls(&self, tokens: &[Token]) -> Result<(), Fault> {
+        let body = Body::new(self.source.text, tokens);
         for at in 0..tokens.len() {
             let fault = |why: String| Err(Fault::new(body.at(at).start, why));
             if body.text(at) == "use" {
@@ -116,7 +132,7 @@ impl File<'_, '_> {
             if body.text(at + 1) != "(" || (at > 0 && body.text(at - 1) == "fn") {
                 return fault(format!("`{}` is `{whole}`, and this is no call of it", named.name));
             }
-            if !self.named.contains(&named.name) {
+            if !self.found.contains(&named.name) {
                 return fault(format!("`{}` is `{whole}`, which is not imported by its path", named.name));
             }
         }

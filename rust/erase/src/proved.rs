@@ -6,7 +6,7 @@ use std::path::Path;
 
 use crate::checksum::sha256;
 use crate::files::{Made, read, sources};
-use crate::rules::CRATES;
+use crate::lists::CRATES;
 
 /// The record, which `tools/run proved` writes: the logic of the kit, and the checksum of each file that a proof is made of.
 const RECORD: &str = "rust/proved.txt";

@@ -1,6 +1,6 @@
 //! Why what workers require is true, as `reasons.txt` says.
 
-use crate::rules::CRATES;
+use crate::lists::CRATES;
 
 /// The reasons of a function.
 pub struct Reasons {
@@ -14,6 +14,12 @@ pub struct Reasons {
 
 /// In place of a worker: the accesses of the function.
 pub const ACCESSES: &str = "accesses";
+
+/// In place of a worker: what the function writes into fields whose values are bounded.
+pub const WRITES: &str = "writes";
+
+/// In place of a worker: the casts of the function to a number of fewer bits.
+pub const CASTS: &str = "casts";
 
 /// The reasons of all functions.
 pub fn all() -> Result<&'static [Reasons], String> {

@@ -14,6 +14,8 @@ mod pages;
 mod refused;
 #[path = "tests/ruled.rs"]
 mod ruled;
+#[path = "tests/writes.rs"]
+mod writes;
 
 /// Why what is called in samples may be called there.
 const REASONS: &str = "\
@@ -48,8 +50,13 @@ arraystring_base::sample::counted (whatever was counted)
 arraystring_base::sample::put
     accesses: by the test above
 
-arraystring_base::steps::look_unchecked
-    accesses: by the test above
+arraystring_base::sample::written
+    writes: it is the first
+    writes: it is the last
+
+arraystring_base::sample::cast
+    writes: it is small
+    casts: the line before it says why
 
 arraystring_core::sample::remove::retain_at (whatever the closure answers)
     accesses: by the test above
@@ -65,26 +72,46 @@ arraystring_base::sample::Number::fmt
 arraystring_base::sample::ArrayString::push_str
     ArrayString::put: by the test above
 
-arraystring_core::ascii::ArrayString::make_ascii_uppercase_in (so no caller shows it)
+arraystring_core::array_string::range::ArrayString::make_ascii_uppercase_in (so no caller shows it)
     ArrayString::uppercase_between: the index above panics else
 ";
 
 /// What is known of functions that samples call.
-fn tally() -> Tally {
-    let mut tally = Tally::of(reasons::read(REASONS).unwrap());
-    let text = ruled::STEPS;
-    erase(&Source { krate: "arraystring_base", path: "arraystring_base/src/steps.rt", text }, &mut tally).unwrap();
-    tally
+fn known() -> (Contracts, Tally) {
+    let (mut known, mut tally) = (Contracts::default(), Tally::of(reasons::read(REASONS).unwrap()));
+    let source = Source { krate: "arraystring_base", path: "arraystring_base/src/steps.rt", text: ruled::STEPS };
+    Read::new(source, &mut known, &mut tally).unwrap();
+    (known, tally)
+}
+
+/// What comes of a file of a crate.
+pub fn erased_in(krate: &str, path: &str, text: &str) -> Result<String, Fault> {
+    let (mut known, mut tally) = known();
+    let read = Read::new(Source { krate, path, text }, &mut known, &mut tally)?;
+    read.note_needs(&mut known, &mut tally)?;
+    read.erased(&known, &mut tally)
+}
+
+/// What the first pass makes of a file of the lowest crate.
+pub fn code_of(text: &str) -> Result<String, Fault> {
+    let (mut known, mut tally) = known();
+    let source = Source { krate: "arraystring_base", path: "arraystring_base/src/sample.rt", text };
+    let read = Read::new(source, &mut known, &mut tally)?;
+    code(&read.source, &read.items, &known, &mut tally)
+}
+
+/// What the second pass makes of code, by what is known of a file of the lowest crate.
+pub fn decorated_of(text: &str, code: &str) -> Result<String, Fault> {
+    let (mut known, mut tally) = known();
+    let source = Source { krate: "arraystring_base", path: "arraystring_base/src/sample.rt", text };
+    let read = Read::new(source, &mut known, &mut tally)?;
+    read.note_needs(&mut known, &mut tally)?;
+    decorated(&read.source, code, &known, &mut tally)
 }
 
 /// What comes of a file of the lowest crate.
 fn erased(path: &str, text: &str) -> Result<String, Fault> {
-    let source = Source { krate: "arraystring_base", path, text };
-    let mut tally = tally();
-    // As `files` does: once for the contracts, and once by them.
-    let _ = erase(&source, &mut tally);
-    tally.contracts.is_whole = true;
-    erase(&source, &mut tally).map(|erased| erased.text)
+    erased_in("arraystring_base", path, text)
 }
 
 /// The same without its first line, or the line of a fault and why it is one.
@@ -238,14 +265,11 @@ fn count(steps: &mut Steps)
 ";
     let text = made(source).unwrap();
     let plain = "        // SAFETY: `1 < 2`; `2 < 3`: by the test above.
-        // Proved: crates/arraystring_base/src/sample.rt
         if unsafe { shift::<4>(&mut self.array, (1, 2), 3) } {\n";
     assert!(text.contains(plain), "{text}");
     let nested = "            // SAFETY: it is UTF-8.
             // SAFETY: `Self::spelled(unsafe { str::from_utf8_unchecked(s) }).len() < 3`: it is short.
-            // Proved: crates/arraystring_base/src/sample.rt
             // SAFETY: `str::from_utf8_unchecked(s)` is well-formed UTF-8; `0 < 2`: it is a text.
-            // Proved: crates/arraystring_base/src/sample.rt
             unsafe { self.push(Self::spelled(str::from_utf8_unchecked(s))) };\n";
     assert!(text.contains(nested), "{text}");
     for line in [
@@ -300,7 +324,7 @@ fn move_pairs(requires: &str) -> Result<String, String> {
 
 #[test]
 fn a_clause_of_the_list_is_known_at_the_start_of_its_body() {
-    let known = "len: usize) {\n    known!(source: to + len <= N);\n    write(array";
+    let known = "len: usize) {\n    // SAFETY: by this function's `# Safety`.\n    unsafe { known!(source: to + len <= N) };\n    write(array";
     let text = move_pairs("source { to + len ≤ N }").unwrap();
     assert!(text.contains(known), "{text}");
     for no_test in ["room { to + len ≤ N }", "source { IsUtf8 (take len (drop to array.old)) }"] {
@@ -362,15 +386,18 @@ fn g() -> Option<char> {
 fn a_call_that_panics_is_safe_and_knows_nothing() {
     let text = "\
 /// Looks.
-pub fn slice(&self, from: usize) -> &str
+pub fn slice<R: RangeBounds<u8>>(&self, range: R) -> &str
     requires order { from < 3 }
 {
     self.slice(from)
 }
 ";
-    let made = made_as("arraystring_base/src/sample.rt", &format!("impl ArrayString {{\n{text}}}\n")).unwrap();
+    let made =
+        made_as("arraystring_core/src/array_string/range.rt", &format!("impl ArrayString {{\n{text}}}\n")).unwrap();
     assert!(
-        made.contains("\npub fn slice(") && made.contains("\n    self.slice(from)\n") && !made.contains("known!"),
+        made.contains("\npub fn slice<")
+            && made.contains("\n    &self.as_str()[start..end]\n")
+            && !made.contains("known!"),
         "{made}"
     );
 }
@@ -379,23 +406,23 @@ pub fn slice(&self, from: usize) -> &str
 fn what_std_does_is_one_line_with_its_contract() {
     let text = "\
 //! By blocks.
-use crate::x;
+use std::simd::Simd;
 
 /// By blocks of 16.
 #[inline(always)]
 pub(crate) fn equal<const N: usize>(text: &str, other: &str) -> bool
     ensures { result ≡ x }
 {
-    by_blocks(text, other)
+    equal_by_blocks(text, other)
 }
 
 /// The same.
-fn by_blocks() -> bool {
+fn equal_by_blocks() -> bool {
     x
 }
 ";
     let wanted = "\
-// Made from crates/arraystring_core/src/fast/equal.rt by rust/erase. A change goes there.
+// Made from crates/arraystring_core/src/fast/equal.rt by rust/erase. The proof is there. A change goes there.
 //! Whether two texts are equal, which std tells here.
 
 /// Whether the texts of two strings are equal.
@@ -412,7 +439,7 @@ fn by_blocks() -> bool {
 ///
 /// Another body runs here than the one that was proved: std compares the bytes of the texts.
 #[inline(always)]
-pub(crate) fn equal<const N: usize>(text: &str, other: &str) -> bool {
+pub(crate) fn equal(text: &str, other: &str) -> bool {
     text == other
 }
 ";
@@ -426,7 +453,7 @@ fn what_is_not_read_stops_at_its_line() {
     let refused = [
         (
             "fn f() {}\n\npub fn f(n: u8)\n    requires { n < 3 }\n{}\n",
-            "3: `sample::f` has a precondition and is in no list of src/rules.rs",
+            "3: `sample::f` has a precondition and is not in src/decoration/reference.rs",
         ),
         (
             "impl Add for S {\n    ghost can_add = { λ s t. ⊥ };\n}\n",

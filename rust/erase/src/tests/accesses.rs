@@ -11,26 +11,58 @@ fn line(given: &str) -> Result<String, String> {
 #[test]
 fn each_form_of_an_access_is_written_without_a_test() {
     for (given, wanted) in [
-        ("let a = all[at];", "let a = *get_unchecked!(all, at);"),
-        ("all[at] = 1;", "*get_unchecked_mut!(all, at) = 1;"),
-        ("while at < end && all[at] == 1 {}", "while at < end && *get_unchecked!(all, at) == 1 {}"),
-        ("one[at] = two[at] as u8;", "*get_unchecked_mut!(one, at) = *get_unchecked!(two, at) as u8;"),
-        ("f(self.array[self.start as usize + 1]);", "f(*get_unchecked!(self.array, self.start as usize + 1));"),
-        ("f(all[other[at]]);", "f(*get_unchecked!(all, *get_unchecked!(other, at)));"),
-        ("&text[..end]", "get_unchecked!(text, ..end)"),
-        ("&mut all[at..]", "get_unchecked_mut!(all, at..)"),
-        ("f(&self.as_str()[at as usize..]);", "f(get_unchecked!(self.as_str(), at as usize..));"),
-        ("f(&g(a, b[c])[1..=2]);", "f(get_unchecked!(g(a, *get_unchecked!(b, c)), 1..=2));"),
-        ("all[a..b].is_ascii();", "get_unchecked!(all, a..b).is_ascii();"),
-        ("all[a..b].make_ascii_uppercase();", "get_unchecked_mut!(all, a..b).make_ascii_uppercase();"),
-        ("all[a..b].make_ascii_lowercase();", "get_unchecked_mut!(all, a..b).make_ascii_lowercase();"),
-        ("all[a..a + 2].copy_from_slice(&[b, c]);", "copy_from_slice_unchecked!(all, a..a + 2, &[b, c]);"),
-        ("all.copy_within(a..b, to);", "copy_within_unchecked!(all, a..b, to);"),
-        ("self.array.copy_within(a..b, to);", "copy_within_unchecked!(self.array, a..b, to);"),
-        ("let Some(a) = b else { unreachable!() };", "let Some(a) = b else { unreachable_unchecked!() };"),
+        ("let a = all[at];", "let a = *unsafe { get_unchecked!(all, at) };"),
+        ("all[at] = 1;", "*unsafe { get_unchecked_mut!(all, at) } = 1;"),
+        ("while at < end && all[at] == 1 {}", "while at < end && *unsafe { get_unchecked!(all, at) } == 1 {}"),
+        (
+            "one[at] = two[at] as u8;",
+            "*unsafe { get_unchecked_mut!(one, at) } = *unsafe { get_unchecked!(two, at) } as u8;",
+        ),
+        (
+            "f(self.array[self.start as usize + 1]);",
+            "f(*unsafe { get_unchecked!(self.array, self.start as usize + 1) });",
+        ),
+        ("f(all[other[at]]);", "f(*unsafe { get_unchecked!(all, *get_unchecked!(other, at)) });"),
+        ("&text[..end]", "unsafe { get_unchecked!(text, ..end) }"),
+        ("&mut all[at..]", "unsafe { get_unchecked_mut!(all, at..) }"),
+        ("f(&self.as_str()[at as usize..]);", "f(unsafe { get_unchecked!(self.as_str(), at as usize..) });"),
+        ("f(&g(a, b[c])[1..=2]);", "f(unsafe { get_unchecked!(g(a, *get_unchecked!(b, c)), 1..=2) });"),
+        ("all[a..b].is_ascii();", "unsafe { get_unchecked!(all, a..b) }.is_ascii();"),
+        ("all[a..b].make_ascii_uppercase();", "unsafe { get_unchecked_mut!(all, a..b) }.make_ascii_uppercase();"),
+        ("all[a..b].make_ascii_lowercase();", "unsafe { get_unchecked_mut!(all, a..b) }.make_ascii_lowercase();"),
+        ("all[a..a + 2].copy_from_slice(&[b, c]);", "unsafe { copy_from_slice_unchecked!(all, a..a + 2, &[b, c]) };"),
+        ("all.copy_within(a..b, to);", "unsafe { copy_within_unchecked!(all, a..b, to) };"),
+        ("self.array.copy_within(a..b, to);", "unsafe { copy_within_unchecked!(self.array, a..b, to) };"),
+        ("let Some(a) = b else { unreachable!() };", "let Some(a) = b else { unsafe { unreachable_unchecked!() } };"),
     ] {
         assert_eq!(line(given), Ok(wanted.to_string()), "{given}");
     }
+}
+
+/// An access in a call of what is `unsafe`, in a block of the source, or around such a call.
+#[test]
+fn one_block_is_enough_for_what_lies_in_it() {
+    let source = "\
+fn f(all: &mut [u8]) {
+    put(all, all[1]);
+    // SAFETY: it is UTF-8.
+    let a = unsafe { str::from_utf8_unchecked(&all[2..]) };
+    g(&all[put(all, 0)..]);
+}
+
+fn put(all: &mut [u8], at: usize)
+    requires { at < length all.old }
+{}
+";
+    let text = made(source).unwrap();
+    let lines: Vec<_> = text.lines().map(str::trim).filter(|line| line.contains("unsafe {")).collect();
+    let wanted = [
+        "unsafe { put(all, *get_unchecked!(all, 1)) };",
+        "let a = unsafe { str::from_utf8_unchecked(get_unchecked!(all, 2..)) };",
+        "g(unsafe { get_unchecked!(all, put(all, 0)..) });",
+    ];
+    assert_eq!(lines, wanted);
+    assert_eq!(text.matches("// SAFETY: this is within: by the test above.\n").count(), 3, "{text}");
 }
 
 #[test]
@@ -96,7 +128,7 @@ fn accesses_are_tested_where_a_clause_is_given_up_however_deep() {
     };
     assert_eq!(tests(""), [false; 3]);
     assert_eq!(tests("    requires { 2 < length all.now }\n"), [false; 3]);
-    for given_up in crate::rules::GIVEN_UP {
+    for given_up in crate::contracts::given_up() {
         assert_eq!(tests(&format!("    requires {{ {given_up} }}\n")), [true; 3], "{given_up}");
     }
 }
@@ -113,8 +145,8 @@ impl ArrayString {
     }
 }
 ";
-    let made = made_as("arraystring_core/src/sample.rt", source).unwrap();
-    assert!(made.contains("        &self.text[from..]\n"), "{made}");
+    let made = made_as("arraystring_core/src/array_string/range.rt", source).unwrap();
+    assert!(made.contains("        &self.as_str()[start..end]\n") && !made.contains("unchecked"), "{made}");
 }
 
 #[test]
@@ -178,8 +210,8 @@ fn an_access_has_a_reason_or_stops_the_eraser() {
     let source = |name: &str, clauses: &str| {
         format!("fn {name}(all: &mut [u8], at: usize)\n{clauses}{{\n    all[at] = 1;\n    all[0] = 2;\n}}\n")
     };
-    let line = "    // SAFETY: this is within: by the test above.\n    // Proved: crates/arraystring_base/src/sample.rt\n    \
-                *get_unchecked_mut!(all, at) = 1;\n    *get_unchecked_mut!(all, 0) = 2;\n";
+    let line = "    // SAFETY: this is within: by the test above.\n    *unsafe { get_unchecked_mut!(all, at) } = 1;\n    \
+                // SAFETY: this is within: by the test above.\n    *unsafe { get_unchecked_mut!(all, 0) } = 2;\n";
     let listed = made(&source("f", "")).unwrap();
     assert!(listed.contains(line), "{listed}");
     let why =

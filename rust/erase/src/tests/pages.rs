@@ -67,7 +67,7 @@ fn what_became_of_a_precondition_replaces_its_section() {
 
 #[test]
 fn an_example_imports_each_name_once_and_none_behind_a_path() {
-    let imports = crate::sections::imports;
+    let imports = crate::decoration::sections::imports;
     assert_eq!(
         imports("Utf8; Error::Utf8; ArrayStrings; Utf8"),
         "use arraystring::Error;\nuse arraystring::error::Utf8;\n\n"
@@ -98,7 +98,7 @@ impl<const N: usize> ArrayString<N> {
     assert!(made.contains(wanted) && !made.contains("Precondition"), "{made}");
 }
 
-const FILE: &str = "\
+pub const FILE: &str = "\
 /// The type.
 pub struct ArrayString<const N: usize>;
 

@@ -3,8 +3,11 @@
 
 use std::sync::atomic::{AtomicUsize, Ordering};
 
-use crate::names::laws_change_nothing;
-use crate::rules::{GIVEN_UP, NAMED, NO_FACTS, PROOFS_ALONE};
+use crate::code::no_proof_is_left;
+use crate::contracts::given_up;
+use crate::names::{laws_change_nothing, named};
+use crate::places::laws;
+use crate::rules::NO_FACTS;
 
 use super::*;
 
@@ -34,6 +37,8 @@ fn what_is_not_read_is_refused_by_its_name() {
         ("impl S", "1: an item without its end"),
         ("pub", "1: an item without its end"),
         ("pub trait T {}\n", "1: an item with `trait`"),
+        ("\nmore!();\n", "2: an item that begins with `more`"),
+        ("\nunsafe fn f() {}\n", "2: a function that is `unsafe` in its source"),
         ("pub(crate", "1: an item without its end"),
         ("struct", "1: a type without its name"),
         ("struct S {\n    n: u8,\n", "1: a type without its end"),
@@ -44,7 +49,8 @@ fn what_is_not_read_is_refused_by_its_name() {
         ("#[inline\nfn f() {}\n", "1: an attribute without its end"),
         ("#[", "1: an attribute without its end"),
         ("#[derive(Drop, Clone)]\nstruct S;\n", "1: a derive of `Drop` and others"),
-        ("#![inline]\n", "1: the attribute `#![inline]`"),
+        ("#![inline]\n", "1: the attribute `#![inline]` of no item"),
+        ("#![inline]\nfn f() {}\n", "1: the attribute `#![inline]`"),
         ("fn f() {\n    #[cfg(unix)]\n    g();\n}\n", "2: the attribute `#[cfg(unix)]`"),
         ("fn f() {\n    str::from_utf8_unchecked(s)\n}\n", "2: a call of std that is in no `unsafe` block"),
         ("use arraystring_core::laws::text_fits;\nfn f() {\n    text_fits(s\n}\n", "3: a bracket that is not closed"),
@@ -91,7 +97,9 @@ fn a_public_call_says_each_clause_that_is_kept_and_no_other() {
     let made = insert(&[index, room, count].concat()).unwrap();
     assert!(made.contains(&said(&format!("{of_index} {of_room}"))), "{made}");
     assert!(insert(index).unwrap().contains(&said(of_index)));
-    let told = |fact: &str| Err(format!("`ArrayString::insert_unchecked`: src/sentences.rs has no words for `{fact}`"));
+    let told = |fact: &str| {
+        Err(format!("`ArrayString::insert_unchecked`: src/decoration/sentences.rs has no words for `{fact}`"))
+    };
     let changed = |clause: &str, from: &str, to: &str| insert(&clause.replace(from, to));
     assert_eq!(changed(room, "≤", "<"), told("self.len() + ch.len_utf8() < Self::capacity()"));
     assert_eq!(changed(room, "cap N", "cap N - 1"), told("self.len() + ch.len_utf8() <= Self::capacity() - 1"));
@@ -108,17 +116,21 @@ fn a_private_function_says_each_clause_that_is_kept() {
 
 #[test]
 fn a_rule_that_matches_nothing_is_told() {
+    use crate::decoration::reference::{ALIASES, BY_STD, FATES, MORE, ONCE, OTHERS};
     use crate::files::{all_used, entries};
-    use crate::reference::{MORE, ONCE};
-    use crate::rules::*;
+    use crate::lists::{ADDED, LEFT_OUT, PLACES, REQUIRED};
+    use crate::places::twins;
+    use crate::rules::{KNOWN, ORDER, WIDER};
     let crates = concat!(env!("CARGO_MANIFEST_DIR"), "/../../crates");
     let (_, mut tally) = crate::files::made(std::path::Path::new(crates)).unwrap();
     let reasons = tally.reasons.iter().map(|reasons| reasons.entries().len()).sum::<usize>();
-    let named = NAMED.iter().map(|named| named.paths.len()).sum::<usize>();
+    let named = named().iter().map(|named| named.paths.len()).sum::<usize>();
     let of_std = BY_STD.iter().map(|rule| rule.calls.len()).sum::<usize>();
-    let lists = [FATES.len(), WIDER.len(), REPLACED.len(), BY_STD.len(), KNOWN.len(), BODIES.len()];
-    let more = [CONSTANT.len(), ADDED.len(), ONCE.len(), ORDER.len(), MORE.len(), TESTED.len(), LEFT_OUT.len()];
-    let all = lists.iter().chain(&more).sum::<usize>() + reasons + 2 * TWINS.len() + GIVEN_UP.len() + named + of_std;
+    let wider = WIDER.iter().map(|(_, calls)| calls.len()).sum::<usize>();
+    let lists = [FATES.len(), wider, PLACES.len(), OTHERS.len(), BY_STD.len(), of_std, KNOWN.len(), reasons, named];
+    let more = [ADDED.len(), ALIASES.len(), ONCE.len(), ORDER.len(), MORE.len(), LEFT_OUT.len(), REQUIRED.len()];
+    let more = [more.iter().sum(), twins().count(), given_up().len()];
+    let all = lists.iter().chain(&more).sum::<usize>();
     let names = entries(tally.reasons);
     assert_eq!(names.len(), all);
     for name in names {
@@ -223,7 +235,7 @@ fn a_clause_is_given_up_as_a_whole_alone() {
         let why = format!("5: `{clause}`: a clause with `{word}` that is in no list of src/rules.rs");
         assert_eq!(made(&requiring(clause)).unwrap_err(), why, "{clause}");
     };
-    for given_up in GIVEN_UP {
+    for given_up in given_up() {
         let listed =
             "`arraystring_base::sample::first`: Rust gives up a clause of it, and src/reasons.txt does not say why";
         let private = requiring(given_up).replace("pub fn", "fn");
@@ -265,9 +277,8 @@ fn a_look_is_without_a_test_where_a_clause_is_given_up_only_by_its_rule() {
 
 /// A file of the second crate, in which both laws and `look` may be called.
 fn core(text: &str) -> Result<String, String> {
-    let source = Source { krate: "arraystring_core", path: "arraystring_core/src/sample.rt", text };
-    let erased = erase(&source, &mut tally());
-    erased.map(|erased| erased.text).map_err(|fault| format!("{}: {}", line_of(text, fault.at), fault.why))
+    erased_in("arraystring_core", "arraystring_core/src/sample.rt", text)
+        .map_err(|fault| format!("{}: {}", line_of(text, fault.at), fault.why))
 }
 
 /// The import of a name by one of its paths, as the second crate writes it.
@@ -277,11 +288,11 @@ fn import(path: &str) -> String {
 
 #[test]
 fn a_name_that_a_rule_knows_means_one_function() {
-    for named in NAMED {
+    for named in named() {
         let (name, whole) = (named.name, named.paths[0]);
         let call = format!("\nfn f(a: &A) {{\n    {name}(a, b, c);\n}}\n");
-        let (line, kept) = (format!("    {name}(a, b, c);\n"), !PROOFS_ALONE.contains(&name));
-        for path in named.paths {
+        let (line, kept) = (format!("    {name}(a, b, c);\n"), laws().all(|law| law != name));
+        for path in &named.paths {
             let made = core(&(import(path) + &call)).unwrap();
             assert!(!made.contains(&line) && made.contains(&format!("{name}_unchecked(a, b, c)")) == kept, "{made}");
         }
@@ -308,7 +319,7 @@ fn a_name_that_a_rule_knows_means_one_function() {
 
 #[test]
 fn a_name_that_a_rule_knows_is_given_to_nothing_else() {
-    for named in NAMED {
+    for named in named() {
         let (name, whole) = (named.name, named.paths[0]);
         let first = import(named.paths[0]);
         let why = |line: usize, more: &str| format!("{line}: `{name}` is `{whole}`, and {more}");

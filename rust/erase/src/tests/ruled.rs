@@ -33,16 +33,19 @@ fn a_line_is_another_one_and_tests_by_hand_lie_in_a_module() {
         "    steps.looked = steps.looked.saturating_add(1);\n    bytes[at]\n}\n\n/// `look` where bodies call it, without a test.\n///\n\
          /// # Safety\n///\n/// - `at < bytes.len()`\n#[inline(always)]\npub(crate) unsafe fn look_unchecked(\
          bytes: &[u8], at: usize, steps: &mut Steps) -> u8 {\n    steps.looked = steps.looked.saturating_add(1);\n    \
-         // SAFETY: this is within: by the test above.\n    // Proved: crates/arraystring_base/src/steps.rt\n    \
-         *get_unchecked!(bytes, at)\n}\n",
+         // SAFETY: this is within: by this function's `# Safety`.\n    \
+         *unsafe { get_unchecked!(bytes, at) }\n}\n",
         "/// # Panics\n///\n/// Where the index is not below the length.\n///\n/// <details>",
         "\npub fn look(bytes: &[u8], at: usize",
         "\n#[cfg(test)]\n#[path = \"../by_hand/count_tests.rs\"]\nmod tests;\n",
     ];
     has("arraystring_base/src/steps.rt", STEPS, &parts);
-    let twice = format!("{STEPS}fn f() {{\n    steps.looked += 1;\n}}\n");
-    let why = made_as("arraystring_base/src/steps.rt", &twice).unwrap_err();
-    assert_eq!(why, "the line `steps.looked += 1;` is there 2 times");
+    // Another function keeps such a line, and a place is of one item.
+    let elsewhere = "fn f() {\n    steps.looked += 1;\n}\n";
+    has("arraystring_base/src/steps.rt", &format!("{STEPS}{elsewhere}"), &[elsewhere]);
+    let (_, look) = STEPS.split_once("/// Looks.").unwrap();
+    let why = made_as("arraystring_base/src/steps.rt", &format!("{STEPS}{look}")).unwrap_err();
+    assert_eq!(why, "`arraystring_base::steps::look` is there twice");
 }
 
 #[test]
@@ -54,32 +57,35 @@ fn a_derive_is_put_before_a_type() {
 #[test]
 fn what_is_left_out_goes_with_its_imports() {
     let source = "\
-use crate::a::{between, laws, other};
+pub use crate::moves::{move_run, shift};
+pub use crate::moves::{move_run, shift, move_run, move_run};
+pub use crate::moves::move_run;
 
-mod integration;
 mod kept;
-
-/// The part.
-fn between(at: usize) -> usize {
-    at
-}
 
 #[cfg(test)]
 mod tests;
 ";
-    let made = made_as("arraystring_base/src/sample.rt", source).unwrap();
-    assert!(made.ends_with("\nuse crate::arraystring_base::a::{other};\n\nmod kept;\n"), "{made}");
+    let made = made_as("arraystring_base/src/utils.rt", source).unwrap();
+    let shift = "pub use crate::arraystring_base::moves::{shift";
+    assert!(made.ends_with(&format!("hange goes there.\n{shift}}};\n{shift}, }};\n\nmod kept;\n")), "{made}");
+    let modules = "mod integration;\nmod kept;\npub mod laws;\n";
+    let made = made_as("arraystring_core/src/lib.rt", modules).unwrap();
+    assert!(made.ends_with("hange goes there.\nmod kept;\n"), "{made}");
+    let range = "impl ArrayString {\n    /// The part.\n    fn between(at: usize) -> usize {\n        at\n    }\n}\n";
+    let made = made_as("arraystring_core/src/array_string/range.rt", range).unwrap();
+    assert!(made.ends_with("hange goes there.\nimpl ArrayString {\n}\n"), "{made}");
+    assert!(made_as("arraystring_core/src/array_string/other.rt", range).unwrap().contains("fn between("));
 }
 
-const STRING: &str = "\
-impl<const N: usize> ArrayString<N> {
-    /// The text.
-    pub fn as_str(&self) -> &str
-        ensures { result ≡ x }
-    {
-        &self.array[..]
-    }
+/// The type's own file, with a call beside those of its order.
+fn string() -> String {
+    let text = "    /// The text.\n    pub fn as_str(&self) -> &str\n        ensures { result ≡ x }\n    {\n        &self.array[..]\n    }\n\n";
+    pages::FILE.replace("    /// Shows.", &format!("{text}    /// Shows."))
+}
 
+const RANGE: &str = "\
+impl<const N: usize> ArrayString<N> {
     /// A part.
     pub fn get(&self, range: R) -> Option<&str> {
         self.between(range)
@@ -92,12 +98,14 @@ fn a_body_is_another_one_and_a_call_is_constant() {
     let parts = [
         "    pub const fn as_str(&self) -> &str {\n        let (size, start) =",
         "        // SAFETY: the `size` bytes from `start` on are UTF-8, as the fields of the type say.\n        unsafe { str",
-        "    pub fn get(&self, range: R) -> Option<&str> {\n        let (start, end) = plain_ends(range, self.len());\n        \
-         self.as_str().get(start..end)\n    }\n",
     ];
-    has("arraystring_core/src/array_string/sample.rt", STRING, &parts);
-    let made = made_as("arraystring_core/src/array_string/sample.rt", STRING).unwrap();
-    assert!(!made.contains("self.array[..]") && !made.contains("between"), "{made}");
+    let path = "arraystring_core/src/array_string.rt";
+    has(path, &string(), &parts);
+    assert!(!made_as(path, &string()).unwrap().contains("self.array[..]"));
+    let get = "    pub fn get<R: RangeBounds<u8>>(&self, range: R) -> Option<&str> {\n        \
+               let (start, end) = plain_ends(range, self.len());\n        self.as_str().get(start..end)\n    }\n";
+    has("arraystring_core/src/array_string/range.rt", RANGE, &[get]);
+    assert!(!made_as("arraystring_core/src/array_string/range.rt", RANGE).unwrap().contains("between"));
 }
 
 #[test]
@@ -127,7 +135,7 @@ impl<const N: usize> FusedIterator for Drain<N> {}
 fn a_body_calls_the_twin_of_what_panics() {
     let source =
         "use crate::steps::look;\n\nfn first(bytes: &[u8], steps: &mut Steps) -> u8 {\n    look(bytes, 0, steps)\n}\n";
-    let made = "    // SAFETY: `0 < bytes.len()`: by the test above.\n    // Proved: crates/arraystring_base/src/sample.rt\n    \
+    let made = "    // SAFETY: `0 < bytes.len()`: by the test above.\n    \
                 unsafe { look_unchecked(bytes, 0, steps) }\n";
     has("arraystring_base/src/sample.rt", source, &[made]);
     let without = STEPS.replace("at < length bytes.now", "steps.old.looked ≤ 2 ^ 63");
@@ -212,12 +220,13 @@ impl<const N: usize> ArrayString<N> {{
     let parts = [
         "        let (start, end) = plain_ends(range, self.len());\n        let _ = &self.as_str()[start..end];\n",
         "        // SAFETY: `start < 3`: the index above panics else, so no caller shows it.\n        \
-         // Proved: crates/arraystring_core/src/ascii.rt\n        unsafe { self.uppercase_between(start, end) };\n",
+         unsafe { self.uppercase_between(start, end) };\n",
         "    /// # Panics\n",
     ];
-    has("arraystring_core/src/ascii.rt", &found, &parts);
-    let why = made_as("arraystring_core/src/ascii.rt", &source("f();")).unwrap_err();
-    assert_eq!(why, "the line `let (start, end) = plain_ends(range, self.len());` is not there once");
+    let path = "arraystring_core/src/array_string/range.rt";
+    has(path, &found, &parts);
+    // The place has the whole body: what its source had there before, the comparison tells by its checksum.
+    has(path, &source("f();"), &parts);
 }
 
 #[test]
@@ -229,7 +238,7 @@ fn a_function_that_gives_up_a_clause_keeps_its_tests_unless_a_rule_has_it() {
         )
     };
     let path = "arraystring_core/src/sample/remove.rt";
-    has(path, &source("retain_at"), &["    f(*get_unchecked!(array, at));\n", "\nunsafe fn retain_at("]);
+    has(path, &source("retain_at"), &["    f(*unsafe { get_unchecked!(array, at) });\n", "\nunsafe fn retain_at("]);
     has(path, &source("retain_all"), &["    f(array[at]);\n"]);
 }
 
@@ -249,11 +258,15 @@ fn what_runs_here_is_said_below_a_contract_that_was_proved_of_another_body() {
     let said =
         |here: &str| format!("</details>\n///\n/// Another body runs here than the one that was proved: {here}.\n");
     let count = |made: &str| made.matches("Another body runs here").count();
-    let path = "arraystring_core/src/array_string/sample.rt";
-    let made = made_as(path, STRING).unwrap().replace("    ///", "///");
+    let made = made_as("arraystring_core/src/array_string.rt", &string()).unwrap().replace("    ///", "///");
     assert!(made.contains(&said("the array is split twice, since that is `const`")), "{made}");
-    // (`get` has no contract in the sample)
+    // (`as_bytes` has no contract in the sample)
     assert_eq!(count(&made), 1, "{made}");
+    let path = "arraystring_core/src/array_string/range.rt";
+    assert_eq!(count(&made_as(path, RANGE).unwrap()), 0);
+    let contract = RANGE.replace("<&str> {", "<&str>\n        ensures { x }\n    {");
+    let made = made_as(path, &contract).unwrap().replace("    ///", "///");
+    assert!(made.contains(&said("std finds the part, by `str::get`")) && count(&made) == 1, "{made}");
     let steps = made_as("arraystring_base/src/steps.rt", STEPS).unwrap();
     assert!(steps.contains(&said("a count stops at 2^64 - 1")) && count(&steps) == 1, "{steps}");
 }

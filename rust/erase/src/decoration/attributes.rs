@@ -1,40 +1,45 @@
-//! What stands before a function beside its documentation: that a panic is its caller's, that its result is to be used, and how it
-//! may be inlined.
+//! What stands before a function beside its documentation: what others call it, that a panic is its caller's, that its result is
+//! to be used, and how it may be inlined.
 
 use std::ops::Range;
 
-use crate::decorated::Decoration;
+use super::Decoration;
+use super::reference::{ALIASES, FATES, Fate, ONCE, Once};
 use crate::edits::indent;
-use crate::erase::Tally;
 use crate::items::Lead;
-use crate::reference::{ONCE, Once};
-use crate::rules::{FATES, Fate};
 
 impl Decoration<'_> {
-    /// Puts the attributes of a public call before it. The head is its signature in the source.
-    pub fn attributes(&mut self, call: &str, head: Range<usize>, lead: &Lead, tally: &mut Tally) {
+    /// Puts the attributes of a public call before it, by its signature in the source.
+    pub fn attributes(&mut self, call: &str, signature: &str, lead: &Lead) {
+        for (_, alias) in ALIASES.iter().filter(|(of, _)| *of == call) {
+            self.attribute_of(lead, alias);
+            self.tally.count("names that others give a call");
+            self.tally.used.insert(format!("alias {call} {alias}"));
+        }
         let panics = FATES.iter().any(|(name, fate)| *name == call && matches!(fate, Fate::Panics(..)));
         if panics {
             self.attribute_of(lead, "#[track_caller]");
-            tally.count("calls that name their caller where they panic");
+            self.tally.count("calls that name their caller where they panic");
         }
-        if only_returns(&self.text[head]) {
+        if only_returns(signature) {
             self.attribute_of(lead, "#[must_use]");
-            tally.count("calls whose result is to be used");
+            self.tally.count("calls whose result is to be used");
         }
     }
 
     /// Says to rustc that a body may be inlined.
-    pub fn hint(&mut self, call: &str, head: usize, lead: &Lead, tally: &mut Tally) {
-        if !lead.is_inlined {
+    pub fn hint(&mut self, call: &str, head: usize, lead: &Lead) {
+        let is_hint =
+            |at: &Range<usize>| ["#[inline", "#[cold"].iter().any(|hint| self.text[at.clone()].starts_with(hint));
+        if !lead.attributes.iter().any(is_hint) {
             self.attribute_of(lead, "#[inline]");
-            tally.count("functions that may be inlined");
+            self.tally.count("functions that may be inlined");
         }
-        self.once(call, head, lead, tally);
+        self.once(call, head, lead);
     }
 
     /// Lets rustc decide whether a body is inlined that its source always inlines, if a rule says so.
-    fn once(&mut self, call: &str, head: usize, lead: &Lead, tally: &mut Tally) {
+    fn once(&mut self, call: &str, head: usize, lead: &Lead) {
         let always = format!("{}#[inline(always)]\n", indent(self.text, head));
         let name = call.rsplit("::").next().unwrap_or_default();
         let is_meant = |rule: &&Once| rule.file == self.path && !rule.but.contains(&name);
@@ -42,12 +47,13 @@ impl Decoration<'_> {
         if let Some(at) = self.text[lead.docs_end..head].find(&always) {
             let at = lead.docs_end + at;
             self.edits.replace(at..at + always.len(), "");
-            tally.count("functions that need not be inlined");
-            tally.used.insert(format!("once {}", rule.file));
+            self.tally.count("functions that need not be inlined");
+            self.tally.used.insert(format!("once {}", rule.file));
         }
     }
 
-    fn attribute_of(&mut self, lead: &Lead, attribute: &str) {
+    /// Puts an attribute before an item.
+    pub fn attribute_of(&mut self, lead: &Lead, attribute: &str) {
         self.edits.insert(lead.docs_end, format!("{}{attribute}\n", indent(self.text, lead.docs_end)));
     }
 }
@@ -70,14 +76,11 @@ mod tests {
 
     use super::*;
     use crate::cursor::Fault;
-    use crate::erase::{Source, erase};
+    use crate::erase::tests::erased_in;
 
     /// What comes of a file of strings.
     fn made(text: &str) -> Result<String, Fault> {
-        let source = Source { krate: "arraystring_core", path: "arraystring_core/src/array_string/range.rt", text };
-        let mut tally = Tally::default();
-        let _ = erase(&source, &mut tally);
-        erase(&source, &mut tally).map(|erased| erased.text)
+        erased_in("arraystring_core", "arraystring_core/src/array_string/range.rt", text)
     }
 
     #[test]
@@ -128,9 +131,11 @@ impl<const N: usize> ArrayString<N> {
 }
 ";
         let made = made(source).unwrap_or_else(|fault| panic!("{} {}", fault.at, fault.why));
-        assert!(made.contains("\n    #[track_caller]\n    #[inline(always)]\n    pub fn slice<"), "{made}");
+        let before = "\n    #[doc(alias = \"index\")]\n    #[track_caller]\n    #[inline(always)]\n    pub fn slice<";
+        assert!(made.contains(before), "{made}");
         assert!(made.contains("    /// The length.\n    #[must_use]\n    #[inline]\n    pub fn len("), "{made}");
         assert!(made.contains("\n    #[inline]\n    fn private("), "{made}");
         assert_eq!((made.matches("#[must_use]").count(), made.matches("#[track_caller]").count()), (1, 1), "{made}");
+        assert_eq!(made.matches("alias").count(), 1, "{made}");
     }
 }

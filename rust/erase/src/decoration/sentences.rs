@@ -53,7 +53,8 @@ pub fn sentences(call: &str, facts: &[String]) -> Result<String, String> {
         // What a `CacheString` holds is a number in its clauses.
         let of_capacity = if of == "CacheString" { fact.replace("63`", "Self::capacity()`") } else { fact.clone() };
         let found = parts(name, &of_capacity);
-        let (subject, demand) = found.ok_or_else(|| format!("`{call}`: src/sentences.rs has no words for {fact}"))?;
+        let (subject, demand) =
+            found.ok_or_else(|| format!("`{call}`: src/decoration/sentences.rs has no words for {fact}"))?;
         sentences.push(match before {
             (last, _) if last == subject && subject == BYTES => format!("They {demand}."),
             (_, last) if last == demand => format!("So must {subject}."),
@@ -81,8 +82,9 @@ fn capitalised(words: &str) -> String {
 mod tests {
     use std::path::Path;
 
+    use super::super::reference::{FATES, Fate};
     use super::*;
-    use crate::rules::{FATES, Fate, NO_FACTS};
+    use crate::rules::NO_FACTS;
 
     const PUSHED: &str = "The text after the call must fit into the capacity.";
     const INSERTED: &str =
@@ -334,7 +336,7 @@ mod tests {
             ("utf8::encode", "`at + ch.len_utf8() <= N` and more"),
             ("utf8::width", "`at + ch.len_utf8() <= N`"),
         ] {
-            let why = format!("`{call}`: src/sentences.rs has no words for {fact}");
+            let why = format!("`{call}`: src/decoration/sentences.rs has no words for {fact}");
             assert_eq!(sentences(call, &[fact.to_string()]), Err(why));
         }
     }

@@ -1,15 +1,12 @@
 //! Documentation: the sections that Rust has in place of contracts and preconditions, what an example imports, and links.
 
 use std::collections::{BTreeMap, BTreeSet};
-use std::ops::Range;
 
-use crate::contracts::Contracts;
+use super::reference::{LINKS, MORE, NAMES, OWNERS};
+use super::{Decoration, Docs};
 use crate::cursor::{Fault, Token};
-use crate::decorated::Decoration;
 use crate::edits::{indent, line_start};
-use crate::erase::Tally;
-use crate::items::Lead;
-use crate::reference::{LINKS, MORE, NAMES, OWNERS};
+use crate::items::{Item, Lead};
 
 /// The head of the section of a source that Rust's fate replaces.
 const PRECONDITION: &str = "/// # Precondition";
@@ -85,44 +82,62 @@ pub fn example(indent: &str, lines: &[&str]) -> String {
     documented(indent, &format!("\n# Examples\n\n```\n{}{lines}\n```", imports(&lines)))
 }
 
-impl Decoration<'_> {
-    /// Reads a documentation: each example gets its imports. Returns where the section on a precondition is, if there is one.
-    pub fn documentation(&mut self, docs: &[Token], tally: &mut Tally) -> Result<Option<Range<usize>>, Fault> {
-        let mut opened: Option<&Token> = None;
-        for token in docs {
-            match (opened.take(), &self.text[token.at.clone()]) {
-                (Some(first), "/// ```") => {
-                    let put = imports(&self.text[first.at.end..token.at.start]);
-                    self.edits.insert(first.at.end + 1, documented(&indent(self.text, token.at.start), &put));
-                    tally.count("examples");
-                }
-                (Some(first), _) => opened = Some(first),
-                (None, "/// ```") => opened = Some(token),
-                (None, line) if line.starts_with("/// ```") => {
-                    return Err(Fault::new(token.at.start, "an example that no test runs"));
-                }
-                _ => {}
+/// The examples of a documentation: the first and the last line of each.
+fn examples<'d>(text: &str, docs: &'d [Token]) -> Result<Vec<(&'d Token, &'d Token)>, Fault> {
+    let (mut examples, mut opened) = (Vec::new(), None);
+    for token in docs {
+        match (opened.take(), &text[token.at.clone()]) {
+            (Some(first), "/// ```") => examples.push((first, token)),
+            (Some(first), _) => opened = Some(first),
+            (None, "/// ```") => opened = Some(token),
+            (None, line) if line.starts_with("/// ```") => {
+                return Err(Fault::new(token.at.start, "an example that no test runs"));
             }
+            _ => {}
         }
-        if let Some(token) = opened {
-            return Err(Fault::new(token.at.start, "an example without its end"));
+    }
+    match opened {
+        Some(token) => Err(Fault::new(token.at.start, "an example without its end")),
+        None => Ok(examples),
+    }
+}
+
+/// Whether each example of a source has its end, and is run.
+pub fn examples_end(text: &str, items: &[Item]) -> Result<(), Fault> {
+    for item in items {
+        examples(text, &item.lead.docs)?;
+        examples_end(text, &item.items)?;
+    }
+    Ok(())
+}
+
+impl Decoration<'_> {
+    /// Reads a documentation: each example gets its imports.
+    pub fn documentation<'i>(&mut self, lead: &'i Lead) -> Result<Docs<'i>, Fault> {
+        let (text, docs) = (self.text, &lead.docs);
+        for (first, last) in examples(text, docs)? {
+            let put = imports(&text[first.at.end..last.at.start]);
+            self.edits.insert(first.at.end + 1, documented(&indent(text, last.at.start), &put));
+            self.tally.count("examples");
         }
-        let text = self.text;
         let mut heads = docs.iter().filter(|token| text[token.at.clone()].starts_with("/// # "));
-        let Some(first) = heads.find(|token| text[token.at.clone()] == *PRECONDITION) else { return Ok(None) };
-        let end = heads.next().map(|token| line_start(self.text, token.at.start));
+        let Some(first) = heads.find(|token| text[token.at.clone()] == *PRECONDITION) else {
+            return Ok(Docs { lead, precondition: None });
+        };
+        let end = heads.next().map(|token| line_start(text, token.at.start));
         let end = end.or(docs.last().map(|token| token.at.end + 1)).unwrap_or_default();
-        Ok(Some(line_start(self.text, first.at.start)..end))
+        Ok(Docs { lead, precondition: Some(line_start(text, first.at.start)..end) })
     }
 
     /// Puts what became of a precondition in the place of its section, or behind the documentation.
-    pub fn in_its_place(&mut self, lead: &Lead, put: String, tally: &mut Tally) {
-        match &lead.precondition {
+    pub fn in_its_place(&mut self, docs: &Docs, put: String) {
+        let lead = docs.lead;
+        match &docs.precondition {
             Some(at) => {
                 let blank = format!("{}///\n", indent(self.text, at.start));
                 let is_last = at.end == lead.docs_end;
                 self.edits.replace(at.clone(), if is_last { put } else { put + &blank });
-                tally.count("sections on a precondition that Rust's fate replaces");
+                self.tally.count("sections on a precondition that Rust's fate replaces");
             }
             None => {
                 let blank =
@@ -133,37 +148,35 @@ impl Decoration<'_> {
     }
 
     /// Adds a contract to a documentation, folded, and below it what the bodies do here that are others than the proved.
-    pub fn folded(&mut self, at: usize, lines: &str, has_docs: bool, others: &[&str], tally: &mut Tally) {
+    pub fn folded(&mut self, at: usize, lines: &str, has_docs: bool, others: &[&str]) {
         let blank = if has_docs { "\n" } else { "" };
         let put =
             format!("{blank}<details><summary>Contract</summary>\n\n```text\n{lines}\n```\n\n{HOW}\n\n</details>");
         self.edits.insert(at, documented(&indent(self.text, at), &put));
-        tally.count("contracts");
+        self.tally.count("contracts");
         for here in others {
             self.edits.insert(at, documented(&indent(self.text, at), &format!("\n{ANOTHER}: {here}.")));
-            tally.count("contracts over another body than the proved one");
+            self.tally.count("contracts over another body than the proved one");
         }
     }
 
     /// Makes links of the names between backticks, but for those in examples and that of the item itself.
-    pub fn linked(&mut self, lead: &Lead, item: &str, tally: &mut Tally) {
+    pub fn linked(&mut self, docs: &Docs, item: &str) {
         let mut is_example = false;
-        for token in &lead.docs {
+        for token in &docs.lead.docs {
             let line = &self.text[token.at.clone()];
             is_example ^= line == "/// ```";
-            let is_replaced = lead.precondition.as_ref().is_some_and(|at| at.contains(&token.at.start));
+            let is_replaced = docs.precondition.as_ref().is_some_and(|at| at.contains(&token.at.start));
             if is_example || is_replaced || line.matches('`').count() % 2 == 1 {
                 continue;
             }
             let mut at = token.at.start;
             for (part, quoted) in line.split('`').enumerate() {
                 let end = at + quoted.len();
-                if let Some(path) =
-                    (part % 2 == 1 && quoted != item).then(|| self.path_to(quoted, &tally.contracts)).flatten()
-                {
+                if let Some(path) = (part % 2 == 1 && quoted != item).then(|| self.path_to(quoted)).flatten() {
                     self.edits.insert(at - 1, "[");
                     self.edits.insert(end + 1, format!("]({path})"));
-                    tally.count("links");
+                    self.tally.count("links");
                 }
                 at = end + 1;
             }
@@ -171,22 +184,22 @@ impl Decoration<'_> {
     }
 
     /// The path of what a documentation names, if it is public.
-    fn path_to(&self, quoted: &str, contracts: &Contracts) -> Option<String> {
+    fn path_to(&self, quoted: &str) -> Option<String> {
         let name = quoted.strip_prefix("Err(").and_then(|rest| rest.strip_suffix(')')).unwrap_or(quoted);
         if let Some((_, path)) = LINKS.iter().find(|(known, _)| *known == name) {
             return Some(path.to_string());
         }
         let of = OWNERS.iter().find(|(file, _)| self.path.starts_with(file)).map(|(_, of)| *of)?;
-        let of = of.iter().find(|of| contracts.is_public(&format!("{of}::{name}")))?;
+        let of = of.iter().find(|of| self.known.is_public(&format!("{of}::{name}")))?;
         Some(format!("crate::{of}::{name}"))
     }
 
     /// Adds what the documentation of a type has beyond its source.
-    pub fn more(&mut self, name: &str, lead: &Lead, tally: &mut Tally) {
+    pub fn more(&mut self, name: &str, lead: &Lead) {
         for rule in MORE.iter().filter(|rule| rule.file == self.path && rule.of == name) {
             self.edits.insert(lead.docs_end, documented(&indent(self.text, lead.docs_end), rule.lines));
-            tally.count("types with more documentation");
-            tally.used.insert(format!("more {name}"));
+            self.tally.count("types with more documentation");
+            self.tally.used.insert(format!("more {name}"));
         }
     }
 }
