@@ -1,0 +1,1313 @@
+//! Checks that the tokens which a made file shares with its source mean the same in Rust. `compare.rs` sees that they are the same
+//! tokens; this sees where Rust takes them for something else than Rattle does, or where a proof knows what no Rust program can:
+//!
+//! - a caller's code, behind a bound, may answer anything, and may panic in the middle of a call;
+//! - a field that an invariant is about may be written by whoever sees it;
+//! - a word, a sign or a name may stand for something else; an operand may be evaluated before or after another one;
+//! - a ghost part may do something in Rattle, and does nothing here.
+//!
+//! It shares the lexer and the reader of items with `compare.rs`, and no code with the eraser. What it takes stands in lists, each
+//! entry with its reason; an entry that nothing uses, or that has no reason, is refused.
+//!
+//!     rustc --edition 2024 -O rust/meaning.rs -o /tmp/meaning && /tmp/meaning [--root FOLDER]
+//!
+//! The folder is the repository, by default the one in which it runs. Status 1: something is refused, and each is printed with its
+//! place and with what to do. Status 2: it was called wrongly, or a file can't be read. Its tests are in `meaning_tests.rs`.
+
+use std::collections::{BTreeMap, BTreeSet};
+use std::path::PathBuf;
+use std::process::ExitCode;
+
+use compare::{
+    Fault, Files, Item, Kind, Language, MADE, Origin, Token, behind_group, between_commas, items, module_of,
+    path_of_made, pattern, position, read_all, tokens, with_single_closings,
+};
+
+// (what compares is not called here)
+#[allow(dead_code)]
+#[path = "compare.rs"]
+mod compare;
+
+// ---- What is read ----
+
+/// An item of a file.
+struct Part {
+    file: String,
+    item: Item,
+}
+
+impl Part {
+    fn refused(&self, line: usize, why: &str) -> String {
+        format!("{}:{line}: `{}` {why}", self.file, self.item.path)
+    }
+
+    /// The name of a function.
+    fn name(&self) -> &str {
+        self.item.key.rsplit("fn ").next().unwrap_or_default()
+    }
+
+    /// The type whose impl it is in, or none.
+    fn owner(&self) -> Option<String> {
+        let around = self.around();
+        let impl_at = around.iter().position(|token| token.is("impl"))?;
+        let behind = impl_at
+            + 1
+            + if around.get(impl_at + 1)?.is("<") { between_angles(&around, impl_at + 1).len() + 2 } else { 0 };
+        let of = around[behind..].iter().position(|token| token.is("for")).map_or(behind, |found| behind + found + 1);
+        around[of..].iter().find(|token| token.kind == Kind::Word).map(|token| token.text.clone())
+    }
+
+    /// The tokens of the impl around it, and of the modules in its file.
+    fn around(&self) -> Vec<Token> {
+        with_single_closings(pattern(self.item.key.rsplit_once(" / ").map_or("", |(around, _)| around)))
+    }
+}
+
+/// What the macros of the file of accesses are called, and what they call on their operands.
+struct Access {
+    macros: BTreeSet<String>,
+    /// Those that are `unsafe`, or have it in them. Others test something.
+    untested: BTreeSet<String>,
+    methods: BTreeSet<String>,
+}
+
+impl Access {
+    /// Reads them off the file that has them.
+    fn new(text: &str) -> Result<Self, Fault> {
+        let tokens = tokens(text, Language::Rust)?;
+        let is = |at: usize, texts: &[&str]| texts.iter().zip(&tokens[at..]).all(|(text, token)| token.is(text));
+        let behind = |texts: &'static [&str]| {
+            (0..tokens.len().saturating_sub(3)).filter(move |at| is(*at, texts)).map(move |at| at + texts.len())
+        };
+        let name = |at: usize| tokens[at].text.clone();
+        // (what of std is `unsafe` there has such a name, or is of pointers)
+        let is_unsafe = |token: &Token| token.is("unsafe") || token.is("ptr") || token.text.contains("unchecked");
+        let has_unsafe = |at: &usize| {
+            let end = behind_group(&tokens, at + 1).unwrap_or(tokens.len());
+            tokens[at + 1..end].iter().any(is_unsafe)
+        };
+        let macros = || behind(&["macro_rules", "!"]);
+        let methods: BTreeSet<String> = behind(&["$", "of", "."]).map(name).collect();
+        if methods.is_empty() {
+            return Err(Fault { line: 1, why: "no macro calls anything on its operand, `$of`".to_string() });
+        }
+        let untested = macros().filter(has_unsafe).map(name).collect();
+        Ok(Access { macros: macros().map(name).collect(), untested, methods })
+    }
+
+    /// The name of the macro without a test that begins at an index.
+    fn macro_at<'a>(&self, tokens: &'a [Token], at: usize) -> Option<&'a str> {
+        let is_macro = tokens.get(at + 1).is_some_and(|next| next.is("!")) && self.untested.contains(&tokens[at].text);
+        is_macro.then_some(tokens[at].text.as_str())
+    }
+}
+
+/// The names that the sources define.
+#[derive(Default)]
+struct Names {
+    functions: BTreeSet<String>,
+    /// Functions with a `self`.
+    methods: BTreeSet<String>,
+    /// Those with a `mut self`.
+    changing: BTreeSet<String>,
+    /// Types, their variants and constants.
+    types: BTreeSet<String>,
+    fields: BTreeSet<String>,
+    modules: BTreeSet<String>,
+}
+
+/// A type whose model has an invariant.
+struct Guarded {
+    name: String,
+    fields: Vec<String>,
+}
+
+/// All that is looked at.
+struct Program {
+    /// The items of the sources that have a made file.
+    sources: Vec<Part>,
+    made: Vec<Part>,
+    access: Access,
+    names: Names,
+    guarded: Vec<Guarded>,
+}
+
+const ACCESS: &str = "rust/arraystring/src/by_hand/access.rs";
+const UNWINDING: &str = "rust/arraystring/tests/unwinding.rs";
+
+/// Reads a file, or says why not.
+fn parts(files: &Files, path: &str, language: Language, krate: &str, module: &str) -> Result<Vec<Part>, String> {
+    let text = files.get(path).ok_or(format!("{path}: it is not there"))?;
+    let found = items(text, Origin { language, krate, module, orders: &[] });
+    let found = found.map_err(|fault| format!("{path}:{}: {}", fault.line, fault.why))?;
+    let part = |item: Item| Part {
+        file: path.to_string(),
+        item: Item { head: with_single_closings(item.head.clone()), ..item },
+    };
+    Ok(found.into_iter().map(part).collect())
+}
+
+impl Program {
+    fn new(files: &Files) -> Result<Self, String> {
+        let text = files.get(ACCESS).ok_or(format!("{ACCESS}: it is not there"))?;
+        let access = Access::new(text).map_err(|fault| format!("{ACCESS}:{}: {}", fault.line, fault.why))?;
+        let (mut sources, mut made) = (Vec::new(), Vec::new());
+        for path in files.keys() {
+            let Some((krate, module)) = module_of(path) else { continue };
+            let here = path_of_made(&module);
+            if files.contains_key(&here) {
+                sources.extend(parts(files, path, Language::Rattle, krate, &module)?);
+                made.extend(parts(files, &here, Language::Rust, krate, &module)?);
+            }
+        }
+        let names = Names::new(&sources);
+        let guarded = guarded(files, &sources)?;
+        Ok(Program { sources, made, access, names, guarded })
+    }
+
+    /// The functions that are made.
+    fn functions(&self) -> impl Iterator<Item = &Part> {
+        self.made.iter().filter(|part| part.item.is_function)
+    }
+
+    /// The functions and other items of the sources that have their like in what is made. (A module that only keeps an order
+    /// stands in the path of what is made.)
+    fn in_both(&self) -> impl Iterator<Item = &Part> {
+        let last = |part: &Part| part.item.key.rsplit(" / ").next().unwrap_or_default().to_string();
+        let file = |part: &Part| module_of(&part.file).map_or(part.file.clone(), |(_, module)| path_of_made(&module));
+        let made: BTreeSet<_> = self.made.iter().map(|part| (part.file.clone(), last(part))).collect();
+        self.sources.iter().filter(move |part| made.contains(&(file(part), last(part))))
+    }
+
+    fn is_guarded(&self, name: &str) -> bool {
+        self.guarded.iter().any(|guarded| guarded.name == name)
+    }
+
+    fn is_guarded_field(&self, name: &str) -> bool {
+        self.guarded.iter().any(|guarded| guarded.fields.iter().any(|field| field == name))
+    }
+}
+
+/// The names of the fields of a struct, or the variants of an enum, by its tokens.
+fn members(head: &[Token]) -> Vec<String> {
+    let open = group_of_type(head);
+    let Some(end) = behind_group(head, open).filter(|end| open < *end) else { return Vec::new() };
+    let name = |(count, part): (usize, &[Token])| match position(part, &pattern(":")) {
+        Some(at) if at > 0 => part[at - 1].text.clone(),
+        _ if head[open].is("(") => count.to_string(),
+        _ => part.iter().find(|token| token.kind == Kind::Word).map(|token| token.text.clone()).unwrap_or_default(),
+    };
+    between_commas(&head[open + 1..end - 1]).into_iter().enumerate().map(name).collect()
+}
+
+/// Where the group of a type's fields or variants begins, behind its name and its generics.
+fn group_of_type(head: &[Token]) -> usize {
+    let word = head.iter().position(|token| ["struct", "enum"].iter().any(|word| token.is(word))).unwrap_or(0);
+    let group = head[word..].iter().position(|token| token.is("{") || token.is("("));
+    group.map_or(head.len(), |group| word + group)
+}
+
+impl Names {
+    fn new(sources: &[Part]) -> Self {
+        let mut names = Names::default();
+        for part in sources {
+            let last = part.item.key.rsplit(" / ").next().unwrap_or_default();
+            let Some((kind, name)) = last.split_once(' ') else { continue };
+            let name = name.to_string();
+            if position(&part.item.head, &pattern("mut self")).is_some() {
+                names.changing.insert(name.clone());
+            }
+            match kind {
+                "fn" if part.item.head.iter().any(|token| token.is("self")) => names.methods.insert(name),
+                "fn" => names.functions.insert(name),
+                "struct" => {
+                    names.fields.extend(members(&part.item.head));
+                    names.types.insert(name)
+                }
+                "enum" => {
+                    names.types.extend(members(&part.item.head));
+                    names.types.insert(name)
+                }
+                "const" | "type" => names.types.insert(name),
+                "mod" => names.modules.insert(name),
+                _ => false,
+            };
+        }
+        names
+            .modules
+            .extend(compare::lists::CRATES.iter().chain(&["crate", "self", "super"]).map(|name| name.to_string()));
+        names
+    }
+}
+
+/// The types whose models have an invariant, with their fields.
+fn guarded(files: &Files, sources: &[Part]) -> Result<Vec<Guarded>, String> {
+    let mut found = Vec::new();
+    let is_made = |path: &str| module_of(path).is_some_and(|(_, module)| files.contains_key(&path_of_made(&module)));
+    for (path, text) in files.iter().filter(|(path, _)| is_made(path)) {
+        let tokens = tokens(text, Language::Rattle).map_err(|fault| format!("{path}:{}: {}", fault.line, fault.why))?;
+        let mut of = None;
+        for (at, token) in tokens.iter().enumerate() {
+            if token.is("Model") && tokens.get(at + 1).is_some_and(|next| next.is("for")) {
+                of = tokens.get(at + 2).map(|token| token.text.clone());
+            }
+            if is_ghost_item(token, "invariant") {
+                let name = of.clone().ok_or(format!("{path}:{}: an invariant of no type", token.line))?;
+                let is_it =
+                    |part: &&Part| ["struct", "enum"].iter().any(|kind| part.item.key == format!("{kind} {name}"));
+                let item = sources.iter().find(is_it);
+                let item = item.ok_or(format!("{path}:{}: an invariant of `{name}`, which is no type", token.line))?;
+                found.push(Guarded { name, fields: members(&item.item.head) });
+            }
+        }
+    }
+    Ok(found)
+}
+
+/// Whether a token is `ghost NAME = ..;`.
+fn is_ghost_item(token: &Token, name: &str) -> bool {
+    let rest = token.text.strip_prefix("ghost").filter(|_| token.kind == Kind::Ghost);
+    rest.is_some_and(|rest| rest.trim_start().strip_prefix(name).is_some_and(|rest| rest.trim_start().starts_with('=')))
+}
+
+// ---- A caller's code ----
+
+/// What stands between `<` at an index and the `>` that closes it.
+fn between_angles(tokens: &[Token], open: usize) -> &[Token] {
+    let (mut depth, mut at) = (0, open);
+    while let Some(token) = tokens.get(at) {
+        match token.text.as_str() {
+            "<" => depth += 1,
+            ">" => depth -= 1,
+            _ => {}
+        }
+        if depth == 0 {
+            return &tokens[open + 1..at];
+        }
+        at += 1;
+    }
+    &tokens[open + 1..]
+}
+
+/// The type parameters behind a word, each by its name and its bounds. A lifetime and a number are none: neither has code.
+fn type_parameters(tokens: &[Token], behind: usize) -> Vec<(&str, &[Token])> {
+    let Some(open) = tokens.get(behind).filter(|token| token.is("<")).map(|_| behind) else { return Vec::new() };
+    let parts = between_commas(between_angles(tokens, open)).into_iter();
+    let is_type = |part: &&[Token]| part.first().is_some_and(|first| first.kind == Kind::Word && !first.is("const"));
+    parts.filter(is_type).map(|part| (part[0].text.as_str(), &part[1..])).collect()
+}
+
+/// Whether a type parameter has the form of `ASKED_ONCE`: it is asked by the first statement, whose result takes its name.
+fn is_asked_once(parameter: (&str, &[Token]), item: &Item, check: &mut Check) -> bool {
+    let (name, bounds) = parameter;
+    let Some((bound, _)) = check.lists.asked_once.iter().find(|(bound, _)| pattern(bound) == bounds) else {
+        return false;
+    };
+    let uses = |tokens: &[Token]| tokens.iter().filter(|token| token.is(name)).count();
+    let given = item.head.windows(3).find(|three| three[0].kind == Kind::Word && three[1].is(":") && three[2].is(name));
+    let Some(given) = given.map(|three| three[0].text.as_str()) else { return false };
+    let first = pattern(&format!("{{ let {given} = {given}.as_ref();"));
+    let is_it = uses(&item.head) == 2 && uses(&item.body) == 0 && item.body.starts_with(&first);
+    if is_it {
+        check.note(bound);
+    }
+    is_it
+}
+
+/// Whether a function runs a caller's code by what it takes: a bound, a formatter, a trait behind a pointer, or a pointer to a
+/// function.
+fn takes_code(part: &Part, check: &mut Check) -> bool {
+    let (around, head) = (part.around(), &part.item.head);
+    let behind = |tokens: &[Token], word: &str, more: usize| {
+        tokens.iter().position(|token| token.is(word)).map_or(tokens.len(), |at| at + more)
+    };
+    let own = type_parameters(head, behind(head, "fn", 2));
+    let of_impl = type_parameters(&around, behind(&around, "impl", 1));
+    let has_type = own.into_iter().chain(of_impl).any(|parameter| !is_asked_once(parameter, &part.item, check));
+    let is_word = |token: &Token| ["impl", "dyn", "where", "Formatter"].iter().any(|word| token.is(word));
+    let has_pointer = head.windows(2).any(|two| two[0].is("fn") && two[1].is("("));
+    has_type || has_pointer || head.iter().any(is_word)
+}
+
+/// Whether a word at an index is called, or handed on to be called.
+fn is_call(tokens: &[Token], at: usize) -> bool {
+    let next = |ahead: usize, text: &str| tokens.get(at + ahead).is_some_and(|token| token.is(text));
+    let before = |texts: &[&str]| at > 0 && texts.iter().any(|text| tokens[at - 1].is(text));
+    let is_handed = before(&["(", ",", "::", "=", "&"]) && [")", ",", ";"].iter().any(|end| next(1, end));
+    next(1, "(") || next(1, "::") && next(2, "<") || is_handed
+}
+
+/// Whether a function calls another one, by its name, and by its type where that is said.
+fn calls(part: &Part, other: &Part, names: &Names) -> bool {
+    let body = &part.item.body;
+    (1..body.len()).filter(|at| body[*at].is(other.name()) && is_call(body, *at)).any(|at| {
+        match body[at - 1].text.as_str() {
+            "." => other.owner().is_some(),
+            "::" => match head_of_path(body, at - 1) {
+                "Self" => other.owner() == part.owner(),
+                head if names.types.contains(head) => other.owner().as_deref() == Some(head),
+                _ => true,
+            },
+            _ => other.owner().is_none(),
+        }
+    })
+}
+
+/// Functions, and all that call one of them, each by its index.
+fn with_callers(functions: &[&Part], seed: BTreeSet<usize>, names: &Names) -> BTreeSet<usize> {
+    let mut found = seed;
+    let mut new: Vec<usize> = found.iter().copied().collect();
+    while let Some(other) = new.pop() {
+        for at in 0..functions.len() {
+            if !found.contains(&at) && calls(functions[at], functions[other], names) {
+                found.insert(at);
+                new.push(at);
+            }
+        }
+    }
+    found
+}
+
+/// The index of the first word in a body that may write a field of an invariant: one that is assigned, lent to be written, or that
+/// a method is called on; or what a reference is to.
+fn writes(body: &[Token], program: &Program) -> Option<usize> {
+    let is_assigned = |at: usize| body.get(at).is_some_and(is_assignment);
+    let groups = (0..body.len()).filter(|at| body[*at].is("(") || body[*at].is("["));
+    let unpacked = groups.filter_map(|at| Some(at..behind_group(body, at)?)).filter(|group| is_assigned(group.end));
+    let unpacked: Vec<_> = unpacked.collect();
+    (1..body.len()).find(|at| {
+        let (before, word) = (&body[at - 1], &body[*at]);
+        let is_field = before.is(".") && program.is_guarded_field(&word.text);
+        let is_part = body.get(at + 1).is_some_and(|next| next.is("["));
+        let end = if is_part { behind_group(body, at + 1).unwrap_or(body.len()) } else { at + 1 };
+        let is_called = body.get(end).is_some_and(|next| next.is("."));
+        let is_through = before.is("*") && word.kind == Kind::Word;
+        let is_unpacked = unpacked.iter().any(|group| group.contains(at));
+        is_field && (is_called || is_unpacked || is_lent_to_write(body, *at))
+            || (is_field || is_through) && is_assigned(end)
+    })
+}
+
+fn is_assignment(token: &Token) -> bool {
+    const SIGNS: &[&str] = &["=", "+=", "-=", "*=", "/=", "%=", "^=", "&=", "|=", "<<=", ">>="];
+    SIGNS.iter().any(|sign| token.is(sign))
+}
+
+/// Whether the path that ends at an index stands behind `&mut`, or is what a macro writes to.
+fn is_lent_to_write(body: &[Token], end: usize) -> bool {
+    let is_of_path = |token: &Token| token.kind == Kind::Word && !token.is("mut") || token.is(".");
+    let start = (0..=end).rev().take_while(|at| is_of_path(&body[*at])).last().unwrap_or(end);
+    let before = |back: usize| start.checked_sub(back).map(|at| &body[at]);
+    let is_macro = |name: &Token| name.text.starts_with("copy_") || name.text.contains("_mut");
+    let is_written = before(1).is_some_and(|token| token.is("(")) && before(2).is_some_and(|token| token.is("!"));
+    before(1).is_some_and(|token| token.is("mut")) || is_written && before(3).is_some_and(is_macro)
+}
+
+/// Whether a value of a type with an invariant is made at an index, by whatever name of the type.
+fn is_value(part: &Part, at: usize, program: &Program) -> bool {
+    let body = &part.item.body;
+    let is = |text: &str| body.get(at + 1).is_some_and(|next| next.is(text));
+    let inside = || behind_group(body, at + 1).map_or(&body[..0], |end| &body[at + 2..end - 1]);
+    let is_field = |part: &[Token]| part.first().is_some_and(|first| program.is_guarded_field(&first.text));
+    let is_type = body[at].kind == Kind::Word && body[at].text.starts_with(|ch: char| ch.is_ascii_uppercase());
+    let is_here = || body[at].is("Self") && part.owner().is_some_and(|owner| program.is_guarded(&owner));
+    let has_field = || between_commas(inside()).into_iter().any(is_field);
+    is_type && (is("{") && has_field() || is("(") && (program.is_guarded(&body[at].text) || is_here()))
+}
+
+/// What a body has that a wrong answer would make undefined, or the start of a broken value: at which line, and what.
+fn needs_facts(part: &Part, program: &Program) -> Option<(usize, String)> {
+    let body = &part.item.body;
+    let found = (0..body.len()).find_map(|at| match program.access.macro_at(body, at) {
+        Some(name) => Some((at, format!("`{name}!`"))),
+        None if body[at].is("unsafe") => Some((at, "`unsafe`".to_string())),
+        None => is_value(part, at, program).then(|| (at, format!("a new `{}`", body[at].text))),
+    });
+    let found = found.or_else(|| writes(body, program).map(|at| (at, format!("a write of `{}`", body[at].text))));
+    found.map(|(at, what)| (body[at].line, what))
+}
+
+// ---- What is refused ----
+
+/// Functions that run a caller's code while they write a field of an invariant.
+struct Played {
+    functions: &'static [&'static str],
+    /// The calls that the tests of unwinding make with code that panics; or none, and why no caller's code runs.
+    calls: &'static [&'static str],
+    why: &'static str,
+}
+
+/// Words of one reason, with blanks between.
+struct Words {
+    words: &'static str,
+    why: &'static str,
+}
+
+struct Lists {
+    asked_once: &'static [(&'static str, &'static str)],
+    bounded: &'static [(&'static str, &'static str)],
+    played: &'static [Played],
+    words: &'static [Words],
+    plain_calls: &'static [(&'static str, &'static str)],
+}
+
+struct Check {
+    lists: &'static Lists,
+    used: BTreeSet<String>,
+    refused: Vec<String>,
+}
+
+impl Check {
+    fn new(lists: &'static Lists) -> Self {
+        Check { lists, used: BTreeSet::new(), refused: Vec::new() }
+    }
+
+    fn note(&mut self, entry: &str) {
+        self.used.insert(entry.to_string());
+    }
+
+    fn all(&mut self, files: &Files) {
+        match Program::new(files) {
+            Ok(program) => {
+                self.bounds(&program, files);
+                self.fields(&program);
+                self.names(&program, files);
+                self.words(&program);
+                self.operands(&program);
+                self.ghosts(files);
+            }
+            Err(why) => self.refused.push(why),
+        }
+    }
+
+    /// A function that runs a caller's code needs no fact of it, or keeps its tests; and it runs none while a value is broken.
+    fn bounds(&mut self, program: &Program, files: &Files) {
+        let functions: Vec<_> = program.functions().collect();
+        let all = 0..functions.len();
+        let takes = all.clone().filter(|at| takes_code(functions[*at], self)).collect();
+        let running = with_callers(&functions, takes, &program.names);
+        for part in running.iter().map(|at| functions[*at]) {
+            let Some((line, what)) = needs_facts(part, program) else { continue };
+            match self.lists.bounded.iter().find(|(path, _)| *path == part.item.path) {
+                Some((path, _)) => self.note(path),
+                None => self.refused.push(part.refused(line, &format!("{NEEDS_FACTS} {what}: {NEEDS_FACTS_DO}"))),
+            }
+        }
+        let writes = all.filter(|at| writes(&functions[*at].item.body, program).is_some()).collect();
+        let writing = with_callers(&functions, writes, &program.names);
+        for part in running.intersection(&writing).map(|at| functions[*at]).filter(|part| may_write(part, program)) {
+            self.unwinding(part, files);
+        }
+    }
+
+    fn unwinding(&mut self, part: &Part, files: &Files) {
+        let path = part.item.path.as_str();
+        let Some(played) = self.lists.played.iter().find(|played| played.functions.contains(&path)) else {
+            return self.refused.push(part.refused(part.item.line, MAY_UNWIND));
+        };
+        self.note(&format!("played {path}"));
+        if played.calls.is_empty() && part.item.head[0].is("pub") && takes_code(part, self) {
+            self.refused.push(part.refused(part.item.line, HANDED_IN));
+        }
+        let tests = files.get(UNWINDING).map_or("", String::as_str);
+        let tests = tokens(tests, Language::Rust).unwrap_or_default();
+        for call in played.calls {
+            let is_made = (1..tests.len()).any(|at| {
+                tests[at].is(call) && is_call(&tests, at) && (tests[at - 1].is(".") || tests[at - 1].is("::"))
+            });
+            if !is_made {
+                self.refused.push(
+                    part.refused(part.item.line, &format!("is played by `{call}`, and {UNWINDING} calls it nowhere")),
+                );
+            }
+        }
+    }
+
+    /// A field that an invariant is about is seen by the module of its type alone.
+    fn fields(&mut self, program: &Program) {
+        for part in program.sources.iter().chain(&program.made) {
+            let last = part.item.key.rsplit(" / ").next().unwrap_or_default();
+            let Some((kind, _)) = last.split_once(' ').filter(|(_, name)| program.is_guarded(name)) else { continue };
+            let public = part.item.head[group_of_type(&part.item.head)..].iter().find(|token| token.is("pub"));
+            match (kind, public) {
+                ("struct", Some(token)) => self.refused.push(part.refused(token.line, PUBLIC_FIELD)),
+                ("enum", _) => self.refused.push(part.refused(part.item.line, PUBLIC_VARIANT)),
+                _ => {}
+            }
+        }
+    }
+}
+
+/// Whether a function can write anything that is not a count or what a caller gave to write into. Where a type holds a `&mut`, each
+/// can.
+fn may_write(part: &Part, program: &Program) -> bool {
+    let head = &part.item.head;
+    let is_own =
+        |tokens: &[Token]| (0..tokens.len()).any(|at| tokens[at].is("mut") && !is_of_others(&tokens[at + 1..], head));
+    let lends = |part: &Part| !part.item.is_function && part.item.head.iter().any(|token| token.is("mut"));
+    is_own(head) || is_own(&part.item.body) || program.made.iter().any(lends)
+}
+
+fn is_of_others(of: &[Token], head: &[Token]) -> bool {
+    let is = |text: &str| of.starts_with(&pattern(text));
+    is("Steps") || is("fmt::Formatter") || is("H") && position(head, &pattern("H: Hasher")).is_some()
+}
+
+const NEEDS_FACTS: &str = "runs a caller's code, which may answer anything in Rust, and has";
+const NEEDS_FACTS_DO: &str = "test here what is needed of an answer, and enter it in `BOUNDED` of rust/meaning.rs \
+                              with why nothing of the bound is needed";
+const MAY_UNWIND: &str = "runs a caller's code, which may panic, and writes what an invariant is about: let the \
+                          invariant hold at each such call, and enter it in `PLAYED` of rust/meaning.rs with the \
+                          calls that play it in the tests of unwinding";
+const HANDED_IN: &str = "is said to run no caller's code, and others may hand some in: take the `pub` away, or name the \
+                         calls that play it";
+const PUBLIC_FIELD: &str = "has an invariant, and a field that others see could break it: take the `pub` away";
+const PUBLIC_VARIANT: &str = "has an invariant, and whoever sees an enum can make any value of it: put it \
+                              into a struct with a private field";
+
+// ---- The lists ----
+
+const ASKED: &str = "it is asked by the first statement, once, and what it gives is a text or a slice as any other: \
+                     the proof is of that";
+
+/// Bounds of a parameter that is asked once.
+const ASKED_ONCE: &[(&str, &str)] = &[(": AsRef<str>", ASKED), (": AsRef<[u8]>", ASKED), (": AsRef<[u16]>", ASKED)];
+
+const ENDS: &str = "the two ends are numbers that were copied out of the range, and they are tested here";
+const PIECES: &str = "what the iterator gives is a text or a character in Rust whatever it does; each is bound once, \
+                      and `append_chars` and `append_strs` test room for it";
+const NEW_TEXT: &str = "the array, its start and its size begin as those of an empty text, `append_chars` and \
+                        `append_strs` leave them as those of a text whatever the iterator gives, and the string is \
+                        made of them behind the last item";
+const SAFETY: &str = "the precondition of this `unsafe fn` is of the items that the iterator gives in this call, each \
+                      is bound once, and nothing else of the bound is needed";
+const ANSWER: &str = "the answer only says whether the loop goes on, and what is dropped was tested or read before it";
+
+/// Functions that run a caller's code and have an access without a test, an `unsafe` call or a write of what an invariant is
+/// about, and why nothing of the bound is needed.
+const BOUNDED: &[(&str, &str)] = &[
+    ("arraystring_core::array_string::append::ArrayString::add_chars", PIECES),
+    ("arraystring_core::array_string::append::ArrayString::append_chars", PIECES),
+    ("arraystring_core::array_string::append::ArrayString::add_strs", PIECES),
+    ("arraystring_core::array_string::append::ArrayString::append_strs", PIECES),
+    ("arraystring_core::array_string::construct::ArrayString::try_from_iterator", NEW_TEXT),
+    ("arraystring_core::array_string::construct::ArrayString::from_iterator", NEW_TEXT),
+    ("arraystring_core::array_string::construct::ArrayString::try_from_chars", NEW_TEXT),
+    ("arraystring_core::array_string::construct::ArrayString::from_chars", NEW_TEXT),
+    ("arraystring_core::array_string::construct::ArrayString::from_iterator_unchecked", SAFETY),
+    ("cache_string::CacheString::from_iterator_unchecked", SAFETY),
+    ("cache_string::CacheString::from_chars_unchecked", SAFETY),
+    ("arraystring_core::array_string::range::ArrayString::drain_through", ENDS),
+    ("arraystring_core::array_string::range::ArrayString::make_ascii_uppercase_in", ENDS),
+    ("arraystring_core::array_string::range::ArrayString::make_ascii_lowercase_in", ENDS),
+    (
+        "arraystring_core::array_string::remove::ArrayString::retain",
+        "what it hands to `retain_at` is read from the fields, before the closure is called",
+    ),
+    (
+        "arraystring_core::array_string::remove::retain_at",
+        "the answer only says whether a character is kept: `read` goes on by it in both cases, and `kept` by at most \
+         as much",
+    ),
+    ("arraystring_core::array_string::trim::ArrayString::drop_trailing", ANSWER),
+    ("arraystring_core::array_string::trim::ArrayString::drop_leading_ascii", ANSWER),
+    ("arraystring_core::array_string::trim::ArrayString::drop_leading_decoded", ANSWER),
+];
+
+const BETWEEN: &str = "between two items the array, its start and its size are those of the text so far";
+const BEFORE: &str = "the range and the text are asked before anything is written";
+const OWN_CLOSURE: &str = "the closure is a function of this file, which can't panic, and no caller hands one in";
+
+/// Functions that run a caller's code and write what an invariant is about, and the calls by which rust/arraystring/tests/unwinding.rs
+/// plays code that panics there.
+const PLAYED: &[Played] = &[
+    Played {
+        functions: &[
+            "arraystring_core::array_string::append::ArrayString::add_chars",
+            "arraystring_core::array_string::append::ArrayString::append_chars",
+            "arraystring_core::array_string::construct::ArrayString::try_from_chars",
+            "arraystring_core::array_string::construct::ArrayString::from_chars",
+            "arraystring_core::array_string::push::ArrayString::extend_chars",
+        ],
+        calls: &["extend_chars", "try_from_chars", "from_chars"],
+        why: BETWEEN,
+    },
+    Played {
+        functions: &[
+            "arraystring_core::array_string::append::ArrayString::add_strs",
+            "arraystring_core::array_string::append::ArrayString::append_strs",
+            "arraystring_core::array_string::construct::ArrayString::try_from_iterator",
+            "arraystring_core::array_string::construct::ArrayString::from_iterator",
+            "arraystring_core::array_string::push::ArrayString::extend_strs",
+        ],
+        calls: &["extend_strs", "try_from_iterator", "from_iterator"],
+        why: BETWEEN,
+    },
+    Played {
+        functions: &[
+            "arraystring_core::array_string::range::ArrayString::drain",
+            "arraystring_core::array_string::range::ArrayString::drain_counted",
+            "arraystring_core::array_string::range::ArrayString::drain_through",
+            "arraystring_core::array_string::range::ArrayString::replace_range",
+            "arraystring_core::array_string::range::ArrayString::replace_range_counted",
+            "arraystring_core::array_string::range::ArrayString::make_ascii_uppercase_in",
+            "arraystring_core::array_string::range::ArrayString::make_ascii_lowercase_in",
+        ],
+        calls: &["drain", "replace_range", "make_ascii_uppercase_in", "make_ascii_lowercase_in"],
+        why: BEFORE,
+    },
+    Played {
+        functions: &[
+            "arraystring_core::array_string::remove::ArrayString::retain",
+            "arraystring_core::array_string::remove::retain_at",
+        ],
+        calls: &["retain"],
+        why: "while the closure runs, the size is that of what was kept, which lies in front",
+    },
+    Played {
+        functions: &[
+            "arraystring_core::array_string::trim::ArrayString::trim",
+            "arraystring_core::array_string::trim::ArrayString::trim_counted",
+            "arraystring_core::array_string::trim::ArrayString::trim_spaces",
+            "arraystring_core::array_string::trim::ArrayString::drop_trailing",
+            "arraystring_core::array_string::trim::ArrayString::drop_leading",
+            "arraystring_core::array_string::trim::ArrayString::drop_leading_ascii",
+            "arraystring_core::array_string::trim::ArrayString::drop_leading_decoded",
+        ],
+        calls: &[],
+        why: OWN_CLOSURE,
+    },
+];
+
+/// Calls without arguments that change nothing, so that an index of what they return is the same before or after them.
+const PLAIN_CALLS: &[(&str, &str)] = &[("as_str", "it reads a text, and takes a `&self`")];
+
+const fn words(why: &'static str, words: &'static str) -> Words {
+    Words { words, why }
+}
+
+/// What the sources name of the language and of std. A word behind a point or behind `::` is listed with that, a range and a cast by
+/// their forms.
+const WORDS: &[Words] = &[
+    words(
+        "the form of items, blocks, paths and bindings, which Rattle has of Rust",
+        "( ) [ ] { } , ; : :: . -> => = as const crate enum fn impl let mod pub self Self struct super type",
+    ),
+    words(
+        "a branch, a walk or a return, which goes where it goes in Rust; a `for` asks an iterator for the next item \
+         until there is none",
+        "if else match for in while break continue return ?",
+    ),
+    words(
+        "values of the same numbers of bits, and Unicode scalar values; where a `usize` has 32 bits for the 64 of the \
+         proofs, accesses keep their tests",
+        "bool char str u16 u64 u8 usize true false",
+    ),
+    words("an enum of std, by its variants", "Option Some None Result Ok Ordering"),
+    words("references, which change nothing but what they are to; `*` is a product of numbers, too", "& mut *"),
+    words(
+        "numbers without a sign: the proof has that no result leaves its type, so that Rust neither wraps nor panics",
+        "+ - / % += -=",
+    ),
+    words(
+        "of numbers, characters, texts and the types here, which write their `eq` and `cmp` or derive them; `&&` and \
+         `||` ask the right side only where it counts",
+        "== != < <= > >= && || !",
+    ),
+    words(
+        "the low bits of a number without a sign, or a number of more bits; a `char` as its number, and a `u8` as a \
+         `char`",
+        "as:char as:u32 as:u64 as:u8 as:usize",
+    ),
+    words("a part of a slice or a text, which is proved to be within", ".. a..]"),
+    words("a test of one value, by a pattern with both ends", "matches! matches!(a..=b)"),
+    words("it is proved not to be reached, and the eraser says so to rustc", "unreachable!"),
+    words("around a call of std whose precondition is proved", "unsafe"),
+    words(
+        "calls of std: Rattle's std has the contract of Rust's, and rust/arraystring/tests plays them beside \
+         `String`",
+        ".chars() .copy_from_slice() .copy_within() .is_char_boundary() .is_whitespace() .len_utf8() .min() \
+         .saturating_add() .split_first() char::REPLACEMENT_CHARACTER char::from_u32 char::from_u32_unchecked \
+         str::from_utf8_unchecked use:core::char",
+    ),
+    words(
+        "vectors of bytes: rust/arraystring/src/by_hand/simd.rs has them, with tests of each byte and each lane",
+        "Simd Simd::from_slice .copy_to_slice()",
+    ),
+    words(
+        "what is printed, in the order of the calls; a formatter may fail in both, and nothing rests on what it \
+         answers",
+        "fmt fmt::Debug fmt::Display fmt::Error fmt::Formatter fmt::Result fmt::Write .debug_struct() .debug_tuple() \
+         .field() .finish() use:core::fmt",
+    ),
+    words(
+        "traits that the types here have: their methods are written out, and tests call each",
+        "Add Default DoubleEndedIterator Eq From FromStr FusedIterator Hash Iterator Ord PartialEq PartialOrd \
+         StdError Utf8Error use:core::cmp::Ordering use:core::error::Error:StdError use:core::hash::Hash \
+         use:core::iter::FusedIterator use:core::ops::Add use:core::str::FromStr use:core::str::Utf8Error",
+    ),
+    words(
+        "bounds of what a caller hands in: `BOUNDED` says of each function what it needs of them",
+        "Bound Bound::Excluded Bound::Included Bound::Unbounded Fn FnMut Hasher IntoIterator RangeBounds \
+         .start_bound() .end_bound() use:core::hash::Hasher use:core::ops::Bound use:core::ops::RangeBounds",
+    ),
+    words("a bound that each type has in Rust, and a derive that says so", "Drop #[derive(Drop)]"),
+    words(
+        "derives, which do field by field what they do in Rust",
+        "#[derive(Clone)] #[derive(Copy)] #[derive(Debug)] #[derive(Default)] #[derive(Eq)] #[derive(PartialEq)]",
+    ),
+    words("how fast it is, and nothing else", "#[cold] #[inline] #[inline(always)] #[inline(never)]"),
+    words("a law, whose calls are left out: compare.rs has that its body does nothing", "only_reading() text_fits()"),
+];
+
+const LISTS: Lists =
+    Lists { asked_once: ASKED_ONCE, bounded: BOUNDED, played: PLAYED, words: WORDS, plain_calls: PLAIN_CALLS };
+
+// ---- Names ----
+
+const TRAITS_OF_PLACES: &[&str] = &["Index", "IndexMut", "Deref", "DerefMut"];
+
+impl Check {
+    /// No name of the sources stands for what an access macro is called or calls.
+    fn names(&mut self, program: &Program, files: &Files) {
+        let access = &program.access;
+        let is_taken = |name: &str| access.macros.contains(name) || access.methods.contains(name);
+        for part in program.sources.iter().chain(&program.made) {
+            let last = part.item.key.rsplit(" / ").next().unwrap_or_default();
+            let name = last.rsplit([' ', ':']).next().unwrap_or_default();
+            let line = part.item.line;
+            let of_trait = last.starts_with("impl").then(|| pattern(last)).unwrap_or_default();
+            let is_place = |two: &[Token]| {
+                TRAITS_OF_PLACES.iter().any(|name| two[0].is(name)) && (two[1].is("<") || two[1].is("for"))
+            };
+            if is_taken(name) {
+                self.refused.push(part.refused(line, TAKEN_NAME));
+            } else if of_trait.windows(2).any(is_place) {
+                self.refused.push(part.refused(line, OWN_PLACES));
+            }
+        }
+        let is_made = |path: &str| program.made.iter().any(|part| part.file == path);
+        let is_by_hand = |path: &str| path.starts_with(MADE) && path != ACCESS && !is_made(path);
+        for (path, text) in files.iter().filter(|(path, _)| is_by_hand(path)) {
+            let tokens = tokens(text, Language::Rust).unwrap_or_default();
+            let is_named =
+                |three: &&[Token]| three[0].is("macro_rules") && three[1].is("!") && is_taken(&three[2].text);
+            let function = |three: &&[Token]| three[0].is("fn") && is_taken(&three[1].text);
+            for three in tokens.windows(3).filter(|three| is_named(three) || function(three)) {
+                self.refused.push(format!("{path}:{}: {TAKEN_NAME}", three[0].line));
+            }
+        }
+    }
+}
+
+const TAKEN_NAME: &str =
+    "is what an access macro is called, or calls on its operand, so that an access would call this: take another name";
+const OWN_PLACES: &str = "makes an index, or a method behind a point, mean this in an access, whose macro calls that \
+                          of std: give it a name of its own and no impl";
+
+// ---- Words ----
+
+const KEYWORDS: &[&str] = &[
+    "as", "break", "const", "continue", "crate", "dyn", "else", "enum", "fn", "for", "if", "impl", "in", "let", "loop",
+    "match", "mod", "move", "mut", "pub", "ref", "return", "self", "Self", "static", "struct", "super", "trait",
+    "type", "union", "unsafe", "use", "where", "while", "async", "await", "extern",
+];
+
+fn is_keyword(token: &Token) -> bool {
+    token.kind == Kind::Word && KEYWORDS.contains(&token.text.as_str())
+}
+
+/// The names that an item gives to values, types and numbers of its own: what stands before a `:` in its head, what its generics
+/// have, and what its patterns bind.
+fn bound_names(part: &Part) -> BTreeSet<String> {
+    let (head, body, around) = (&part.item.head, &part.item.body, part.around());
+    let mut names: BTreeSet<String> = BTreeSet::new();
+    for tokens in [head, &around] {
+        let named = tokens.windows(2).filter(|two| two[0].kind == Kind::Word && two[1].is(":"));
+        names.extend(named.map(|two| two[0].text.clone()));
+        let is_of_item = |at: usize| at > 0 && tokens[at - 1].is("impl") || at > 1 && tokens[at - 2].is("fn");
+        let generics = (0..tokens.len()).filter(|at| is_of_item(*at)).flat_map(|at| type_parameters(tokens, at));
+        names.extend(generics.map(|(name, _)| name.to_string()));
+    }
+    for pattern in (0..body.len()).map(|at| pattern_at(body, at)) {
+        let is_bound = |token: &Token| token.text.starts_with(|ch: char| ch.is_ascii_lowercase()) && !is_keyword(token);
+        let is_head = |at: usize| pattern.get(at + 1).is_some_and(|next| next.is("::"));
+        let bound = (0..pattern.len()).filter(|at| is_bound(&pattern[*at]) && !is_head(*at));
+        names.extend(bound.map(|at| pattern[at].text.clone()));
+    }
+    names
+}
+
+/// The pattern that begins at a `let`, a `for` or a `|`, or that stands before a `=>`, without its type and its condition.
+fn pattern_at(body: &[Token], at: usize) -> &[Token] {
+    let is = |at: usize, texts: &[&str]| body.get(at).is_some_and(|token| texts.iter().any(|text| token.is(text)));
+    let up_to = |ends: &[&str]| &body[at + 1..(at + 1..body.len()).find(|end| is(*end, ends)).unwrap_or(body.len())];
+    match body[at].text.as_str() {
+        "let" => up_to(&["=", ";", ":"]),
+        "for" => up_to(&["in"]),
+        "|" if at > 0 && is(at - 1, &["(", ",", "=", "move"]) => up_to(&["|", ":"]),
+        "=>" => {
+            let arm = &body[start_of_arm(body, at)..at];
+            arm.split(|token| token.is("if")).next().unwrap_or_default()
+        }
+        _ => &[],
+    }
+}
+
+/// Where the pattern of a match arm begins, by the `=>` behind it.
+fn start_of_arm(body: &[Token], arrow: usize) -> usize {
+    let (mut at, mut depth) = (arrow, 0);
+    while at > 0 {
+        let token = &body[at - 1];
+        let closes = [")", "]", "}"].iter().any(|sign| token.is(sign));
+        let is_end = depth == 0 && (token.is(",") || token.is("{") || token.is("}") && at < arrow);
+        if is_end {
+            break;
+        }
+        depth += i32::from(closes) - i32::from(["(", "[", "{"].iter().any(|sign| token.is(sign)));
+        at -= 1;
+    }
+    at
+}
+
+/// What stands before a `::` at an index: a word, or the word before its generics.
+fn head_of_path(tokens: &[Token], colons: usize) -> &str {
+    let mut at = colons;
+    let mut depth = 0;
+    while at > 0 {
+        at -= 1;
+        match tokens[at].text.as_str() {
+            ">" => depth += 1,
+            "<" => depth -= 1,
+            "::" if depth == 0 => {}
+            word if depth == 0 && tokens[at].kind == Kind::Word => return word,
+            _ if depth == 0 => return "",
+            _ => {}
+        }
+        if depth == 0 && tokens[at].is("<") && !(at > 0 && tokens[at - 1].is("::")) {
+            return "";
+        }
+    }
+    ""
+}
+
+/// What an item takes of the language and of std: words and signs as `WORDS` has them, each with its line.
+struct Spelling<'a> {
+    tokens: &'a [Token],
+    names: &'a Names,
+    bound: &'a BTreeSet<String>,
+}
+
+impl Spelling<'_> {
+    fn is(&self, at: usize, text: &str) -> bool {
+        self.tokens.get(at).is_some_and(|token| token.is(text))
+    }
+
+    fn before(&self, at: usize, text: &str) -> bool {
+        at > 0 && self.is(at - 1, text)
+    }
+
+    /// How a token is listed, or `None` if it is a name of the sources, or no more than a value.
+    fn listed(&self, at: usize) -> Option<String> {
+        let token = &self.tokens[at];
+        match token.kind {
+            Kind::Word => self.word(at),
+            Kind::Number => number(&token.text),
+            Kind::Text | Kind::Letter => literal(&token.text),
+            Kind::Sign if token.is("..") => Some(self.range(at).to_string()),
+            Kind::Sign if token.is("..=") && self.is_matched(at) => Some("matches!(a..=b)".to_string()),
+            Kind::Sign => Some(token.text.clone()),
+            Kind::Lifetime | Kind::Ghost => None,
+        }
+    }
+
+    fn word(&self, at: usize) -> Option<String> {
+        let (token, names) = (&self.tokens[at], self.names);
+        let word = token.text.as_str();
+        let is_called = self.is(at + 1, "(") || self.is(at + 1, "::") && self.is(at + 2, "<");
+        if self.before(at, "as") && !self.before(at, "::") {
+            return Some(format!("as:{word}"));
+        }
+        if self.before(at, ".") {
+            let is_own = if is_called { names.methods.contains(word) } else { names.fields.contains(word) };
+            return (!is_own).then(|| if is_called { format!(".{word}()") } else { format!(".{word}") });
+        }
+        if self.before(at, "::") {
+            return self.member(at, word);
+        }
+        if is_keyword(token) {
+            return Some(word.to_string());
+        }
+        let is_macro = self.is(at + 1, "!") && ["(", "[", "{"].iter().any(|open| self.is(at + 2, open));
+        if is_macro {
+            return Some(format!("{word}!"));
+        }
+        let is_field = names.fields.contains(word)
+            && (self.is(at + 1, ":") || !is_called && (self.before(at, "{") || self.before(at, ",")));
+        let is_own =
+            names.types.contains(word) || names.functions.contains(word) || self.bound.contains(word) || is_field;
+        let is_module = self.is(at + 1, "::") && names.modules.contains(word);
+        let is_named = self.before(at, "fn") || self.before(at, "mod") || self.before(at, "type") || word == "_";
+        (!is_own && !is_module && !is_named).then(|| {
+            if self.is(at + 1, "(") && word.starts_with(char::is_lowercase) {
+                format!("{word}()")
+            } else {
+                word.to_string()
+            }
+        })
+    }
+
+    /// A word behind `::`.
+    fn member(&self, at: usize, word: &str) -> Option<String> {
+        let (head, names) = (head_of_path(self.tokens, at - 1), self.names);
+        let is_of_own =
+            head == "Self" || names.types.contains(head) || names.modules.contains(head) || self.bound.contains(head);
+        let is_known =
+            [&names.types, &names.functions, &names.methods, &names.modules].iter().any(|names| names.contains(word));
+        (!is_of_own || !is_known).then(|| format!("{head}::{word}"))
+    }
+
+    /// The words and signs before an index, from the last one on, up to the brackets that are open there, and those.
+    fn outside(&self, at: usize) -> impl Iterator<Item = usize> {
+        let mut depth = 0;
+        (0..at).rev().filter(move |before| {
+            let is = |texts: [&str; 3]| texts.iter().any(|text| self.is(*before, text));
+            depth += i32::from(is([")", "]", "}"]));
+            let is_outside = depth == 0;
+            depth = (depth - i32::from(is(["(", "[", "{"]))).max(0);
+            is_outside
+        })
+    }
+
+    /// Whether a range is what a `for` walks over, or a part of that.
+    fn is_walked(&self, at: usize) -> bool {
+        let ends = |at: &usize| ["in", ";", "{", "["].iter().any(|end| self.is(*at, end));
+        self.outside(at).find(ends).is_some_and(|found| self.is(found, "in"))
+    }
+
+    /// Whether a range is a pattern of `matches!`.
+    fn is_matched(&self, at: usize) -> bool {
+        let open = self.outside(at).find(|at| self.is(*at, "(") || self.is(*at, "[") || self.is(*at, "{"));
+        open.is_some_and(|open| open > 1 && self.is(open - 1, "!") && self.is(open - 2, "matches"))
+    }
+
+    fn range(&self, at: usize) -> &'static str {
+        let closes = [")", ";", ",", "{", "=>"].iter().any(|end| self.is(at + 1, end));
+        let is_all = ["(", "[", ","].iter().any(|before| self.before(at, before));
+        match (self.is_walked(at), self.is_matched(at)) {
+            (_, true) => "matches!(a..)",
+            _ if closes && !is_all => ENDLESS,
+            (true, _) => "in:a..b",
+            _ if self.is(at + 1, "}") => "{..}",
+            _ if self.is(at + 1, "]") => "a..]",
+            _ => "..",
+        }
+    }
+}
+
+/// A range of numbers without an end.
+const ENDLESS: &str = "a..";
+
+/// How a number is listed that is more than digits.
+fn number(text: &str) -> Option<String> {
+    let is_digit = |ch: char| ch.is_ascii_digit() || ch == '_';
+    let rest = match text.strip_prefix("0x") {
+        Some(rest) => rest.trim_start_matches(|ch: char| ch.is_ascii_hexdigit() || ch == '_'),
+        None => text.trim_start_matches(is_digit),
+    };
+    (!rest.is_empty()).then(|| format!("number:{rest}"))
+}
+
+/// How a text or a character is listed that is more than its characters.
+fn literal(text: &str) -> Option<String> {
+    let prefix = text.find(['"', '\'']).unwrap_or(0);
+    let is_plain = prefix == 0 && !text.contains('\\');
+    (!is_plain).then(|| format!("literal:{}{}", &text[..prefix], if text.contains('\\') { "\\" } else { "" }))
+}
+
+impl Check {
+    /// What the sources name of the language and of std is in the list, since both languages mean the same by it.
+    fn words(&mut self, program: &Program) {
+        for part in program.in_both() {
+            let (item, bound) = (&part.item, bound_names(part));
+            let mut found: BTreeSet<(usize, String)> = BTreeSet::new();
+            for words in item.attributes.iter().filter(|words| !words.starts_with("visibility")) {
+                found.extend(attribute(words).into_iter().map(|word| (item.line, word)));
+            }
+            if let Some(path) = item.key.rsplit(" / ").next().and_then(|last| last.strip_prefix("use ")) {
+                let is_own = path.split("::").next().is_some_and(|first| program.names.modules.contains(first));
+                found.extend((!is_own).then(|| (item.line, format!("use:{}", path.replace(" as ", ":")))));
+            }
+            let mut around = part.around();
+            around.iter_mut().for_each(|token| token.line = item.line);
+            for tokens in [&around, &item.head, &item.body] {
+                let spelling = Spelling { tokens, names: &program.names, bound: &bound };
+                found.extend((0..tokens.len()).filter_map(|at| Some((tokens[at].line, spelling.listed(at)?))));
+            }
+            for (line, word) in found {
+                self.word(part, &word, line);
+            }
+        }
+    }
+
+    fn word(&mut self, part: &Part, word: &str, line: usize) {
+        let is_listed =
+            self.lists.words.iter().any(|words| words.words.split_whitespace().any(|listed| listed == word));
+        if word == ENDLESS {
+            self.refused.push(part.refused(line, ENDLESS_RANGE));
+        } else if is_listed {
+            self.note(&format!("word {word}"));
+        } else {
+            self.refused.push(part.refused(line, &format!("has `{word}`, {NEW_WORD}")));
+        }
+    }
+}
+
+/// What an attribute says, each derive for itself.
+fn attribute(words: &str) -> Vec<String> {
+    match words.strip_prefix("derive(").and_then(|rest| rest.strip_suffix(')')) {
+        Some(traits) => traits.split(',').map(|name| format!("#[derive({name})]")).collect(),
+        None => vec![format!("#[{words}]")],
+    }
+}
+
+const ENDLESS_RANGE: &str = "has a range of numbers without an end, which stops at the greatest number in Rattle, and \
+                             wraps or panics in Rust: write its end";
+const NEW_WORD: &str = "which is in no list: read what Rattle and what Rust mean by it, on each machine, and if they \
+                        mean the same, enter it in `WORDS` of rust/meaning.rs with the reason";
+
+// ---- Order ----
+
+/// Calls that copy, and whose operand stands before a point.
+const COPIES: &[&str] = &["copy_from_slice", "copy_within"];
+
+/// Where the operand begins that ends before an index, if it is a path of fields and of plain calls.
+fn start_of_path(tokens: &[Token], end: usize, changing: &BTreeSet<String>, check: &mut Check) -> Option<usize> {
+    let mut at = end;
+    loop {
+        let last = at.checked_sub(1)?;
+        if tokens[last].is(")") {
+            let name = last.checked_sub(2).map(|before| &tokens[before])?;
+            let is_plain = |plain: &str| name.is(plain) && !changing.contains(plain);
+            let (plain, _) = check.lists.plain_calls.iter().find(|(plain, _)| is_plain(plain))?;
+            check.note(&format!("call {plain}"));
+            at = tokens[last - 1].is("(").then_some(last - 2)?;
+        } else if matches!(tokens[last].kind, Kind::Word | Kind::Number) && !is_operator(&tokens[last]) {
+            at = last;
+        } else {
+            return None;
+        }
+        match at.checked_sub(1).map(|before| &tokens[before]) {
+            Some(token) if token.is(".") => at -= 1,
+            Some(token) if token.is("::") || token.is("?") => return None,
+            _ => return Some(at),
+        }
+    }
+}
+
+/// Whether a word is a keyword behind which an array or a part of none begins.
+fn is_operator(token: &Token) -> bool {
+    is_keyword(token) && !token.is("self")
+}
+
+impl Check {
+    /// The operand of an index, a part or a copy is a path, and nothing beside it changes anything: so the two languages may evaluate
+    /// them in any order.
+    fn operands(&mut self, program: &Program) {
+        for part in program.in_both().filter(|part| part.item.is_function) {
+            let body = &part.item.body;
+            for at in 1..body.len() {
+                let is_index = body[at].is("[") && is_behind_operand(&body[at - 1]);
+                let is_copy =
+                    body[at].is(".") && COPIES.iter().any(|name| body.get(at + 1).is_some_and(|next| next.is(name)));
+                if !is_index && !is_copy {
+                    continue;
+                }
+                let changing = &program.names.changing;
+                let is_path = start_of_path(body, operand_end(body, at), changing, self).is_some();
+                if !is_path || beside(body, at).iter().any(|part| changes(part, changing)) {
+                    self.refused.push(part.refused(body[at].line, ORDER));
+                }
+            }
+        }
+    }
+}
+
+/// What stands beside the operand of an access: what is in its brackets, and what is assigned to it.
+fn beside(body: &[Token], at: usize) -> [&[Token]; 2] {
+    let open = if body[at].is("[") { at } else { at + 2 };
+    let end = behind_group(body, open).unwrap_or(body.len());
+    let is_assigned = body.get(end).is_some_and(is_assignment);
+    let behind = body[end..].iter().position(|token| token.is(";")).map_or(body.len(), |found| end + found);
+    [&body[open..end], if is_assigned { &body[end + 1..behind] } else { &[] }]
+}
+
+/// Whether something in an expression may change what others read.
+fn changes(tokens: &[Token], changing: &BTreeSet<String>) -> bool {
+    let is_call = |two: &[Token]| changing.contains(&two[0].text) && two[1].is("(");
+    tokens.iter().any(|token| token.is("mut") || is_assignment(token)) || tokens.windows(2).any(is_call)
+}
+
+/// Whether a bracket behind this token is an index.
+fn is_behind_operand(before: &Token) -> bool {
+    match before.kind {
+        Kind::Word => !is_operator(before),
+        Kind::Number => true,
+        _ => [")", "]", "?"].iter().any(|end| before.is(end)),
+    }
+}
+
+/// Where the operand ends before a `[` or a point: that of a copy into a part is the operand of the part.
+fn operand_end(body: &[Token], at: usize) -> usize {
+    if body[at].is(".") && body[at - 1].is("]") {
+        let open = (0..at).rev().find(|open| body[*open].is("[") && behind_group(body, *open) == Some(at));
+        return open.unwrap_or(at);
+    }
+    at
+}
+
+const ORDER: &str = "has an index, a part or a copy of what is no path of fields, or beside what changes something, and the two \
+                     languages need not evaluate these in one order: bind it before by `let`, or enter a call that \
+                     changes nothing in `PLAIN_CALLS` of rust/meaning.rs";
+
+// ---- Ghost parts ----
+
+impl Check {
+    /// A ghost part computes, and changes nothing.
+    fn ghosts(&mut self, files: &Files) {
+        for (path, text) in files.iter().filter(|(path, _)| module_of(path).is_some()) {
+            // (a file that can't be read was refused above)
+            let tokens = tokens(text, Language::Rattle).unwrap_or_default();
+            for token in tokens.iter().filter(|token| token.kind == Kind::Ghost) {
+                let fault = match token.text.as_str() {
+                    text if text.starts_with("prove") => effect_of_step(text),
+                    text if text.starts_with("ghost") => None,
+                    text => has_assignment(text).then(|| ASSIGNS.to_string()),
+                };
+                self.refused.extend(fault.map(|why| format!("{path}:{}: {why}", token.line)));
+            }
+        }
+    }
+}
+
+/// What a step of a proof could change.
+fn effect_of_step(text: &str) -> Option<String> {
+    let inside = text.split_once('(').and_then(|(_, rest)| rest.strip_suffix(')')).unwrap_or(text);
+    let words = tokens(inside, Language::Rust).unwrap_or_default();
+    let calls = |two: &[Token]| two[0].kind == Kind::Word && (two[1].is("(") || two[1].is("!"));
+    let is_effect = |token: &Token| token.is("mut") || token.is(";") || token.is("{") || is_assignment(token);
+    let found =
+        words.iter().find(|token| is_effect(token)).or(words.windows(2).find(|two| calls(two)).map(|two| &two[0]));
+    if words.is_empty() {
+        return Some(format!("`{text}` is no expression: {STEP_DO}"));
+    }
+    found.map(|token| {
+        format!(
+            "`{}` in `{text}` could change something in Rattle, and nothing is left of it here: {STEP_DO}",
+            token.text
+        )
+    })
+}
+
+/// Whether a clause has a `=` that stands neither behind `let` nor in a record.
+fn has_assignment(clause: &str) -> bool {
+    let words: Vec<&str> = clause.split_whitespace().collect();
+    let mut in_record = 0;
+    words.iter().enumerate().any(|(at, word)| {
+        match *word {
+            "{" if at > 0 && words[at - 1] == "record" => in_record += 1,
+            "{" if in_record > 0 => in_record += 1,
+            "}" if in_record > 0 => in_record -= 1,
+            _ => {}
+        }
+        let is_of_let =
+            at >= 2 && words[..at].iter().rev().take_while(|word| !LET_ENDS.contains(word)).any(|word| *word == "let");
+        word.contains('=') && *word != "==" && !(*word == "=" && (is_of_let || in_record > 0))
+    })
+}
+
+const LET_ENDS: &[&str] = &["in", "=", "{", "}", ";"];
+const STEP_DO: &str = "a step has comparisons of names and numbers alone, so bind a call before by `let`";
+const ASSIGNS: &str = "a clause with a `=` that stands neither in `let .. in` nor in a record: what it changes in \
+                       Rattle is not changed here, so write `≡`";
+
+// ---- The check of all ----
+
+/// The entries of the lists as they are noted when they are used, each with its reason.
+fn entries(lists: &'static Lists) -> Vec<(String, &'static str)> {
+    let mut entries: Vec<(String, &'static str)> = Vec::new();
+    entries.extend(lists.asked_once.iter().chain(lists.bounded).map(|(entry, why)| (entry.to_string(), *why)));
+    for played in lists.played {
+        entries.extend(played.functions.iter().map(|path| (format!("played {path}"), played.why)));
+    }
+    for words in lists.words {
+        entries.extend(words.words.split_whitespace().map(|word| (format!("word {word}"), words.why)));
+    }
+    entries.extend(lists.plain_calls.iter().map(|(name, why)| (format!("call {name}"), *why)));
+    entries
+}
+
+/// What is wrong with the lists.
+fn faults_of_lists(check: &Check) -> Vec<String> {
+    let mut faults = Vec::new();
+    let mut seen = BTreeMap::new();
+    for (entry, why) in entries(check.lists) {
+        if !check.used.contains(&entry) {
+            faults.push(format!("nothing uses the entry `{entry}` of a list: take it out"));
+        }
+        if why.trim().is_empty() {
+            faults.push(format!("the entry `{entry}` of a list has no reason: write why"));
+        }
+        if seen.insert(entry.clone(), why).is_some() {
+            faults.push(format!("the entry `{entry}` of a list is there twice: take one out"));
+        }
+    }
+    faults
+}
+
+/// Checks all files. Returns what is refused.
+fn check(files: &Files, lists: &'static Lists) -> Vec<String> {
+    let mut check = Check::new(lists);
+    check.all(files);
+    let faults = faults_of_lists(&check);
+    check.refused.into_iter().chain(faults).collect()
+}
+
+fn read(root: &PathBuf) -> Result<Files, String> {
+    let mut files = read_all(root)?;
+    let tests = std::fs::read_to_string(root.join(UNWINDING)).map_err(|error| format!("{UNWINDING}: {error}"))?;
+    files.insert(UNWINDING.to_string(), tests);
+    Ok(files)
+}
+
+fn main() -> ExitCode {
+    let words: Vec<String> = std::env::args().skip(1).collect();
+    let root = match &words[..] {
+        [] => PathBuf::from("."),
+        [word, root] if word == "--root" => PathBuf::from(root),
+        _ => {
+            eprintln!("meaning: the arguments are [--root FOLDER]");
+            return ExitCode::from(2);
+        }
+    };
+    let refused = match read(&root) {
+        Ok(files) => check(&files, &LISTS),
+        Err(why) => {
+            eprintln!("meaning: {why}");
+            return ExitCode::from(2);
+        }
+    };
+    for line in &refused {
+        eprintln!("meaning: {line}");
+    }
+    if !refused.is_empty() {
+        eprintln!("meaning: {} are refused", refused.len());
+        return ExitCode::FAILURE;
+    }
+    println!("meaning: {} entries of lists say why both languages mean the same", entries(&LISTS).len());
+    ExitCode::SUCCESS
+}
+
+#[cfg(test)]
+#[path = "meaning_tests.rs"]
+mod tests;
