@@ -1,4 +1,4 @@
-// Made from crates/arraystring_core/src/lib.rt by rust/erase. A change goes there.
+// Made from crates/arraystring_core/src/lib.rt by rust/erase. The proof is there. A change goes there.
 //! `ArrayString`, a string of bounded size in an array inside the value, and its laws. It takes no
 //! memory, except to make a JSON value. Its tests are in `crates/arraystring_tests`.
 

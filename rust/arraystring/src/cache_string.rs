@@ -1,4 +1,4 @@
-// Made from crates/arraystring/src/cache_string.rt by rust/erase. A change goes there.
+// Made from crates/arraystring/src/cache_string.rt by rust/erase. The proof is there. A change goes there.
 //! `CacheString`: a string of at most 63 bytes under a name of its own. Each call is that of the
 //! string inside. `traits` has its impls of traits.
 
@@ -165,7 +165,6 @@ impl CacheString {
     pub unsafe fn from_str_unchecked<S: AsRef<str>>(string: S) -> Self {
         let string = string.as_ref();
         // SAFETY: `string.len() <= Self::capacity()`: by this function's `# Safety`.
-        // Proved: crates/arraystring/src/cache_string.rt
         CacheString(unsafe { ArrayString::from_str_unchecked(string) })
     }
 
@@ -277,7 +276,6 @@ impl CacheString {
     pub unsafe fn from_iterator_unchecked<U: AsRef<str>, I: IntoIterator<Item = U>>(pieces: I) -> Self {
         // SAFETY: the items of `pieces` take at most `Self::capacity()` bytes together: by this function's `# Safety`,
         // also where the iterator does not end.
-        // Proved: crates/arraystring/src/cache_string.rt
         CacheString(unsafe { ArrayString::from_iterator_unchecked(pieces) })
     }
 
@@ -389,7 +387,6 @@ impl CacheString {
     pub unsafe fn from_chars_unchecked<I: IntoIterator<Item = char>>(characters: I) -> Self {
         // SAFETY: the items of `characters` take at most `Self::capacity()` bytes together: by this function's
         // `# Safety`, also where the iterator does not end.
-        // Proved: crates/arraystring/src/cache_string.rt
         CacheString(unsafe { ArrayString::from_chars_unchecked(characters) })
     }
 
@@ -503,7 +500,6 @@ impl CacheString {
     pub unsafe fn from_utf8_unchecked<B: AsRef<[u8]>>(given: B) -> Self {
         let given = given.as_ref();
         // SAFETY: `given` is well-formed UTF-8; `given.len() <= Self::capacity()`: by this function's `# Safety`.
-        // Proved: crates/arraystring/src/cache_string.rt
         CacheString(unsafe { ArrayString::from_utf8_unchecked(given) })
     }
 

@@ -1,4 +1,4 @@
-// Made from crates/arraystring/src/lib.rt by rust/erase. A change goes there.
+// Made from crates/arraystring/src/lib.rt by rust/erase. The proof is there. A change goes there.
 #![doc = include_str!("../README.md")]
 //!
 //! # Pages
@@ -6,6 +6,7 @@
 //! [`contracts`] says how to read a contract, and [`trust`] what is proved and what has to be trusted.
 #![no_std]
 #![deny(unsafe_op_in_unsafe_fn, missing_docs)]
+#![deny(clippy::undocumented_unsafe_blocks, clippy::cast_possible_truncation)]
 
 #[cfg(not(any(target_pointer_width = "32", target_pointer_width = "64")))]
 compile_error!("the crate was tried where a `usize` has 32 or 64 bits, and nowhere else");
@@ -20,6 +21,7 @@ mod arraystring_core;
 mod by_hand;
 
 pub use by_hand::{contracts, trust};
+pub use error::{OutOfBounds, Utf8, Utf16};
 
 mod cache_string;
 

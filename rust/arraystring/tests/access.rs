@@ -46,18 +46,18 @@ fn what_is_read_is_as_it_is_plainly() {
         let bytes = bytes(len);
         let units: Vec<u16> = bytes.iter().map(|byte| u16::from(*byte) + 0x300).collect();
         for (start, end) in ranges(len) {
-            assert_eq!(get_unchecked!(bytes, start..end), &bytes[start..end]);
-            assert_eq!(get_unchecked!(bytes, start..), &bytes[start..]);
-            assert_eq!(get_unchecked!(bytes, ..end), &bytes[..end]);
-            assert_eq!(get_unchecked!(units, start..end), &units[start..end]);
-            assert_eq!(get_unchecked!(units, end..), &units[end..]);
+            assert_eq!(unsafe { get_unchecked!(bytes, start..end) }, &bytes[start..end]);
+            assert_eq!(unsafe { get_unchecked!(bytes, start..) }, &bytes[start..]);
+            assert_eq!(unsafe { get_unchecked!(bytes, ..end) }, &bytes[..end]);
+            assert_eq!(unsafe { get_unchecked!(units, start..end) }, &units[start..end]);
+            assert_eq!(unsafe { get_unchecked!(units, end..) }, &units[end..]);
             if start < len {
                 assert_eq!(
-                    (*get_unchecked!(bytes, start), *get_unchecked!(units, start)),
+                    (*unsafe { get_unchecked!(bytes, start) }, *unsafe { get_unchecked!(units, start) }),
                     (bytes[start], units[start])
                 );
             }
-            assert_eq!(split_at_unchecked!(bytes, end), bytes.split_at(end));
+            assert_eq!(unsafe { split_at_unchecked!(bytes, end) }, bytes.split_at(end));
             count += 1;
         }
     }
@@ -68,11 +68,16 @@ fn what_is_read_is_as_it_is_plainly() {
 fn what_is_read_of_an_array_or_a_text_is_as_it_is_plainly() {
     const LETTERS: [u8; 6] = *b"abcdef";
     const SPLIT: [(&[u8], &[u8]); 3] =
-        [split_at_unchecked!(LETTERS, 0), split_at_unchecked!(LETTERS, 4), split_at_unchecked!(LETTERS, 6)];
+        [unsafe { split_at_unchecked!(LETTERS, 0) }, unsafe { split_at_unchecked!(LETTERS, 4) }, unsafe {
+            split_at_unchecked!(LETTERS, 6)
+        }];
     assert_eq!(SPLIT, [0, 4, 6].map(|at| LETTERS.split_at(at)));
     let text = "aé€🤔z";
     for (start, _) in text.char_indices().chain([(text.len(), ' ')]) {
-        assert_eq!((get_unchecked!(text, start..), get_unchecked!(text, ..start)), (&text[start..], &text[..start]));
+        assert_eq!(
+            (unsafe { get_unchecked!(text, start..) }, unsafe { get_unchecked!(text, ..start) }),
+            (&text[start..], &text[..start])
+        );
     }
 }
 
@@ -84,14 +89,14 @@ fn what_is_written_is_as_it_is_plainly() {
         let given: Vec<u8> = before.iter().rev().map(|byte| byte ^ 0x55).collect();
         for (start, end) in ranges(len) {
             let (mut one, mut other) = (before.clone(), before.clone());
-            get_unchecked_mut!(one, start..end).fill(1);
+            unsafe { get_unchecked_mut!(one, start..end) }.fill(1);
             other[start..end].fill(1);
             assert_eq!(one, other);
             if start < len {
-                (*get_unchecked_mut!(one, start), other[start]) = (2, 2);
+                (*unsafe { get_unchecked_mut!(one, start) }, other[start]) = (2, 2);
                 assert_eq!(one, other);
             }
-            copy_from_slice_unchecked!(one, start..end, &given[..end - start]);
+            unsafe { copy_from_slice_unchecked!(one, start..end, &given[..end - start]) };
             other[start..end].copy_from_slice(&given[..end - start]);
             assert_eq!(one, other);
             count += 1;
@@ -108,7 +113,7 @@ fn what_is_moved_is_as_it_is_plainly() {
         for (start, end) in ranges(len) {
             for to in places(len - (end - start)) {
                 let (mut one, mut other) = (before.clone(), before.clone());
-                copy_within_unchecked!(one, start..end, to);
+                unsafe { copy_within_unchecked!(one, start..end, to) };
                 for at in start..end {
                     other[to + at - start] = before[at];
                 }
@@ -125,7 +130,7 @@ fn what_is_moved_is_as_it_is_plainly() {
 #[test]
 fn what_is_known_and_holds_is_passed() {
     fn sum(part: usize, more: usize, most: usize) -> usize {
-        known!(source: part + more <= most);
+        unsafe { known!(source: part + more <= most) };
         part + more
     }
     for part in 0..=MOST {
@@ -160,13 +165,24 @@ fn what_is_made_of_a_number_or_of_bytes_is_as_it_is_made_with_a_test() {
     assert_eq!(access::str::from_utf8("é".as_bytes()), Ok("é"));
 }
 
+/// So rustc refuses each use that stands in no `unsafe` block, and a search for the word finds it.
 #[test]
-fn it_is_tested_with_debug_assertions_or_checked_alone() {
-    assert_eq!(access::IS_TESTED, cfg!(debug_assertions) || cfg!(feature = "checked"));
+fn no_macro_has_an_unsafe_of_its_own() {
+    let text = include_str!("../src/by_hand/access.rs");
+    let (macros, behind) = text.split_once("/// What the sources use of `char`.").expect("the macros stand in front");
+    let code = macros.lines().filter(|line| !line.trim_start().starts_with("//"));
+    assert_eq!(code.clone().filter(|line| line.starts_with("macro_rules! ")).count(), 9);
+    assert_eq!(code.filter(|line| line.contains("unsafe")).count(), 0);
+    assert!(!behind.contains("\nmacro_rules! "));
+}
+
+#[test]
+fn it_is_tested_with_debug_assertions_checked_or_another_width_alone() {
+    assert_eq!(access::IS_TESTED, cfg!(debug_assertions) || cfg!(feature = "checked") || usize::BITS != 64);
 }
 
 /// What panics where it is tested.
-#[cfg(any(debug_assertions, feature = "checked"))]
+#[cfg(any(debug_assertions, feature = "checked", not(target_pointer_width = "64")))]
 mod tested {
     use std::hint::black_box;
     use std::panic::catch_unwind;
@@ -201,9 +217,9 @@ mod tested {
     fn the_first_index_that_is_not_within_panics() {
         for len in 0..=MOST {
             let last = len.checked_sub(1);
-            ends(len, last, &past(len), |all, at| *get_unchecked!(all, at));
+            ends(len, last, &past(len), |all, at| *unsafe { get_unchecked!(all, at) });
             ends(len, last, &past(len), |all, at| {
-                *get_unchecked_mut!(all, at) = 1;
+                *unsafe { get_unchecked_mut!(all, at) } = 1;
                 all[at]
             });
         }
@@ -213,13 +229,13 @@ mod tested {
     fn the_first_end_of_a_part_that_is_not_within_panics() {
         for len in 0..=MOST {
             let past = &past(len)[1..];
-            ends(len, Some(len), past, |all, end| get_unchecked!(all, ..end).len() as u8);
-            ends(len, Some(len), past, |all, start| get_unchecked!(all, start..).len() as u8);
-            ends(len, Some(len), past, |all, end| get_unchecked!(all, 0..end).len() as u8);
-            ends(len, Some(len), past, |all, end| get_unchecked_mut!(all, ..end).len() as u8);
-            ends(len, Some(len), past, |all, start| get_unchecked_mut!(all, start..).len() as u8);
-            ends(len, Some(len), past, |all, end| get_unchecked_mut!(all, 0..end).len() as u8);
-            ends(len, Some(len), past, |all, at| split_at_unchecked!(all, at).0.len() as u8);
+            ends(len, Some(len), past, |all, end| unsafe { get_unchecked!(all, ..end) }.len() as u8);
+            ends(len, Some(len), past, |all, start| unsafe { get_unchecked!(all, start..) }.len() as u8);
+            ends(len, Some(len), past, |all, end| unsafe { get_unchecked!(all, 0..end) }.len() as u8);
+            ends(len, Some(len), past, |all, end| unsafe { get_unchecked_mut!(all, ..end) }.len() as u8);
+            ends(len, Some(len), past, |all, start| unsafe { get_unchecked_mut!(all, start..) }.len() as u8);
+            ends(len, Some(len), past, |all, end| unsafe { get_unchecked_mut!(all, 0..end) }.len() as u8);
+            ends(len, Some(len), past, |all, at| unsafe { split_at_unchecked!(all, at) }.0.len() as u8);
         }
     }
 
@@ -228,10 +244,10 @@ mod tested {
         for len in 1..=MOST {
             for end in 0..len {
                 let calls: [fn(&mut [u8], usize, usize); 4] = [
-                    |all, start, end| assert_eq!(get_unchecked!(all, start..end).len(), end - start),
-                    |all, start, end| assert_eq!(get_unchecked_mut!(all, start..end).len(), end - start),
-                    |all, start, end| copy_from_slice_unchecked!(all, start..end, &[]),
-                    |all, start, end| copy_within_unchecked!(all, start..end, 0),
+                    |all, start, end| assert_eq!(unsafe { get_unchecked!(all, start..end) }.len(), end - start),
+                    |all, start, end| assert_eq!(unsafe { get_unchecked_mut!(all, start..end) }.len(), end - start),
+                    |all, start, end| unsafe { copy_from_slice_unchecked!(all, start..end, &[]) },
+                    |all, start, end| unsafe { copy_within_unchecked!(all, start..end, 0) },
                 ];
                 let run = |start: usize| calls.map(|call| panic_of(|| call(&mut bytes(len), start, end)));
                 assert_eq!(run(end), [None, None, None, None]);
@@ -241,13 +257,35 @@ mod tested {
         }
     }
 
+    /// A sum that is too large for a `usize` is a small one, which a test of the end alone would let pass: of 4 bytes the part had 8.
+    #[test]
+    fn a_part_whose_end_has_wrapped_panics() {
+        for len in 0..=MOST {
+            for more in 1..=MOST {
+                let start = black_box(usize::MAX) - (more - 1);
+                let end = start.wrapping_add(more + len);
+                assert_eq!(end, len);
+                let calls: [fn(&mut [u8], usize, usize); 4] = [
+                    |all, start, end| _ = black_box(unsafe { get_unchecked!(all, start..end) }),
+                    |all, start, end| _ = black_box(unsafe { get_unchecked_mut!(all, start..end) }),
+                    |all, start, end| unsafe { copy_from_slice_unchecked!(all, start..end, &[]) },
+                    |all, start, end| unsafe { copy_within_unchecked!(all, start..end, 0) },
+                ];
+                assert!(
+                    calls.iter().all(|call| panic_of(|| call(&mut bytes(len), start, end)).is_some()),
+                    "{more} of {len}"
+                );
+            }
+        }
+    }
+
     #[test]
     fn a_part_of_a_text_that_ends_inside_a_character_panics() {
         let text = "aé€🤔z";
         for at in 0..=text.len() + 1 {
             let is_boundary = [0, 1, 3, 6, 10, 11].contains(&at);
-            assert_eq!(catch_unwind(|| get_unchecked!(text, ..at)).is_ok(), is_boundary, "{at}");
-            assert_eq!(catch_unwind(|| get_unchecked!(text, at..)).is_ok(), is_boundary, "{at}");
+            assert_eq!(catch_unwind(|| unsafe { get_unchecked!(text, ..at) }).is_ok(), is_boundary, "{at}");
+            assert_eq!(catch_unwind(|| unsafe { get_unchecked!(text, at..) }).is_ok(), is_boundary, "{at}");
         }
     }
 
@@ -258,7 +296,7 @@ mod tested {
                 let run = |start: usize, end: usize, given: usize| {
                     catch_unwind(|| {
                         let mut all = bytes(len);
-                        copy_from_slice_unchecked!(all, start..end, &bytes(given));
+                        unsafe { copy_from_slice_unchecked!(all, start..end, &bytes(given)) };
                     })
                     .is_ok()
                 };
@@ -278,7 +316,7 @@ mod tested {
                 let run = |start: usize, end: usize, to: usize| {
                     catch_unwind(|| {
                         let mut all = bytes(len);
-                        copy_within_unchecked!(all, start..end, to);
+                        unsafe { copy_within_unchecked!(all, start..end, to) };
                     })
                     .is_ok()
                 };
@@ -297,7 +335,7 @@ mod tested {
         fn is_passed(part: usize, more: usize, most: usize) -> Option<String> {
             let (part, more, most) = black_box((part, more, most));
             panic_of(|| {
-                known!(source: part + more <= most);
+                unsafe { known!(source: part + more <= most) };
             })
         }
         let why = Some("the clause `source` does not hold".to_string());
@@ -319,11 +357,40 @@ mod tested {
     fn what_is_not_reached_panics() {
         fn reached(is_it: bool) {
             if is_it {
-                unreachable_unchecked!();
+                unsafe { unreachable_unchecked!() };
             }
         }
         let why = "internal error: entered unreachable code".to_string();
         assert_eq!([false, true].map(|is_it| panic_of(|| reached(black_box(is_it)))), [None, Some(why)]);
+    }
+}
+
+#[test]
+fn what_is_required_is_tested_with_debug_assertions_or_checked_alone() {
+    let is_tested = cfg!(debug_assertions) || cfg!(feature = "checked");
+    let passes = |part: usize, most: usize| std::panic::catch_unwind(|| required!(part <= most)).is_ok();
+    let taken = |most: usize| {
+        let characters = ['a', 'é', '€', '🤔'];
+        let mut count = 0;
+        let counted = characters.into_iter().inspect(|_| count += 1);
+        let all = std::panic::catch_unwind(std::panic::AssertUnwindSafe(|| {
+            required_of_each!(counted fits most);
+            counted.collect::<String>()
+        }));
+        (most, all.ok(), count)
+    };
+    for most in 0..=MOST {
+        for part in 0..=most + 2 {
+            assert_eq!(passes(part, most), part <= most || !is_tested, "{part} {most}");
+        }
+        let wanted = match most {
+            _ if most >= 10 || !is_tested => (most, Some("aé€🤔".to_string()), 4),
+            6..10 => (most, None, 4),
+            3..6 => (most, None, 3),
+            1..3 => (most, None, 2),
+            _ => (most, None, 1),
+        };
+        assert_eq!(taken(most), wanted, "{most}");
     }
 }
 

@@ -3,7 +3,7 @@
 
 use arraystring::error::{Error, OutOfBounds, Utf8, Utf16};
 use arraystring::utf16::Units;
-use arraystring::utils::Steps;
+use arraystring::utils::{Steps, look};
 use arraystring::{ArrayString, CacheString, MaxString};
 use inputs::{CHARS, at_capacities, behind, cut, hash_of, is_beside};
 
@@ -217,6 +217,25 @@ fn counters_print_their_counts_and_begin_at_none() {
 }
 
 #[test]
+fn counters_are_equal_by_both_counts() {
+    let counted = |looks: usize, moves: u8| {
+        let mut steps = Steps::new();
+        (0..looks).for_each(|_| _ = look(b"a", 0, &mut steps));
+        let mut string = MaxString::from("m".repeat(moves.into()).as_str());
+        string.replace_range_counted(0..0, "-", &mut steps).unwrap();
+        assert_eq!((steps.looked(), steps.moved()), (looks as u64, moves.into()));
+        steps
+    };
+    for (looks, moves) in (0..5).flat_map(|looks| (0..5).map(move |moves| (looks, moves))) {
+        for (other_looks, other_moves) in (0..5).flat_map(|looks| (0..5).map(move |moves| (looks, moves))) {
+            let is_same = (looks, moves) == (other_looks, other_moves);
+            let (steps, others) = (counted(looks, moves), counted(other_looks, other_moves));
+            assert_eq!((steps == others, steps != others), (is_same, !is_same));
+        }
+    }
+}
+
+#[test]
 fn errors_hash_as_their_case() {
     assert_eq!(hash_of(&OutOfBounds), hash_of(&Error::OutOfBounds));
     assert_eq!((hash_of(&Utf8), hash_of(&Utf16)), (hash_of(&Error::Utf8), hash_of(&Error::Utf16)));
@@ -235,10 +254,36 @@ fn a_walk_over_units_is_cloned_and_printed() {
                 walk.next();
             }
             let clone = walk.clone();
+            let (least, most) = walk.size_hint();
+            assert!(least <= rest.len() && most.is_some_and(|most| rest.len() <= most));
             assert_eq!((walk.collect::<Vec<_>>(), clone.collect::<Vec<_>>()), (rest.clone(), rest));
         }
     }
     assert_eq!(format!("{:?}", Units::new(&units[4..])), "Units { rest: [55296, 8364] }");
+}
+
+#[test]
+fn the_size_hint_of_a_walk_bounds_what_is_left() {
+    // All of the units that are pairs, lone, or one item each; and the ends of both kinds of surrogates.
+    let kinds = [0x61, 0xD7FF, 0xD800, 0xDBFF, 0xDC00, 0xDFFF, 0xE000];
+    let (mut least_is_met, mut most_is_met) = (0, 0);
+    for number in 0..kinds.len().pow(4) {
+        let units: Vec<u16> = (0..4).map(|at| kinds[number / kinds.len().pow(at) % kinds.len()]).collect();
+        for len in 0..=units.len() {
+            let mut walk = Units::new(&units[..len]);
+            loop {
+                let (count, (least, most)) = (walk.clone().count(), walk.size_hint());
+                assert!(least <= count && Some(count) <= most && most.is_some(), "{units:X?}");
+                least_is_met += usize::from(count == least && count > 1);
+                most_is_met += usize::from(Some(count) == most && count > 1);
+                if walk.next().is_none() {
+                    break;
+                }
+            }
+            assert_eq!(walk.size_hint(), (0, Some(0)));
+        }
+    }
+    assert!(least_is_met > 0 && most_is_met > 0);
 }
 
 #[test]

@@ -1,10 +1,13 @@
 //! Moving from the Rust crate 0.3.0: each public call of it that is here, by its name and signature, the examples of the table of
-//! moves in README.md, which says of the others what to write, and those of the faults in docs/differences.md.
+//! moves in README.md, which says of the others what to write, and those of the faults in docs/differences.md. Then the tables of
+//! moves from arrayvec, heapless and `String`: what is said of `String` and of this crate is run.
 
 use std::fmt::{Debug, Display, Write};
 use std::hash::Hash;
 use std::iter::FusedIterator;
-use std::ops::{Add, Deref, Index, Range, RangeFrom, RangeFull, RangeInclusive, RangeTo, RangeToInclusive};
+use std::ops::{
+    Add, DerefMut, Index, IndexMut, Range, RangeFrom, RangeFull, RangeInclusive, RangeTo, RangeToInclusive,
+};
 use std::panic::{AssertUnwindSafe, catch_unwind};
 use std::str::FromStr;
 
@@ -12,6 +15,10 @@ use arraystring::drain::Drain;
 use arraystring::error::{Error, OutOfBounds, Utf8, Utf16};
 use arraystring::utils::{is_char_boundary, is_inside_boundary};
 use arraystring::{ArrayString, CacheString, MaxString, SmallString};
+use page::{Table, made};
+
+#[path = "inputs/page.rs"]
+mod page;
 
 type Text = ArrayString<23>;
 type Made<T, E> = Result<T, E>;
@@ -36,6 +43,7 @@ fn the_calls_of_a_string() {
     let _: fn(Vec<u16>) -> Made<Text, Utf16> = Text::from_utf16::<Vec<u16>>;
     let _: fn(&'static [u16]) -> Text = Text::from_utf16_lossy::<&'static [u16]>;
     let _: fn(&Text) -> &str = Text::as_str;
+    let _: fn(&mut Text) -> &mut str = Text::as_mut_str;
     let _: fn(&Text) -> &[u8] = Text::as_bytes;
     let _: fn() -> u8 = Text::capacity;
     let _: fn(&mut Text, String) -> Made<(), OutOfBounds> = Text::try_push_str::<String>;
@@ -120,7 +128,14 @@ where
         + Write
         + AsRef<str>
         + AsRef<[u8]>,
-    T: std::borrow::Borrow<str> + PartialEq<str> + Deref + for<'a> Add<&'a str, Output = T> + Send + Sync + Unpin,
+    T: std::borrow::BorrowMut<str>
+        + AsMut<str>
+        + PartialEq<str>
+        + DerefMut
+        + for<'a> Add<&'a str, Output = T>
+        + Send
+        + Sync
+        + Unpin,
 {
 }
 
@@ -128,6 +143,8 @@ fn is_indexed<T>()
 where
     T: Index<Range<u8>> + Index<RangeFrom<u8>> + Index<RangeTo<u8>> + Index<RangeFull>,
     T: Index<RangeInclusive<u8>> + Index<RangeToInclusive<u8>>,
+    T: IndexMut<Range<u8>> + IndexMut<RangeFrom<u8>> + IndexMut<RangeTo<u8>> + IndexMut<RangeFull>,
+    T: IndexMut<RangeInclusive<u8>> + IndexMut<RangeToInclusive<u8>>,
     T: for<'a> From<&'a str> + FromIterator<char> + for<'a> FromIterator<&'a str>,
     T: Extend<char> + for<'a> Extend<&'a char> + for<'a> Extend<&'a str>,
 {
@@ -174,7 +191,9 @@ fn what_is_other_than_in_the_crate_before() {
     without_spaces.trim_spaces();
     assert_eq!((trimmed.as_str(), without_spaces.as_str()), ("a", "\ta"));
     let mut name = ArrayString::<4>::from("ab");
-    name.make_ascii_uppercase_in(..1);
+    // SAFETY: an ASCII letter for another one leaves it UTF-8.
+    let bytes = unsafe { name.as_bytes_mut() };
+    bytes[0] = b'A';
     assert_eq!(name, "Ab");
     let mut items = ['b', 'c'].into_iter();
     ArrayString::<1>::from("a").extend(&mut items);
@@ -261,4 +280,119 @@ fn what_was_a_fault() {
     let mut drain = ArrayString::<2>::from("a").drain(..).unwrap();
     assert_eq!((drain.next(), drain.next_back(), drain.as_str()), (Some('a'), None, ""));
     assert_eq!(One::new().split_off(0), Ok(One::new()));
+}
+
+/// The columns of the table of what compiles and does something else.
+const SILENT: &str = "| Code | arrayvec | heapless | `String` | Here | To have it as there |";
+const STRING: usize = 2;
+const HERE: usize = 3;
+const INSTEAD: usize = 4;
+
+#[test]
+#[allow(clippy::unnecessary_fallible_conversions, reason = "that it can't fail is what is shown")]
+fn what_a_string_of_std_leaves() {
+    type Name = String;
+    let mut table = Table::below(SILENT);
+    let [mut s, t] = [Name::from("ab"), "m".repeat(150)];
+    leaves!(table, STRING, s.push_str("cde"), |()| s.clone());
+    leaves!(table, STRING, Name::try_from("abcde"), made);
+    leaves!(table, STRING, "abcde".chars().collect::<Name>(), |collected| collected);
+    s = Name::from("ab");
+    leaves!(table, STRING, format!("{s:_>4}"), |printed| printed);
+    leaves!(table, STRING, format!("{s:?}"), |printed| printed);
+    leaves!(table, STRING, t.len() + t.len(), |sum| sum);
+    let mut long = String::with_capacity(1024);
+    long.push_str(&"m".repeat(1025));
+    table.row("ArrayString::<1024>").says(STRING, if long.len() == 1025 { "grows" } else { "is cut" });
+    table.assert_all_met();
+}
+
+#[test]
+#[allow(clippy::unnecessary_fallible_conversions, reason = "that it can't fail is what is shown")]
+fn what_the_same_code_leaves_here() {
+    type Name = ArrayString<4>;
+    let mut table = Table::below(SILENT);
+    let mut s = Name::from("ab");
+    let row = leaves!(table, HERE, s.push_str("cde"), |()| s);
+    s = Name::from("ab");
+    assert_eq!((written!(row, INSTEAD, s.try_push_str("cde")), s.as_str()), (Err(OutOfBounds), "ab"));
+    let row = leaves!(table, HERE, Name::try_from("abcde"), made);
+    assert_eq!(written!(row, INSTEAD, Name::try_from_str("abcde")), Err(OutOfBounds));
+    let row = leaves!(table, HERE, "abcde".chars().collect::<Name>(), |collected| collected);
+    assert_eq!(written!(row, INSTEAD, Name::try_from_chars("abcde".chars())), Err(OutOfBounds));
+    let row = leaves!(table, HERE, format!("{s:_>4}"), |printed| printed);
+    assert_eq!(written!(row, INSTEAD, format!("{:_>4}", s.as_str())), "__ab");
+    let row = leaves!(table, HERE, format!("{s:?}"), |printed| printed);
+    assert_eq!(written!(row, INSTEAD, format!("{:?}", s.as_str())), "\"ab\"");
+    lengths_are_added(&mut table);
+    let long = ArrayString::<1024>::from("m".repeat(1025).as_str());
+    let row = table.row("ArrayString::<1024>");
+    row.says(HERE, &format!("holds {} bytes, takes {}", long.len(), size_of_val(&long)));
+    row.writes(INSTEAD, "String");
+    table.assert_all_met();
+}
+
+fn lengths_are_added(table: &mut Table) {
+    let t = ArrayString::<200>::from("m".repeat(150).as_str());
+    let row = table.row("t.len() + t.len()");
+    row.says(HERE, "`44`, and a panic in a debug build");
+    let sum = page::outcome(|| t.len() + t.len());
+    assert_eq!(sum, if cfg!(debug_assertions) { "panics" } else { "44" });
+    assert_eq!(written!(row, INSTEAD, usize::from(t.len()) + usize::from(t.len())), 300);
+}
+
+/// Calls of other strings. Each is called only where the string has none of this name, which would be called in its place.
+trait Elsewhere: Sized {
+    fn push(&mut self, _ch: char) -> Absent {
+        Absent
+    }
+
+    fn capacity(&self) -> Absent {
+        Absent
+    }
+
+    fn into_bytes(self) -> Absent {
+        Absent
+    }
+
+    fn into_inner(self) -> Absent {
+        Absent
+    }
+}
+
+#[derive(Debug, PartialEq)]
+struct Absent;
+
+impl<const N: usize> Elsewhere for ArrayString<N> {}
+
+/// The second column of the table of what does not compile or is warned of, behind that of whose call it is.
+const WRITTEN: usize = 1;
+
+#[test]
+fn what_does_not_compile_is_written_in_another_way() -> Result<(), Box<dyn std::error::Error>> {
+    type Name = ArrayString<4>;
+    let (mut table, at) = (Table::below("| Code | Of | Here |"), 1usize);
+    let mut s = Name::from("ab");
+    assert_eq!((s.push('c'), s.capacity(), s.into_bytes(), s.into_inner()), (Absent, Absent, Absent, Absent));
+    written!(table.row("s.push('c')"), WRITTEN, s.try_push('c')?);
+    written!(table.row("s.push_str(\"c\").unwrap()"), WRITTEN, s.try_push_str("c").unwrap());
+    assert_eq!(s, "abcc");
+    s = written!(table.row("Name::from(\"ab\").unwrap()"), WRITTEN, Name::try_from_str("ab").unwrap());
+    assert_eq!(written!(table.row("s.capacity()"), WRITTEN, Name::capacity()), 4);
+    assert!(!written!(table.row("s.len() == at"), WRITTEN, usize::from(s.len()) == at));
+    assert_eq!(written!(table.row("&s[at..]"), WRITTEN, &s.as_str()[at..]), "b");
+    written!(table.row("s.truncate(at)"), WRITTEN, s.truncate(u8::try_from(at)?)?);
+    assert_eq!((s.as_str(), Name::from("é").truncate(1)), ("a", Err(Utf8)));
+    assert!(written!(table.row("s.remove(0) == 'a'"), WRITTEN, s.remove(0)? == 'a'));
+    s = Name::from("ab");
+    assert_eq!((s.insert_str(1, "cde"), s.as_str()), (Ok(()), "acdb"));
+    s = Name::from("ab");
+    written!(table.row("s.insert_str(1, \"c\")"), WRITTEN, s.try_insert_str(1, "c")?);
+    s = Name::from(" ab ");
+    assert!(written!(table.row("s.trim() == \"ab\""), WRITTEN, s.as_str().trim() == "ab"));
+    s.trim();
+    assert_eq!(s, "ab");
+    assert_eq!(written!(table.row("s.into_bytes()"), WRITTEN, s.as_bytes().to_vec()), b"ab");
+    table.assert_all_met();
+    Ok(())
 }

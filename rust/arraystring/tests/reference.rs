@@ -210,11 +210,11 @@ fn no_link_leaves_the_crate() {
     }
 }
 
-/// The comments before the `unsafe` blocks of a source, each in one line, with what they belong to.
+/// The comments before the `unsafe` blocks of a source, each in one line, with what they belong to. (Words between backticks are none.)
 fn reasons(text: &str) -> Vec<(String, &str)> {
     let lines: Vec<_> = text.lines().collect();
     let bare = |at: usize| lines[at].trim().trim_start_matches("///").trim_start();
-    let blocks = (0..lines.len()).filter(|at| lines[*at].contains("unsafe {"));
+    let blocks = (0..lines.len()).filter(|at| lines[*at].contains("unsafe {") && !lines[*at].contains("`unsafe {"));
     let comment = |at: usize| {
         let start = (0..at).rev().take_while(|before| bare(*before).starts_with("// ")).last().unwrap_or(at);
         (start..at).map(|at| bare(at).trim_start_matches("// ")).collect::<Vec<_>>().join(" ")
@@ -251,10 +251,7 @@ fn each_unsafe_block_has_its_reason_in_words_of_rust() {
     for comment in ["", "    // It is so.", "    // SAFETY: so it is.\n\n", wrong[0], wrong[1]] {
         assert!(fault(&planted(comment)).is_some(), "{comment}");
     }
-    for comment in [
-        "    // SAFETY: so it is.",
-        "    // It.\n    // SAFETY: `a <= b`:\n    // tested above.\n    // Proved: crates/a.rt",
-    ] {
+    for comment in ["    // SAFETY: so it is.", "    // It.\n    // SAFETY: `a <= b`:\n    // tested above."] {
         assert_eq!(fault(&planted(comment)), None, "{comment}");
     }
 }
@@ -291,4 +288,41 @@ fn each_unsafe_function_says_what_it_requires_in_words_of_rust() {
     }
     assert_eq!(planted("unsafe fn f() {", &["# Safety", "", "- `a <= b`", "- it is UTF-8", "", "<details>"]), None);
     assert_eq!(planted("pub unsafe fn f() {", &["# Safety", "", "It must fit."]), None);
+}
+
+/// The parts of a page that stand for themselves: paragraphs, items of a list and rows of a table, without blocks of code.
+fn parts(page: &str) -> impl Iterator<Item = String> {
+    let text: String = page.split("\n```").step_by(2).collect();
+    let text = text.replace("\n- ", "\n\n- ").replace("\n| ", "\n\n| ");
+    text.split("\n\n").map(str::to_string).collect::<Vec<_>>().into_iter()
+}
+
+/// Whether some code is a path.
+fn is_path(code: &str) -> bool {
+    let ends = [".md", ".rs", ".rt", ".txt", ".toml"];
+    code.starts_with(|ch: char| ch == '.' || ch.is_ascii_alphabetic())
+        && code.chars().all(|ch| ch.is_ascii_alphanumeric() || "/._-".contains(ch))
+        && (code.contains('/') || ends.iter().any(|end| code.ends_with(end)))
+}
+
+/// This runs in the package, too, which lacks more.
+#[test]
+fn a_page_says_of_a_file_that_the_package_lacks_where_it_is() {
+    let folders = ["crates/", "docs/", "rust/"];
+    let mut count = 0;
+    for page in ["README.md", "TRUST.md", "CHANGELOG.md"] {
+        let text = fs::read_to_string(page).expect("a text");
+        let words: Vec<_> = text.split_whitespace().collect();
+        let says_of_folders =
+            words.join(" ").contains("A path that begins with `crates/`, `docs/` or `rust/` is one of the repository");
+        for part in parts(&text) {
+            for path in part.split('`').skip(1).step_by(2).filter(|code| is_path(code)) {
+                let is_there = [path.to_string(), format!("src/{path}")].iter().any(|path| Path::new(path).exists());
+                let is_told = says_of_folders && folders.iter().any(|folder| path.starts_with(folder));
+                assert!(is_there || is_told || part.contains("repository"), "{page}: {path} in {part}");
+                count += 1;
+            }
+        }
+    }
+    assert!(count >= 60, "{count} paths");
 }

@@ -266,6 +266,10 @@ enum Kind {
     Text,
     #[cfg(feature = "alloc")]
     Owned,
+    #[cfg(feature = "alloc")]
+    Boxed,
+    #[cfg(feature = "alloc")]
+    Lent,
 }
 
 const KINDS: &[Kind] = &[
@@ -274,6 +278,10 @@ const KINDS: &[Kind] = &[
     Kind::Text,
     #[cfg(feature = "alloc")]
     Kind::Owned,
+    #[cfg(feature = "alloc")]
+    Kind::Boxed,
+    #[cfg(feature = "alloc")]
+    Kind::Lent,
 ];
 
 /// The sources of these impls, in which each is one of a macro for both types of strings.
@@ -334,6 +342,10 @@ macro_rules! collected {
             Kind::Text => items.texts().collect(),
             #[cfg(feature = "alloc")]
             Kind::Owned => items.texts().map(String::from).collect(),
+            #[cfg(feature = "alloc")]
+            Kind::Boxed => items.texts().map(Box::<str>::from).collect(),
+            #[cfg(feature = "alloc")]
+            Kind::Lent => items.texts().map(Cow::from).collect(),
         }
     }};
 }
@@ -349,6 +361,10 @@ macro_rules! extended {
             Kind::Text => Extend::extend(&mut string, items.texts()),
             #[cfg(feature = "alloc")]
             Kind::Owned => Extend::extend(&mut string, items.texts().map(String::from)),
+            #[cfg(feature = "alloc")]
+            Kind::Boxed => Extend::extend(&mut string, items.texts().map(Box::<str>::from)),
+            #[cfg(feature = "alloc")]
+            Kind::Lent => Extend::extend(&mut string, items.texts().map(Cow::from)),
         }
         string
     }};

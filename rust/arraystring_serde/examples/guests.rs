@@ -32,14 +32,17 @@ fn main() -> Result<(), Box<dyn Error>> {
     assert_eq!(wishes, ["vega", "caf", "tea"]);
 
     // It is written as a `String` is.
-    guest.nickname = Some(Whole("zizi".parse()?));
+    guest.nickname = Some("zizi".parse()?);
     guest.wishes.truncate(1);
     let written = serde_json::to_string(&guest)?;
     assert_eq!(written, r#"{"name":"zoé","note":"by the door","nickname":"zizi","wishes":["vega"]}"#);
 
     // `bartholomew` has 11 bytes, and a name 8.
     let refused = serde_json::from_str::<Guest>(r#"{"name":"bartholomew","note":"","nickname":null,"wishes":[]}"#);
-    assert!(refused.is_err_and(|error| error.to_string().starts_with("invalid length 11, expected a text that fits")));
+    assert!(
+        refused
+            .is_err_and(|error| error.to_string().starts_with("invalid length 11, expected a text of at most 8 bytes"))
+    );
 
     // A name is the key of a map, and is found by a `&str`.
     let seats: BTreeMap<Whole<Name>, u32> = serde_json::from_str(r#"{"zoé":4,"ann":2}"#)?;

@@ -137,10 +137,10 @@ fn what_is_no_text_is_refused() {
     for byte in 0x80..=0xFF {
         let bytes = [b'a', byte];
         let read = Whole::<CacheString>::deserialize(BorrowedBytesDeserializer::<Error>::new(&bytes));
-        let wanted = "invalid value: byte array, expected a text that fits into the string";
+        let wanted = "invalid value: byte array, expected a text of at most 63 bytes";
         assert_eq!(read.unwrap_err().to_string(), wanted);
         assert!(Cut::<CacheString>::deserialize(BorrowedBytesDeserializer::<Error>::new(&bytes)).is_err());
     }
     let long = serde_json::from_str::<Whole<ArrayString<2>>>("\"abé\"").unwrap_err().to_string();
-    assert!(long.starts_with("invalid length 4, expected a text that fits into the string"), "{long}");
+    assert!(long.starts_with("invalid length 4, expected a text of at most 2 bytes"), "{long}");
 }

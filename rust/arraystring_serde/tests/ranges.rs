@@ -20,11 +20,13 @@ use serde::de::{Error, Expected, IntoDeserializer, Unexpected};
 
 mod inputs;
 
-/// What a string is read from.
-const EXPECTED: &str = "a text that fits into the string";
+/// What a string is read from that refuses what does not fit, and what one that cuts it.
+fn expected(capacity: usize) -> [String; 2] {
+    [format!("a text of at most {capacity} bytes"), "a text".to_string()]
+}
 
 /// A refusal, by its parts: the length or the bytes of what was given, and what was expected.
-#[derive(Debug, PartialEq)]
+#[derive(Clone, Debug, PartialEq)]
 enum Refusal {
     Length(usize, String),
     Bytes(Vec<u8>, String),
@@ -82,7 +84,7 @@ fn each_way<'a, T: Deserialize<'a>>(text: &'a str) -> [Result<T, Refusal>; 5] {
 
 /// Asserts what comes of texts of each length at a capacity, and returns how many were tried.
 fn texts_at<T: Text>(capacity: usize) -> usize {
-    let mut count = 0;
+    let (mut count, [whole, _]) = (0, expected(capacity));
     for text in GIVEN.flat_map(texts_of) {
         let kept = cut(&text, capacity);
         for read in each_way::<Whole<T>>(&text) {
@@ -90,7 +92,7 @@ fn texts_at<T: Text>(capacity: usize) -> usize {
                 Ok(read) => assert_eq!((read.0.as_ref(), text.as_str()), (kept, kept)),
                 Err(refusal) => {
                     assert!(text.len() > capacity, "{text:?}");
-                    assert_eq!(refusal, Refusal::Length(text.len(), EXPECTED.to_string()));
+                    assert_eq!(refusal, Refusal::Length(text.len(), whole.clone()));
                 }
             }
             count += 1;
@@ -125,7 +127,7 @@ fn texts_and_bytes_of_each_length() {
 }
 
 /// Asserts that bytes are refused, however they are given, and returns how often they were.
-fn are_refused<T: Text>(bytes: &[u8]) -> usize {
+fn are_refused<T: Text>(capacity: usize, bytes: &[u8]) -> usize {
     let copied = || -> BytesDeserializer<Refusal> { bytes.into_deserializer() };
     let lent = || BorrowedBytesDeserializer::<Refusal>::new(bytes);
     let refusals = [
@@ -134,9 +136,8 @@ fn are_refused<T: Text>(bytes: &[u8]) -> usize {
         Cut::<T>::deserialize(copied()).err(),
         Cut::<T>::deserialize(lent()).err(),
     ];
-    for refusal in &refusals {
-        assert_eq!(*refusal, Some(Refusal::Bytes(bytes.to_vec(), EXPECTED.to_string())));
-    }
+    let [whole, cut] = expected(capacity).map(|expected| Some(Refusal::Bytes(bytes.to_vec(), expected)));
+    assert_eq!(refusals, [whole.clone(), whole, cut.clone(), cut]);
     refusals.len()
 }
 
@@ -145,7 +146,7 @@ const LENGTHS: [usize; 17] = [1, 2, 3, 7, 8, 9, 62, 63, 64, 254, 255, 256, 300, 
 
 /// Puts a fault at each place of bytes of these lengths: a byte that no text has, one that begins no character, and one whose
 /// character is not there. Returns how often it was refused.
-fn faults_at<T: Text>(_capacity: usize) -> usize {
+fn faults_at<T: Text>(capacity: usize) -> usize {
     let mut count = 0;
     for len in LENGTHS {
         let [text, ..] = texts_of(len);
@@ -153,7 +154,7 @@ fn faults_at<T: Text>(_capacity: usize) -> usize {
             for fault in [0xFF, 0x80, 0xE2] {
                 let mut bytes = text.clone().into_bytes();
                 bytes[at] = fault;
-                count += are_refused::<T>(&bytes);
+                count += are_refused::<T>(capacity, &bytes);
             }
         }
     }
@@ -173,7 +174,7 @@ fn bytes_without_one<T: Text>(capacity: usize) -> usize {
             let mut bytes = text.clone().into_bytes();
             bytes.remove(at);
             match std::str::from_utf8(&bytes) {
-                Err(_) => refused += are_refused::<T>(&bytes),
+                Err(_) => refused += are_refused::<T>(capacity, &bytes),
                 Ok(left) => {
                     let read = Cut::<T>::deserialize(BorrowedBytesDeserializer::<Refusal>::new(&bytes));
                     assert_eq!(read.expect("a text").0.as_ref(), cut(left, capacity));
@@ -194,13 +195,13 @@ fn a_character_without_a_byte() {
 
 /// Asserts what comes of a character that a format gives as one.
 fn characters_at<T: Text>(capacity: usize) -> usize {
-    let mut count = 0;
+    let (mut count, [expected, _]) = (0, expected(capacity));
     for ch in ['\0', 'a', '\u{7F}', '\u{80}', 'é', '\u{7FF}', '\u{800}', '€', '\u{FFFF}', '\u{10000}', '\u{10FFFF}']
     {
         let given = || -> CharDeserializer<Refusal> { ch.into_deserializer() };
         let text = ch.to_string();
         let whole = Whole::<T>::deserialize(given()).map(|read| read.0.as_ref().to_string());
-        let refusal = || Refusal::Length(ch.len_utf8(), EXPECTED.to_string());
+        let refusal = || Refusal::Length(ch.len_utf8(), expected.clone());
         assert_eq!(whole, if text.len() <= capacity { Ok(text.clone()) } else { Err(refusal()) });
         let read = Cut::<T>::deserialize(given());
         assert_eq!(read.expect("it is cut").0.as_ref(), cut(&text, capacity));
@@ -220,22 +221,22 @@ fn a_character_is_a_text() {
 fn other_types_say_what_was_expected() {
     let number = |number: u64| -> U64Deserializer<Refusal> { number.into_deserializer() };
     let unit = || -> UnitDeserializer<Refusal> { ().into_deserializer() };
-    let wanted = Refusal::Type(EXPECTED.to_string());
-    assert_eq!(Whole::<CacheString>::deserialize(number(7)).as_ref(), Err(&wanted));
-    assert_eq!(Cut::<CacheString>::deserialize(number(0)).as_ref(), Err(&wanted));
-    assert_eq!(Whole::<CacheString>::deserialize(unit()).as_ref(), Err(&wanted));
-    assert_eq!(Cut::<CacheString>::deserialize(unit()).as_ref(), Err(&wanted));
+    let [whole, cut] = expected(63).map(Refusal::Type);
+    assert_eq!(Whole::<CacheString>::deserialize(number(7)).as_ref(), Err(&whole));
+    assert_eq!(Cut::<CacheString>::deserialize(number(0)).as_ref(), Err(&cut));
+    assert_eq!(Whole::<CacheString>::deserialize(unit()).as_ref(), Err(&whole));
+    assert_eq!(Cut::<CacheString>::deserialize(unit()).as_ref(), Err(&cut));
 }
 
 /// Asserts the words of a refusal, and what is written, by JSON.
 fn words_at<T: Text>(capacity: usize) -> usize {
-    let mut refused = 0;
+    let (mut refused, [expected, _]) = (0, expected(capacity));
     for text in GIVEN.flat_map(texts_of) {
         let json = serde_json::to_string(&text).unwrap();
         match serde_json::from_str::<Whole<T>>(&json) {
             Ok(read) => assert_eq!((serde_json::to_string(&read).unwrap(), text.len() <= capacity), (json, true)),
             Err(refusal) => {
-                let words = format!("invalid length {}, expected {EXPECTED} at line 1", text.len());
+                let words = format!("invalid length {}, expected {expected} at line 1", text.len());
                 assert!(refusal.to_string().starts_with(&words), "{refusal}");
                 refused += 1;
             }
@@ -249,34 +250,24 @@ fn the_words_of_a_refusal_have_the_length() {
     assert_eq!(at_capacities!(words_at), [0, 1, 8, 63, 254, 255, 255].map(|capacity| 3 * (600 - capacity)));
 }
 
-/// Wrappers of the same names, as std derives the traits for them.
-mod derived {
-    #[derive(Debug, Default, Clone, Copy, PartialEq, Eq, PartialOrd, Ord, Hash)]
-    pub struct Whole<T>(pub T);
-
-    #[derive(Debug, Default, Clone, Copy, PartialEq, Eq, PartialOrd, Ord, Hash)]
-    pub struct Cut<T>(pub T);
-}
-
 fn hash_of<T: Hash + ?Sized>(value: &T) -> u64 {
     let mut state = DefaultHasher::new();
     value.hash(&mut state);
     state.finish()
 }
 
-/// Asserts that a wrapper prints and compares as the derived one does, hashes as its text, and lends what is inside.
+/// Asserts that a wrapper prints as its string does, compares as its text does, hashes as that, and lends what is inside.
 macro_rules! is_wrapper {
     ($name:ident, $one:expr, $other:expr) => {{
         let (one, other): (&str, &str) = ($one, $other);
         let wrapped = |text: &str| $name(ArrayString::<23>::from(text));
-        let derived = |text: &str| derived::$name(ArrayString::<23>::from(text));
         let (a, b) = (wrapped(one), wrapped(other));
         assert_eq!((a == b, a != b), (one == other, one != other), "{one:?} {other:?}");
         assert_eq!((a.cmp(&b), a.partial_cmp(&b)), (one.cmp(other), Some(one.cmp(other))), "{one:?} {other:?}");
-        assert_eq!(
-            (format!("{a:?}"), format!("{a:#?}")),
-            (format!("{:?}", derived(one)), format!("{:#?}", derived(one)))
-        );
+        assert_eq!([a == *other, a == other, *other == a, other == a], [one == other; 4]);
+        let inside = ArrayString::<23>::from(one);
+        assert_eq!((format!("{a:?}"), format!("{a:#?}")), (format!("{inside:?}"), format!("{inside:#?}")));
+        assert_eq!((format!("{a}"), format!("{a:_>30.1}")), (one.to_string(), format!("{inside:_>30.1}")));
         assert_eq!((hash_of(&a), Borrow::<str>::borrow(&a)), (hash_of(one), one));
         let mut changed = $name::from(a.0);
         assert_eq!((changed.as_str(), changed == a, changed.0 == *a), (one, true, true));
@@ -287,10 +278,31 @@ macro_rules! is_wrapper {
 }
 
 #[test]
-fn wrappers_are_as_derived_ones() {
+fn wrappers_are_as_their_strings() {
     let texts: Vec<String> = [0, 1, 2, 3, 8, 22, 23].into_iter().flat_map(texts_of).collect();
     for (one, other) in texts.iter().flat_map(|one| texts.iter().map(move |other| (one, other))) {
         is_wrapper!(Whole, one, other);
         is_wrapper!(Cut, one, other);
     }
+}
+
+/// Asserts what comes of a text that is parsed, refused or cut by a wrapper, and returns how many were refused.
+fn made_at<T: Text>(capacity: usize) -> usize {
+    let mut refused = 0;
+    for text in GIVEN.flat_map(texts_of) {
+        let kept = cut(&text, capacity);
+        let inside = |whole: Whole<T>| whole.0.as_ref().to_string();
+        let wanted = if text.len() <= capacity { Ok(text.clone()) } else { Err(OutOfBounds) };
+        refused += usize::from(wanted.is_err());
+        assert_eq!(text.parse().map(inside), wanted);
+        assert_eq!(Whole::try_from_str(&text).map(inside), wanted);
+        assert_eq!(text.parse().map(|read: Cut<T>| read.0.as_ref().to_string()), wanted);
+        assert_eq!(Cut::<T>::from_str_truncate(&text).0.as_ref(), kept);
+    }
+    refused
+}
+
+#[test]
+fn wrappers_are_made_of_texts() {
+    assert_eq!(at_capacities!(made_at), [0, 1, 8, 63, 254, 255, 255].map(|capacity| 3 * (600 - capacity)));
 }

@@ -1,4 +1,4 @@
-// Made from crates/arraystring_base/src/error.rt by rust/erase. A change goes there.
+// Made from crates/arraystring_base/src/error.rt by rust/erase. The proof is there. A change goes there.
 //! What a call refuses, and the conversions to `Error`. A width and a precision in the format of a
 //! printed form are ignored.
 

@@ -1,4 +1,4 @@
-// Made from crates/arraystring_base/src/moves.rt by rust/erase. A change goes there.
+// Made from crates/arraystring_base/src/moves.rt by rust/erase. The proof is there. A change goes there.
 //! How a run of bytes is moved inside an array: as its first `K` and its last `K` bytes, which may
 //! overlap, and both are read before the first is written. `memmove` moves short runs in this way
 //! too. A byte that both have is written twice, to one offset, and counts as one move. They are read
@@ -43,9 +43,10 @@ use crate::by_hand::simd::Simd;
 /// </details>
 #[inline(always)]
 pub unsafe fn shift<const N: usize>(array: &mut [u8; N], from: usize, to: usize, len: usize, steps: &mut Steps) {
+    required!(from <= N && len <= N - from);
+    required!(to <= N && len <= N - to);
     if from != to {
         // SAFETY: `from + len <= N`; `to + len <= N`: by this function's `# Safety`, whatever was counted.
-        // Proved: crates/arraystring_base/src/moves.rt
         unsafe { move_run(array, from, to, len) };
         steps.count_moves(len);
     }
@@ -72,16 +73,13 @@ pub unsafe fn shift<const N: usize>(array: &mut [u8; N], from: usize, to: usize,
 pub unsafe fn move_run<const N: usize>(array: &mut [u8; N], from: usize, to: usize, len: usize) {
     if N > 64 && len > 64 {
         // SAFETY: `from + len <= N`; `to + len <= N`; `64 < len`: by this function's `# Safety` and the tests above.
-        // Proved: crates/arraystring_base/src/moves.rt
         unsafe { move_much(array, from, to, len) };
     } else if len >= 16 {
         // SAFETY: `from + len <= N`; `to + len <= N`; `16 <= len`; `len <= 64`: by this function's `# Safety` and the
         // tests above, since `len` is at most `N`.
-        // Proved: crates/arraystring_base/src/moves.rt
         unsafe { move_long_run(array, from, to, len) };
     } else {
         // SAFETY: `from + len <= N`; `to + len <= N`; `len < 16`: by this function's `# Safety` and the tests above.
-        // Proved: crates/arraystring_base/src/moves.rt
         unsafe { move_short_run(array, from, to, len) };
     }
 }
@@ -111,23 +109,19 @@ unsafe fn move_short_run<const N: usize>(array: &mut [u8; N], from: usize, to: u
         if len >= 8 {
             // SAFETY: `from + len <= N`; `to + len <= N`; `8 <= len`; `len - 8 <= 8`: by this function's `# Safety` and
             // the tests above.
-            // Proved: crates/arraystring_base/src/moves.rt
             unsafe { move_ends::<N, 8>(array, from, to, len) };
         } else {
             // SAFETY: `from + len <= N`; `to + len <= N`; `4 <= len`; `len - 4 <= 4`: by this function's `# Safety` and
             // the tests above.
-            // Proved: crates/arraystring_base/src/moves.rt
             unsafe { move_ends::<N, 4>(array, from, to, len) };
         }
     } else if len >= 2 {
         // SAFETY: `from + len <= N`; `to + len <= N`; `2 <= len`; `len - 2 <= 2`: by this function's `# Safety` and the
         // tests above.
-        // Proved: crates/arraystring_base/src/moves.rt
         unsafe { move_ends::<N, 2>(array, from, to, len) };
     } else if len == 1 {
         // SAFETY: `from + len <= N`; `to + len <= N`; `1 <= len`; `len - 1 <= 1`: by this function's `# Safety` and the
         // tests above.
-        // Proved: crates/arraystring_base/src/moves.rt
         unsafe { move_ends::<N, 1>(array, from, to, len) };
     }
 }
@@ -158,12 +152,10 @@ unsafe fn move_long_run<const N: usize>(array: &mut [u8; N], from: usize, to: us
     if N > 32 && len > 32 {
         // SAFETY: `from + len <= N`; `to + len <= N`; `32 <= len`; `len - 32 <= 32`: by this function's `# Safety` and
         // the tests above, since `len` is at most `N`.
-        // Proved: crates/arraystring_base/src/moves.rt
         unsafe { move_ends::<N, 32>(array, from, to, len) };
     } else {
         // SAFETY: `from + len <= N`; `to + len <= N`; `16 <= len`; `len - 16 <= 16`: by this function's `# Safety` and
         // the tests above, since `len` is at most `N`.
-        // Proved: crates/arraystring_base/src/moves.rt
         unsafe { move_ends::<N, 16>(array, from, to, len) };
     }
 }
@@ -192,16 +184,13 @@ unsafe fn move_much<const N: usize>(array: &mut [u8; N], from: usize, to: usize,
     if len <= 128 {
         // SAFETY: `from + len <= N`; `to + len <= N`; `64 <= len`; `len - 64 <= 64`: by this function's `# Safety` and
         // the tests above.
-        // Proved: crates/arraystring_base/src/moves.rt
         unsafe { move_ends::<N, 64>(array, from, to, len) };
     } else if N <= 256 {
         // SAFETY: `from + len <= N`; `to + len <= N`; `64 + 64 <= len`; `len - (64 + 64) <= 64 + 64`: by this
         // function's `# Safety` and the tests above, since `len` is at most `N`.
-        // Proved: crates/arraystring_base/src/moves.rt
         unsafe { move_pairs::<N, 64>(array, from, to, len) };
     } else {
         // SAFETY: `from + len <= N`; `to + len <= N`: by this function's `# Safety`.
-        // Proved: crates/arraystring_base/src/moves.rt
         unsafe { move_any_run(array, from, to, len) };
     }
 }
@@ -229,8 +218,7 @@ unsafe fn move_much<const N: usize>(array: &mut [u8; N], from: usize, to: usize,
 unsafe fn move_any_run<const N: usize>(array: &mut [u8; N], from: usize, to: usize, len: usize) {
     let all = &mut array[..];
     // SAFETY: this is within: by this function's `# Safety`.
-    // Proved: crates/arraystring_base/src/moves.rt
-    copy_within_unchecked!(all, from..from + len, to);
+    unsafe { copy_within_unchecked!(all, from..from + len, to) };
 }
 
 /// Moves `K` to `2 * K` bytes.
@@ -260,19 +248,15 @@ unsafe fn move_ends<const N: usize, const K: usize>(array: &mut [u8; N], from: u
     let all = &array[..];
     // SAFETY: `from + K <= all.len()`: `all` is the array, which has the `len` bytes from `from` on by this function's
     // `# Safety`, and `rest + K` is `len`.
-    // Proved: crates/arraystring_base/src/moves.rt
     let first = unsafe { bytes_of::<K>(all, from) };
     // SAFETY: `from + rest + K <= all.len()`: `all` is the array, which has the `len` bytes from `from` on by this
     // function's `# Safety`, and `rest + K` is `len`.
-    // Proved: crates/arraystring_base/src/moves.rt
     let last = unsafe { bytes_of::<K>(all, from + rest) };
     // SAFETY: `to + K <= N`: the array has the `len` bytes from `to` on by this function's `# Safety`, and `rest + K`
     // is `len`.
-    // Proved: crates/arraystring_base/src/moves.rt
     unsafe { put_bytes(array, to, first) };
     // SAFETY: `to + rest + K <= N`: the array has the `len` bytes from `to` on by this function's `# Safety`, and
     // `rest + K` is `len`.
-    // Proved: crates/arraystring_base/src/moves.rt
     unsafe { put_bytes(array, to + rest, last) };
 }
 
@@ -299,30 +283,25 @@ unsafe fn move_ends<const N: usize, const K: usize>(array: &mut [u8; N], from: u
 ///
 /// </details>
 unsafe fn move_pairs<const N: usize, const K: usize>(array: &mut [u8; N], from: usize, to: usize, len: usize) {
-    known!(source: from + len <= N);
+    // SAFETY: by this function's `# Safety`.
+    unsafe { known!(source: from + len <= N) };
     let rest = len - (K + K);
     let all = &array[..];
     // SAFETY: `from + K <= all.len()`: `all` is the array, which has the `len` bytes from `from` on by this function's
     // `# Safety`, and `rest + K + K` is `len`.
-    // Proved: crates/arraystring_base/src/moves.rt
     let front = unsafe { bytes_of::<K>(all, from) };
     // SAFETY: `from + K + K <= all.len()`: `all` is the array, which has the `len` bytes from `from` on by this
     // function's `# Safety`, and `rest + K + K` is `len`.
-    // Proved: crates/arraystring_base/src/moves.rt
     let after_front = unsafe { bytes_of::<K>(all, from + K) };
     // SAFETY: `from + rest + K <= all.len()`: `all` is the array, which has the `len` bytes from `from` on by this
     // function's `# Safety`, and `rest + K + K` is `len`.
-    // Proved: crates/arraystring_base/src/moves.rt
     let before_end = unsafe { bytes_of::<K>(all, from + rest) };
     // SAFETY: `from + rest + K + K <= all.len()`: `all` is the array, which has the `len` bytes from `from` on by this
     // function's `# Safety`, and `rest + K + K` is `len`.
-    // Proved: crates/arraystring_base/src/moves.rt
     let end = unsafe { bytes_of::<K>(all, from + rest + K) };
     // SAFETY: `to + (K + K) <= N`: the array has the `len` bytes from `to` on, and `rest + (K + K)` is `len`.
-    // Proved: crates/arraystring_base/src/moves.rt
     unsafe { put_pair(array, to, front, after_front) };
     // SAFETY: `to + rest + (K + K) <= N`: the array has the `len` bytes from `to` on, and `rest + (K + K)` is `len`.
-    // Proved: crates/arraystring_base/src/moves.rt
     unsafe { put_pair(array, to + rest, before_end, end) };
 }
 
@@ -346,11 +325,9 @@ unsafe fn move_pairs<const N: usize, const K: usize>(array: &mut [u8; N], from: 
 pub unsafe fn write_over<const N: usize>(array: &mut [u8; N], at: usize, given: &[u8]) {
     if given.len() >= 16 {
         // SAFETY: `at + given.len() <= N`; `16 <= given.len()`: by this function's `# Safety` and the tests above.
-        // Proved: crates/arraystring_base/src/moves.rt
         unsafe { write_long_run(array, at, given) };
     } else {
         // SAFETY: `at + given.len() <= N`; `given.len() < 16`: by this function's `# Safety` and the tests above.
-        // Proved: crates/arraystring_base/src/moves.rt
         unsafe { write_short_run(array, at, given) };
     }
 }
@@ -379,23 +356,19 @@ unsafe fn write_short_run<const N: usize>(array: &mut [u8; N], at: usize, given:
         if len >= 8 {
             // SAFETY: `at + given.len() <= N`; `8 <= given.len()`; `given.len() - 8 <= 8`: by this function's
             // `# Safety` and the tests above.
-            // Proved: crates/arraystring_base/src/moves.rt
             unsafe { copy_ends::<N, 8>(array, at, given) };
         } else {
             // SAFETY: `at + given.len() <= N`; `4 <= given.len()`; `given.len() - 4 <= 4`: by this function's
             // `# Safety` and the tests above.
-            // Proved: crates/arraystring_base/src/moves.rt
             unsafe { copy_ends::<N, 4>(array, at, given) };
         }
     } else if len >= 2 {
         // SAFETY: `at + given.len() <= N`; `2 <= given.len()`; `given.len() - 2 <= 2`: by this function's `# Safety`
         // and the tests above.
-        // Proved: crates/arraystring_base/src/moves.rt
         unsafe { copy_ends::<N, 2>(array, at, given) };
     } else if len == 1 {
         // SAFETY: `at + given.len() <= N`; `1 <= given.len()`; `given.len() - 1 <= 1`: by this function's `# Safety`
         // and the tests above.
-        // Proved: crates/arraystring_base/src/moves.rt
         unsafe { copy_ends::<N, 1>(array, at, given) };
     }
 }
@@ -422,17 +395,14 @@ unsafe fn write_long_run<const N: usize>(array: &mut [u8; N], at: usize, given: 
     let len = given.len();
     if N > 64 && len > 64 {
         // SAFETY: `at + given.len() <= N`: by this function's `# Safety`.
-        // Proved: crates/arraystring_base/src/moves.rt
         unsafe { write_any_run(array, at, given) };
     } else if N > 32 && len > 32 {
         // SAFETY: `at + given.len() <= N`; `32 <= given.len()`; `given.len() - 32 <= 32`: by this function's `# Safety`
         // and the tests above, since `len` is at most `N`.
-        // Proved: crates/arraystring_base/src/moves.rt
         unsafe { copy_ends::<N, 32>(array, at, given) };
     } else {
         // SAFETY: `at + given.len() <= N`; `16 <= given.len()`; `given.len() - 16 <= 16`: by this function's `# Safety`
         // and the tests above, since `len` is at most `N`.
-        // Proved: crates/arraystring_base/src/moves.rt
         unsafe { copy_ends::<N, 16>(array, at, given) };
     }
 }
@@ -456,8 +426,7 @@ unsafe fn write_long_run<const N: usize>(array: &mut [u8; N], at: usize, given: 
 unsafe fn write_any_run<const N: usize>(array: &mut [u8; N], at: usize, given: &[u8]) {
     let all = &mut array[..];
     // SAFETY: this is within: by this function's `# Safety`.
-    // Proved: crates/arraystring_base/src/moves.rt
-    copy_from_slice_unchecked!(all, at..at + given.len(), given);
+    unsafe { copy_from_slice_unchecked!(all, at..at + given.len(), given) };
 }
 
 /// Writes `K` to `2 * K` bytes.
@@ -483,19 +452,15 @@ unsafe fn write_any_run<const N: usize>(array: &mut [u8; N], at: usize, given: &
 unsafe fn copy_ends<const N: usize, const K: usize>(array: &mut [u8; N], at: usize, given: &[u8]) {
     let rest = given.len() - K;
     // SAFETY: `K <= given.len()`: `rest + K` is `given.len()`, which is at least `K` by this function's `# Safety`.
-    // Proved: crates/arraystring_base/src/moves.rt
     let first = unsafe { bytes_of::<K>(given, 0) };
     // SAFETY: `rest + K <= given.len()`: `rest + K` is `given.len()`, which is at least `K` by this function's
     // `# Safety`.
-    // Proved: crates/arraystring_base/src/moves.rt
     let last = unsafe { bytes_of::<K>(given, rest) };
     // SAFETY: `at + K <= N`: the array has the `given.len()` bytes from `at` on by this function's `# Safety`, and
     // `rest + K` is `given.len()`.
-    // Proved: crates/arraystring_base/src/moves.rt
     unsafe { put_bytes(array, at, first) };
     // SAFETY: `at + rest + K <= N`: the array has the `given.len()` bytes from `at` on by this function's `# Safety`,
     // and `rest + K` is `given.len()`.
-    // Proved: crates/arraystring_base/src/moves.rt
     unsafe { put_bytes(array, at + rest, last) };
 }
 
@@ -517,8 +482,7 @@ unsafe fn copy_ends<const N: usize, const K: usize>(array: &mut [u8; N], at: usi
 /// </details>
 unsafe fn bytes_of<const K: usize>(given: &[u8], at: usize) -> Simd<u8, K> {
     // SAFETY: this is within: by this function's `# Safety`.
-    // Proved: crates/arraystring_base/src/moves.rt
-    Simd::<u8, K>::from_slice(get_unchecked!(given, at..at + K))
+    Simd::<u8, K>::from_slice(unsafe { get_unchecked!(given, at..at + K) })
 }
 
 /// Writes `K` bytes from `at` on.
@@ -540,8 +504,7 @@ unsafe fn bytes_of<const K: usize>(given: &[u8], at: usize) -> Simd<u8, K> {
 unsafe fn put_bytes<const N: usize, const K: usize>(array: &mut [u8; N], at: usize, bytes: Simd<u8, K>) {
     let all = &mut array[..];
     // SAFETY: this is within: by this function's `# Safety`.
-    // Proved: crates/arraystring_base/src/moves.rt
-    bytes.copy_to_slice(get_unchecked_mut!(all, at..at + K));
+    bytes.copy_to_slice(unsafe { get_unchecked_mut!(all, at..at + K) });
 }
 
 /// Writes `2 * K` bytes from `at` on.
@@ -567,9 +530,7 @@ unsafe fn put_pair<const N: usize, const K: usize>(
     second: Simd<u8, K>,
 ) {
     // SAFETY: `at + K <= N`: by this function's `# Safety`.
-    // Proved: crates/arraystring_base/src/moves.rt
     unsafe { put_bytes(array, at, first) };
     // SAFETY: `at + K + K <= N`: by this function's `# Safety`.
-    // Proved: crates/arraystring_base/src/moves.rt
     unsafe { put_bytes(array, at + K, second) };
 }

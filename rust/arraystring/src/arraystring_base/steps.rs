@@ -1,4 +1,4 @@
-// Made from crates/arraystring_base/src/steps.rt by rust/erase. A change goes there.
+// Made from crates/arraystring_base/src/steps.rt by rust/erase. The proof is there. A change goes there.
 //! Counting what a call does to bytes.
 
 /// Counts of looks and of moves. A look is one call of [`look`](crate::utils::look), and a move is one byte that [`shift`](crate::utils::shift)
@@ -175,8 +175,7 @@ pub fn look(bytes: &[u8], at: usize, steps: &mut Steps) -> u8 {
 pub(crate) unsafe fn look_unchecked(bytes: &[u8], at: usize, steps: &mut Steps) -> u8 {
     steps.looked = steps.looked.saturating_add(1);
     // SAFETY: this is within: by this function's `# Safety`.
-    // Proved: crates/arraystring_base/src/steps.rt
-    *get_unchecked!(bytes, at)
+    *unsafe { get_unchecked!(bytes, at) }
 }
 
 #[cfg(test)]

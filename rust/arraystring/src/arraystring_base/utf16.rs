@@ -1,4 +1,4 @@
-// Made from crates/arraystring_base/src/utf16.rt by rust/erase. A change goes there.
+// Made from crates/arraystring_base/src/utf16.rt by rust/erase. The proof is there. A change goes there.
 //! UTF-16, read as characters and lone surrogates (the Unicode Standard, section 3.9).
 
 use core::char;
@@ -109,6 +109,13 @@ impl<'a> Iterator for Units<'a> {
         }
         self.rest = rest;
         Some(single_item(unit))
+    }
+
+    /// The units that are left bound the items, which take one or two each.
+    #[inline]
+    fn size_hint(&self) -> (usize, Option<usize>) {
+        let len = self.rest.len();
+        (len.div_ceil(2), Some(len))
     }
 }
 

@@ -1,4 +1,4 @@
-// Made from crates/arraystring_base/src/utf8.rt by rust/erase. A change goes there.
+// Made from crates/arraystring_base/src/utf8.rt by rust/erase. The proof is there. A change goes there.
 //! The UTF-8 of texts and characters: boundaries, cuts, the last character of a text, and the bytes of a
 //! character. Sizes and indices count bytes of UTF-8.
 
@@ -99,11 +99,9 @@ pub fn truncate_str_counted<'a>(text: &'a str, size: u8, steps: &mut Steps) -> &
         return text;
     }
     // SAFETY: `limit < text.len()`: by the test above, whatever was counted.
-    // Proved: crates/arraystring_base/src/utf8.rt
     let end = unsafe { last_boundary(text, limit, steps) };
     // SAFETY: this is within: `last_boundary` returns a boundary of `text`, whatever was counted.
-    // Proved: crates/arraystring_base/src/utf8.rt
-    get_unchecked!(text, ..end)
+    unsafe { get_unchecked!(text, ..end) }
 }
 
 /// The last boundary that is not past `limit`. It looks once at each byte from `limit` back to it,
@@ -138,7 +136,6 @@ unsafe fn last_boundary(text: &str, limit: usize, steps: &mut Steps) -> usize {
     // At most three bytes continue a character. The bound is for the compiler, which unrolls the loop.
     // SAFETY: `end < all.len()`: `end` is at most `limit`, which is below `text.len()` by this function's `# Safety`,
     // whatever was counted.
-    // Proved: crates/arraystring_base/src/utf8.rt
     while end > 0 && continues(unsafe { look_unchecked(all, end, steps) }) && limit - end < 3 {
         end -= 1;
     }
@@ -190,7 +187,6 @@ pub fn last_char(text: &str, steps: &mut Steps) -> Option<(usize, char)> {
         return None;
     }
     // SAFETY: `0 < text.len()`: the test above returned for an empty text, whatever was counted.
-    // Proved: crates/arraystring_base/src/utf8.rt
     let (start, ch) = unsafe { char_before_end(text, steps) };
     Some((start, ch))
 }
@@ -223,7 +219,6 @@ unsafe fn char_before_end(text: &str, steps: &mut Steps) -> (usize, char) {
     let end = all.len();
     // SAFETY: `end - 1 < all.len()`: `end` is `all.len()`, which is above 0 by this function's `# Safety`, whatever was
     // counted.
-    // Proved: crates/arraystring_base/src/utf8.rt
     let last = unsafe { look_unchecked(all, end - 1, steps) } as u32;
     if last < 0x80 {
         // SAFETY: a number below 0x80 is a scalar value.
@@ -231,7 +226,6 @@ unsafe fn char_before_end(text: &str, steps: &mut Steps) -> (usize, char) {
     }
     // SAFETY: `end - 2 < all.len()`: the last byte is not ASCII, so its character has one more before it, whatever was
     // counted.
-    // Proved: crates/arraystring_base/src/utf8.rt
     let second = unsafe { look_unchecked(all, end - 2, steps) } as u32;
     if second >= 0xC0 {
         let code = (second - 0xC0) * 64 + (last - 0x80);
@@ -241,7 +235,6 @@ unsafe fn char_before_end(text: &str, steps: &mut Steps) -> (usize, char) {
     }
     // SAFETY: `end - 3 < all.len()`: the last two bytes only continue a character, so it has one more before them,
     // whatever was counted.
-    // Proved: crates/arraystring_base/src/utf8.rt
     let third = unsafe { look_unchecked(all, end - 3, steps) } as u32;
     if third >= 0xC0 {
         let code = (third - 0xE0) * 4096 + (second - 0x80) * 64 + (last - 0x80);
@@ -251,7 +244,6 @@ unsafe fn char_before_end(text: &str, steps: &mut Steps) -> (usize, char) {
     }
     // SAFETY: `end - 4 < all.len()`: the last three bytes only continue a character, so it has one more before them,
     // whatever was counted.
-    // Proved: crates/arraystring_base/src/utf8.rt
     let fourth = unsafe { look_unchecked(all, end - 4, steps) } as u32;
     let front = (fourth - 0xF0) * 262_144 + (third - 0x80) * 4096;
     let code = front + (second - 0x80) * 64 + (last - 0x80);
@@ -289,32 +281,36 @@ unsafe fn char_before_end(text: &str, steps: &mut Steps) -> (usize, char) {
 /// [How to read a contract](crate::contracts)
 ///
 /// </details>
+#[expect(clippy::cast_possible_truncation, reason = "by the tests of `code` each is a byte of UTF-8")]
 #[inline(always)]
 pub unsafe fn encode<const N: usize>(ch: char, array: &mut [u8; N], at: usize) -> usize {
+    required!(at <= N && ch.len_utf8() <= N - at);
     let code = ch as u32;
     let all = &mut array[..];
     if code < 0x80 {
         // SAFETY: this is within: by this function's `# Safety`, since `ch` takes as many bytes as are written.
-        // Proved: crates/arraystring_base/src/utf8.rt
-        *get_unchecked_mut!(all, at) = code as u8;
+        *unsafe { get_unchecked_mut!(all, at) } = code as u8;
         1
     } else if code < 0x800 {
         let first = (0xC0 + code / 64) as u8;
         let second = (0x80 + code % 64) as u8;
-        copy_from_slice_unchecked!(all, at..at + 2, &[first, second]);
+        // SAFETY: this is within: by this function's `# Safety`, since `ch` takes as many bytes as are written.
+        unsafe { copy_from_slice_unchecked!(all, at..at + 2, &[first, second]) };
         2
     } else if code < 0x1_0000 {
         let first = (0xE0 + code / 4096) as u8;
         let second = (0x80 + code / 64 % 64) as u8;
         let third = (0x80 + code % 64) as u8;
-        copy_from_slice_unchecked!(all, at..at + 3, &[first, second, third]);
+        // SAFETY: this is within: by this function's `# Safety`, since `ch` takes as many bytes as are written.
+        unsafe { copy_from_slice_unchecked!(all, at..at + 3, &[first, second, third]) };
         3
     } else {
         let first = (0xF0 + code / 262_144) as u8;
         let second = (0x80 + code / 4096 % 64) as u8;
         let third = (0x80 + code / 64 % 64) as u8;
         let fourth = (0x80 + code % 64) as u8;
-        copy_from_slice_unchecked!(all, at..at + 4, &[first, second, third, fourth]);
+        // SAFETY: this is within: by this function's `# Safety`, since `ch` takes as many bytes as are written.
+        unsafe { copy_from_slice_unchecked!(all, at..at + 4, &[first, second, third, fourth]) };
         4
     }
 }

@@ -1,4 +1,4 @@
-// Made from crates/arraystring_base/src/utils.rt by rust/erase. A change goes there.
+// Made from crates/arraystring_base/src/utils.rt by rust/erase. The proof is there. A change goes there.
 //! Boundaries, cuts and moves of bytes, under the paths of the Rust crate. Sizes and indices count bytes of
 //! UTF-8.
 

@@ -1,4 +1,4 @@
-// Made from crates/arraystring_core/src/array_string.rt by rust/erase. A change goes there.
+// Made from crates/arraystring_core/src/array_string.rt by rust/erase. The proof is there. A change goes there.
 //! `ArrayString`: the type, and the calls that read all of it. The modules below have its other calls,
 //! `traits` its impls of traits. `append` and `in_place` have the private calls that put bytes into its
 //! array or take them out.
@@ -29,9 +29,11 @@ mod empty {
         /// [How to read a contract](crate::contracts)
         ///
         /// </details>
+        #[doc(alias = "with_capacity")]
         #[must_use]
         #[inline(always)]
         pub const fn new() -> Self {
+            // FIELDS: there is no text, which begins and ends within any capacity.
             ArrayString { array: [0; N], start: 0, size: 0 }
         }
     }
@@ -39,6 +41,8 @@ mod empty {
 mod construct;
 #[path = "../by_hand/constant.rs"]
 mod constant;
+#[path = "../by_hand/constructors.rs"]
+mod constructors;
 mod utf16;
 mod views {
     use super::*;
@@ -65,6 +69,7 @@ mod views {
         ///
         /// </details>
         #[must_use]
+        #[expect(clippy::cast_possible_truncation, reason = "the test has that it is below 255")]
         #[inline]
         pub const fn capacity() -> u8 {
             if N < 255 { N as u8 } else { 255 }
@@ -155,7 +160,9 @@ mod views {
         pub const fn as_str(&self) -> &str {
             let (size, start) = (self.size as usize, self.start as usize);
             // SAFETY: this is within: `start + size` is at most `N`, as the fields of the type say.
-            let (_, text) = split_at_unchecked!(split_at_unchecked!(self.array, start + size).0, start);
+            let (front, _) = unsafe { split_at_unchecked!(self.array, start + size) };
+            // SAFETY: this is within: `front` has `start + size` bytes.
+            let (_, text) = unsafe { split_at_unchecked!(front, start) };
             // SAFETY: the `size` bytes from `start` on are UTF-8, as the fields of the type say.
             unsafe { str::from_utf8_unchecked(text) }
         }
@@ -191,7 +198,9 @@ mod views {
         pub const fn as_bytes(&self) -> &[u8] {
             let (size, start) = (self.size as usize, self.start as usize);
             // SAFETY: this is within: `start + size` is at most `N`, as the fields of the type say.
-            split_at_unchecked!(split_at_unchecked!(self.array, start + size).0, start).1
+            let (front, _) = unsafe { split_at_unchecked!(self.array, start + size) };
+            // SAFETY: this is within: `front` has `start + size` bytes.
+            unsafe { split_at_unchecked!(front, start) }.1
         }
 
         /// Whether a character begins at `at`, or the text ends there.
@@ -228,6 +237,8 @@ mod views {
         }
     }
 }
+#[path = "../by_hand/loan.rs"]
+mod loan;
 #[path = "../by_hand/room.rs"]
 mod room;
 mod push;

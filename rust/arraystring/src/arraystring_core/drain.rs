@@ -1,4 +1,4 @@
-// Made from crates/arraystring_core/src/drain.rt by rust/erase. A change goes there.
+// Made from crates/arraystring_core/src/drain.rt by rust/erase. The proof is there. A change goes there.
 //! `Drain`: the characters that were removed from a string, from both ends. `traits` has its impls of traits.
 
 use crate::by_hand::str;
@@ -55,6 +55,8 @@ impl<const N: usize> Drain<N> {
     /// </details>
     #[inline(always)]
     pub(crate) unsafe fn new(array: [u8; N], start: u8, size: u8) -> Self {
+        // FIELDS: the `size` bytes of `array` from `start` on are UTF-8 by this function's `# Safety` and end within
+        // the capacity, and `front` is 0.
         Drain { front: 0, start, size, array }
     }
 
@@ -89,7 +91,6 @@ impl<const N: usize> Drain<N> {
         let (front, end) = (start + self.front as usize, start + self.size as usize);
         // SAFETY: the removed text is UTF-8, and `front` is a boundary of it, as the fields of the type say.
         // SAFETY: this is within: `front <= size` and `start + size <= N`, as the fields of `Drain` say.
-        // Proved: crates/arraystring_core/src/drain.rt
         unsafe { str::from_utf8_unchecked(get_unchecked!(all, front..end)) }
     }
 }

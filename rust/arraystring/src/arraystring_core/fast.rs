@@ -1,4 +1,4 @@
-// Made from crates/arraystring_core/src/fast.rt by rust/erase. A change goes there.
+// Made from crates/arraystring_core/src/fast.rt by rust/erase. The proof is there. A change goes there.
 //! What std does too, by words and by blocks of bytes: whether texts are equal, how they are ordered,
 //! and whether bytes are UTF-8.
 

@@ -1,4 +1,4 @@
-// Made from crates/arraystring_core/src/range_ends.rt by rust/erase. A change goes there.
+// Made from crates/arraystring_core/src/range_ends.rt by rust/erase. The proof is there. A change goes there.
 //! The ends of ranges over `u8`.
 
 use core::ops::{Bound, RangeBounds};

@@ -1,4 +1,4 @@
-// Made from crates/arraystring_core/src/utils.rt by rust/erase. A change goes there.
+// Made from crates/arraystring_core/src/utils.rt by rust/erase. The proof is there. A change goes there.
 //! Boundaries of an `ArrayString`. Indices count bytes of UTF-8.
 
 use crate::arraystring_base::error::Utf8;

@@ -3,72 +3,54 @@
 //!
 //! A function of the sources is accepted only if it is proved never to panic. So each index and each part in it is within, each
 //! copy is between parts of one length, and no `unreachable!()` is reached. rustc can't see that proof, and would test all
-//! this again. So the eraser writes each by a macro of this file, which has the name of what it stands for in std. A line
-//! before the first in a body says what bounds them. `as_str`, `as_bytes` and the test for ASCII have such accesses in bodies
-//! by hand, and the line there is all that holds them.
+//! this again. So the eraser writes each by a macro of this file, which has the name of what it stands for in std.
 //!
-//! (An `unsafe` block of a body may lie around an access, whose own one is not needed then.)
+//! No macro has an `unsafe` of its own: rustc takes it in an `unsafe` block alone, before which a line says why it is right.
+//! `as_str`, `as_bytes` and the test for ASCII have such accesses in bodies by hand, and the line there is all that holds them.
+//!
+//! What a public `unsafe` call requires of its caller is tested by lines of its own, with debug assertions and with `checked`.
 
-/// Whether that is tested all the same: with debug assertions, or with the feature `checked`.
-pub(crate) const IS_TESTED: bool = cfg!(any(debug_assertions, feature = "checked"));
+/// Whether that is tested all the same: with debug assertions, with the feature `checked`, and where a `usize` has not the 64 bits of
+/// the proofs. A sum that wraps there is a panic then.
+pub(crate) const IS_TESTED: bool = cfg!(any(debug_assertions, feature = "checked", not(target_pointer_width = "64")));
 
-/// An item or a part of a slice, an array or a text: `get_unchecked!(text, ..end)` for `&text[..end]`.
+/// An item or a part of a slice, an array or a text: `unsafe { get_unchecked!(text, ..end) }` for `&text[..end]`. It has to be within.
 macro_rules! get_unchecked {
     ($of:expr, $at:expr) => {
-        if crate::access::IS_TESTED {
-            &$of[$at]
-        } else {
-            #[allow(unused_unsafe)]
-            // SAFETY: this stands for an index of a body that says why it is within.
-            let it = unsafe { $of.get_unchecked($at) };
-            it
-        }
+        if crate::access::IS_TESTED { &$of[$at] } else { $of.get_unchecked($at) }
     };
 }
 
-/// The same, to write: `get_unchecked_mut!(all, start..end)` for `&mut all[start..end]`.
+/// The same, to write: `unsafe { get_unchecked_mut!(all, start..end) }` for `&mut all[start..end]`.
 macro_rules! get_unchecked_mut {
     ($of:expr, $at:expr) => {
-        if crate::access::IS_TESTED {
-            &mut $of[$at]
-        } else {
-            #[allow(unused_unsafe)]
-            // SAFETY: this stands for an index of a body that says why it is within.
-            let it = unsafe { $of.get_unchecked_mut($at) };
-            it
-        }
+        if crate::access::IS_TESTED { &mut $of[$at] } else { $of.get_unchecked_mut($at) }
     };
 }
 
-/// Two parts of a slice or an array, also in a constant: `split_at_unchecked!(all, at)` for `all.split_at(at)`.
+/// Two parts of a slice or an array, also in a constant: `unsafe { split_at_unchecked!(all, at) }` for `all.split_at(at)`. The index
+/// has to be within.
 macro_rules! split_at_unchecked {
     ($of:expr, $at:expr) => {
-        if crate::access::IS_TESTED {
-            $of.split_at($at)
-        } else {
-            #[allow(unused_unsafe)]
-            // SAFETY: this stands for a split in a body that says why the index is within.
-            let it = unsafe { $of.split_at_unchecked($at) };
-            it
-        }
+        if crate::access::IS_TESTED { $of.split_at($at) } else { $of.split_at_unchecked($at) }
     };
 }
 
-/// Writes bytes over a part of as many: `copy_from_slice_unchecked!(all, start..end, given)` for
-/// `all[start..end].copy_from_slice(given)`.
+/// Writes bytes over a part: `unsafe { copy_from_slice_unchecked!(all, start..end, given) }` for
+/// `all[start..end].copy_from_slice(given)`. The part has to be within, and what is given as long, and lent apart.
 macro_rules! copy_from_slice_unchecked {
     ($of:expr, $at:expr, $given:expr) => {{
         let (at, given): (core::ops::Range<usize>, &[u8]) = ($at, $given);
         if crate::access::IS_TESTED {
             $of[at].copy_from_slice(given)
         } else {
-            // SAFETY: this stands for a copy of a proved body, which says why the part is within. What is given is as long, and lent apart.
-            unsafe { core::ptr::copy_nonoverlapping(given.as_ptr(), $of.as_mut_ptr().add(at.start), given.len()) }
+            core::ptr::copy_nonoverlapping(given.as_ptr(), $of.as_mut_ptr().add(at.start), given.len())
         }
     }};
 }
 
-/// Moves bytes of a slice: `copy_within_unchecked!(all, from..end, to)` for `all.copy_within(from..end, to)`.
+/// Moves bytes of a slice: `unsafe { copy_within_unchecked!(all, from..end, to) }` for `all.copy_within(from..end, to)`. Both parts
+/// have to be within.
 macro_rules! copy_within_unchecked {
     ($of:expr, $at:expr, $to:expr) => {{
         let (at, to): (core::ops::Range<usize>, usize) = ($at, $to);
@@ -76,35 +58,52 @@ macro_rules! copy_within_unchecked {
             $of.copy_within(at, to)
         } else {
             let bytes: *mut u8 = $of.as_mut_ptr();
-            // SAFETY: this stands for a move of a proved body, which says why both parts are within.
-            unsafe { core::ptr::copy(bytes.add(at.start), bytes.add(to), at.end - at.start) }
+            core::ptr::copy(bytes.add(at.start), bytes.add(to), at.end - at.start)
         }
     }};
 }
 
-/// What is never reached: `unreachable_unchecked!()` for `unreachable!()`.
+/// What is never reached: `unsafe { unreachable_unchecked!() }` for `unreachable!()`.
 macro_rules! unreachable_unchecked {
     () => {
+        if crate::access::IS_TESTED { unreachable!() } else { core::hint::unreachable_unchecked() }
+    };
+}
+
+/// Tells rustc a clause that is proved of each call, as `unsafe { known!(source: from + len <= N) }`: also that the sum does not wrap.
+/// Where accesses are tested, it is, too.
+macro_rules! known {
+    ($clause:ident: $part:ident + $more:ident <= $most:expr) => {{
+        let is_so = $part.checked_add($more).is_some_and(|sum| sum <= $most);
         if crate::access::IS_TESTED {
-            unreachable!()
+            assert!(is_so, concat!("the clause `", stringify!($clause), "` does not hold"))
         } else {
-            // SAFETY: this stands for what a proved body does not reach, as the body says or its `# Safety`.
-            unsafe { core::hint::unreachable_unchecked() }
+            core::hint::assert_unchecked(is_so)
+        }
+    }};
+}
+
+/// What a public function requires, which is tested with debug assertions and with the feature `checked`: a line at the start of its body.
+macro_rules! required {
+    ($condition:expr) => {
+        if cfg!(any(debug_assertions, feature = "checked")) {
+            assert!($condition, concat!("it is required that `", stringify!($condition), "`"));
         }
     };
 }
 
-/// Tells rustc a clause that is proved of each call, as `known!(source: from + len <= N)`: also that the sum does not wrap. With
-/// debug assertions, or with the feature `checked`, it is tested instead.
-macro_rules! known {
-    ($clause:ident: $part:ident + $more:ident <= $most:expr) => {
-        let is_so = $part.checked_add($more).is_some_and(|sum| sum <= $most);
-        if cfg!(any(debug_assertions, feature = "checked")) {
-            assert!(is_so, concat!("the clause `", stringify!($clause), "` does not hold"));
-        } else {
-            // SAFETY: the fact is one of the `# Safety` of the function in which this stands.
-            unsafe { core::hint::assert_unchecked(is_so) };
-        }
+/// The same of the characters of an iterator, tested at each as it comes: those up to it fit into so many bytes. In another build the
+/// iterator stays as it is.
+macro_rules! required_of_each {
+    ($characters:ident fits $most:expr) => {
+        #[cfg(any(debug_assertions, feature = "checked"))]
+        let $characters = {
+            let mut size = 0;
+            $characters.into_iter().inspect(move |ch: &char| {
+                size += ch.len_utf8();
+                required!(size <= $most);
+            })
+        };
     };
 }
 
@@ -173,19 +172,24 @@ mod tests {
     #[test]
     fn what_is_within_is_as_it_is_plainly() {
         for start in 0..=LETTERS.len() {
-            let (front, back) = split_at_unchecked!(LETTERS, start);
+            // SAFETY: it is within, by the loops.
+            let (front, back) = unsafe { split_at_unchecked!(LETTERS, start) };
             assert_eq!((front, back), LETTERS.split_at(start));
             for end in start..=LETTERS.len() {
-                assert_eq!(get_unchecked!(LETTERS, start..end), &LETTERS[start..end]);
+                // SAFETY: it is within, by the loops.
+                assert_eq!(unsafe { get_unchecked!(LETTERS, start..end) }, &LETTERS[start..end]);
                 let (mut one, mut other) = (LETTERS, LETTERS);
-                get_unchecked_mut!(one, start..end).make_ascii_uppercase();
+                // SAFETY: it is within, by the loops.
+                unsafe { get_unchecked_mut!(one, start..end) }.make_ascii_uppercase();
                 other[start..end].make_ascii_uppercase();
                 assert_eq!(one, other);
-                copy_from_slice_unchecked!(one, start..end, &b"123456"[..end - start]);
+                // SAFETY: it is within, by the loops.
+                unsafe { copy_from_slice_unchecked!(one, start..end, &b"123456"[..end - start]) };
                 other[start..end].copy_from_slice(&b"123456"[..end - start]);
                 assert_eq!(one, other);
                 for to in 0..=LETTERS.len() - (end - start) {
-                    copy_within_unchecked!(one, start..end, to);
+                    // SAFETY: it is within, by the loops.
+                    unsafe { copy_within_unchecked!(one, start..end, to) };
                     other.copy_within(start..end, to);
                     assert_eq!(one, other);
                 }
@@ -203,15 +207,24 @@ mod tests {
             assert!(catch_unwind(|| edit(&mut { LETTERS }, past)).is_err(), "{past}");
         };
         for past in 7..=300 {
-            assert!(catch_unwind(|| *get_unchecked!(LETTERS, past - 1)).is_err());
-            assert!(catch_unwind(|| get_unchecked!(LETTERS, ..past).len()).is_err());
-            assert!(catch_unwind(|| split_at_unchecked!(LETTERS, past).0.len()).is_err());
-            panics(|all, past| get_unchecked_mut!(all, past..).fill(1), past);
-            panics(|all, past| copy_from_slice_unchecked!(all, past..past + 1, b"1"), past);
-            panics(|all, past| copy_within_unchecked!(all, 0..1, past), past);
-            panics(|all, past| copy_within_unchecked!(all, past..past + 1, 0), past);
+            // SAFETY: it is tested here, and so it panics.
+            assert!(catch_unwind(|| *unsafe { get_unchecked!(LETTERS, past - 1) }).is_err());
+            // SAFETY: it is tested here, and so it panics.
+            assert!(catch_unwind(|| unsafe { get_unchecked!(LETTERS, ..past) }.len()).is_err());
+            // SAFETY: it is tested here, and so it panics.
+            assert!(catch_unwind(|| unsafe { split_at_unchecked!(LETTERS, past) }.0.len()).is_err());
+            // SAFETY: it is tested here, and so it panics.
+            panics(|all, past| unsafe { get_unchecked_mut!(all, past..) }.fill(1), past);
+            // SAFETY: it is tested here, and so it panics.
+            panics(|all, past| unsafe { copy_from_slice_unchecked!(all, past..past + 1, b"1") }, past);
+            // SAFETY: it is tested here, and so it panics.
+            panics(|all, past| unsafe { copy_within_unchecked!(all, 0..1, past) }, past);
+            // SAFETY: it is tested here, and so it panics.
+            panics(|all, past| unsafe { copy_within_unchecked!(all, past..past + 1, 0) }, past);
         }
-        panics(|all, _| copy_from_slice_unchecked!(all, 0..1, b"12"), 0);
-        assert!(catch_unwind(|| unreachable_unchecked!()).is_err());
+        // SAFETY: it is tested here, and so it panics.
+        panics(|all, _| unsafe { copy_from_slice_unchecked!(all, 0..1, b"12") }, 0);
+        // SAFETY: it is tested here, and so it panics.
+        assert!(catch_unwind(|| unsafe { unreachable_unchecked!() }).is_err());
     }
 }

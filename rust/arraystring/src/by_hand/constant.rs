@@ -1,5 +1,5 @@
 //! Constants: a string of a text that is known when the program is compiled.
-#![deny(unsafe_code, clippy::cast_possible_truncation)]
+#![deny(unsafe_code)]
 
 use crate::ArrayString;
 
@@ -59,6 +59,7 @@ impl<const N: usize> ArrayString<N> {
         let (mut string, mut rest) = (Self::new(), text.as_bytes());
         while let [byte, others @ ..] = rest {
             string.array[string.size as usize] = *byte;
+            // FIELDS: so many bytes of the text are there, which fits by the test above. Behind the loop it is all of it.
             string.size += 1;
             rest = others;
         }

@@ -10,6 +10,7 @@ impl<const N: usize> ArrayString<N> {
     /// let string = arraystring::ArrayString::<4>::from("aé");
     /// assert_eq!((string.len(), string.remaining_capacity()), (3, 1));
     /// ```
+    #[doc(alias = "reserve")]
     #[must_use]
     #[inline]
     pub const fn remaining_capacity(&self) -> u8 {

@@ -85,6 +85,7 @@ mod tests {
     }
 
     /// The first bytes of a slice of each length are read and written, and none behind them.
+    #[expect(clippy::cast_possible_truncation, reason = "an index in 80 bytes")]
     fn read_and_written<const K: usize>() {
         let source: [u8; 80] = core::array::from_fn(|at| 255 - at as u8);
         for start in 0..=80 - K {

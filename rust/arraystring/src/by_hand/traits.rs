@@ -47,7 +47,7 @@ impl Deref for CacheString {
     }
 }
 
-/// The string inside, which every call of it leaves a text. The text itself is never lent to be written.
+/// The string inside, which every call of it leaves a text.
 ///
 /// ```
 /// let mut key = arraystring::CacheString::from("user:");
@@ -401,6 +401,53 @@ impl fmt::Debug for Steps {
         f.debug_struct("Steps").field("looked", &self.looked()).field("moved", &self.moved()).finish()
     }
 }
+
+/// What [`try_write`](ArrayString::try_write) and [`try_from_format`](ArrayString::try_from_format) refuse is too large:
+/// `Error::OutOfBounds`. A `Display` that fails by itself returns the same `fmt::Error`, so it becomes `Error::OutOfBounds`, too.
+///
+/// ```
+/// use arraystring::{ArrayString, Error};
+///
+/// fn greeting(name: &str) -> Result<ArrayString<8>, Error> {
+///     Ok(ArrayString::try_from_format(format_args!("hi {name}"))?)
+/// }
+///
+/// assert_eq!(greeting("ann"), Ok("hi ann".into()));
+/// assert_eq!(greeting("amelie"), Err(Error::OutOfBounds));
+/// ```
+impl From<fmt::Error> for Error {
+    #[inline]
+    fn from(_error: fmt::Error) -> Self {
+        Error::OutOfBounds
+    }
+}
+
+/// Whether both counts are the same.
+///
+/// ```
+/// use arraystring::utils::{self, Steps};
+///
+/// let mut steps = Steps::new();
+/// assert_eq!(steps, Steps::default());
+/// utils::look(b"a", 0, &mut steps);
+/// assert_ne!(steps, Steps::default());
+/// ```
+impl PartialEq for Steps {
+    #[inline]
+    fn eq(&self, other: &Self) -> bool {
+        (self.looked(), self.moved()) == (other.looked(), other.moved())
+    }
+}
+
+/// A counter is equal to itself.
+///
+/// ```
+/// use arraystring::utils::Steps;
+///
+/// let steps = Steps::new();
+/// assert!(steps == steps);
+/// ```
+impl Eq for Steps {}
 
 /// Implements the hash of errors of one case.
 macro_rules! hashed {

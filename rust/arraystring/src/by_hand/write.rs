@@ -32,6 +32,7 @@ impl<const N: usize> ArrayString<N> {
     /// assert!(write!(line, "{from}-{to}").is_err());
     /// assert_eq!(line, "xabcd-"); // what came before `efghi` stays
     /// ```
+    #[doc(alias = "write_fmt")]
     #[inline]
     pub fn try_write(&mut self, arguments: fmt::Arguments<'_>) -> fmt::Result {
         let mut row = Row { len: self.len(), string: self, is_whole: true };

@@ -19,6 +19,11 @@ enum Items<'a> {
     Texts(&'a [&'a str]),
     #[cfg(feature = "alloc")]
     Owned(&'a [&'a str]),
+    #[cfg(feature = "alloc")]
+    Boxed(&'a [&'a str]),
+    /// One of them lent, the next one owned.
+    #[cfg(feature = "alloc")]
+    Cows(&'a [&'a str]),
 }
 
 /// The kinds of items of a text, and of its pieces.
@@ -29,6 +34,10 @@ fn kinds<'a>(chars: &'a [char], pieces: &'a [&'a str]) -> Vec<Items<'a>> {
         Items::Texts(pieces),
         #[cfg(feature = "alloc")]
         Items::Owned(pieces),
+        #[cfg(feature = "alloc")]
+        Items::Boxed(pieces),
+        #[cfg(feature = "alloc")]
+        Items::Cows(pieces),
     ]
 }
 
@@ -48,9 +57,21 @@ macro_rules! with_items {
             Items::Owned(pieces) => {
                 $call(Told { items: &mut pieces.iter().map(|piece| piece.to_string()) as Any<String>, hint, taken })
             }
+            #[cfg(feature = "alloc")]
+            Items::Boxed(pieces) => {
+                $call(Told { items: &mut pieces.iter().map(|piece| Box::from(*piece)) as Any<Box<str>>, hint, taken })
+            }
+            #[cfg(feature = "alloc")]
+            Items::Cows(pieces) => $call(Told { items: &mut lent_or_owned(pieces) as Any<Cow<str>>, hint, taken }),
         };
         (returned, count)
     }};
+}
+
+/// Each piece, one lent and the next one owned.
+fn lent_or_owned<'a>(pieces: &[&'a str]) -> impl Iterator<Item = Cow<'a, str>> {
+    let texts = pieces.iter().enumerate();
+    texts.map(|(at, piece)| if at % 2 == 0 { Cow::Borrowed(*piece) } else { Cow::Owned(piece.to_string()) })
 }
 
 /// Cuts a text into pieces of one to so many characters.
@@ -69,7 +90,9 @@ fn texts<'a>(items: Items<'a>) -> Vec<Cow<'a, str>> {
         Items::Chars(chars) | Items::CharRefs(chars) => chars.iter().map(|ch| ch.to_string().into()).collect(),
         Items::Texts(pieces) => pieces.iter().map(|piece| Cow::from(*piece)).collect(),
         #[cfg(feature = "alloc")]
-        Items::Owned(pieces) => pieces.iter().map(|piece| Cow::from(*piece)).collect(),
+        Items::Owned(pieces) | Items::Boxed(pieces) | Items::Cows(pieces) => {
+            pieces.iter().map(|piece| Cow::from(*piece)).collect()
+        }
     }
 }
 
@@ -190,16 +213,12 @@ fn empty_items_are_taken_by_the_calls() {
 
 /// Asserts what the calls make of pieces that the impls of the traits stand on, also of lent and owned ones among each other.
 fn is_added_by_the_calls<const N: usize>(pieces: &[&str]) {
-    let lent_or_owned = || {
-        let texts = pieces.iter().enumerate();
-        texts.map(|(at, piece)| if at % 2 == 0 { Cow::Borrowed(*piece) } else { Cow::Owned(piece.to_string()) })
-    };
     let (text, _) = kept(pieces.iter().copied(), capacity::<N>());
     let is_whole = text.len() == pieces.concat().len();
     let mut extended = ArrayString::<N>::new();
-    extended.extend_strs(lent_or_owned());
-    assert_eq!((extended.as_str(), ArrayString::<N>::from_iterator(lent_or_owned()).as_str()), (&*text, &*text));
-    let whole = ArrayString::<N>::try_from_iterator(lent_or_owned());
+    extended.extend_strs(lent_or_owned(pieces));
+    assert_eq!((extended.as_str(), ArrayString::<N>::from_iterator(lent_or_owned(pieces)).as_str()), (&*text, &*text));
+    let whole = ArrayString::<N>::try_from_iterator(lent_or_owned(pieces));
     assert_eq!(whole.as_ref().is_ok_and(|made| made == text.as_str()), is_whole);
     assert_eq!(whole.is_ok(), is_whole, "{N} {pieces:?}");
 }

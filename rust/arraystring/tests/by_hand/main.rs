@@ -16,6 +16,10 @@ mod asked;
 mod beside_parts;
 mod given;
 mod items;
+mod loans;
+mod made;
+#[cfg(feature = "alloc")]
+mod owned_texts;
 mod printing;
 mod shown;
 mod vectors;

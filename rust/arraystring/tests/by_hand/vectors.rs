@@ -80,19 +80,19 @@ fn fewer_bytes_than_a_vector_has_panic() {
 fn each_part_is_as_it_is_plainly() {
     let source = bytes();
     for start in 0..=SIZE {
-        assert_eq!(split_at_unchecked!(source, start), source.split_at(start));
+        assert_eq!(unsafe { split_at_unchecked!(source, start) }, source.split_at(start));
         for end in start..=SIZE {
-            assert_eq!(get_unchecked!(source, start..end), &source[start..end]);
+            assert_eq!(unsafe { get_unchecked!(source, start..end) }, &source[start..end]);
             let (mut one, mut other) = (source, source);
-            get_unchecked_mut!(one, start..end).fill(1);
+            unsafe { get_unchecked_mut!(one, start..end) }.fill(1);
             other[start..end].fill(1);
             assert_eq!(one, other);
-            copy_from_slice_unchecked!(one, start..end, &source[..end - start]);
+            unsafe { copy_from_slice_unchecked!(one, start..end, &source[..end - start]) };
             other[start..end].copy_from_slice(&source[..end - start]);
             assert_eq!(one, other, "{start} {end}");
         }
         if let Some(byte) = source.get(start) {
-            assert_eq!(get_unchecked!(source, start), byte);
+            assert_eq!(unsafe { get_unchecked!(source, start) }, byte);
         }
     }
 }
@@ -108,7 +108,7 @@ fn each_run_is_moved_to_each_place() {
                     continue;
                 }
                 let (mut one, mut other) = (source, source);
-                copy_within_unchecked!(one, start..start + len, to);
+                unsafe { copy_within_unchecked!(one, start..start + len, to) };
                 other.copy_within(start..start + len, to);
                 assert_eq!(one, other, "{len} from {start} to {to}");
             }
@@ -124,19 +124,19 @@ fn what_is_not_within_panics_at_each_length() {
     let mut all = bytes();
     for past in SIZE + 1..=300 {
         let reads: [&dyn Fn() -> bool; 4] = [
-            &|| panics(|| *get_unchecked!(all, past - 1)),
-            &|| panics(|| get_unchecked!(all, ..past).len()),
-            &|| panics(|| get_unchecked!(all, past..).len()),
-            &|| panics(|| split_at_unchecked!(all, past).0.len()),
+            &|| panics(|| *unsafe { get_unchecked!(all, past - 1) }),
+            &|| panics(|| unsafe { get_unchecked!(all, ..past) }.len()),
+            &|| panics(|| unsafe { get_unchecked!(all, past..) }.len()),
+            &|| panics(|| unsafe { split_at_unchecked!(all, past) }.0.len()),
         ];
         assert!(reads.iter().all(|panicked| panicked()), "{past}");
-        assert!(panics(|| get_unchecked_mut!(all, ..past).fill(1)), "{past}");
-        assert!(panics(|| copy_within_unchecked!(all, 0..past - SIZE, SIZE)), "{past}");
-        assert!(panics(|| copy_within_unchecked!(all, 0..past, 0)), "{past}");
+        assert!(panics(|| unsafe { get_unchecked_mut!(all, ..past) }.fill(1)), "{past}");
+        assert!(panics(|| unsafe { copy_within_unchecked!(all, 0..past - SIZE, SIZE) }), "{past}");
+        assert!(panics(|| unsafe { copy_within_unchecked!(all, 0..past, 0) }), "{past}");
     }
     for (len, given) in (0..=20).flat_map(|len| (0..=20).map(move |given| (len, given))) {
         let source = bytes();
-        let panicked = panics(|| copy_from_slice_unchecked!(all, 3..3 + len, &source[..given]));
+        let panicked = panics(|| unsafe { copy_from_slice_unchecked!(all, 3..3 + len, &source[..given]) });
         assert_eq!(panicked, len != given, "{given} for {len}");
     }
 }

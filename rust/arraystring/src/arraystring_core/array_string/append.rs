@@ -1,4 +1,4 @@
-// Made from crates/arraystring_core/src/array_string/append.rt by rust/erase. A change goes there.
+// Made from crates/arraystring_core/src/array_string/append.rt by rust/erase. The proof is there. A change goes there.
 //! The private calls that append: a character, a text, or what an iterator gives. They move the text to the
 //! start of the array if there is no room after it.
 
@@ -47,12 +47,10 @@ impl<const N: usize> ArrayString<N> {
     #[inline(always)]
     pub(super) fn try_push_near_end(&mut self, ch: char) -> Result<(), OutOfBounds> {
         // SAFETY: `self.size <= 255`: it is a `u8`.
-        // Proved: crates/arraystring_core/src/array_string/append.rt
         if !unsafe { Self::has_room(self.size as usize, ch) } {
             return Err(OutOfBounds);
         }
-        // SAFETY: `self.len() + ch.len_utf8() <= Self::capacity()`: `has_room` returned true.
-        // Proved: crates/arraystring_core/src/array_string/append.rt
+        // SAFETY: `self.len() + ch.len_utf8() <= Self::capacity()`: `has_room` returned true for the size of the text.
         unsafe { self.compact_and_push(ch) };
         Ok(())
     }
@@ -73,17 +71,20 @@ impl<const N: usize> ArrayString<N> {
     /// [How to read a contract](crate::contracts)
     ///
     /// </details>
+    #[expect(clippy::cast_possible_truncation, reason = "the line before the write says why it fits")]
     #[cold]
     #[inline(never)]
     pub(super) unsafe fn compact_and_push(&mut self, ch: char) {
         let (start, size) = (self.start as usize, self.size as usize);
+        // FIELDS: `shift` moves the `size` bytes of the text there, and `size` is at most the capacity.
         self.start = 0;
         // SAFETY: `start + size <= N`; `size <= N`: as the fields of `ArrayString` say.
-        // Proved: crates/arraystring_core/src/array_string/append.rt
         unsafe { shift(&mut self.array, start, 0, size, &mut Steps::new()) };
-        // SAFETY: `size + ch.len_utf8() <= N`: by this function's `# Safety`, since `size` is the length of the text.
-        // Proved: crates/arraystring_core/src/array_string/append.rt
+        // SAFETY: `size + ch.len_utf8() <= N`: by this function's `# Safety`, since `size` is the length of the text
+        // and the capacity is at most `N`.
         let len = unsafe { encode(ch, &mut self.array, size) };
+        // FIELDS: `size + len` is at most the capacity by this function's `# Safety`; the text begins at 0, and
+        // `encode` wrote `ch` at its end.
         self.size = (size + len) as u8;
     }
 
@@ -109,7 +110,6 @@ impl<const N: usize> ArrayString<N> {
         let len = self.len() as usize;
         // SAFETY: `len` is a boundary of `self`; `self.len() - (len - len) + string.len() <= Self::capacity()`: `len`
         // is the length of the text, and this function's `# Safety` has the last.
-        // Proved: crates/arraystring_core/src/array_string/append.rt
         unsafe { self.compact_and_splice(len, len, string, &mut Steps::new()) };
     }
 
@@ -131,7 +131,6 @@ impl<const N: usize> ArrayString<N> {
     pub(super) fn add_chars<I: IntoIterator<Item = char>>(&mut self, characters: I) -> Result<(), OutOfBounds> {
         // SAFETY: the `self.size` bytes of `self.array` from `self.start` on are UTF-8 and end within the capacity: as
         // the fields of `ArrayString` say, whether or not the iterator ends.
-        // Proved: crates/arraystring_core/src/array_string/append.rt
         unsafe { Self::append_chars(&mut self.array, &mut self.start, &mut self.size, characters) }
     }
 
@@ -170,7 +169,6 @@ impl<const N: usize> ArrayString<N> {
             // SAFETY: the `*len` bytes of `array` from `*start` on are UTF-8 and end within the capacity;
             // `end == *start + *len`: so it is by this function's `# Safety` before the loop, and `append_char` keeps
             // it and returns the new end, whether or not the iterator ends.
-            // Proved: crates/arraystring_core/src/array_string/append.rt
             match unsafe { Self::append_char(array, start, len, end, ch) } {
                 Some(next) => {
                     end = next;
@@ -204,29 +202,32 @@ impl<const N: usize> ArrayString<N> {
     /// [How to read a contract](crate::contracts)
     ///
     /// </details>
+    #[expect(clippy::cast_possible_truncation, reason = "the line before the write says why it fits")]
     #[inline(always)]
     unsafe fn append_char(array: &mut [u8; N], start: &mut u8, len: &mut u8, end: usize, ch: char) -> Option<usize> {
         // SAFETY: `end <= 255`: by this function's `# Safety` the text ends at `end`, and within the capacity.
-        // Proved: crates/arraystring_core/src/array_string/append.rt
         if !unsafe { Self::has_room(end, ch) } {
             let size = end - *start as usize;
-            // SAFETY: `size <= 255`: `size` is at most `end`.
-            // Proved: crates/arraystring_core/src/array_string/append.rt
+            // SAFETY: `size <= 255`: `*start <= end` by this function's `# Safety`, so `size` is at most `end`, which
+            // is at most the capacity.
             if !unsafe { Self::has_room(size, ch) } {
                 return None;
             }
             // SAFETY: the `size` bytes of `array` from `*start` on are UTF-8 and end within the capacity;
             // `size + ch.len_utf8() <= Self::capacity()`: `size` is `*len` by this function's `# Safety`, and
             // `has_room` returned true for it.
-            // Proved: crates/arraystring_core/src/array_string/append.rt
             let size = unsafe { compact_and_append(array, *start as usize, size, ch) };
+            // FIELDS: `compact_and_append` moved the text there, and wrote `ch` at its end.
             *start = 0;
+            // FIELDS: `compact_and_append` returns the size of the text with `ch`, for which `has_room` returned true,
+            // so it is at most the capacity.
             *len = size as u8;
             return Some(size);
         }
         // SAFETY: `end + ch.len_utf8() <= N`: `has_room` returned true, and the capacity is at most `N`.
-        // Proved: crates/arraystring_core/src/array_string/append.rt
         let next = end + unsafe { encode(ch, array, end) };
+        // FIELDS: the text with `ch` ends at `next`, which is within the capacity, since `has_room` returned true for
+        // `end`.
         *len = (next - *start as usize) as u8;
         Some(next)
     }
@@ -250,7 +251,6 @@ impl<const N: usize> ArrayString<N> {
     pub(super) fn add_strs<U: AsRef<str>, I: IntoIterator<Item = U>>(&mut self, pieces: I) -> Result<(), OutOfBounds> {
         // SAFETY: the `self.size` bytes of `self.array` from `self.start` on are UTF-8 and end within the capacity: as
         // the fields of `ArrayString` say, whether or not the iterator ends.
-        // Proved: crates/arraystring_core/src/array_string/append.rt
         unsafe { Self::append_strs(&mut self.array, &mut self.start, &mut self.size, pieces) }
     }
 
@@ -277,6 +277,7 @@ impl<const N: usize> ArrayString<N> {
     /// [How to read a contract](crate::contracts)
     ///
     /// </details>
+    #[expect(clippy::cast_possible_truncation, reason = "the line before the write says why it fits")]
     #[inline(always)]
     pub(super) unsafe fn append_strs<U: AsRef<str>, I: IntoIterator<Item = U>>(
         array: &mut [u8; N],
@@ -293,7 +294,6 @@ impl<const N: usize> ArrayString<N> {
                 // by this function's `# Safety` before the loop, where `end` is `*start + *len`; a turn that fits
                 // writes the piece at `end` and adds its size to both, and `append_past_end` keeps it and returns the
                 // new end, whether or not the iterator ends.
-                // Proved: crates/arraystring_core/src/array_string/append.rt
                 let appended = unsafe { Self::append_past_end(array, start, len, piece) };
                 let Some(next) = appended else {
                     return Err(OutOfBounds);
@@ -301,10 +301,12 @@ impl<const N: usize> ArrayString<N> {
                 end = next;
                 continue;
             }
+            // FIELDS: the text with `piece` ends at `next`, which is within the capacity by the test above, and
+            // `write_over` writes `piece` at its end before the iterator is asked again, whether or not the iterator
+            // ends.
             *len += piece.len() as u8;
             // SAFETY: `end + piece.as_bytes().len() <= N`: by the test above, and the capacity is at most `N`, whether
             // or not the iterator ends.
-            // Proved: crates/arraystring_core/src/array_string/append.rt
             unsafe { write_over(array, end, piece.as_bytes()) };
             end = next;
         }
@@ -333,6 +335,7 @@ impl<const N: usize> ArrayString<N> {
     /// [How to read a contract](crate::contracts)
     ///
     /// </details>
+    #[expect(clippy::cast_possible_truncation, reason = "the line before the write says why it fits")]
     #[cold]
     #[inline(never)]
     unsafe fn append_past_end(array: &mut [u8; N], start: &mut u8, len: &mut u8, string: &str) -> Option<usize> {
@@ -340,13 +343,13 @@ impl<const N: usize> ArrayString<N> {
         // SAFETY: the `*len` bytes of `array` from `*start` on are UTF-8 and end within the capacity;
         // `*len + part.len() <= Self::capacity()`: by this function's `# Safety`, and `part` has no more bytes than
         // `truncate_str` was told.
-        // Proved: crates/arraystring_core/src/array_string/append.rt
         unsafe { make_room(array, start, *len as usize, part.len()) };
         let end = *start as usize + *len as usize;
+        // FIELDS: `make_room` left room for `part` behind the text and within the capacity, and `write_over` writes it
+        // there.
         *len += part.len() as u8;
         // SAFETY: `end + part.as_bytes().len() <= N`: `make_room` left room for `part` behind the text, which ends at
-        // `end`.
-        // Proved: crates/arraystring_core/src/array_string/append.rt
+        // `end`, within the capacity, which is at most `N`.
         unsafe { write_over(array, end, part.as_bytes()) };
         if part.len() < string.len() {
             return None;
@@ -378,11 +381,10 @@ impl<const N: usize> ArrayString<N> {
 #[cold]
 #[inline(never)]
 unsafe fn compact_and_append<const N: usize>(array: &mut [u8; N], start: usize, size: usize, ch: char) -> usize {
-    // SAFETY: `start + size <= N`; `size <= N`: by this function's `# Safety` the text lies in the array.
-    // Proved: crates/arraystring_core/src/array_string/append.rt
+    // SAFETY: `start + size <= N`; `size <= N`: by this function's `# Safety` the text ends within the capacity, which
+    // is at most `N`.
     unsafe { shift(array, start, 0, size, &mut Steps::new()) };
     // SAFETY: `size + ch.len_utf8() <= N`: by this function's `# Safety`, since the capacity is at most `N`.
-    // Proved: crates/arraystring_core/src/array_string/append.rt
     size + unsafe { encode(ch, array, size) }
 }
 
@@ -410,9 +412,10 @@ unsafe fn compact_and_append<const N: usize>(array: &mut [u8; N], start: usize, 
 unsafe fn make_room<const N: usize>(array: &mut [u8; N], start: &mut u8, size: usize, more: usize) {
     let from = *start as usize;
     if from + size + more > ArrayString::<N>::capacity() as usize {
+        // FIELDS: `shift` moves the `size` bytes of the text there, and `size` is at most the capacity.
         *start = 0;
-        // SAFETY: `from + size <= N`; `size <= N`: by this function's `# Safety` the text lies in the array.
-        // Proved: crates/arraystring_core/src/array_string/append.rt
+        // SAFETY: `from + size <= N`; `size <= N`: by this function's `# Safety` the text ends within the capacity,
+        // which is at most `N`.
         unsafe { shift(array, from, 0, size, &mut Steps::new()) };
     }
 }

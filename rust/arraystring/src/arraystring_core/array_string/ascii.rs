@@ -1,4 +1,4 @@
-// Made from crates/arraystring_core/src/array_string/ascii.rt by rust/erase. A change goes there.
+// Made from crates/arraystring_core/src/array_string/ascii.rt by rust/erase. The proof is there. A change goes there.
 //! The ASCII letters of a string, made upper or lower case.
 
 use crate::arraystring_core::ArrayString;
@@ -29,7 +29,6 @@ impl<const N: usize> ArrayString<N> {
     pub fn make_ascii_uppercase(&mut self) {
         // SAFETY: `0 <= self.len()`; `0` is a boundary of `self`; `self.len()` is a boundary of `self`: they are the
         // ends of the text.
-        // Proved: crates/arraystring_core/src/array_string/ascii.rt
         unsafe { self.uppercase_between(0, self.len() as usize) };
     }
 
@@ -58,7 +57,6 @@ impl<const N: usize> ArrayString<N> {
     pub fn make_ascii_lowercase(&mut self) {
         // SAFETY: `0 <= self.len()`; `0` is a boundary of `self`; `self.len()` is a boundary of `self`: they are the
         // ends of the text.
-        // Proved: crates/arraystring_core/src/array_string/ascii.rt
         unsafe { self.lowercase_between(0, self.len() as usize) };
     }
 
@@ -87,7 +85,6 @@ impl<const N: usize> ArrayString<N> {
         let offset = self.start as usize;
         // SAFETY: `offset + start <= offset + end`; `offset + end <= N`: by this function's `# Safety` and what the
         // fields of `ArrayString` say.
-        // Proved: crates/arraystring_core/src/array_string/ascii.rt
         unsafe { uppercase_bytes(&mut self.array, offset + start, offset + end) };
     }
 
@@ -116,7 +113,6 @@ impl<const N: usize> ArrayString<N> {
         let offset = self.start as usize;
         // SAFETY: `offset + start <= offset + end`; `offset + end <= N`: by this function's `# Safety` and what the
         // fields of `ArrayString` say.
-        // Proved: crates/arraystring_core/src/array_string/ascii.rt
         unsafe { lowercase_bytes(&mut self.array, offset + start, offset + end) };
     }
 }
@@ -142,9 +138,8 @@ impl<const N: usize> ArrayString<N> {
 #[inline]
 unsafe fn uppercase_bytes<const N: usize>(array: &mut [u8; N], start: usize, end: usize) {
     let all = &mut array[..];
-    // SAFETY: this is within: by this function's `# Safety`.
-    // Proved: crates/arraystring_core/src/array_string/ascii.rt
-    get_unchecked_mut!(all, start..end).make_ascii_uppercase();
+    // SAFETY: this is within: by this function's `# Safety`; a letter of ASCII becomes one, so what is UTF-8 stays so.
+    unsafe { get_unchecked_mut!(all, start..end) }.make_ascii_uppercase();
 }
 
 /// Changes the letters A..Z among the bytes from `start` to `end`.
@@ -168,7 +163,6 @@ unsafe fn uppercase_bytes<const N: usize>(array: &mut [u8; N], start: usize, end
 #[inline]
 unsafe fn lowercase_bytes<const N: usize>(array: &mut [u8; N], start: usize, end: usize) {
     let all = &mut array[..];
-    // SAFETY: this is within: by this function's `# Safety`.
-    // Proved: crates/arraystring_core/src/array_string/ascii.rt
-    get_unchecked_mut!(all, start..end).make_ascii_lowercase();
+    // SAFETY: this is within: by this function's `# Safety`; a letter of ASCII becomes one, so what is UTF-8 stays so.
+    unsafe { get_unchecked_mut!(all, start..end) }.make_ascii_lowercase();
 }

@@ -1,4 +1,4 @@
-// Made from crates/arraystring_core/src/array_string/construct.rt by rust/erase. A change goes there.
+// Made from crates/arraystring_core/src/array_string/construct.rt by rust/erase. The proof is there. A change goes there.
 //! The constructors: from a `&str`, from pieces, from characters and from bytes of UTF-8.
 
 use crate::arraystring_base::error::{Error, OutOfBounds, Utf8};
@@ -34,12 +34,15 @@ impl<const N: usize> ArrayString<N> {
     /// [How to read a contract](crate::contracts)
     ///
     /// </details>
+    #[doc(alias = "from_str")]
     #[inline]
     pub fn try_from_str<S: AsRef<str>>(string: S) -> Result<Self, OutOfBounds> {
         let string = string.as_ref();
         // One path for both outcomes, so that the string is copied into the result once.
         let mut array = [0; N];
         let (refused, size) = try_fill(&mut array, string.as_bytes());
+        // FIELDS: `try_fill` returns a size of at most the capacity, and has written a text of it in front of the
+        // array, or it returns 0.
         let mut result = Ok(ArrayString { array, start: 0, size });
         if refused {
             result = Err(OutOfBounds);
@@ -74,7 +77,6 @@ impl<const N: usize> ArrayString<N> {
         let string = string.as_ref();
         // SAFETY: `truncate_str(string, Self::capacity()).len() <= Self::capacity()`: `truncate_str` returns no more
         // bytes than it is told, which is the capacity.
-        // Proved: crates/arraystring_core/src/array_string/construct.rt
         unsafe { Self::from_str_unchecked(truncate_str(string, Self::capacity())) }
     }
 
@@ -105,13 +107,16 @@ impl<const N: usize> ArrayString<N> {
     ///
     /// </details>
     #[must_use]
+    #[expect(clippy::cast_possible_truncation, reason = "the line before the write says why it fits")]
     #[inline]
     pub unsafe fn from_str_unchecked<S: AsRef<str>>(string: S) -> Self {
         let string = string.as_ref();
+        required!(string.len() <= Self::capacity() as usize);
         let mut array = [0; N];
         // SAFETY: `string.as_bytes().len() <= N`: by this function's `# Safety`, since the capacity is at most `N`.
-        // Proved: crates/arraystring_core/src/array_string/construct.rt
         unsafe { fill(&mut array, string.as_bytes()) };
+        // FIELDS: `string` lies in front of the array, and its size is at most the capacity by this function's
+        // `# Safety`.
         ArrayString { array, start: 0, size: string.len() as u8 }
     }
 
@@ -156,8 +161,9 @@ impl<const N: usize> ArrayString<N> {
         let (mut start, mut size) = (0, 0);
         // SAFETY: the `size` bytes of `array` from `start` on are UTF-8 and end within the capacity: `start` and `size`
         // are 0, whether or not the iterator ends.
-        // Proved: crates/arraystring_core/src/array_string/construct.rt
         unsafe { Self::append_strs(&mut array, &mut start, &mut size, pieces) }?;
+        // FIELDS: `append_strs` leaves the `size` bytes from `start` on as UTF-8 that ends within the capacity, whether
+        // or not the iterator ends.
         Ok(ArrayString { array, start, size })
     }
 
@@ -191,14 +197,16 @@ impl<const N: usize> ArrayString<N> {
     /// [How to read a contract](crate::contracts)
     ///
     /// </details>
+    #[doc(alias = "from_iter")]
     #[inline]
     pub fn from_iterator<U: AsRef<str>, I: IntoIterator<Item = U>>(pieces: I) -> Self {
         let mut array = [0; N];
         let (mut start, mut size) = (0, 0);
         // SAFETY: the `size` bytes of `array` from `start` on are UTF-8 and end within the capacity: `start` and `size`
         // are 0, whether or not the iterator ends.
-        // Proved: crates/arraystring_core/src/array_string/construct.rt
         let _ = unsafe { Self::append_strs(&mut array, &mut start, &mut size, pieces) };
+        // FIELDS: `append_strs` leaves the `size` bytes from `start` on as UTF-8 that ends within the capacity, whether
+        // or not the iterator ends.
         ArrayString { array, start, size }
     }
 
@@ -233,17 +241,20 @@ impl<const N: usize> ArrayString<N> {
     ///
     /// </details>
     #[inline]
+    #[expect(clippy::cast_possible_truncation, reason = "the line before the write says why it fits")]
     pub unsafe fn from_iterator_unchecked<U: AsRef<str>, I: IntoIterator<Item = U>>(pieces: I) -> Self {
         let mut array = [0; N];
         let mut end = 0;
         for piece in pieces {
             let piece = piece.as_ref();
+            required!(end + piece.len() <= Self::capacity() as usize);
             // SAFETY: `end + piece.as_bytes().len() <= N`: by this function's `# Safety` all pieces fit together, and
             // `end` is the size of those before this one, also where the iterator does not end.
-            // Proved: crates/arraystring_core/src/array_string/construct.rt
             unsafe { write_over(&mut array, end, piece.as_bytes()) };
             end += piece.len();
         }
+        // FIELDS: the pieces lie in front of the array, and `end` is their size, which is at most the capacity by this
+        // function's `# Safety`, also where the iterator does not end.
         ArrayString { array, start: 0, size: end as u8 }
     }
 
@@ -287,8 +298,9 @@ impl<const N: usize> ArrayString<N> {
         let (mut start, mut size) = (0, 0);
         // SAFETY: the `size` bytes of `array` from `start` on are UTF-8 and end within the capacity: `start` and `size`
         // are 0, whether or not the iterator ends.
-        // Proved: crates/arraystring_core/src/array_string/construct.rt
         unsafe { Self::append_chars(&mut array, &mut start, &mut size, characters) }?;
+        // FIELDS: `append_chars` leaves the `size` bytes from `start` on as UTF-8 that ends within the capacity,
+        // whether or not the iterator ends.
         Ok(ArrayString { array, start, size })
     }
 
@@ -322,14 +334,16 @@ impl<const N: usize> ArrayString<N> {
     /// [How to read a contract](crate::contracts)
     ///
     /// </details>
+    #[doc(alias = "from_iter")]
     #[inline]
     pub fn from_chars<I: IntoIterator<Item = char>>(characters: I) -> Self {
         let mut array = [0; N];
         let (mut start, mut size) = (0, 0);
         // SAFETY: the `size` bytes of `array` from `start` on are UTF-8 and end within the capacity: `start` and `size`
         // are 0, whether or not the iterator ends.
-        // Proved: crates/arraystring_core/src/array_string/construct.rt
         let _ = unsafe { Self::append_chars(&mut array, &mut start, &mut size, characters) };
+        // FIELDS: `append_chars` leaves the `size` bytes from `start` on as UTF-8 that ends within the capacity,
+        // whether or not the iterator ends.
         ArrayString { array, start, size }
     }
 
@@ -365,6 +379,7 @@ impl<const N: usize> ArrayString<N> {
     /// </details>
     #[inline]
     pub unsafe fn from_chars_unchecked<I: IntoIterator<Item = char>>(characters: I) -> Self {
+        required_of_each!(characters fits Self::capacity() as usize);
         Self::from_chars(characters)
     }
 
@@ -412,7 +427,6 @@ impl<const N: usize> ArrayString<N> {
             return Err(Error::OutOfBounds);
         }
         // SAFETY: `text.len() <= Self::capacity()`: by the test above.
-        // Proved: crates/arraystring_core/src/array_string/construct.rt
         Ok(unsafe { Self::from_str_unchecked(text) })
     }
 
@@ -489,9 +503,10 @@ impl<const N: usize> ArrayString<N> {
     #[inline]
     pub unsafe fn from_utf8_unchecked<B: AsRef<[u8]>>(given: B) -> Self {
         let given = given.as_ref();
+        required!(str::from_utf8(given).is_ok());
+        required!(given.len() <= Self::capacity() as usize);
         // SAFETY: the caller has to give well-formed UTF-8.
         // SAFETY: `str::from_utf8_unchecked(given).len() <= Self::capacity()`: by this function's `# Safety`.
-        // Proved: crates/arraystring_core/src/array_string/construct.rt
         unsafe { Self::from_str_unchecked(str::from_utf8_unchecked(given)) }
     }
 }

@@ -1,4 +1,4 @@
-// Made from crates/arraystring_core/src/array_string/fill.rt by rust/erase. A change goes there.
+// Made from crates/arraystring_core/src/array_string/fill.rt by rust/erase. The proof is there. A change goes there.
 //! How the array of a new string is filled.
 
 use crate::arraystring_base::utils::write_over;
@@ -25,11 +25,9 @@ use crate::arraystring_core::ArrayString;
 pub(super) unsafe fn fill<const N: usize>(array: &mut [u8; N], given: &[u8]) {
     if N > 64 {
         // SAFETY: `given.len() <= N`: by this function's `# Safety`.
-        // Proved: crates/arraystring_core/src/array_string/fill.rt
         unsafe { write_by_call(array, 0, given) };
     } else {
         // SAFETY: `given.len() <= N`: by this function's `# Safety`.
-        // Proved: crates/arraystring_core/src/array_string/fill.rt
         unsafe { write_over(array, 0, given) };
     }
 }
@@ -50,19 +48,17 @@ pub(super) unsafe fn fill<const N: usize>(array: &mut [u8; N], given: &[u8]) {
 /// [How to read a contract](crate::contracts)
 ///
 /// </details>
+#[expect(clippy::cast_possible_truncation, reason = "`size` is at most the capacity, which is at most 255")]
 #[inline(always)]
 pub(super) fn try_fill<const N: usize>(array: &mut [u8; N], given: &[u8]) -> (bool, u8) {
     if N <= 64 {
         // SAFETY: `N <= 64`: by the test above.
-        // Proved: crates/arraystring_core/src/array_string/fill.rt
         return unsafe { try_fill_small(array, given) };
     }
     let refused = given.len() > ArrayString::<N>::capacity() as usize;
     let size = if refused { 0 } else { given.len() };
     // SAFETY: `given[..size].len() <= N`: `size` is at most the capacity, and that at most `N`.
-    // Proved: crates/arraystring_core/src/array_string/fill.rt
     // SAFETY: this is within: `size` is 0 or `given.len()`.
-    // Proved: crates/arraystring_core/src/array_string/fill.rt
     unsafe { write_by_call(array, 0, get_unchecked!(given, ..size)) };
     (refused, size as u8)
 }
@@ -86,13 +82,13 @@ pub(super) fn try_fill<const N: usize>(array: &mut [u8; N], given: &[u8]) -> (bo
 /// [How to read a contract](crate::contracts)
 ///
 /// </details>
+#[expect(clippy::cast_possible_truncation, reason = "the size is at most `N` by the test above, which is at most 64")]
 #[inline(never)]
 unsafe fn try_fill_small<const N: usize>(array: &mut [u8; N], given: &[u8]) -> (bool, u8) {
     if given.len() > N {
         return (true, 0);
     }
     // SAFETY: `given.len() <= N`: by the test above.
-    // Proved: crates/arraystring_core/src/array_string/fill.rt
     unsafe { write_over(array, 0, given) };
     (false, given.len() as u8)
 }
@@ -117,6 +113,5 @@ unsafe fn try_fill_small<const N: usize>(array: &mut [u8; N], given: &[u8]) -> (
 unsafe fn write_by_call<const N: usize>(array: &mut [u8; N], at: usize, given: &[u8]) {
     let all = &mut array[..];
     // SAFETY: this is within: by this function's `# Safety`.
-    // Proved: crates/arraystring_core/src/array_string/fill.rt
-    copy_from_slice_unchecked!(all, at..at + given.len(), given);
+    unsafe { copy_from_slice_unchecked!(all, at..at + given.len(), given) };
 }

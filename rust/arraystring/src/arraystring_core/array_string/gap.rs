@@ -1,4 +1,4 @@
-// Made from crates/arraystring_core/src/array_string/gap.rt by rust/erase. A change goes there.
+// Made from crates/arraystring_core/src/array_string/gap.rt by rust/erase. The proof is there. A change goes there.
 //! Gaps in an array, into which a text is put.
 
 use crate::arraystring_base::utils::{Steps, shift};
@@ -70,8 +70,7 @@ pub(super) unsafe fn open_gap<const N: usize>(
 ) {
     let tail = text.size - end;
     // SAFETY: `text.offset + end + tail <= N`; `text.offset + (start + len) + tail <= N`: by this function's
-    // `# Safety`, whatever was counted.
-    // Proved: crates/arraystring_core/src/array_string/gap.rt
+    // `# Safety`, since the capacity is at most `N`, whatever was counted.
     unsafe { shift(array, text.offset + end, text.offset + (start + len), tail, steps) };
 }
 
@@ -115,11 +114,10 @@ pub(super) unsafe fn compact_and_open_gap<const N: usize>(
     steps: &mut Steps,
 ) {
     let tail = text.size - end;
-    // SAFETY: `text.offset + start <= N`; `start <= N`: by this function's `# Safety`, whatever was counted.
-    // Proved: crates/arraystring_core/src/array_string/gap.rt
+    // SAFETY: `text.offset + start <= N`; `start <= N`: by this function's `# Safety`, since the capacity is at most
+    // `N`, whatever was counted.
     unsafe { shift(array, text.offset, 0, start, steps) };
-    // SAFETY: `text.offset + end + tail <= N`; `start + len + tail <= N`: by this function's `# Safety`, whatever was
-    // counted.
-    // Proved: crates/arraystring_core/src/array_string/gap.rt
+    // SAFETY: `text.offset + end + tail <= N`; `start + len + tail <= N`: by this function's `# Safety`, since the
+    // capacity is at most `N`, whatever was counted.
     unsafe { shift(array, text.offset + end, start + len, tail, steps) };
 }

@@ -1,4 +1,4 @@
-// Made from crates/arraystring_core/src/array_string/in_place.rt by rust/erase. A change goes there.
+// Made from crates/arraystring_core/src/array_string/in_place.rt by rust/erase. The proof is there. A change goes there.
 //! The private calls that change the text where it lies in the array: those that put something in, take
 //! something out, or move the text to the start of the array for it.
 
@@ -35,6 +35,7 @@ impl<const N: usize> ArrayString<N> {
     /// [How to read a contract](crate::contracts)
     ///
     /// </details>
+    #[expect(clippy::cast_possible_truncation, reason = "the line before the write says why it fits")]
     #[inline(always)]
     pub(super) unsafe fn splice(&mut self, start: usize, end: usize, given: &str, steps: &mut Steps) {
         let text = Span::new(self.start, self.size);
@@ -44,18 +45,17 @@ impl<const N: usize> ArrayString<N> {
             // SAFETY: `start <= end`; `start` is a boundary of `self`; `end` is a boundary of `self`;
             // `self.len() - (end - start) + given.len() <= Self::capacity()`: by this function's `# Safety`, whatever
             // was counted.
-            // Proved: crates/arraystring_core/src/array_string/in_place.rt
             return unsafe { self.compact_and_splice(start, end, given, steps) };
         }
+        // FIELDS: the new text ends within the capacity by the test above; `open_gap` and `write_over` make it,
+        // whatever was counted.
         self.size = (start + (len + tail)) as u8;
         // SAFETY: `start <= end`; `end <= text.size`; `text.offset + text.size <= Self::capacity()`;
         // `text.offset + (start + (len + (text.size - end))) <= Self::capacity()`: by this function's `# Safety`, what
         // the fields of `ArrayString` say, and the test above, whatever was counted.
-        // Proved: crates/arraystring_core/src/array_string/in_place.rt
         unsafe { open_gap(&mut self.array, text, start, end, len, steps) };
         // SAFETY: `text.offset + start + given.as_bytes().len() <= N`: the test above has that the new text ends within
-        // the capacity, and what is written ends in it, whatever was counted.
-        // Proved: crates/arraystring_core/src/array_string/in_place.rt
+        // the capacity, which is at most `N`, and what is written ends in it, whatever was counted.
         unsafe { write_over(&mut self.array, text.offset + start, given.as_bytes()) };
     }
 
@@ -87,21 +87,23 @@ impl<const N: usize> ArrayString<N> {
     /// [How to read a contract](crate::contracts)
     ///
     /// </details>
+    #[expect(clippy::cast_possible_truncation, reason = "the line before the write says why it fits")]
     #[cold]
     #[inline(never)]
     pub(super) unsafe fn compact_and_splice(&mut self, start: usize, end: usize, given: &str, steps: &mut Steps) {
         let text = Span::new(self.start, self.size);
         let len = given.len();
+        // FIELDS: `compact_and_open_gap` moves the text there, whatever was counted.
         self.start = 0;
+        // FIELDS: it is the size of the new text, which is at most the capacity by this function's `# Safety`;
+        // `compact_and_open_gap` and `write_over` make it, whatever was counted.
         self.size = (start + (len + (text.size - end))) as u8;
         // SAFETY: `start <= end`; `end <= text.size`; `text.offset + text.size <= Self::capacity()`;
         // `start + (len + (text.size - end)) <= Self::capacity()`: by this function's `# Safety` and what the fields of
         // `ArrayString` say, whatever was counted.
-        // Proved: crates/arraystring_core/src/array_string/in_place.rt
         unsafe { compact_and_open_gap(&mut self.array, text, start, end, len, steps) };
-        // SAFETY: `start + given.as_bytes().len() <= N`: by this function's `# Safety` the new text fits, and `given`
-        // ends in it, whatever was counted.
-        // Proved: crates/arraystring_core/src/array_string/in_place.rt
+        // SAFETY: `start + given.as_bytes().len() <= N`: by this function's `# Safety` the new text fits into the
+        // capacity, which is at most `N`, and `given` ends in it, whatever was counted.
         unsafe { write_over(&mut self.array, start, given.as_bytes()) };
     }
 
@@ -123,6 +125,7 @@ impl<const N: usize> ArrayString<N> {
     /// [How to read a contract](crate::contracts)
     ///
     /// </details>
+    #[expect(clippy::cast_possible_truncation, reason = "the line before the write says why it fits")]
     #[inline(always)]
     pub(super) unsafe fn put_char(&mut self, at: usize, ch: char) {
         let text = Span::new(self.start, self.size);
@@ -130,18 +133,16 @@ impl<const N: usize> ArrayString<N> {
         if text.offset + text.size + len > Self::capacity() as usize {
             // SAFETY: `at` is a boundary of `self`; `self.len() + ch.len_utf8() <= Self::capacity()`: by this
             // function's `# Safety`.
-            // Proved: crates/arraystring_core/src/array_string/in_place.rt
             return unsafe { self.compact_and_insert(at, ch) };
         }
+        // FIELDS: the new text ends within the capacity by the test above; `open_gap` and `encode` make it.
         self.size = (at + (len + (text.size - at))) as u8;
         // SAFETY: `at <= text.size`; `text.offset + text.size <= Self::capacity()`;
         // `text.offset + (at + (len + (text.size - at))) <= Self::capacity()`: by this function's `# Safety`, what the
         // fields of `ArrayString` say, and the test above.
-        // Proved: crates/arraystring_core/src/array_string/in_place.rt
         unsafe { open_gap(&mut self.array, text, at, at, len, &mut Steps::new()) };
         // SAFETY: `text.offset + at + ch.len_utf8() <= N`: the test above has that the new text ends within the
-        // capacity, and what is written ends in it.
-        // Proved: crates/arraystring_core/src/array_string/in_place.rt
+        // capacity, which is at most `N`, and what is written ends in it.
         unsafe { encode(ch, &mut self.array, text.offset + at) };
     }
 
@@ -163,20 +164,23 @@ impl<const N: usize> ArrayString<N> {
     /// [How to read a contract](crate::contracts)
     ///
     /// </details>
+    #[expect(clippy::cast_possible_truncation, reason = "the line before the write says why it fits")]
     #[cold]
     #[inline(never)]
     pub(super) unsafe fn compact_and_insert(&mut self, at: usize, ch: char) {
         let text = Span::new(self.start, self.size);
         let len = ch.len_utf8();
+        // FIELDS: `compact_and_open_gap` moves the text there.
         self.start = 0;
+        // FIELDS: it is the size of the new text, which is at most the capacity by this function's `# Safety`;
+        // `compact_and_open_gap` and `encode` make it.
         self.size = (at + (len + (text.size - at))) as u8;
         // SAFETY: `at <= text.size`; `text.offset + text.size <= Self::capacity()`;
         // `at + (len + (text.size - at)) <= Self::capacity()`: by this function's `# Safety` and what the fields of
         // `ArrayString` say.
-        // Proved: crates/arraystring_core/src/array_string/in_place.rt
         unsafe { compact_and_open_gap(&mut self.array, text, at, at, len, &mut Steps::new()) };
-        // SAFETY: `at + ch.len_utf8() <= N`: by this function's `# Safety` the new text fits, and `ch` ends in it.
-        // Proved: crates/arraystring_core/src/array_string/in_place.rt
+        // SAFETY: `at + ch.len_utf8() <= N`: by this function's `# Safety` the new text fits into the capacity, which
+        // is at most `N`, and `ch` ends in it.
         unsafe { encode(ch, &mut self.array, at) };
     }
 
@@ -207,18 +211,19 @@ impl<const N: usize> ArrayString<N> {
     ///
     /// </details>
     #[inline]
+    #[expect(clippy::cast_possible_truncation, reason = "the line before the write says why it fits")]
     pub(super) unsafe fn take_out(&mut self, start: usize, end: usize, steps: &mut Steps) {
         if start == 0 {
             // SAFETY: `end` is a boundary of `self`: by this function's `# Safety`, whatever was counted.
-            // Proved: crates/arraystring_core/src/array_string/in_place.rt
             return unsafe { self.drop_front(end) };
         }
         let (offset, size) = (self.start as usize, self.size as usize);
         let tail = size - end;
+        // FIELDS: it is at most `size`, since `start` is at most `end` by this function's `# Safety`; `shift` moves the
+        // `tail` bytes behind `end` to `start`, and both are boundaries, whatever was counted.
         self.size = (start + tail) as u8;
         // SAFETY: `offset + end + tail <= N`; `offset + start + tail <= N`: `end + tail` is the size of the text, which
         // ends in the array, and `start` is at most `end`, whatever was counted.
-        // Proved: crates/arraystring_core/src/array_string/in_place.rt
         unsafe { shift(&mut self.array, offset + end, offset + start, tail, steps) };
     }
 
@@ -239,8 +244,12 @@ impl<const N: usize> ArrayString<N> {
     ///
     /// </details>
     #[inline]
+    #[expect(clippy::cast_possible_truncation, reason = "the line before the write says why it fits")]
     pub(super) unsafe fn drop_front(&mut self, end: usize) {
+        // FIELDS: `end` is at most `self.size` by this function's `# Safety`, so the text behind it begins where the
+        // text ends, or before.
         self.start = (self.start as usize + end) as u8;
+        // FIELDS: `end` is at most `self.size`; the text ends where it did, and begins at a boundary.
         self.size = (self.size as usize - end) as u8;
     }
 
@@ -262,6 +271,8 @@ impl<const N: usize> ArrayString<N> {
     /// </details>
     #[inline]
     pub(super) unsafe fn keep(&mut self, size: u8) {
+        // FIELDS: it is at most `self.size` by this function's `# Safety`, so the text begins where it did, and ends at
+        // a boundary, within the capacity.
         self.size = size;
     }
 }

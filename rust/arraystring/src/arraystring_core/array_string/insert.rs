@@ -1,4 +1,4 @@
-// Made from crates/arraystring_core/src/array_string/insert.rt by rust/erase. A change goes there.
+// Made from crates/arraystring_core/src/array_string/insert.rt by rust/erase. The proof is there. A change goes there.
 //! Texts and characters that are inserted at an index.
 
 use crate::arraystring_base::error::Error;
@@ -38,6 +38,7 @@ impl<const N: usize> ArrayString<N> {
     /// [How to read a contract](crate::contracts)
     ///
     /// </details>
+    #[doc(alias = "insert")]
     #[inline]
     pub fn try_insert(&mut self, index: u8, ch: char) -> Result<(), Error> {
         if index > self.len() {
@@ -51,7 +52,6 @@ impl<const N: usize> ArrayString<N> {
         }
         // SAFETY: `index` is a boundary of `self`; `self.len() + ch.len_utf8() <= Self::capacity()`: by the tests
         // above.
-        // Proved: crates/arraystring_core/src/array_string/insert.rt
         unsafe { self.insert_unchecked(index, ch) };
         Ok(())
     }
@@ -86,9 +86,10 @@ impl<const N: usize> ArrayString<N> {
     /// </details>
     #[inline]
     pub unsafe fn insert_unchecked(&mut self, index: u8, ch: char) {
+        required!(self.is_boundary(index as usize));
+        required!(self.len() as usize + ch.len_utf8() <= Self::capacity() as usize);
         // SAFETY: `index` is a boundary of `self`; `self.len() + ch.len_utf8() <= Self::capacity()`: by this function's
         // `# Safety`.
-        // Proved: crates/arraystring_core/src/array_string/insert.rt
         unsafe { self.put_char(index as usize, ch) };
     }
 
@@ -185,7 +186,6 @@ impl<const N: usize> ArrayString<N> {
         }
         // SAFETY: `start` is a boundary of `self`; `self.len() - (start - start) + string.len() <= Self::capacity()`:
         // by the tests above, whatever was counted.
-        // Proved: crates/arraystring_core/src/array_string/insert.rt
         unsafe { self.splice(start, start, string, steps) };
         Ok(())
     }
@@ -233,7 +233,6 @@ impl<const N: usize> ArrayString<N> {
         let room = Self::capacity() - self.len();
         // SAFETY: `index` is a boundary of `self`; `self.len() + truncate_str(string, room).len() <= Self::capacity()`:
         // by the test above, and since `truncate_str` returns at most `room` bytes.
-        // Proved: crates/arraystring_core/src/array_string/insert.rt
         unsafe { self.insert_str_unchecked(index, truncate_str(string, room)) };
         Ok(())
     }
@@ -269,10 +268,11 @@ impl<const N: usize> ArrayString<N> {
     #[inline]
     pub unsafe fn insert_str_unchecked<S: AsRef<str>>(&mut self, index: u8, string: S) {
         let string = string.as_ref();
+        required!(self.is_boundary(index as usize));
+        required!(self.len() as usize + string.len() <= Self::capacity() as usize);
         let start = index as usize;
         // SAFETY: `start` is a boundary of `self`; `self.len() - (start - start) + string.len() <= Self::capacity()`:
         // by this function's `# Safety`.
-        // Proved: crates/arraystring_core/src/array_string/insert.rt
         unsafe { self.splice(start, start, string, &mut Steps::new()) };
     }
 }

@@ -1,4 +1,4 @@
-// Made from crates/arraystring_core/src/array_string/push.rt by rust/erase. A change goes there.
+// Made from crates/arraystring_core/src/array_string/push.rt by rust/erase. The proof is there. A change goes there.
 //! What is appended: characters, texts, and what an iterator gives.
 
 use crate::arraystring_base::error::OutOfBounds;
@@ -33,15 +33,14 @@ impl<const N: usize> ArrayString<N> {
     /// [How to read a contract](crate::contracts)
     ///
     /// </details>
+    #[doc(alias = "push")]
     #[inline(always)]
     pub fn try_push(&mut self, ch: char) -> Result<(), OutOfBounds> {
         let end = self.end();
         // SAFETY: `end <= 255`: the text ends within the capacity, as the fields of `ArrayString` say.
-        // Proved: crates/arraystring_core/src/array_string/push.rt
         if unsafe { Self::has_room(end, ch) } {
             // SAFETY: `self.len() + ch.len_utf8() <= Self::capacity()`: `has_room` returned true for `end`, which is at
             // least `self.len()`.
-            // Proved: crates/arraystring_core/src/array_string/push.rt
             unsafe { self.push_unchecked(ch) };
             return Ok(());
         }
@@ -75,19 +74,20 @@ impl<const N: usize> ArrayString<N> {
     /// [How to read a contract](crate::contracts)
     ///
     /// </details>
+    #[expect(clippy::cast_possible_truncation, reason = "the line before the write says why it fits")]
     #[inline(always)]
     pub unsafe fn push_unchecked(&mut self, ch: char) {
+        required!(self.len() as usize + ch.len_utf8() <= Self::capacity() as usize);
         let end = self.end();
         // SAFETY: `end <= 255`: the text ends within the capacity, as the fields of `ArrayString` say.
-        // Proved: crates/arraystring_core/src/array_string/push.rt
         if !unsafe { Self::has_room(end, ch) } {
             // SAFETY: `self.len() + ch.len_utf8() <= Self::capacity()`: by this function's `# Safety`.
-            // Proved: crates/arraystring_core/src/array_string/push.rt
             return unsafe { self.compact_and_push(ch) };
         }
         // SAFETY: `end + ch.len_utf8() <= N`: `has_room` returned true, and the capacity is at most `N`.
-        // Proved: crates/arraystring_core/src/array_string/push.rt
         let len = unsafe { encode(ch, &mut self.array, end) };
+        // FIELDS: `has_room` returned true for `end`, so the text with `ch` ends within the capacity, and `encode`
+        // wrote `ch` at its end.
         self.size = (self.size as usize + len) as u8;
     }
 
@@ -129,12 +129,10 @@ impl<const N: usize> ArrayString<N> {
                 return Err(OutOfBounds);
             }
             // SAFETY: `self.len() + string.len() <= Self::capacity()`: by the inner test above.
-            // Proved: crates/arraystring_core/src/array_string/push.rt
             unsafe { self.compact_and_push_str(string) };
         } else {
             // SAFETY: `self.len() + string.len() <= Self::capacity()`: by the test above, in which `self.start` is
             // added, too.
-            // Proved: crates/arraystring_core/src/array_string/push.rt
             unsafe { self.push_str_unchecked(string) };
         }
         Ok(())
@@ -167,7 +165,6 @@ impl<const N: usize> ArrayString<N> {
         let room = Self::capacity() - self.len();
         // SAFETY: `self.len() + truncate_str(string, room).len() <= Self::capacity()`: `truncate_str` returns no more
         // bytes than it is told, which is the room.
-        // Proved: crates/arraystring_core/src/array_string/push.rt
         unsafe { self.push_str_unchecked(truncate_str(string, room)) };
     }
 
@@ -198,18 +195,20 @@ impl<const N: usize> ArrayString<N> {
     /// [How to read a contract](crate::contracts)
     ///
     /// </details>
+    #[expect(clippy::cast_possible_truncation, reason = "the line before the write says why it fits")]
     #[inline]
     pub unsafe fn push_str_unchecked<S: AsRef<str>>(&mut self, string: S) {
         let string = string.as_ref();
+        required!(self.len() as usize + string.len() <= Self::capacity() as usize);
         let end = self.end();
         if end + string.len() > Self::capacity() as usize {
             // SAFETY: `self.len() + string.len() <= Self::capacity()`: by this function's `# Safety`.
-            // Proved: crates/arraystring_core/src/array_string/push.rt
             return unsafe { self.compact_and_push_str(string) };
         }
+        // FIELDS: by the test above the text with `string` ends within the capacity, and `write_over` writes `string`
+        // at its end.
         self.size = (self.size as usize + string.len()) as u8;
         // SAFETY: `end + string.as_bytes().len() <= N`: by the test above, and the capacity is at most `N`.
-        // Proved: crates/arraystring_core/src/array_string/push.rt
         unsafe { write_over(&mut self.array, end, string.as_bytes()) };
     }
 
@@ -243,6 +242,7 @@ impl<const N: usize> ArrayString<N> {
     /// [How to read a contract](crate::contracts)
     ///
     /// </details>
+    #[doc(alias = "extend")]
     #[inline]
     pub fn extend_chars<I: IntoIterator<Item = char>>(&mut self, characters: I) {
         let _ = self.add_chars(characters);
@@ -278,6 +278,7 @@ impl<const N: usize> ArrayString<N> {
     /// [How to read a contract](crate::contracts)
     ///
     /// </details>
+    #[doc(alias = "extend")]
     #[inline]
     pub fn extend_strs<U: AsRef<str>, I: IntoIterator<Item = U>>(&mut self, pieces: I) {
         let _ = self.add_strs(pieces);

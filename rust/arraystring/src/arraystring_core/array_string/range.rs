@@ -1,4 +1,4 @@
-// Made from crates/arraystring_core/src/array_string/range.rt by rust/erase. A change goes there.
+// Made from crates/arraystring_core/src/array_string/range.rt by rust/erase. The proof is there. A change goes there.
 //! Parts of a string by a range of bytes. The contracts speak of the bounds that the range's
 //! methods return. If `has_bounds` holds of the range, they are its own; else no contract says
 //! which they are.
@@ -45,6 +45,7 @@ impl<const N: usize> ArrayString<N> {
     /// </details>
     ///
     /// Another body runs here than the one that was proved: it is the index of `str`, which panics.
+    #[doc(alias = "index")]
     #[track_caller]
     #[inline]
     pub fn slice<R: RangeBounds<u8>>(&self, range: R) -> &str {
@@ -123,7 +124,7 @@ impl<const N: usize> ArrayString<N> {
     /// </details>
     #[inline(always)]
     pub fn drain<R: RangeBounds<u8>>(&mut self, range: R) -> Result<Drain<N>, Error> {
-        self.drain_counted(range, &mut Steps::new())
+        self.drain_through(range, &mut Steps::new(), &mut Drain::default())
     }
 
     /// Drains as [`drain`](crate::ArrayString::drain) does, with the bytes that it moves counted in `steps`. They are no more than
@@ -175,17 +176,7 @@ impl<const N: usize> ArrayString<N> {
     /// </details>
     #[inline(always)]
     pub fn drain_counted<R: RangeBounds<u8>>(&mut self, range: R, steps: &mut Steps) -> Result<Drain<N>, Error> {
-        let (from, to) = saturating_ends(range, self.len());
-        self.check_part(from, to)?;
-        // SAFETY: the `to - from` bytes of `self.array` from `self.start + from` on are UTF-8 and end within the
-        // capacity: `check_part` returned `Ok`, so this is a part of the text, whatever was counted.
-        // Proved: crates/arraystring_core/src/array_string/range.rt
-        let removed = unsafe { Drain::new(self.array, self.start + from, to - from) };
-        // SAFETY: `from <= to`; `from` is a boundary of `self`; `to` is a boundary of `self`: `check_part` returned
-        // `Ok`, so this is a part of the text, whatever was counted.
-        // Proved: crates/arraystring_core/src/array_string/range.rt
-        unsafe { self.take_out(from as usize, to as usize, steps) };
-        Ok(removed)
+        self.drain_through(range, steps, &mut Drain::default())
     }
 
     /// Replaces the part in the range with `with`. The ends are read as in [`drain`](crate::ArrayString::drain).
@@ -325,7 +316,6 @@ impl<const N: usize> ArrayString<N> {
         let _ = &self.as_str()[start..end];
         // SAFETY: `start <= end`; `start` is a boundary of `self`; `end` is a boundary of `self`: the index above
         // panics where one of these does not hold, so that the caller of this function need not show them.
-        // Proved: crates/arraystring_core/src/array_string/range.rt
         unsafe { self.uppercase_between(start, end) };
     }
 
@@ -369,8 +359,46 @@ impl<const N: usize> ArrayString<N> {
         let _ = &self.as_str()[start..end];
         // SAFETY: `start <= end`; `start` is a boundary of `self`; `end` is a boundary of `self`: the index above
         // panics where one of these does not hold, so that the caller of this function need not show them.
-        // Proved: crates/arraystring_core/src/array_string/range.rt
         unsafe { self.lowercase_between(start, end) };
+    }
+
+    /// Drains the part in the range. What is removed goes through `removed`, which is the caller's: the compiler copies a local
+    /// of this function once more.
+    ///
+    /// <details><summary>Contract</summary>
+    ///
+    /// ```text
+    /// requires { steps.old.moved ≤ 2 ^ 63 }
+    /// ensures edit { OfReturnedBounds R.has_bounds R.start_bound R.end_bound range (λ start end.
+    ///     let t = self.old.text in let from = saturated_start start in let to = saturated_end end (size t) in
+    ///     Makes (draining t from to) t (with_left result) self.new.text
+    ///     × (from ≡ 0 → steps.new.moved ≡ steps.old.moved)
+    ///     × (steps.new.moved ≤ steps.old.moved + (size t - to))
+    ///     × OnOk result (from ≢ to → steps.old.moved + min from (size t - to) ≤ steps.new.moved)) }
+    /// ensures refused { OnErr result (steps.new.moved ≡ steps.old.moved) }
+    /// ensures counted { steps.old.moved ≤ steps.new.moved }
+    /// ensures looked { steps.new.looked ≡ steps.old.looked }
+    /// ```
+    ///
+    /// [How to read a contract](crate::contracts)
+    ///
+    /// </details>
+    #[inline(always)]
+    fn drain_through<R: RangeBounds<u8>>(
+        &mut self,
+        range: R,
+        steps: &mut Steps,
+        removed: &mut Drain<N>,
+    ) -> Result<Drain<N>, Error> {
+        let (from, to) = saturating_ends(range, self.len());
+        self.check_part(from, to)?;
+        // SAFETY: the `to - from` bytes of `self.array` from `self.start + from` on are UTF-8 and end within the
+        // capacity: `check_part` returned `Ok`, so this is a part of the text, whatever was counted.
+        *removed = unsafe { Drain::new(self.array, self.start + from, to - from) };
+        // SAFETY: `from <= to`; `from` is a boundary of `self`; `to` is a boundary of `self`: `check_part` returned
+        // `Ok`, so this is a part of the text, whatever was counted.
+        unsafe { self.take_out(from as usize, to as usize, steps) };
+        Ok(*removed)
     }
 
     /// Refuses the bytes from `start` to `end` where `drain` has to.
@@ -420,7 +448,6 @@ impl<const N: usize> ArrayString<N> {
         // SAFETY: `from <= to`; `from` is a boundary of `self`; `to` is a boundary of `self`;
         // `self.len() - (to - from) + with.len() <= Self::capacity()`: `check_replacement` returned `Ok`, whatever was
         // counted.
-        // Proved: crates/arraystring_core/src/array_string/range.rt
         unsafe { self.splice(from, to, with, steps) };
         Ok(())
     }

@@ -1,4 +1,4 @@
-// Made from crates/arraystring_core/src/array_string/remove.rt by rust/erase. A change goes there.
+// Made from crates/arraystring_core/src/array_string/remove.rt by rust/erase. The proof is there. A change goes there.
 //! What is removed from a string: characters at the end, at an index or by a closure, and the text from an
 //! index on.
 
@@ -46,7 +46,6 @@ impl<const N: usize> ArrayString<N> {
             return Err(Utf8);
         }
         // SAFETY: `size` is a boundary of `self`: by the test above.
-        // Proved: crates/arraystring_core/src/array_string/remove.rt
         unsafe { self.keep(size) };
         Ok(())
     }
@@ -113,11 +112,11 @@ impl<const N: usize> ArrayString<N> {
     ///
     /// </details>
     #[inline]
+    #[expect(clippy::cast_possible_truncation, reason = "`start` is an index in a text of at most 255 bytes")]
     pub fn pop_counted(&mut self, steps: &mut Steps) -> Option<char> {
         let (start, ch) = last_char(self.as_str(), steps)?;
         // SAFETY: `start as u8` is a boundary of `self`: `last_char` returns where the last character begins, which is
         // below 255, whatever was counted.
-        // Proved: crates/arraystring_core/src/array_string/remove.rt
         unsafe { self.keep(start as u8) };
         Some(ch)
     }
@@ -209,12 +208,10 @@ impl<const N: usize> ArrayString<N> {
             return Err(Error::Utf8);
         }
         // SAFETY: `start` is a boundary of `self`; `start < self.len()`: by the tests above, whatever was counted.
-        // Proved: crates/arraystring_core/src/array_string/remove.rt
         let (ch, width) = unsafe { self.char_at(start) };
         // SAFETY: `start <= start + width`; `start` is a boundary of `self`; `start + width` is a boundary of `self`: a
         // character begins at `start` by the tests above, and `char_at` returned that it takes `width` bytes, whatever
         // was counted.
-        // Proved: crates/arraystring_core/src/array_string/remove.rt
         unsafe { self.take_out(start, start + width, steps) };
         Ok(ch)
     }
@@ -251,7 +248,6 @@ impl<const N: usize> ArrayString<N> {
         let (offset, size) = (self.start as usize, self.size as usize);
         // SAFETY: `offset + size <= N`; `size <= 255`; the `size` bytes of `self.array` from `offset` on are UTF-8: as
         // the fields of `ArrayString` say, whatever the closure answers.
-        // Proved: crates/arraystring_core/src/array_string/remove.rt
         unsafe { retain_at(&mut self.array, &mut self.size, offset, size, f) };
     }
 
@@ -295,12 +291,9 @@ impl<const N: usize> ArrayString<N> {
             return Err(Error::Utf8);
         }
         // SAFETY: `self.as_str()[at as usize..].len() <= Self::capacity()`: a part of a text of this capacity fits.
-        // Proved: crates/arraystring_core/src/array_string/remove.rt
         // SAFETY: this is within: `at` is a boundary, by the test above.
-        // Proved: crates/arraystring_core/src/array_string/remove.rt
         let rest = unsafe { Self::from_str_unchecked(get_unchecked!(self.as_str(), at as usize..)) };
         // SAFETY: `at` is a boundary of `self`: by the test above.
-        // Proved: crates/arraystring_core/src/array_string/remove.rt
         unsafe { self.keep(at) };
         Ok(rest)
     }
@@ -329,7 +322,6 @@ impl<const N: usize> ArrayString<N> {
     #[inline]
     pub fn clear(&mut self) {
         // SAFETY: `0` is a boundary of `self`: each text begins there.
-        // Proved: crates/arraystring_core/src/array_string/remove.rt
         unsafe { self.keep(0) };
     }
 
@@ -357,9 +349,7 @@ impl<const N: usize> ArrayString<N> {
     #[inline]
     unsafe fn char_at(&self, at: usize) -> (char, usize) {
         // SAFETY: `0 < self.as_str()[at..].len()`: by this function's `# Safety`.
-        // Proved: crates/arraystring_core/src/array_string/remove.rt
         // SAFETY: this is within: by this function's `# Safety`.
-        // Proved: crates/arraystring_core/src/array_string/remove.rt
         unsafe { first_char(get_unchecked!(self.as_str(), at..)) }
     }
 }
@@ -388,8 +378,7 @@ unsafe fn first_char(text: &str) -> (char, usize) {
     let mut rest = text.chars();
     let Some(ch) = rest.next() else {
         // SAFETY: this is not reached: by this function's `# Safety`.
-        // Proved: crates/arraystring_core/src/array_string/remove.rt
-        unreachable_unchecked!();
+        unsafe { unreachable_unchecked!() };
     };
     (ch, text.len() - rest.as_str().len())
 }
@@ -423,6 +412,7 @@ unsafe fn first_char(text: &str) -> (char, usize) {
 ///
 /// </details>
 #[inline]
+#[expect(clippy::cast_possible_truncation, reason = "`width` is that of a character, which is at most 4")]
 unsafe fn retain_at<const N: usize, F: FnMut(char) -> bool>(
     array: &mut [u8; N],
     kept: &mut u8,
@@ -431,22 +421,23 @@ unsafe fn retain_at<const N: usize, F: FnMut(char) -> bool>(
     mut f: F,
 ) {
     // From `read` on no byte was written over.
+    // FIELDS: no character is kept so far, whatever the closure answers.
     *kept = 0;
     let mut read = 0;
     while read < size {
         // A byte of ASCII is its character; others take the decoder.
         // SAFETY: this is within: `read < size`, and the array has the `size` bytes from `offset` on, whatever the
         // closure answers.
-        // Proved: crates/arraystring_core/src/array_string/remove.rt
-        let first = *get_unchecked!(array, offset + read);
+        let first = *unsafe { get_unchecked!(array, offset + read) };
         if first < 0x80 {
             if f(first as char) {
                 let to = offset + *kept as usize;
                 // SAFETY: `offset + read + 1 <= N`; `to + 1 <= N`: `*kept <= read`, since a turn adds to it at most
                 // what it adds to `read`, `read < size`, and the array has the `size` bytes from `offset` on, whatever
                 // the closure answers.
-                // Proved: crates/arraystring_core/src/array_string/remove.rt
                 unsafe { shift(array, offset + read, to, 1, &mut Steps::new()) };
+                // FIELDS: the character was moved behind those that are kept; `*kept <= read < size`, so they end in
+                // the text, whatever the closure answers.
                 *kept += 1;
             }
             read += 1;
@@ -455,17 +446,19 @@ unsafe fn retain_at<const N: usize, F: FnMut(char) -> bool>(
             // SAFETY: the `size` bytes from `offset` on were UTF-8 at the start. No byte from `read` on was
             // written over, since `*kept <= read`: each turn adds no more to it. `read` goes on by whole
             // characters, so one begins there, whatever the closure answers.
+            // SAFETY: this is within: `read < size`, and the array has the `size` bytes from `offset` on, whatever the
+            // closure answers.
             let text = unsafe { str::from_utf8_unchecked(get_unchecked!(all, offset + read..offset + size)) };
             // SAFETY: `0 < text.len()`: `read < size`, whatever the closure answers.
-            // Proved: crates/arraystring_core/src/array_string/remove.rt
             let (ch, width) = unsafe { first_char(text) };
             if f(ch) {
                 let to = offset + *kept as usize;
                 // SAFETY: `offset + read + width <= N`; `to + width <= N`: the character ends in the text, the text in
                 // the array, and `*kept <= read`, since a turn adds to it at most what it adds to `read`, whatever the
                 // closure answers.
-                // Proved: crates/arraystring_core/src/array_string/remove.rt
                 unsafe { shift(array, offset + read, to, width, &mut Steps::new()) };
+                // FIELDS: the character was moved behind those that are kept; `*kept <= read` and
+                // `read + width <= size`, so they end in the text, whatever the closure answers.
                 *kept += width as u8;
             }
             read += width;

@@ -1,4 +1,4 @@
-// Made from crates/arraystring_core/src/array_string/traits.rt by rust/erase. A change goes there.
+// Made from crates/arraystring_core/src/array_string/traits.rt by rust/erase. The proof is there. A change goes there.
 //! The traits of a string: how it is printed, made, compared, hashed and appended to.
 
 use crate::arraystring_base::error::OutOfBounds;

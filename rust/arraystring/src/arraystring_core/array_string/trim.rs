@@ -1,4 +1,4 @@
-// Made from crates/arraystring_core/src/array_string/trim.rt by rust/erase. A change goes there.
+// Made from crates/arraystring_core/src/array_string/trim.rt by rust/erase. The proof is there. A change goes there.
 //! Trimming at both ends.
 
 use crate::arraystring_base::utils::{Steps, last_char};
@@ -122,6 +122,7 @@ impl<const N: usize> ArrayString<N> {
     ///
     /// </details>
     #[inline]
+    #[expect(clippy::cast_possible_truncation, reason = "`start` is an index in a text of at most 255 bytes")]
     fn drop_trailing<F: Fn(char) -> bool>(&mut self, drops: F, steps: &mut Steps) {
         while let Some((start, ch)) = last_char(self.as_str(), steps) {
             if !drops(ch) {
@@ -129,7 +130,6 @@ impl<const N: usize> ArrayString<N> {
             }
             // SAFETY: `start as u8` is a boundary of `self`: `last_char` returns where the last character begins, which
             // is below 255, whatever the closure answers and whatever was counted.
-            // Proved: crates/arraystring_core/src/array_string/trim.rt
             unsafe { self.keep(start as u8) };
         }
     }
@@ -173,12 +173,11 @@ impl<const N: usize> ArrayString<N> {
         let bytes = self.as_bytes();
         let mut run = 0;
         // SAFETY: this is within: the loop tests that `run` is below `bytes.len()`, whatever the closure answers.
-        // Proved: crates/arraystring_core/src/array_string/trim.rt
-        while run < bytes.len() && *get_unchecked!(bytes, run) < 0x80 {
-            if !drops(*get_unchecked!(bytes, run) as char) {
+        while run < bytes.len() && *unsafe { get_unchecked!(bytes, run) } < 0x80 {
+            // SAFETY: this is within: the loop tests that `run` is below `bytes.len()`, whatever the closure answers.
+            if !drops(*unsafe { get_unchecked!(bytes, run) } as char) {
                 // SAFETY: `run` is a boundary of `self`: the `run` bytes before it are ASCII, so each is a character,
                 // whatever the closure answers.
-                // Proved: crates/arraystring_core/src/array_string/trim.rt
                 unsafe { self.drop_run(run) };
                 return true;
             }
@@ -186,7 +185,6 @@ impl<const N: usize> ArrayString<N> {
         }
         // SAFETY: `run` is a boundary of `self`: the `run` bytes before it are ASCII, so each is a character, whatever
         // the closure answers.
-        // Proved: crates/arraystring_core/src/array_string/trim.rt
         unsafe { self.drop_run(run) };
         false
     }
@@ -211,7 +209,6 @@ impl<const N: usize> ArrayString<N> {
     unsafe fn drop_run(&mut self, end: usize) {
         if end > 0 {
             // SAFETY: `end` is a boundary of `self`: by this function's `# Safety`.
-            // Proved: crates/arraystring_core/src/array_string/trim.rt
             unsafe { self.drop_front(end) };
         }
     }
@@ -236,7 +233,6 @@ impl<const N: usize> ArrayString<N> {
             }
             // SAFETY: `ch.len_utf8()` is a boundary of `self`: `ch` is the first character of the text, whatever the
             // closure answers.
-            // Proved: crates/arraystring_core/src/array_string/trim.rt
             unsafe { self.drop_front(ch.len_utf8()) };
         }
     }

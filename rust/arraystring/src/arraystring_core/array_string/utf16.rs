@@ -1,4 +1,4 @@
-// Made from crates/arraystring_core/src/array_string/utf16.rt by rust/erase. A change goes there.
+// Made from crates/arraystring_core/src/array_string/utf16.rt by rust/erase. The proof is there. A change goes there.
 //! Strings from UTF-16.
 
 use super::ArrayString;
@@ -44,6 +44,8 @@ impl<const N: usize> ArrayString<N> {
         let mut array = [0; N];
         let (size, after) = Self::write_prefix(&mut array, units);
         match after {
+            // FIELDS: `write_prefix` returns the size of the text that it wrote in front of the array, which is at most
+            // the capacity.
             None => Ok(ArrayString { array, start: 0, size }),
             Some(Unit16::Lone(_)) => Err(Error::Utf16),
             Some(Unit16::Char(_)) => Err(Error::OutOfBounds),
@@ -88,6 +90,8 @@ impl<const N: usize> ArrayString<N> {
         if let Some(Unit16::Lone(_)) = after {
             return Err(Utf16);
         }
+        // FIELDS: `write_prefix` returns the size of the text that it wrote in front of the array, which is at most the
+        // capacity.
         Ok(ArrayString { array, start: 0, size })
     }
 
@@ -115,17 +119,16 @@ impl<const N: usize> ArrayString<N> {
     /// </details>
     #[must_use]
     #[inline]
+    #[expect(clippy::cast_possible_truncation, reason = "the line before the write says why it fits")]
     pub fn from_utf16_lossy<B: AsRef<[u16]>>(units: B) -> Self {
         let units = units.as_ref();
         let mut array = [0; N];
         let run = write_ascii(&mut array, units);
         let mut end = run;
         // SAFETY: this is within: `write_ascii` returns at most `units.len()`.
-        // Proved: crates/arraystring_core/src/array_string/utf16.rt
-        for item in Units::new(get_unchecked!(units, run..)) {
+        for item in Units::new(unsafe { get_unchecked!(units, run..) }) {
             // SAFETY: the `end` bytes of `array` from `0` on are UTF-8 and end within the capacity: `write_ascii` and
             // `write_char` return where the text that they wrote ends.
-            // Proved: crates/arraystring_core/src/array_string/utf16.rt
             match unsafe { Self::write_char(&mut array, end, shown(item)) } {
                 Some(next) => {
                     end = next;
@@ -133,6 +136,8 @@ impl<const N: usize> ArrayString<N> {
                 None => break,
             }
         }
+        // FIELDS: `write_ascii` and `write_char` return where the text that they wrote ends, which is within the
+        // capacity.
         ArrayString { array, start: 0, size: end as u8 }
     }
 
@@ -149,18 +154,20 @@ impl<const N: usize> ArrayString<N> {
     /// [How to read a contract](crate::contracts)
     ///
     /// </details>
+    #[expect(
+        clippy::cast_possible_truncation,
+        reason = "`end` is where a text ends within the capacity, which is at most 255"
+    )]
     #[inline(always)]
     fn write_prefix(array: &mut [u8; N], units: &[u16]) -> (u8, Option<Unit16>) {
         // A run of ASCII first, at once: its units are its bytes.
         let run = write_ascii(array, units);
         let mut end = run;
         // SAFETY: this is within: `write_ascii` returns at most `units.len()`.
-        // Proved: crates/arraystring_core/src/array_string/utf16.rt
-        for item in Units::new(get_unchecked!(units, run..)) {
+        for item in Units::new(unsafe { get_unchecked!(units, run..) }) {
             match item {
                 // SAFETY: the `end` bytes of `array` from `0` on are UTF-8 and end within the capacity: `write_ascii`
                 // and `write_char` return where the text that they wrote ends.
-                // Proved: crates/arraystring_core/src/array_string/utf16.rt
                 Unit16::Char(ch) => match unsafe { Self::write_char(array, end, ch) } {
                     Some(next) => {
                         end = next;
@@ -195,12 +202,10 @@ impl<const N: usize> ArrayString<N> {
     #[inline(always)]
     unsafe fn write_char(array: &mut [u8; N], end: usize, ch: char) -> Option<usize> {
         // SAFETY: `end <= 255`: by this function's `# Safety`, since the capacity is at most 255.
-        // Proved: crates/arraystring_core/src/array_string/utf16.rt
         if !unsafe { Self::has_room(end, ch) } {
             return None;
         }
         // SAFETY: `end + ch.len_utf8() <= N`: `has_room` returned true, and the capacity is at most `N`.
-        // Proved: crates/arraystring_core/src/array_string/utf16.rt
         Some(end + unsafe { encode(ch, array, end) })
     }
 }
@@ -220,14 +225,15 @@ impl<const N: usize> ArrayString<N> {
 /// [How to read a contract](crate::contracts)
 ///
 /// </details>
+#[expect(clippy::cast_possible_truncation, reason = "the loop tests that the unit is below 0x80")]
 #[inline(always)]
 fn write_ascii<const N: usize>(array: &mut [u8; N], units: &[u16]) -> usize {
     let most = units.len().min(ArrayString::<N>::capacity() as usize);
     let mut run = 0;
     // SAFETY: this is within: `run` is below `most`, which is at most `units.len()` and at most `N`.
-    // Proved: crates/arraystring_core/src/array_string/utf16.rt
-    while run < most && *get_unchecked!(units, run) < 0x80 {
-        *get_unchecked_mut!(array, run) = *get_unchecked!(units, run) as u8;
+    while run < most && *unsafe { get_unchecked!(units, run) } < 0x80 {
+        // SAFETY: this is within: `run` is below `most`, which is at most `units.len()` and at most `N`.
+        *unsafe { get_unchecked_mut!(array, run) } = *unsafe { get_unchecked!(units, run) } as u8;
         run += 1;
     }
     run

@@ -1,4 +1,4 @@
-// Made from crates/arraystring_core/src/drain/traits.rt by rust/erase. A change goes there.
+// Made from crates/arraystring_core/src/drain/traits.rt by rust/erase. The proof is there. A change goes there.
 //! The traits of a drain: its iterators, and how what is left is printed, compared and hashed.
 
 use crate::arraystring_base::utils::{Steps, last_char};
@@ -50,7 +50,6 @@ impl<const N: usize> Default for Drain<N> {
     #[inline]
     fn default() -> Self {
         // SAFETY: the `0` bytes of `[0; N]` from `0` on are UTF-8 and end within the capacity: there are none.
-        // Proved: crates/arraystring_core/src/drain/traits.rt
         unsafe { Drain::new([0; N], 0, 0) }
     }
 }
@@ -78,9 +77,12 @@ impl<const N: usize> Default for Drain<N> {
 impl<const N: usize> DoubleEndedIterator for Drain<N> {
     /// Returns the last character that is left. Returns `None` if none is left, and at each call
     /// after that.
+    #[expect(clippy::cast_possible_truncation, reason = "`kept` is an index in a text of at most 255 bytes")]
     #[inline(always)]
     fn next_back(&mut self) -> Option<char> {
         let (kept, ch) = last_char(self.as_str(), &mut Steps::new())?;
+        // FIELDS: `last_char` returns where the last character begins behind `front`, which is a boundary before
+        // `size`.
         self.size = self.front + kept as u8;
         Some(ch)
     }
@@ -178,6 +180,7 @@ impl<const N: usize> Iterator for Drain<N> {
 
     /// Returns the first character that is left. Returns `None` if none is left, and at each call
     /// after that.
+    #[expect(clippy::cast_possible_truncation, reason = "it is the size of a text of at most 255 bytes")]
     #[inline(always)]
     fn next(&mut self) -> Option<char> {
         if self.front == self.size {
@@ -186,14 +189,17 @@ impl<const N: usize> Iterator for Drain<N> {
         // A byte of ASCII is its character; others take the decoder.
         // SAFETY: this is within: the fields of `Drain` say that `front <= size` and `start + size <= N`, and the test
         // above that `front != size`.
-        // Proved: crates/arraystring_core/src/drain/traits.rt
-        let first = *get_unchecked!(self.array, self.start as usize + self.front as usize);
+        let first = *unsafe { get_unchecked!(self.array, self.start as usize + self.front as usize) };
         if first < 0x80 {
+            // FIELDS: the test above has `front < size`, and a byte of ASCII is a character, so this is the next
+            // boundary.
             self.front += 1;
             return Some(first as char);
         }
         let mut left = self.as_str().chars();
         let ch = left.next()?;
+        // FIELDS: what is left of the text ends at `size` and begins behind a whole character, so this is a boundary,
+        // at most `size`.
         self.front = self.size - left.as_str().len() as u8;
         Some(ch)
     }

@@ -1,4 +1,4 @@
-// Made from crates/arraystring_core/src/fast/equal.rt by rust/erase. A change goes there.
+// Made from crates/arraystring_core/src/fast/equal.rt by rust/erase. The proof is there. A change goes there.
 //! Whether two texts are equal, which std tells here.
 
 /// Whether the texts of two strings are equal.

@@ -1,4 +1,4 @@
-// Made from crates/arraystring_core/src/fast/order.rt by rust/erase. A change goes there.
+// Made from crates/arraystring_core/src/fast/order.rt by rust/erase. The proof is there. A change goes there.
 //! The order of two texts, which std tells here.
 
 use core::cmp::Ordering;

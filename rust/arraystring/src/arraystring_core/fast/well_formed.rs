@@ -1,4 +1,4 @@
-// Made from crates/arraystring_core/src/fast/well_formed.rt by rust/erase. A change goes there.
+// Made from crates/arraystring_core/src/fast/well_formed.rt by rust/erase. The proof is there. A change goes there.
 //! The test of UTF-8, which std makes here.
 
 use crate::arraystring_base::error::Utf8;
@@ -20,8 +20,8 @@ use crate::by_hand::str;
 #[inline]
 pub(crate) fn read_utf8(given: &[u8]) -> Result<&str, Utf8> {
     let (blocks, last) = (given.len() / 32 * 32, given.len().saturating_sub(32));
-    // SAFETY: this is within: neither is above `given.len()`.
-    if get_unchecked!(given, ..blocks).is_ascii() && get_unchecked!(given, last..).is_ascii() {
+    // SAFETY: this is within: `blocks` is at most `given.len()`, and so is `last`.
+    if unsafe { get_unchecked!(given, ..blocks) }.is_ascii() && unsafe { get_unchecked!(given, last..) }.is_ascii() {
         // SAFETY: the blocks of 32 bytes in front and the last 32 bytes are all of them, and ASCII is UTF-8.
         return Ok(unsafe { str::from_utf8_unchecked(given) });
     }

@@ -1,0 +1,85 @@
+//! What std's owned texts and paths take of a string, and a string beside a `Cow`.
+
+use std::borrow::Cow;
+#[cfg(feature = "std")]
+use std::{ffi::OsStr, path::Path};
+
+use arraystring::CacheString;
+
+use crate::inputs::{GIVEN, at_capacities, behind, capacity, edges, letters, some_offsets, texts_of};
+
+/// Asserts what is copied and lent of a string of a text.
+macro_rules! is_copied {
+    ($string:expr, $text:expr) => {{
+        let (string, text): (_, &str) = ($string, $text);
+        let copies: [Cow<str>; 4] = [
+            String::from(string).into(),
+            String::from(Box::<str>::from(string)).into(),
+            Cow::from(string),
+            String::from_utf8(Vec::from(string)).expect("a text").into(),
+        ];
+        assert!(copies.iter().all(|copy| matches!(copy, Cow::Owned(copy) if copy == text)), "{text:?}");
+        let lent = Cow::from(&string);
+        assert!(matches!(lent, Cow::Borrowed(lent) if lent == text && lent.as_ptr() == string.as_str().as_ptr()));
+        #[cfg(feature = "std")]
+        assert_eq!((AsRef::<OsStr>::as_ref(&string), AsRef::<Path>::as_ref(&string)), (text.as_ref(), text.as_ref()));
+        let joined = text.repeat(3);
+        assert_eq!([string; 3].into_iter().collect::<String>(), joined);
+        assert_eq!(&*[string; 3].into_iter().collect::<Box<str>>(), joined);
+        assert_eq!([string; 3].into_iter().collect::<Cow<str>>(), joined);
+        let mut extended = String::from("~");
+        extended.extend([string; 3]);
+        assert_eq!(extended, format!("~{joined}"));
+    }};
+}
+
+/// Asserts `==` between a string of a text and a `Cow` of another one, lent and owned, on both sides.
+macro_rules! is_beside_a_cow {
+    ($string:expr, $text:expr, $other:expr) => {{
+        let (string, text, other): (_, &str, &str) = ($string, $text, $other);
+        for cow in [Cow::Borrowed(other), Cow::Owned(other.to_string())] {
+            assert_eq!([string == cow, cow == string], [text == other; 2], "{text:?} and {other:?}");
+            assert_eq!([string != cow, cow != string], [text != other; 2], "{text:?} and {other:?}");
+        }
+    }};
+}
+
+#[test]
+fn a_string_of_each_length_is_copied() {
+    fn at<const N: usize>() {
+        for len in 0..=capacity::<N>() {
+            let text = &texts_of(len)[len % 3];
+            for offset in some_offsets(capacity::<N>() - len) {
+                is_copied!(behind::<N>(offset, text), text);
+            }
+        }
+    }
+    at_capacities!(at);
+    for text in (0..=63).flat_map(texts_of) {
+        for offset in some_offsets(63 - text.len()) {
+            is_copied!(CacheString(behind::<63>(offset, &text)), &text);
+        }
+    }
+}
+
+#[test]
+fn a_string_is_beside_a_cow() {
+    fn at<const N: usize>() {
+        for text in edges(capacity::<N>()).into_iter().filter(|len| *len <= capacity::<N>()).flat_map(texts_of) {
+            let string = behind::<N>(capacity::<N>(), &text);
+            for other in [text.clone(), text.clone() + "~", text.clone() + &"~".repeat(256)] {
+                is_beside_a_cow!(string, &text, &other);
+            }
+            for (at, ch) in text.char_indices() {
+                let other = if ch == '~' { "-" } else { "~" };
+                is_beside_a_cow!(string, &text, &format!("{}{other}{}", &text[..at], &text[at + ch.len_utf8()..]));
+                is_beside_a_cow!(string, &text, &text[..at]);
+            }
+        }
+    }
+    at_capacities!(at);
+    let text = letters(520);
+    for (len, given) in (0..=63).flat_map(|len| GIVEN.map(move |given| (len, given))) {
+        is_beside_a_cow!(CacheString::from(&text[..len]), &text[..len], &text[..given]);
+    }
+}

@@ -1,0 +1,81 @@
+//! The column of arrayvec in the tables of moves of `rust/arraystring/README.md`. The other columns are run by tests/moves.rs there.
+
+use std::marker::PhantomData;
+
+use arrayvec::ArrayString;
+use page::{Table, made, outcome};
+
+#[path = "../../arraystring/tests/inputs/page.rs"]
+mod page;
+
+type Name = ArrayString<4>;
+
+const ARRAYVEC: usize = 0;
+
+/// Whether a type is collected from characters, by the constant that is found first.
+struct Collected<T>(PhantomData<T>);
+
+impl<T: FromIterator<char>> Collected<T> {
+    const IS_THERE: bool = true;
+}
+
+trait Otherwise {
+    const IS_THERE: bool = false;
+}
+
+impl<T> Otherwise for Collected<T> {}
+
+#[test]
+fn what_compiles_in_both_leaves_another_text() {
+    let mut table = Table::below("| Code | arrayvec | heapless | `String` | Here | To have it as there |");
+    let t = ArrayString::<200>::from(&"m".repeat(150)).expect("it fits");
+    let mut s = Name::from("ab").expect("it fits");
+    leaves!(table, ARRAYVEC, s.push_str("cde"), |()| s);
+    leaves!(table, ARRAYVEC, Name::try_from("abcde"), made);
+    assert_eq!((Collected::<String>::IS_THERE, Collected::<Name>::IS_THERE), (true, false));
+    table.row("\"abcde\".chars().collect::<Name>()").says(ARRAYVEC, "none");
+    s = Name::from("ab").expect("it fits");
+    leaves!(table, ARRAYVEC, format!("{s:_>4}"), |printed| printed);
+    leaves!(table, ARRAYVEC, format!("{s:?}"), |printed| printed);
+    leaves!(table, ARRAYVEC, t.len() + t.len(), |sum| sum);
+    let mut long = ArrayString::<1024>::new();
+    while long.try_push('m').is_ok() {}
+    table.row("ArrayString::<1024>").says(ARRAYVEC, &format!("holds {} bytes", long.len()));
+    table.assert_all_met();
+}
+
+/// Runs some code, and asserts whose call the table says that it is.
+macro_rules! is_of {
+    ($table:ident, $whose:expr, $code:expr) => {{
+        $table.row(stringify!($code)).says(0, $whose);
+        $code
+    }};
+}
+
+#[test]
+fn what_does_not_compile_beside_it_compiles_here() {
+    let mut table = Table::below("| Code | Of | Here |");
+    let (mut s, at) = (Name::new(), 1usize);
+    is_of!(table, "all three", s.push('c'));
+    table.row("s.push_str(\"c\").unwrap()").says(0, "heapless");
+    let () = s.push_str("c");
+    s = is_of!(table, "arrayvec", Name::from("ab").unwrap());
+    assert_eq!(is_of!(table, "all three", s.capacity()), 4);
+    assert!(!is_of!(table, "all three", s.len() == at));
+    assert_eq!(is_of!(table, "all three", &s[at..]), "b");
+    is_of!(table, "all three", s.truncate(at));
+    let mut wide = Name::from("é").expect("it fits");
+    assert_eq!(
+        outcome(|| {
+            wide.truncate(at);
+            "cut"
+        }),
+        "panics"
+    );
+    assert!(is_of!(table, "all three", s.remove(0) == 'a'));
+    table.row("s.insert_str(1, \"c\")").says(0, "String");
+    s = Name::from(" ab ").expect("it fits");
+    assert!(is_of!(table, "all three", s.trim() == "ab"));
+    table.row("s.into_bytes()").says(0, "heapless, `String`");
+    table.assert_all_met();
+}
