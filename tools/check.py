@@ -61,12 +61,12 @@ PARTS = [
     (tests, [], {"{} tests of the tools": 140}),
     (trusted.main, [], {"run: {} definitions": 65, "all public contracts: {} definitions": 200}),
     (dead.main, [], {"{} lemmas and laws are cited": 760}),
-    (imported.main, ["--check"], {"{} laws that crates above import": 37}),
+    (imported.main, ["--check"], {"{} laws that crates above import": 41}),
     (equality.main, [], {"{} types have == by a derive": 14}),
-    (quotes.main, [], {"{} blocks are as in the files": 15}),
+    (quotes.main, [], {"{} blocks are as in the files": 37}),
     (calls.main, [], {"{} names stand in two places": 325, "{} public calls": 58, "{} traits": 18}),
     (evidence.main, [], {"wrong bodies try {} functions": 190}),
-    (controls.main, ["--check"], {"{} controls are as they were": 130}),
+    (controls.main, ["--check"], {"{} controls are as they were": 144}),
     (proved.main, ["--check"], {"{} sources of the Rust crate are as they were proved": 240}),
 ]
 

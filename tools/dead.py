@@ -1,5 +1,5 @@
 """Fails at a lemma or law of proofs/ that nothing cites, at an import there that its file does not use, at a law that is passed
-on for nobody, and where LAWS.md of a crate names a law that callers of the crate can't cite.
+on for nobody, and where a page for callers of a crate names a law that they can't cite.
 
 A lemma is cited if one of these reaches it, directly or by other lemmas: an answer, which is what is `pub` in the folder of
 a function, since the check calls it by the name of a goal; what stands in specs/; a file of src/; a page for callers. What a
@@ -67,14 +67,18 @@ class Callers:
 
     def faults(self, tree):
         """The laws that are passed on by their names, though no page names them and nothing imports them from there; and the
-        names with a dash in LAWS.md that are neither laws for callers nor answers."""
+        names with a dash in LAWS.md, and those that begin inline code of another page, that are neither laws for callers nor
+        answers."""
         imported = {it for names in tree.modules.values() for it in names.values() if isinstance(it, tuple)}
         for module, law in self.passed_on:
             if not module.endswith(".Lib") and law not in self.named and (module, law.name) not in imported:
                 yield f"{module} passes on {law.name}, which no page names and nothing imports"
         known = {it.name for it in tree.items if not is_lemma(it)} | {it.name for it in self.laws}
-        for page in self.folder.glob("LAWS.md"):
-            for name in sorted(it for it in names_of(page) - known if re.search(r"\w-\w", it)):
+        for page in sorted(self.folder.glob("*.md")):
+            is_of_laws = page.name == "LAWS.md"
+            named = names_of(page) if is_of_laws else {it.partition(" ")[0] for it in inline_code(read(page))}
+            form = r".*\w-\w.*" if is_of_laws else r"[a-z_]+(-[a-z_]+)+"
+            for name in sorted(it for it in named - known if re.fullmatch(form, it)):
                 yield f"{page.relative_to(tree.root)} names {name}, which is no law for callers"
 
 

@@ -3,7 +3,7 @@
 tools/run quotes            looks at all pages of the repository
 tools/run quotes --write    first writes what commands print
 
-Seven things are compared:
+Nine things are compared:
 - a block after a line that ends in "From `PATH`:". Its lines stand in the file one after the other;
 - a block after a line that ends in "Printed by `tools/run COMMAND`:" is what that prints;
 - a table below a heading with the path of a file of specs/ has in its first column what that file defines;
@@ -12,12 +12,17 @@ Seven things are compared:
 - inline code such as `pop.drops_nothing`, which ends in a word with an underscore, is the name of a wrong body; a `*` stands for
   any text;
 - functions of which a sentence says that they have "goals of this form" have answers;
+- a table of calls, below "The files are in `FOLDER`.", has each public call of the files that it names. The last columns have its
+  error, if it returns one, and its file, and the words of the second stand in its contract;
+- inline code that is a path of the repository, or a module of laws such as `CutLaws`, is there. `NAME` stands for any name, and X;
 - README.md begins as RUST_PAGE does, up to the first section of that, and the program there is the one of FIRST.
 """
 import re
 import subprocess
 
+import calls
 from repository import inline_code, read
+from sources import functions_of
 
 BLOCK = re.compile(r"(?s)From `([^`\n]+)`:\n+```\w+\n(.*?)\n```")
 PRINTED = re.compile(r"(Printed by `(tools/run [^`]+)`:\n+```\w+\n)((?:.*\n)*?)```")
@@ -28,6 +33,9 @@ WHOLE = re.compile(r"(?m)^- `(\w+)`:((?:(?!^- )[\s\S])*?),? which are all that i
 PUBLIC = re.compile(r"(?m)^(?:(?:abbrev|unfoldable) )?pub (?:data |record )?(\S+)")
 WRONG_BODY = re.compile(r"[\w.*]*\.[a-z]+_\w+")
 RUST_PAGE, FIRST = "rust/arraystring/README.md", "rust/arraystring/examples/first.rs"
+CALLS = re.compile(r"The files are in `(\S+)`\.\n\n\|Call\|.*\n\|[-|]*\n((?:\|.*\n)+)")
+PATH = re.compile(r"(?!.*NAME)(?:crates|docs|rust|tools|bench|\.ci)/[\w./-]+")
+LAWS = re.compile(r"(?!X)[A-Z]\w*Laws")
 ANSWERED = re.compile(r"((?:`\w+`,?\s(?:and\s)?)+)have goals of this form")
 
 
@@ -43,8 +51,8 @@ def as_due(root, text):
 
 def faults_of(root, text):
     """The blocks of a page that are not in the files that they quote, the definitions that are not where it says, what lists that
-    are to be whole leave out or name besides, the wrong bodies that it names and that are none, and the functions without the
-    answers that it says they have."""
+    are to be whole leave out or name besides, what is wrong with its tables of calls, the paths, modules and wrong bodies that it
+    names and that are none, and the functions without the answers that it says they have."""
     for source, block in BLOCK.findall(text):
         if not (root / source).is_file() or f"\n{block}\n" not in "\n" + read(root / source):
             yield f"{source} does not have these lines: {block.splitlines()[0]} .."
@@ -56,12 +64,47 @@ def faults_of(root, text):
         there = {name for it in root.glob(f"crates/*/specs/{module}.antt") for name in PUBLIC.findall(read(it))}
         for name in sorted(there ^ set(re.findall(r"`([^`\s]+)`", listed))):
             yield f"the list of {module} and the module differ in {name}"
-    for name in filter(WRONG_BODY.fullmatch, inline_code(text)):
+    yield from faults_of_calls(root, text)
+    code = inline_code(text)
+    yield from (f"there is no {it}" for it in filter(PATH.fullmatch, code) if not (root / it).exists())
+    yield from (f"no module is named {it}" for it in filter(LAWS.fullmatch, code) if not any(root.glob(f"crates/*/proofs/{it}.antt")))
+    for name in filter(WRONG_BODY.fullmatch, code):
         if not any(root.glob(f"crates/*/must-fail/{name}.edit")):
             yield f"no wrong body is named {name}"
     for name in re.findall(r"\w+(?=`)", " ".join(ANSWERED.findall(text))):
         if not any(root.glob(f"crates/*/proofs/**/{name}/Answers.antt")):
             yield f"{name} has no answers"
+
+
+def faults_of_row(row, file):
+    """What is wrong with a row of a table of calls, and which calls it has."""
+    named, makes, error = row
+    functions = {it.name: it for it in functions_of(read(file), False, frozenset())} if file.exists() else {}
+    names = re.findall(r"`(\w+)\(", named)
+    faults = [f"{file.name} has no call {it}" for it in names if it not in functions]
+    contracts = [functions[it].header for it in names if it in functions]
+    for header in contracts:
+        returned = re.search(r"-> Result<.*, (\w+)>$", header, re.M)
+        if error != (f"`{returned[1]}`" if returned else ""):
+            faults.append(f"the error of {named} is not {error or 'none'}")
+    words = {word for code in re.findall(r"`([^`]*)`", makes) for word in re.findall(r"[^\W\d]\w+", code)}
+    faults += [f"the contract of {named} has no {it}" for it in sorted(words - set(re.findall(r"\w+", "\n".join(contracts))))]
+    return faults, names
+
+
+def faults_of_calls(root, text):
+    """What is wrong with the tables of calls of a page, and which calls of their files they leave out."""
+    for folder, rows in CALLS.findall(text):
+        listed = {}
+        for row in rows.splitlines():
+            *cells, file = row.strip("|").split("|")
+            file = root / folder / file.strip("`")
+            faults, names = faults_of_row(cells, file)
+            listed.setdefault(file, set()).update(names)
+            yield from faults
+        for file, names in listed.items():
+            there = {it for it in calls.calls_of(read(file)) if not it.endswith("_counted")} if file.exists() else set()
+            yield from (f"the table of calls lacks {it} of {file.name}" for it in sorted(there - names))
 
 
 def faults_of_beginnings(root):

@@ -22,9 +22,9 @@ class Check(TreeTest):
 
     def test_each_part_is_asked_and_enough_to_fail(self):
         named = [f"{it.__module__}.{it.__name__} {' '.join(words)}".strip() for it, words, _ in check.PARTS]
-        due = {"check.tests", "trusted.main", "dead.main", "quotes.main", "calls.main", "evidence.main", "controls.main --check",
-               "proved.main --check"}
-        self.assertLessEqual(due, {*named})
+        due = ["check.tests", "trusted.main", "dead.main", "imported.main --check", "equality.main", "quotes.main", "calls.main",
+               "evidence.main", "controls.main --check", "proved.main --check"]
+        self.assertEqual(named, due)
         for failing, told in ((None, False), (0, True), (1, True)):
             self.parts(failing)
             self.assertEqual(self.told(check)[0], told)

@@ -181,3 +181,10 @@ class Dead(TreeTest):
             self.assert_fails("crates/upper/LAWS.md names doubling-done, which is no law for callers")
         self.passed_on("Lib.antt", "")
         self.assert_fails("crates/upper/LAWS.md names doubling-made, which is no law for callers")
+
+    def test_another_page_begins_inline_code_with_no_law_that_callers_cannot_cite(self):
+        self.passed_on("Lib.antt", "pub use Rattle.numbers.proofs.RowLaws\n")
+        self.write("crates/upper/CALLING.md", "`doubling-made n`, `c.in_err-call`, `..-made` and `kit-13`\n")
+        self.assert_passes()
+        self.write("crates/upper/CALLING.md", "`doubling-done n`\n")
+        self.assert_fails("crates/upper/CALLING.md names doubling-done, which is no law for callers")

@@ -24,11 +24,47 @@ fn greet() {
 
 `greet` and `hello` have goals of this form.
 
+## The calls
+
+The files are in `crates/base/src`.
+
+|Call|Its row, or what it makes|Error|File
+|---|---|---|---|
+|`greet(name)`, `meet(name)`|`greeted n`|`Shy`|`words.rt`
+|`part()`|`left n`||`words.rt`
+
+`WordLaws` and `XLaws` are in `crates/base/proofs` of `crates/NAME`.
+
 Printed by `tools/run trusted`:
 
 ```text
 3 definitions
 ```
+"""
+CALLS = """\
+pub fn greet(name: &str) -> Result<Drain<3>, Shy>
+    ensures { greeted result }
+{
+    greet_counted(name)
+}
+
+pub const fn meet(
+    name: &str,
+) -> Result<(), Shy>
+    ensures { greeted result }
+{
+    Ok(())
+}
+
+pub fn part() -> bool
+    ensures { left result }
+{
+    own()
+}
+
+pub fn greet_counted(name: &str) {}
+
+fn own() {}
 """
 SOURCE = "fn greet() {\n    hello()\n}\n\nfn hello() {\n    1\n}\n"
 WORDS = """\
@@ -45,7 +81,7 @@ pub record Word : Type 0 where
 abbrev hidden : ℕ
 hidden = 4
 """
-GREET, FILE, END = "src/greet.rt", "crates/base/specs/Words.antt", r"\Z"
+GREET, FILE, CALLED, END = "src/greet.rt", "crates/base/specs/Words.antt", "crates/base/src/words.rt", r"\Z"
 NOT_THERE = "page.md: src/greet.rt does not have these lines: {} ..\n".format
 
 
@@ -54,6 +90,8 @@ class Quotes(TreeTest):
         "page.md": PAGE,
         GREET: SOURCE,
         FILE: WORDS,
+        CALLED: CALLS,
+        "crates/base/proofs/WordLaws.antt": "",
         "crates/base/must-fail/IsShort.is_never_so.edit": "",
         "crates/base/proofs/greet/Answers.antt": "",
         "crates/base/proofs/deep/hello/Answers.antt": "",
@@ -124,6 +162,33 @@ class Quotes(TreeTest):
     def test_functions_with_goals_of_a_form_have_answers(self):
         self.assert_finds(quotes, *((f"page.md: {it} has no answers\n", (f"crates/base/proofs/{folder}/Answers.antt", None))
                                     for it, folder in (("greet", "greet"), ("hello", "deep/hello"))))
+
+    def test_a_table_of_calls_has_those_of_its_files_as_they_are(self):
+        row = r"^\|`greet\(name\)`, `meet\(name\)`"
+        both = "`greet(name)`, `meet(name)`"
+        self.assert_finds(
+            quotes,
+            ("page.md: words.rt has no call greets\n", ("page.md", row, "|`greets(name)`, `greet(name)`, `meet(name)`")),
+            ("page.md: the table of calls lacks meet of words.rt\n", ("page.md", row, "|`greet(name)`")),
+            ("page.md: the table of calls lacks more of words.rt\n", (CALLED, END, "\npub fn more() {}\n")),
+            ("page.md: other.rt has no call part\n", ("page.md", r"\|`words.rt`\n\n", "|`other.rt`\n\n")),
+            (f"page.md: the error of {both} is not `Bold`\n", ("page.md", "`Shy`", "`Bold`")),
+            (f"page.md: the error of {both} is not none\n", ("page.md", r"\|`Shy`\|", "||")),
+            ("page.md: the error of `part()` is not `Shy`\n", ("page.md", r"`left n`\|\|", "`left n`|`Shy`|")),
+            (f"page.md: the contract of {both} has no met\n", ("page.md", "`greeted n`", "`greeted n` and `met n`")),
+            ("page.md: the contract of `part()` has no left\n", (CALLED, "ensures { left result }", "ensures { right result }")),
+            ("", (CALLED, END, "\nfn more() {}\n")),
+        )
+
+    def test_a_path_and_a_module_of_laws_that_a_page_names_are_there(self):
+        self.assert_finds(
+            quotes,
+            ("page.md: there is no crates/base/laws\n", ("page.md", "`crates/base/proofs`", "`crates/base/laws`")),
+            ("page.md: there is no tools/go.py\n", ("page.md", END, "\n`tools/go.py`\n")),
+            ("page.md: no module is named SignLaws\n", ("page.md", "`WordLaws`", "`SignLaws`")),
+            ("page.md: no module is named WordLaws\n", ("crates/base/proofs/WordLaws.antt", None)),
+            ("", ("page.md", END, "\n`docs` and `crates of words`\n")),
+        )
 
     def test_a_tree_without_a_quote_is_told(self):
         self.write("page.md", "nothing\n")

@@ -17,8 +17,9 @@ class Door(unittest.TestCase):
             status, said = self.called(*words)
             self.assertEqual(status, 2)
             commands = re.search(r"The commands are (.*)\.", said)[1].split(", ")
-            wanted = {"check", "trusted", "dead", "quotes", "calls", "evidence", "controls", "proved", "cost"}
-            self.assertLessEqual(wanted, {*commands})
+            wanted = {"check", "trusted", "dead", "imported", "equality", "quotes", "calls", "evidence", "controls", "proved",
+                      "cost", "refused"}
+            self.assertEqual({*commands}, wanted)
 
     def test_each_command_says_what_it_does(self):
         for command in re.search(r"The commands are (.*)\.", self.called()[1])[1].split(", "):

@@ -128,8 +128,9 @@ class Gate(ScriptTest):
         """`rt ci` does this, and leaves a program."""
         self.stand_in("bin/rt", program, *lines)
 
-    def refuses(self, count):
-        self.stand_in("tools/run", f"[ $1 != refused ] || echo 'refused: {count}'")
+    def refuses(self, count, status=0):
+        """`tools/run refused` says this, and ends so."""
+        self.stand_in("tools/run", f"[ $1 != refused ] || {{ echo 'refused: {count}'; exit {status}; }}")
 
     def checks(self, skipped):
         self.stand_in("rust/check", f"echo 'rust/check: 12 passed, {skipped}'")
@@ -160,6 +161,8 @@ class Gate(ScriptTest):
                       "144 growths of 44 calls, in 12 builds, 0 differ", "144 growths of 44 calls, in 13 builds, 1 differ"):
             self.refuses(count)
             self.assert_refused("growths were refused, and 144 are due")
+        self.refuses("144 growths of 44 calls, in 13 builds, 0 differ", status=1)
+        self.assert_refused("")
 
     def test_where_there_is_no_cargo_it_says_what_was_not_checked(self):
         (self.root / "bin/cargo").unlink()
@@ -178,7 +181,7 @@ class Gate(ScriptTest):
 
 
 class RustCheck(ScriptTest):
-    SCRIPT, PASSED, NOTED = "rust/check", "rust/check: 14 passed, 0 skipped\n", "cmp grep rm find"
+    SCRIPT, PASSED, NOTED = "rust/check", "rust/check: 16 passed, 0 skipped\n", "cmp grep rm find"
     PROGRAMS = "bash sh dirname cat wc sed mktemp mkdir paste awk sort cut uniq diff xargs"
     # (what `cargo doc` makes, the number that `cargo pkgid` tells, and what the tests say)
     CARGO = """\
@@ -188,15 +191,25 @@ case $1 in
     run) case "$*" in *'--example first') cat ../printed ;; esac ;;
     test)
         mkdir -p "$CARGO_TARGET_DIR"
-        case "$*" in *erase*) cat ../erased ;; *serde*) cat ../served ;; *) cat ../tested ;; esac ;;
+        case "$*" in
+            *erase*) cat ../erased ;;
+            *serde*) cat ../served ;;
+            *arrayvec*) cat ../moved ;;
+            *) cat ../tested ;;
+        esac ;;
 esac"""
     CONSTRUCTORS = 'id="method.new" id="method.try_from_str" id="method.len"'
     TEST, RUNNING = "#[test]\nfn {}() {{\n    fn other() {{}}\n}}\n", "     Running {} (path)\n\nrunning tests\n"
     FILES = {
+        "CHANGELOG.md": "changes",
+        "rust/arraystring/CHANGELOG.md": "changes",
         "LICENSE": "a license",
         "rust/arraystring/LICENSE": "a license",
+        "rust/arraystring_serde/LICENSE": "a license",
         "rust/arraystring_serde/Cargo.lock": "of crates.io",
+        "rust/moves_from_arrayvec/Cargo.lock": "of crates.io",
         "rust/compare_tests.rs": TEST.format("sees"),
+        "rust/meaning_tests.rs": TEST.format("sees"),
         "rust/erase/src/main.rs": f"mod tests {{\n{TEST.format('erases')}}}\n",
         "rust/erase/tests/main.rs": TEST.format("runs"),
         "rust/arraystring/examples/first.rs": "    one(); // prints: a text\n    two(); // a remark\n    three(); // prints: 7\n",
@@ -206,26 +219,32 @@ esac"""
         "rust/arraystring/tests/every_state/edits.rs": TEST.format("edits") + TEST.format("looks"),
         "rust/arraystring_serde/src/lib.rs": "",
         "rust/arraystring_serde/tests/json.rs": TEST.format("reads"),
+        "rust/moves_from_arrayvec/src/lib.rs": "",
+        "rust/moves_from_arrayvec/tests/table.rs": TEST.format("leaves"),
         "erased": RUNNING.format("unittests src/main.rs") + "test tests::erases ... ok\n\n"
         + RUNNING.format("tests/main.rs") + "test runs ... ok\ntest result: ok. 1 passed\n",
         "tested": RUNNING.format("tests/model.rs") + "test plays - should panic ... ok\n\n"
         + RUNNING.format("tests/every_state/main.rs") + "test edits::edits ... ok\ntest edits::looks ... ok\n\n"
         + "   Doc-tests arraystring\n\ntest src/lib.rs - ArrayString::new (line 3) ... ok\ntest result: ok. 1 passed\n",
         "served": RUNNING.format("tests/json.rs") + "test reads ... ok\n",
+        "moved": RUNNING.format("tests/table.rs") + "test leaves ... ok\n",
     }
-    BUILDS = ("", " --release", " --release --features checked,alloc", " --features alloc --test traits", " in its package")
+    BUILDS = ("", " --release", " --release --features checked,std", " --features alloc --test traits", " in its package")
 
     def setUp(self):
         super().setUp()
         for path in ("erase/run", "bench/time", "no_panic/links"):
             self.stand_in(f"rust/{path}")
         self.stand_in("bin/rustfmt")
+        self.stand_in("bin/tar")
         # (what rustc makes is a stand-in, too)
         self.stand_in("compared", "echo 'test tests::sees ... ok'")
         self.stand_in("bin/rustc", "PATH=/usr/bin:/bin", "for word; do made=$word; done", 'cp ../compared "$made"')
         self.has_reference(self.CONSTRUCTORS)
-        self.has_serde(True)
-        counts = ["compare: compare_tests 1", "erase: main 1", "erase: src 1", "arraystring_serde: json 1"]
+        self.has_packages()
+        counts = ["compare: compare_tests 1", "meaning: meaning_tests 1"]
+        counts += ["erase: main 1", "erase: src 1", "moves_from_arrayvec: table 1"]
+        counts += [f"arraystring_serde{build}: json 1" for build in ("", " in its package")]
         for build in self.BUILDS:
             counts += [f"arraystring{build}: {it}" for it in ("every_state 2", "examples 1", "model 1")]
         self.write("rust/tests.txt", "".join(f"{it}\n" for it in sorted(counts)))
@@ -233,30 +252,35 @@ esac"""
     def has_reference(self, page):
         self.stand_in("bin/cargo", f"PATH=/usr/bin:/bin\n{self.CARGO.format(page)}")
 
-    def has_serde(self, is_there):
-        self.write_program("bin/ls", f"#!/bin/sh\nexit {0 if is_there else 2}\n")
+    def has_packages(self, but="none"):
+        """Debian's packages are there, but for one."""
+        self.write_program("bin/ls", f"#!/bin/sh\ncase $2 in *{but}*) exit 2 ;; esac\n")
 
     def test_calls(self):
         self.assert_calls(but=["cargo fmt --version", "cargo clippy --version"])
-        self.assertFalse((self.root / "rust/arraystring_serde/Cargo.lock").exists())
+        for crate in ("arraystring_serde", "moves_from_arrayvec"):
+            self.assertFalse((self.root / f"rust/{crate}/Cargo.lock").exists())
 
     def test_it_says_what_was_not_there(self):
         calls = [it for it in due(self.SCRIPT) if is_call(it)]
         for name, tool in (("fmt", "rustfmt"), ("clippy", "clippy")):
             said = self.called(calls.index(f"cargo {name} --version") + 1)[1]
             self.assertIn(f"rust/check: {tool} is not there", said)
-            self.assertTrue(said.endswith(f"rust/check: 13 passed, 1 skipped: {tool}\n"), said)
-        self.has_serde(False)
-        failed, said, fewer = self.called()
-        self.assertFalse(failed)
-        self.assertIn("librust-serde-dev and librust-serde-json-dev are not there", said)
-        self.assertTrue(said.endswith("rust/check: 13 passed, 1 skipped: serde\n"), said)
-        # (the form of what is written by hand is looked at without it)
-        without = [it for it in calls if "arraystring_serde" not in it or "cargo fmt" in it or it.startswith("rm ")]
-        without = [it.replace("^none:", "^arraystring_serde:") for it in without]
-        self.assertEqual((len(without), [it for it in fewer if is_call(it)]), (len(calls) - 5, without))
-        said = self.called(calls.index("cargo fmt --version") + 1)[1]
-        self.assertTrue(said.endswith("rust/check: 12 passed, 2 skipped: rustfmt serde\n"), said)
+            self.assertTrue(said.endswith(f"rust/check: 15 passed, 1 skipped: {tool}\n"), said)
+        for name, crate, packages, not_tested, count in (
+                ("serde", "arraystring_serde", "librust-serde-dev and librust-serde-json-dev are", "arraystring_serde.*", 9),
+                ("arrayvec", "moves_from_arrayvec", "librust-arrayvec-dev is", "moves_from_arrayvec", 3)):
+            self.has_packages(but=name)
+            failed, said, fewer = self.called()
+            self.assertFalse(failed)
+            self.assertIn(f"rust/check: {packages} not there", said)
+            self.assertTrue(said.endswith(f"rust/check: 15 passed, 1 skipped: {name}\n"), said)
+            # (the form of what is written by hand is looked at without it)
+            without = [it for it in calls if crate not in it or it.startswith(("cargo fmt", "cmp ", "rm -f "))]
+            without = [it.replace("^(none):", f"^(none|{not_tested}):") for it in without]
+            self.assertEqual((len(without), [it for it in fewer if is_call(it)]), (len(calls) - count, without))
+            said = self.called(calls.index("cargo fmt --version") + 1)[1]
+            self.assertTrue(said.endswith(f"rust/check: 14 passed, 2 skipped: rustfmt {name}\n"), said)
 
     def test_the_first_program_prints_what_its_comments_say(self):
         for printed in ("", "a text\n", "a text\n8\n", "a text\n7\nmore\n"):
@@ -274,7 +298,9 @@ esac"""
                                (("rust/erase/src/new.rs", self.TEST.format("new")), "< erase:src:new\n"),
                                (("erased", "tests::erases", "tests::other"), "> erase:src:other\n"),
                                (("compared", "tests::sees", "tests::other"), "< compare:compare_tests:sees\n"),
-                               (("served", "test reads", "test writes"), "< arraystring_serde:json:reads\n")):
+                               (("compared", "tests::sees", "tests::other"), "< meaning:meaning_tests:sees\n"),
+                               (("served", "test reads", "test writes"), "< arraystring_serde:json:reads\n"),
+                               (("moved", "test leaves", "test other"), "< moves_from_arrayvec:table:leaves\n")):
             with self.subTest(change), self.changed(change):
                 self.assertIn("rust/check: tests of the sources (<)", self.assert_refused(wanted))
 
@@ -292,7 +318,8 @@ esac"""
         with self.changed(("bin/cargo", r"\*\) cat \.\./tested", f"*) {only_one} ../tested ;; esac")):
             self.assertEqual(re.findall("< (.*)", self.assert_refused("(<) is not how many")),
                              [f"arraystring{it}: model 1" for it in (" --features alloc --test traits", " in its package", "")])
-        for line in ("erase: src", "arraystring: examples", "arraystring --release: every_state", "arraystring_serde: json"):
+        for line in ("erase: src", "arraystring: examples", "arraystring --release: every_state", "arraystring_serde: json",
+                     "arraystring_serde in its package: json", "moves_from_arrayvec: table"):
             with self.changed(("rust/tests.txt", rf"^{line} \d", f"{line} 5")):
                 self.assert_refused(f"< {line} 5\n")
 
@@ -309,9 +336,10 @@ esac"""
         for words in (["--unprove"], ["--unproved", "--unproved"], [""]):
             self.assertEqual(self.called(words=words), (True, "rust/check: the argument is --unproved, or none\n", []))
 
-    def test_another_license_or_reference_is_refused(self):
-        with self.changed(("rust/arraystring/LICENSE", "another")):
-            self.assert_refused("differ")
+    def test_another_license_changelog_or_reference_is_refused(self):
+        for page in ("arraystring/CHANGELOG.md", "arraystring/LICENSE", "arraystring_serde/LICENSE"):
+            with self.changed((f"rust/{page}", "another")):
+                self.assert_refused(f"../{page.split('/')[1]} {page} differ")
         for page, wanted in ((f"{self.CONSTRUCTORS} a ghost", "a word of the proofs is in the reference"),
                              (f"{self.CONSTRUCTORS} precondition of its", "a word of the proofs is in the reference"),
                              (f"{self.CONSTRUCTORS} Model", "a word of the proofs is in the reference"),

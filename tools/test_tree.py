@@ -56,6 +56,7 @@ class Tree(PlantedTest):
             ("cut-again is cited by nothing", (CUTS, END, LEMMA.format("cut-again", "refl"))),
             ("names cut-more, which is no law for callers", (LAWS, "`cut-fits", "`cut-more")),
             ("names front-middle, which is no law", (LAWS, "with `start t`, ", r"\g<0>`middle t`, ")),
+            ("CALLING.md names split-cut, which is no law", (f"{STRING}/CALLING.md", "`split-made i m`", "`split-cut i m`")),
             ("passes on inside-so, which no page names and nothing imports", passed),
             ("Answers.antt imports unused and does not use it",
              (f"{ANSWERS}/remove_counted/Answers.antt", r"\A", "use Rattle.arraystring_core.proofs.GapLemmas.{unused}\n")),
@@ -72,6 +73,11 @@ class Tree(PlantedTest):
             ("pop has no answers", ("CONTRIBUTING.md", "`pop_counted` have goals", "`pop` have goals")),
             ("no wrong body is named pop.drops_all", ("docs/review.md", END, "\nSee `pop.drops_all`.\n")),
             ("the list of Text and the module differ in cap", (f"{STRING}/CALLING.md", "`cap`, ", "")),
+            ("the table of calls lacks popped of remove.rt", (REMOVE, r"pub fn pop\(", "pub fn popped(")),
+            ("the error of `truncate(i)` is not `Utf8`", (REMOVE, "Result<\\(\\), Utf8>", "Result<(), Error>")),
+            ("the contract of `split_off(i)` has no split", (REMOVE, r"Makes \(split ", "Makes (parted ")),
+            ("no module is named CuttingLaws", (LAWS, "`CutLaws`", "`CuttingLaws`")),
+            ("there is no crates/bounded_records_usage", ("crates/bounded_records/CALLING.md", "records_uses`", "records_usage`")),
         )
 
     def test_calls(self):

@@ -122,6 +122,7 @@ class Trusted(TreeTest):
         with self.changed(("crates/base/specs/Rows.antt", r" \(short : IsShort t\)", ""), (RUN, source)):
             self.assertEqual(self.reached(), ["rest_of"])
             for change in ((r"ensures \{", "ensures limit {"), (r"requires", "requires limit"), ("&Text", "&Text, limit: u8"),
+                           (r"(?s)&Text(.*now) \}", r"&Text, limit: u8\1 limit }"),
                            (r"text\.now \}", "text.now.limit }"), (r"text\.now \}", "record { limit = 0 } }"),
                            (r"text\.now \}", "record { other = 0; limit = 0 } }"), (r"now \}", "now (let limit = 0 in 0) }"),
                            (r"now \}", 'now } // limit'), (r"now \}", 'now "limit" }')):
@@ -159,7 +160,7 @@ class Trusted(TreeTest):
             self.assertFalse(self.told(trusted)[0])
 
     def test_no_definition_calls_a_tactic(self):
-        tactics = ("rw", "simp", "search", "assumption", "cc", "omega", "grind", "hlevel")
+        tactics = ("rw", "simp", "search", "assumption", "ground", "cc", "omega", "grind", "hlevel")
         self.assert_finds(trusted, *((f"{FILE}:9: limit calls a tactic: {it}\n", (FILE, "^limit = 3", f"limit = {it} rules"))
                                      for it in tactics))
         several = (FILE, "^limit = 3", "limit = first_of (omega arith, cc)")

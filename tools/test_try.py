@@ -15,7 +15,8 @@ trap '' PIPE
 # finish STATUS ERRORS OUTPUT
 finish() {{
     [ -z "$3" ] || {{ echo "$3"; }} 2> /dev/null
-    [ -z "$2" ] || echo "$2" >&2
+    # (a device that takes errors is none of those that fail)
+    if [ -n "$2" ] && echo "$2" >&2 && [ ! -f /dev/stderr ]; then exit 9; fi
     exit "$1"
 }}
 {wrong}
@@ -50,7 +51,8 @@ text AABB
 final AABB'
 fi
 [ "$3" = 0 ] || answer 2 "bad line $3"
-[ "$output" = 'a file' ] || answer 4 'write failed'
+# (a device that takes all is none of those that fail)
+[ "$output" = 'a file' ] || {{ head -c 1000000 /dev/zero 2> /dev/null && answer 0; answer 4 'write failed'; }}
 [ "$4" = capacity ] || capacity=0
 answer 0 '' "$(yes "number $capacity" 2> /dev/null | head -n "$2"; echo 'final ')"
 """
@@ -117,6 +119,12 @@ class Try(TreeTest):
         # (not where errors go into one of three devices)
         found = self.differing('answer() { finish "$1" "$2x" "$3"; }')
         self.assertEqual(len(found), CASES - 3 * 3 * (2 + 2 * 4))
+
+    def test_one_that_says_nothing_is_refused_wherever_something_is_due(self):
+        # (nothing can be read where errors go into one of three devices, and there is no other output: of a folder, of another
+        # word, and behind four sizes with a bad line)
+        found = self.differing('answer() { finish "$1"; }')
+        self.assertEqual(len(found), CASES - 3 * 3 * (2 + 4))
 
     def test_one_that_is_wrong_at_one_word_alone_is_refused_there(self):
         """And nowhere else: in each other case it is right."""

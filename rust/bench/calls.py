@@ -25,14 +25,18 @@ RANGES = {
 # depends on the level.
 LIKE_STR = "it panics as the index of `str` does"
 BY_CORE = "`core` prints it, by code with panics"
+NO_MEMORY = "std panics where memory is refused"
+STRINGS = ("ArrayString<N>", "CacheString")
+OWNED = ("String", "Box<str>", "Cow<'a, str>")
 PANICS = {
     "ArrayString::slice": LIKE_STR,
     "ArrayString::make_ascii_uppercase_in": LIKE_STR,
     "ArrayString::make_ascii_lowercase_in": LIKE_STR,
     "utils::look": "it panics as the index of a slice does",
-    **{f"Index<{ends}> for ArrayString<N>": LIKE_STR for ends in RANGES},
-    "From<ArrayString<N>> for String": "std panics where memory is refused",
-    "From<CacheString> for String": "std panics where memory is refused",
+    **{f"{index}<{ends}> for ArrayString<N>": LIKE_STR for index in ("Index", "IndexMut") for ends in RANGES},
+    **{f"From<{name}> for {text}": NO_MEMORY for name in STRINGS for text in (*OWNED, "Vec<u8>")},
+    **{f"FromIterator<{name}> for {text}": NO_MEMORY for name in STRINGS for text in OWNED},
+    **{f"Extend<{name}> for String": NO_MEMORY for name in STRINGS},
     **{f"Debug for {name}": BY_CORE for name in ["ArrayString<N>", "CacheString", "Drain<N>", "Steps", "Unit16", "Units<'a>"]},
 }
 
@@ -43,9 +47,11 @@ TOGETHER = {"ArrayString::remove behind `push_str`": "v.s.push_str(v.text); v.s.
 BY_TRAITS = {
     "Add<&str> for S": "v.s + v.text",
     "AddAssign<&str> for S": "v.s += v.text",
+    "AsMut<str> for S": "AsMut::<str>::as_mut(&mut v.s).len()",
     "AsRef<[u8]> for S": "AsRef::<[u8]>::as_ref(&v.s).len()",
     "AsRef<str> for S": "AsRef::<str>::as_ref(&v.s).len()",
     "Borrow<str> for S": "Borrow::<str>::borrow(&v.s).len()",
+    "BorrowMut<str> for S": "BorrowMut::<str>::borrow_mut(&mut v.s).len()",
     "Clone for S": "v.s.clone()",
     "Debug for S": 'write!(Out(0), "{:?}", v.s)',
     "Default for S": "S::default()",
@@ -53,18 +59,34 @@ BY_TRAITS = {
     "Display for S": 'write!(Out(0), "{}", v.s)',
     "Extend<&char> for S": "v.s.extend(&[v.ch, v.ch])",
     "Extend<&str> for S": "v.s.extend([v.text, v.text])",
+    "Extend<Box<str>> for S": "v.s.extend(v.boxed.take())",
+    "Extend<Cow<'a, str>> for S": "v.s.extend(v.cow.take())",
+    "Extend<S> for String": "v.string.as_mut().map(|string| string.extend([v.s]))",
     "Extend<String> for S": "v.s.extend(v.string.take())",
     "Extend<char> for S": "v.s.extend(v.text.chars())",
+    "From<&S> for Cow<'a, str>": "Cow::from(&v.s).len()",
     "From<&str> for S": "S::from(v.text)",
+    "From<S> for Box<str>": "Box::<str>::from(v.s)",
+    "From<S> for Cow<'a, str>": "Cow::from(v.s)",
+    "From<S> for String": "String::from(v.s)",
+    "From<S> for Vec<u8>": "Vec::from(v.s)",
+    "From<char> for S": "S::from(v.ch)",
     "FromIterator<&char> for S": "[v.ch, v.ch].iter().collect::<S>()",
     "FromIterator<&str> for S": "[v.text, v.text].into_iter().collect::<S>()",
+    "FromIterator<Box<str>> for S": "v.boxed.take().into_iter().collect::<S>()",
+    "FromIterator<Cow<'a, str>> for S": "v.cow.take().into_iter().collect::<S>()",
+    "FromIterator<S> for Box<str>": "[v.s, v.t].into_iter().collect::<Box<str>>()",
+    "FromIterator<S> for Cow<'a, str>": "[v.s, v.t].into_iter().collect::<Cow<str>>()",
+    "FromIterator<S> for String": "[v.s, v.t].into_iter().collect::<String>()",
     "FromIterator<String> for S": "v.string.take().into_iter().collect::<S>()",
     "FromIterator<char> for S": "v.text.chars().collect::<S>()",
     "FromStr for S": "v.text.parse::<S>()",
     "Hash for S": "v.s.hash(&mut Sum(0))",
     "Ord for S": "v.s.cmp(&v.t)",
     "PartialEq<&str> for S": "v.s == v.text",
+    "PartialEq<Cow<'a, str>> for S": "v.cow.as_ref().is_some_and(|cow| v.s == *cow)",
     "PartialEq<S> for &str": "v.text == v.s",
+    "PartialEq<S> for Cow<'a, str>": "v.cow.as_ref().is_some_and(|cow| *cow == v.s)",
     "PartialEq<S> for String": "v.string.as_ref().is_some_and(|string| *string == v.s)",
     "PartialEq<S> for str": "*v.text == v.s",
     "PartialEq<String> for S": "v.string.as_ref().is_some_and(|string| v.s == *string)",
@@ -78,14 +100,15 @@ BY_TRAITS = {
 # The calls by their arguments: those that make a string of both types, and those of an `ArrayString` alone.
 MADE = {
     "": "new capacity",
-    "v.text": "try_from_str from_str_truncate",
+    "v.text": "try_from_str from_str_truncate const_try_from_str",
+    'format_args!("{}-{}", v.text, v.ch)': "try_from_format",
     "[v.text, v.text]": "try_from_iterator from_iterator",
     "v.text.chars()": "try_from_chars from_chars",
     "v.bytes": "try_from_utf8 from_utf8",
     "v.units": "try_from_utf16 from_utf16 from_utf16_lossy",
 }
 EDITED = {
-    "": "len is_empty as_str as_bytes remaining_capacity is_full pop clear trim trim_spaces make_ascii_uppercase make_ascii_lowercase",
+    "": "len is_empty as_str as_mut_str as_bytes remaining_capacity is_full pop clear trim trim_spaces make_ascii_uppercase make_ascii_lowercase",
     "v.ch": "try_push",
     "v.text": "try_push_str push_str",
     'format_args!("{}-{}", v.text, v.ch)': "try_write",
@@ -126,10 +149,11 @@ BY_ERROR = {
 OTHERS = {
     "arraystring!": 'S::clone(&arraystring::arraystring!("a"))',
     "Index<RangeFull> for ArrayString<N>": "v.s[..].len()",
-    "From<ArrayString<N>> for String": "String::from(v.s)",
-    "From<CacheString> for String": "String::from(v.c)",
+    "IndexMut<RangeFull> for ArrayString<N>": "v.s[..].make_ascii_uppercase()",
     "From<ArrayString<63>> for CacheString": "CacheString::from(v.c.0)",
+    "DerefMut for ArrayString<N>": "v.s.deref_mut().make_ascii_uppercase()",
     "DerefMut for CacheString": "v.c.deref_mut().clear()",
+    "From<Error> for Error": "Error::from(core::fmt::Error)",
     "From<OutOfBounds> for Error": "Error::from(OutOfBounds)",
     "From<Utf8> for Error": "Error::from(Utf8)",
     "From<Utf16> for Error": "Error::from(Utf16)",
@@ -166,6 +190,7 @@ OTHERS = {
     "Clone for Steps": "v.steps.clone()",
     "Debug for Steps": 'write!(Out(0), "{:?}", v.steps)',
     "Default for Steps": "Steps::default()",
+    "PartialEq for Steps": "v.steps == Steps::new()",
 }
 def for_cache(expression):
     """The expression for a `CacheString`."""
@@ -176,7 +201,10 @@ def for_cache(expression):
 
 def expressions():
     """The call of each name that the reference may show."""
-    found = {**OTHERS, **TOGETHER, **{f"Index<{ends}> for ArrayString<N>": f"v.s[{given}].len()" for ends, given in RANGES.items()}}
+    found = {**OTHERS, **TOGETHER}
+    for ends, given in RANGES.items():
+        found[f"Index<{ends}> for ArrayString<N>"] = f"v.s[{given}].len()"
+        found[f"IndexMut<{ends}> for ArrayString<N>"] = f"v.s[{given}].make_ascii_uppercase()"
     for name, call in BY_TRAITS.items():
         found[re.sub(r"\bS\b", "ArrayString<N>", name)] = call
         found[re.sub(r"\bS\b", "CacheString", name)] = for_cache(call)
@@ -207,7 +235,7 @@ def shown(reference):
             head = re.sub(r"<[^>]*>", "", inside).split("fn ")[0]
             if kind in ("struct", "enum") and what == "method" and "unsafe" not in head:
                 names.add(f"{item}::{name.removeprefix('method.')}")
-            trait, _, of = urllib.parse.unquote(name).removeprefix("impl-").partition("-for-")
+            trait, _, of = urllib.parse.unquote_plus(name).removeprefix("impl-").partition("-for-")
             if what == "impl" and of and of not in OF_EACH and trait not in UNCALLED:
                 names.add(f"{trait} for {of}")
     return names
@@ -219,13 +247,16 @@ PROGRAM = """\
 #![allow(unused, clippy::all)]
 extern crate alloc;
 
+use alloc::borrow::Cow;
+use alloc::boxed::Box;
 use alloc::string::String;
+use alloc::vec::Vec;
 use arraystring::error::{OutOfBounds, Utf8, Utf16};
 use arraystring::utf16::{Unit16, Units};
 use arraystring::utils::{self, Steps};
 use arraystring::{ArrayString, CacheString, Drain, Error};
 use core::alloc::{GlobalAlloc, Layout};
-use core::borrow::Borrow;
+use core::borrow::{Borrow, BorrowMut};
 use core::fmt::Write;
 use core::hash::{Hash, Hasher};
 use core::hint::black_box;
@@ -295,6 +326,8 @@ struct Values<'a> {
     drain: Drain<23>,
     other: Drain<23>,
     string: Option<String>,
+    boxed: Option<Box<str>>,
+    cow: Option<Cow<'a, str>>,
     text: &'a str,
     bytes: &'a [u8],
     units: &'a [u16],
@@ -323,6 +356,8 @@ extern "C" fn main() -> i32 {
         drain: Drain::default(),
         other: Drain::default(),
         string: None,
+        boxed: None,
+        cow: None,
         text: "a",
         bytes: b"a",
         units: &[0x61],

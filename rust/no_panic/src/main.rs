@@ -3,15 +3,18 @@
 //!
 //! The feature `one_panics` puts a call that can panic in their place, and then the program must not link.
 //!
-//! Left out are the calls that panic as those of `str` do (the index, `slice`, the case calls on a range, `utils::look`) and
-//! `Debug`, which is printed by `core`'s own code. What a caller's closure or iterator does is its own.
+//! Left out are the calls that panic as those of `str` do (the index, `slice`, the case calls on a range, `utils::look`),
+//! `Debug`, which is printed by `core`'s own code, and what the features `alloc` and `std` add. What a caller's closure or iterator
+//! does is its own.
 #![no_std]
 #![no_main]
 
+use core::borrow::BorrowMut;
 use core::cmp::Ordering;
 use core::fmt::Write;
 use core::hash::{Hash, Hasher};
 use core::hint::black_box;
+use core::ops::DerefMut;
 use core::panic::PanicInfo;
 
 use arraystring::error::{OutOfBounds, Utf8, Utf16};
@@ -93,6 +96,9 @@ fn made<const N: usize>(text: &str, bytes: &[u8], units: &[u16]) -> usize {
         Some(Text::new()),
         Some(Text::default()),
         Some(arraystring!("")),
+        Text::const_try_from_str(text).ok(),
+        Text::try_from_format(format_args!("{text}-{}", units.len())).ok(),
+        text.chars().next().map(Text::from),
     ];
     strings.iter().flatten().map(|string| black_box(string).as_str().len()).sum()
 }
@@ -110,7 +116,15 @@ fn added<const N: usize>(string: &mut Text<N>, text: &str, ch: char) -> bool {
     string.try_push(ch).is_ok()
         || string.try_push_str(text).is_ok()
         || string.write_str(text).is_ok()
-        || string.try_write(format_args!("{text}-{ch}")).is_ok()
+        || string.try_write(format_args!("{text}-{ch}")).map_err(Error::from).is_ok()
+}
+
+#[inline(never)]
+fn written<const N: usize>(string: &mut Text<N>) {
+    string.as_mut_str().make_ascii_uppercase();
+    string.deref_mut().make_ascii_lowercase();
+    AsMut::<str>::as_mut(string).make_ascii_uppercase();
+    BorrowMut::<str>::borrow_mut(string).make_ascii_lowercase();
 }
 
 #[inline(never)]
@@ -195,7 +209,9 @@ fn of_no_string(text: &str, units: &[u16], at: u8, steps: &mut Steps) -> usize {
     let cut = truncate_str(text, at).len() + truncate_str_counted(text, at, steps).len();
     let walk = Units::new(units);
     let lone = walk.clone().count() + walk.count();
+    let lone = lone + Units::new(units).size_hint().0;
     let is_told = is_inside_boundary(at, 7u8).is_ok() || is_boundary(text, lone) || steps.looked() == steps.moved();
+    let is_told = is_told || *steps == Steps::new();
     cut + lone + usize::from(is_told)
 }
 
@@ -221,8 +237,13 @@ fn cached(text: &str, bytes: &[u8], units: &[u16], at: u8) -> usize {
         Some(text.into()),
         Some(text.chars().collect()),
         Some([text, text].into_iter().collect()),
+        CacheString::const_try_from_str(text).ok(),
+        CacheString::try_from_format(format_args!("{text}{at}")).ok(),
+        text.chars().next().map(CacheString::from),
     ];
     string += text;
+    AsMut::<str>::as_mut(&mut string).make_ascii_uppercase();
+    BorrowMut::<str>::borrow_mut(&mut string).make_ascii_lowercase();
     let rest = rest + usize::from(string.try_write(format_args!("{text}{at}")).is_ok());
     rest + strings
         .iter()
@@ -243,6 +264,7 @@ fn all_at<const N: usize>(text: &str, bytes: &[u8], units: &[u16], at: u8, end: 
     told += drained(&mut string, at, end, &mut steps) as usize;
     retained(&mut string, ch);
     cased(&mut string);
+    written(&mut string);
     told += usize::from(shown(&string, &other, at, end));
     told += printed(&string, &black_box(CacheString::new()), black_box(Error::Utf8));
     told + removed(&mut string, at, &mut steps) as usize
