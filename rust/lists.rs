@@ -597,7 +597,7 @@ pub const SAFE: &[Safe] = &[
     },
     Safe {
         requires: &["requires { IsCallableInTurn F.pre F.step f self.old.text }"],
-        functions: &["arraystring_core::array_string::remove::ArrayString::retain"],
+        functions: &["arraystring_core::array_string::retain::ArrayString::retain"],
         why: CLOSURES,
     },
     Safe {

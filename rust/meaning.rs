@@ -601,11 +601,11 @@ const BOUNDED: &[(&str, &str)] = &[
     ("arraystring_core::array_string::range::ArrayString::make_ascii_uppercase_in", ENDS),
     ("arraystring_core::array_string::range::ArrayString::make_ascii_lowercase_in", ENDS),
     (
-        "arraystring_core::array_string::remove::ArrayString::retain",
+        "arraystring_core::array_string::retain::ArrayString::retain",
         "what it hands to `retain_at` is read from the fields, before the closure is called",
     ),
     (
-        "arraystring_core::array_string::remove::retain_at",
+        "arraystring_core::array_string::retain::retain_at",
         "the answer only says whether a character is kept: `read` goes on by it in both cases, and `kept` by at most \
          as much",
     ),
@@ -658,8 +658,8 @@ const PLAYED: &[Played] = &[
     },
     Played {
         functions: &[
-            "arraystring_core::array_string::remove::ArrayString::retain",
-            "arraystring_core::array_string::remove::retain_at",
+            "arraystring_core::array_string::retain::ArrayString::retain",
+            "arraystring_core::array_string::retain::retain_at",
         ],
         calls: &["retain"],
         why: "while the closure runs, the size is that of what was kept, which lies in front",

@@ -1,5 +1,5 @@
 -- A character that is written into an array: behind a text, or into a gap.
-use Rattle.std.proofs.Common.{◌≡◌, ℕ, ◌+◌, ◌-◌, ◌≤◌, List, [], ◌∷◌, ◌++◌, take, drop, length, true, sym, ◌∙◌, arith, IsUtf8, chars}
+use Rattle.std.proofs.Common.{◌≡◌, ℕ, ◌+◌, ◌-◌, ◌≤◌, List, [], ◌∷◌, ◌++◌, take, take_at, drop, length, true, sym, ap, ◌∙◌, arith, IsUtf8, chars}
 use Rattle.std.specs.Char.{IsScalar}
 use Rattle.std.proofs.lemmas.Str.{IsUtf8-encode}
 use Rattle.std.proofs.lemmas.List.{append-nil}
@@ -7,7 +7,7 @@ use Rattle.arraystring_base.specs.Text.{utf8, width, size, cap, front, back, bou
 use Rattle.arraystring_base.proofs.TextLaws.{chars-bytes, utf8-is, length-utf8, size-borrowed}
 use Rattle.arraystring_core.specs.Stored.{Stored}
 use Rattle.arraystring_core.specs.Layout.{stored, IsStored}
-use Rattle.arraystring_core.proofs.SpanLemmas.{Lies, appended, appended_at_start, filled, moved_to_start}
+use Rattle.arraystring_core.proofs.SpanLemmas.{Lies, appended, appended_at_start, filled}
 
 module _ (ch : ℕ) (scalar : IsScalar ch) where
   pub char-utf8 : IsUtf8 (utf8 ch)
@@ -15,6 +15,14 @@ module _ (ch : ℕ) (scalar : IsScalar ch) where
 
   pub char-chars : chars (utf8 ch) ≡ ch ∷ []
   char-chars = chars-bytes char-utf8 (sym (append-nil (utf8 ch)))
+
+  -- it was written in front, and len is the length of its UTF-8
+  module _ (old : List ℕ) {new : List ℕ} {len : ℕ} (wide : len ≡ width ch) (is : new ≡ take 0 old ++ (utf8 ch ++ drop (0 + width ch) old)) where
+    pub char-in_front : take len new ≡ utf8 ch
+    char-in_front = rw wide (ap (take (width ch)) is ∙ take_at (utf8 ch) _ (width ch) (length-utf8 ch))
+
+    pub char-spelled : {given : List ℕ} → given ≡ take len new → chars given ≡ ch ∷ []
+    char-spelled same = ap chars (same ∙ char-in_front) ∙ char-chars
 
 -- len is the length of its UTF-8
 module _ {array_size : ℕ} {array : List ℕ} {p n : ℕ} (is : IsStored array_size array p n) {v : Stored} (e : stored array p n ≡ v)
@@ -48,11 +56,3 @@ module _ {array_size : ℕ} {array : List ℕ} {p n : ℕ} (is : IsStored array_
     char-inserted {after} =
         rw (length-utf8 ch, char-chars ch scalar) at
         (filled is e (omega arith) b b fits (char-utf8 ch scalar) at many (wide ∙ sym (length-utf8 ch)) gapped {after = after} long)
-
-    pub char-inserted_at_start : {after : List ℕ} → take m gapped ≡ take m (drop offset array)
-        → take (count - m) (drop (m + len) gapped) ≡ take (count - m) (drop (offset + m) array)
-        → after ≡ take m gapped ++ (utf8 ch ++ drop (m + width ch) gapped)
-        → Lies array_size after 0 (m + (len + (count - m))) (front v.text m ++ (ch ∷ back v.text m))
-    char-inserted_at_start {after} =
-        rw (length-utf8 ch, char-chars ch scalar) at
-        (moved_to_start is e (omega arith) b b fits (char-utf8 ch scalar) at many (wide ∙ sym (length-utf8 ch)) gapped {after = after} long)

@@ -1,6 +1,6 @@
 //! `ArrayString`: the type, and the calls that read all of it. The modules below have its other calls,
-//! `traits` its impls of traits. `append` and `in_place` have the private calls that put bytes into its
-//! array or take them out.
+//! `traits` its impls of traits. `append`, `replaced_part` and `remove` have the private calls that put
+//! bytes into its array or take them out.
 ghost use Rattle.std.specs.Prelude.{◌≡◌, ◌+◌, ◌≤◌, ◌↔◌, [], IsTrue, length};
 ghost use Rattle.arraystring_base.specs.Text.{size, bytes, cap, boundary, IsText};
 ghost use Rattle.arraystring_core.specs.Layout.{start_of};
@@ -12,12 +12,12 @@ mod append;
 mod ascii;
 mod construct;
 mod fill;
-mod gap;
-mod in_place;
 mod insert;
 mod push;
 mod range;
 mod remove;
+mod replaced_part;
+mod retain;
 mod traits;
 mod trim;
 mod utf16;

@@ -73,10 +73,7 @@ fn play_into<I: Read, O: Write>(
     ensures { IsOutcome (bytes_of capacity) (I.remaining input.old) (O.contents output.old) (O.contents output.new) (output.new ≡ output.old) result }
 {
     play_at(alloc, capacity, input, output)?;
-    match output.flush() {
-        Ok(()) => Ok(()),
-        Err(_) => Err(PlayFault::Write),
-    }
+    output.flush().map_err(|_| PlayFault::Write)
 }
 
 /// Plays a script at a capacity into a buffer, and flushes that. If this succeeds, nothing waits.
@@ -92,10 +89,7 @@ fn play_into_buffer<I: Read, O: Write>(
     ensures sent { OnOk result (buffered.new.waiting.items ≡ []) }
 {
     play_at(alloc, capacity, input, buffered)?;
-    match buffered.flush() {
-        Ok(()) => Ok(()),
-        Err(_) => Err(PlayFault::Write),
-    }
+    buffered.flush().map_err(|_| PlayFault::Write)
 }
 
 /// Plays a script at a capacity, and does not flush the writer.
@@ -168,9 +162,10 @@ pub fn serve_buffered<I: Read, O: Write + Drop, E: Write>(
         × IsServed word.entry (I.remaining input.old) (O.contents output) (append_known (O.contents result.1) unsent)
         (E.contents errors.old) (E.contents errors.new) (input.new ≡ input.old) (result.1 ≡ output) (errors.new ≡ errors.old) result.0 }
 {
-    let waiting = buffer(alloc, word);
+    let capacity = capacity_of(word);
+    let waiting = buffer(alloc, capacity);
     let mut buffered = Buffered { output, waiting };
-    let status = match capacity_of(word) {
+    let status = match capacity {
         Some(capacity) => {
             let played = play_into_buffer(alloc, capacity, input, &mut buffered);
             report(played, errors)
@@ -180,13 +175,13 @@ pub fn serve_buffered<I: Read, O: Write + Drop, E: Write>(
     (status, buffered.output)
 }
 
-/// The room before the output: none for a word that names no capacity, or if there is no memory. A list
-/// without room has taken no memory.
-fn buffer(alloc: Global, word: Option<&str>) -> Vec<u8>
+/// The room before the output: none if no capacity is named, or if there is no memory. A list without
+/// room has taken no memory.
+fn buffer(alloc: Global, capacity: Option<Capacity>) -> Vec<u8>
     ensures empty { result.items ≡ [] }
-    ensures none_named { capacity_named word.entry ≡ None → vec_capacity result ≡ 0 }
+    ensures none_named { capacity ≡ None → vec_capacity result ≡ 0 }
 {
-    if names_capacity(word) {
+    if capacity.is_some() {
         if let Ok(waiting) = Vec::with_capacity(alloc, BUFFER) {
             return waiting;
         }

@@ -147,7 +147,12 @@ fn text_of<const N: usize>(field: &[u8]) -> Result<ArrayString<N>, RecordFault>
     ensures malformed { OnErr result (¬ (IsWellFormed (counted field.now))) }
 {
     let end = 1 + field[0] as usize;
-    ArrayString::try_from_utf8(&field[1..end]).map_err(|_| RecordFault::Utf8)
+    match ArrayString::try_from_utf8(&field[1..end]) {
+        Ok(text) => Ok(text),
+        Err(arraystring::Error::Utf8) => Err(RecordFault::Utf8),
+        // All counted bytes fit, and none is read as UTF-16.
+        Err(arraystring::Error::OutOfBounds | arraystring::Error::Utf16) => unreachable!(),
+    }
 }
 
 /// Whether all bytes after the counted ones are zero, in both fields.

@@ -65,13 +65,13 @@ pub const ORDER: &[Order] = &[Order {
         Module("insert"),
         Module("range"),
         Module("remove"),
+        Module("retain"),
         Module("trim"),
         Module("ascii"),
         Module("traits"),
         Module("append"),
-        Module("in_place"),
+        Module("replaced_part"),
         Module("fill"),
-        Module("gap"),
     ],
 }];
 

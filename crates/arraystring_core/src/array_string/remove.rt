@@ -1,15 +1,12 @@
-//! What is removed from a string: characters at the end, at an index or by a closure, and the text from an
-//! index on.
-ghost use Rattle.std.specs.Prelude.{◌≡◌, ◌+◌, ◌-◌, ◌^◌, ◌<◌, ◌≤◌, min, IfSome, Ok, ◌++◌, IsTrue, chars, length, IfOk, OnErr, slice_index, drop, ℕ, List, take, IsUtf8};
-ghost use Rattle.arraystring_base.specs.Text.{size, width, back, boundary, utf8};
+//! What is removed from a string: a character at the end or at an index, the text from an index on, all of
+//! it. The private calls remove a part, a front or an end of the text.
+ghost use Rattle.std.specs.Prelude.{◌≡◌, ◌≢◌, ◌+◌, ◌-◌, ◌^◌, ◌<◌, ◌≤◌, min, IfSome, Ok, ◌++◌, IsTrue, length, IfOk, OnErr, slice_index, drop, ℕ, List};
+ghost use Rattle.arraystring_base.specs.Text.{size, width, front, back, boundary, utf8};
 ghost use Rattle.arraystring_core.specs.Edits.{Makes, popping, from_utf8_error, with_text, truncation, removal, clearing, split};
-ghost use Rattle.std.specs.List.Retain.{IsFiltered};
-ghost use Rattle.arraystring_core.specs.Retain.{IsCallableInTurn};
 
 use crate::ArrayString;
 use arraystring_base::error::{Error, Utf8};
 use arraystring_base::utils::{Steps, last_char, shift};
-use std::str;
 
 impl<const N: usize> ArrayString<N> {
     /// Shortens the text to its first `size` bytes. Nothing changes if it has no more.
@@ -156,28 +153,6 @@ impl<const N: usize> ArrayString<N> {
         Ok(ch)
     }
 
-    /// Keeps the characters for which `f` returns true and removes all others. `f` is called once
-    /// with each character, in order.
-    ///
-    /// # Precondition
-    ///
-    /// `f` must be callable with each character, in each state that its earlier calls leave.
-    ///
-    /// # Examples
-    ///
-    /// ```
-    /// let mut string = ArrayString::<8>::from("a-b-c");
-    /// string.retain(|ch| ch != '-');
-    /// assert_eq!(string.as_str(), "abc");
-    /// ```
-    pub fn retain<F: FnMut(char) -> bool + Drop>(&mut self, f: F)
-        requires { IsCallableInTurn F.pre F.step f self.old.text }
-        ensures { IsFiltered F.step f self.old.text self.new.text }
-    {
-        let (offset, size) = (self.start as usize, self.size as usize);
-        retain_at(&mut self.array, &mut self.size, offset, size, f);
-    }
-
     /// Splits the text at the byte index `at`, which may be the length. Keeps the part before it
     /// and returns the part from it on.
     ///
@@ -226,6 +201,45 @@ impl<const N: usize> ArrayString<N> {
         self.keep(0);
     }
 
+    /// Takes out the text between two boundaries, without a move if it begins at index 0.
+    pub(super) fn take_out(&mut self, start: usize, end: usize, steps: &mut Steps)
+        requires order { start ≤ end }
+        requires start { IsTrue (boundary self.old.text start) }
+        requires end { IsTrue (boundary self.old.text end) }
+        requires countable { steps.old.moved ≤ 2 ^ 63 }
+        ensures text { self.new.text ≡ front self.old.text start ++ back self.old.text end }
+        ensures free { start ≡ 0 → steps.new.moved ≡ steps.old.moved }
+        ensures tail_alone { steps.new.moved ≤ steps.old.moved + (size self.old.text - end) }
+        ensures least { start ≢ end → steps.old.moved + min start (size self.old.text - end) ≤ steps.new.moved }
+        ensures counted { steps.old.moved ≤ steps.new.moved }
+        ensures looked { steps.new.looked ≡ steps.old.looked }
+    {
+        if start == 0 {
+            return self.drop_front(end);
+        }
+        let (offset, size) = (self.start as usize, self.size as usize);
+        let tail = size - end;
+        self.size = (start + tail) as u8;
+        shift(&mut self.array, offset + end, offset + start, tail, steps);
+    }
+
+    /// Drops the part before a boundary, without a move.
+    pub(super) fn drop_front(&mut self, end: usize)
+        requires { IsTrue (boundary self.old.text end) }
+        ensures { self.new.text ≡ back self.old.text end }
+    {
+        self.start = (self.start as usize + end) as u8;
+        self.size = (self.size as usize - end) as u8;
+    }
+
+    /// Keeps the part before a boundary.
+    pub(super) fn keep(&mut self, size: u8)
+        requires { IsTrue (boundary self.old.text size) }
+        ensures { self.new.text ≡ front self.old.text size }
+    {
+        self.size = size;
+    }
+
     /// The character that begins at a boundary before the end, and how many bytes it takes.
     fn char_at(&self, at: usize) -> (char, usize)
         requires boundary { IsTrue (boundary self.now.text at) }
@@ -240,7 +254,7 @@ impl<const N: usize> ArrayString<N> {
 }
 
 /// The first character of a text that has one, and how many bytes it takes.
-fn first_char(text: &str) -> (char, usize)
+pub(super) fn first_char(text: &str) -> (char, usize)
     requires { 0 < length text.now }
     ensures first { (rest : List ℕ) × (text.now ≡ utf8 result.0 ++ rest) }
     ensures width { result.1 ≡ width result.0 }
@@ -252,56 +266,4 @@ fn first_char(text: &str) -> (char, usize)
         unreachable!();
     };
     (ch, text.len() - rest.as_str().len())
-}
-
-/// Calls `f` once with each character of a text, in order, and moves those for which it returns
-/// true together. The text is the `size` bytes of the array from `offset` on, and keeps
-/// its offset; `kept` becomes the size of what is kept. Each kept character is moved on its own, and
-/// only to the left. At each call of `f` the `kept` bytes from `offset` on are those of the
-/// characters that were kept so far: they are what a closure leaves that ends the loop.
-fn retain_at<const N: usize, F: FnMut(char) -> bool + Drop>(
-    array: &mut [u8; N],
-    kept: &mut u8,
-    offset: usize,
-    size: usize,
-    mut f: F,
-)
-    requires in_array { offset + size ≤ N }
-    requires small { size ≤ 255 }
-    requires text { IsUtf8 (take size (drop offset array.old)) }
-    requires callable { IsCallableInTurn F.pre F.step f (chars (take size (drop offset array.old))) }
-    ensures len { length array.new ≡ N }
-    ensures at_most { kept.new ≤ size }
-    ensures text { IsUtf8 (take kept.new (drop offset array.new)) }
-    ensures filtered { IsFiltered F.step f (chars (take size (drop offset array.old))) (chars (take kept.new (drop offset array.new))) }
-{
-    // From `read` on no byte was written over.
-    *kept = 0;
-    let mut read = 0;
-    while read < size {
-        prove!(offset + read < N);
-        // A byte of ASCII is its character; others take the decoder.
-        let first = array[offset + read];
-        if first < 0x80 {
-            if f(first as char) {
-                let to = offset + *kept as usize;
-                shift(array, offset + read, to, 1, &mut Steps::new());
-                *kept += 1;
-            }
-            read += 1;
-        } else {
-            let all = &array[..];
-            // SAFETY: the `size` bytes from `offset` on were UTF-8 at the start. No byte from `read` on was
-            // written over, since `*kept <= read`: each turn adds no more to it. `read` goes on by whole
-            // characters, so one begins there, whatever the closure answers.
-            let text = unsafe { str::from_utf8_unchecked(&all[offset + read..offset + size]) };
-            let (ch, width) = first_char(text);
-            if f(ch) {
-                let to = offset + *kept as usize;
-                shift(array, offset + read, to, width, &mut Steps::new());
-                *kept += width as u8;
-            }
-            read += width;
-        }
-    }
 }

@@ -1,7 +1,8 @@
+// NOT PROVED: rust/proved.txt does not have the sources of this crate as they are.
 // Made from crates/arraystring_core/src/array_string.rt by rust/erase. The proof is there. A change goes there.
 //! `ArrayString`: the type, and the calls that read all of it. The modules below have its other calls,
-//! `traits` its impls of traits. `append` and `in_place` have the private calls that put bytes into its
-//! array or take them out.
+//! `traits` its impls of traits. `append`, `replaced_part` and `remove` have the private calls that put
+//! bytes into its array or take them out.
 
 use crate::by_hand::str;
 
@@ -247,13 +248,13 @@ mod write;
 mod insert;
 mod range;
 mod remove;
+mod retain;
 mod trim;
 mod ascii;
 mod traits;
 mod append;
-mod in_place;
+mod replaced_part;
 mod fill;
-mod gap;
 
 /// A string of at most `N` bytes of UTF-8, and at most 255, stored inline. Sizes, indices and the
 /// capacity count bytes of UTF-8.

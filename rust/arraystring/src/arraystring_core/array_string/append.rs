@@ -1,3 +1,4 @@
+// NOT PROVED: rust/proved.txt does not have the sources of this crate as they are.
 // Made from crates/arraystring_core/src/array_string/append.rt by rust/erase. The proof is there. A change goes there.
 //! The private calls that append: a character, a text, or what an iterator gives. They move the text to the
 //! start of the array if there is no room after it.

@@ -1,11 +1,11 @@
+// NOT PROVED: rust/proved.txt does not have the sources of this crate as they are.
 // Made from crates/arraystring_core/src/array_string/remove.rt by rust/erase. The proof is there. A change goes there.
-//! What is removed from a string: characters at the end, at an index or by a closure, and the text from an
-//! index on.
+//! What is removed from a string: a character at the end or at an index, the text from an index on, all of
+//! it. The private calls remove a part, a front or an end of the text.
 
 use crate::arraystring_base::error::{Error, Utf8};
 use crate::arraystring_base::utils::{Steps, last_char, shift};
 use crate::arraystring_core::ArrayString;
-use crate::by_hand::str;
 
 impl<const N: usize> ArrayString<N> {
     /// Shortens the text to its first `size` bytes. Nothing changes if it has no more.
@@ -216,41 +216,6 @@ impl<const N: usize> ArrayString<N> {
         Ok(ch)
     }
 
-    /// Keeps the characters for which `f` returns true and removes all others. `f` is called once
-    /// with each character, in order.
-    ///
-    /// # In Rust
-    ///
-    /// Any closure is allowed. Where it panics, the text is what it kept until then.
-    ///
-    /// # Examples
-    ///
-    /// ```
-    /// use arraystring::ArrayString;
-    ///
-    /// let mut string = ArrayString::<8>::from("a-b-c");
-    /// string.retain(|ch| ch != '-');
-    /// assert_eq!(string.as_str(), "abc");
-    /// ```
-    ///
-    /// <details><summary>Contract</summary>
-    ///
-    /// ```text
-    /// requires { IsCallableInTurn F.pre F.step f self.old.text }
-    /// ensures { IsFiltered F.step f self.old.text self.new.text }
-    /// ```
-    ///
-    /// [How to read a contract](crate::contracts)
-    ///
-    /// </details>
-    #[inline]
-    pub fn retain<F: FnMut(char) -> bool>(&mut self, f: F) {
-        let (offset, size) = (self.start as usize, self.size as usize);
-        // SAFETY: `offset + size <= N`; `size <= 255`; the `size` bytes of `self.array` from `offset` on are UTF-8: as
-        // the fields of `ArrayString` say, whatever the closure answers.
-        unsafe { retain_at(&mut self.array, &mut self.size, offset, size, f) };
-    }
-
     /// Splits the text at the byte index `at`, which may be the length. Keeps the part before it
     /// and returns the part from it on.
     ///
@@ -325,6 +290,98 @@ impl<const N: usize> ArrayString<N> {
         unsafe { self.keep(0) };
     }
 
+    /// Takes out the text between two boundaries, without a move if it begins at index 0.
+    ///
+    /// # Safety
+    ///
+    /// - `start <= end`
+    /// - `start` is a boundary of `self`
+    /// - `end` is a boundary of `self`
+    ///
+    /// <details><summary>Contract</summary>
+    ///
+    /// ```text
+    /// requires order { start ≤ end }
+    /// requires start { IsTrue (boundary self.old.text start) }
+    /// requires end { IsTrue (boundary self.old.text end) }
+    /// requires countable { steps.old.moved ≤ 2 ^ 63 }
+    /// ensures text { self.new.text ≡ front self.old.text start ++ back self.old.text end }
+    /// ensures free { start ≡ 0 → steps.new.moved ≡ steps.old.moved }
+    /// ensures tail_alone { steps.new.moved ≤ steps.old.moved + (size self.old.text - end) }
+    /// ensures least { start ≢ end → steps.old.moved + min start (size self.old.text - end) ≤ steps.new.moved }
+    /// ensures counted { steps.old.moved ≤ steps.new.moved }
+    /// ensures looked { steps.new.looked ≡ steps.old.looked }
+    /// ```
+    ///
+    /// [How to read a contract](crate::contracts)
+    ///
+    /// </details>
+    #[inline]
+    #[expect(clippy::cast_possible_truncation, reason = "the line before the write says why it fits")]
+    pub(super) unsafe fn take_out(&mut self, start: usize, end: usize, steps: &mut Steps) {
+        if start == 0 {
+            // SAFETY: `end` is a boundary of `self`: by this function's `# Safety`, whatever was counted.
+            return unsafe { self.drop_front(end) };
+        }
+        let (offset, size) = (self.start as usize, self.size as usize);
+        let tail = size - end;
+        // FIELDS: it is at most `size`, since `start` is at most `end` by this function's `# Safety`; `shift` moves the
+        // `tail` bytes behind `end` to `start`, and both are boundaries, whatever was counted.
+        self.size = (start + tail) as u8;
+        // SAFETY: `offset + end + tail <= N`; `offset + start + tail <= N`: `end + tail` is the size of the text, which
+        // ends in the array, and `start` is at most `end`, whatever was counted.
+        unsafe { shift(&mut self.array, offset + end, offset + start, tail, steps) };
+    }
+
+    /// Drops the part before a boundary, without a move.
+    ///
+    /// # Safety
+    ///
+    /// - `end` is a boundary of `self`
+    ///
+    /// <details><summary>Contract</summary>
+    ///
+    /// ```text
+    /// requires { IsTrue (boundary self.old.text end) }
+    /// ensures { self.new.text ≡ back self.old.text end }
+    /// ```
+    ///
+    /// [How to read a contract](crate::contracts)
+    ///
+    /// </details>
+    #[inline]
+    #[expect(clippy::cast_possible_truncation, reason = "the line before the write says why it fits")]
+    pub(super) unsafe fn drop_front(&mut self, end: usize) {
+        // FIELDS: `end` is at most `self.size` by this function's `# Safety`, so the text behind it begins where the
+        // text ends, or before.
+        self.start = (self.start as usize + end) as u8;
+        // FIELDS: `end` is at most `self.size`; the text ends where it did, and begins at a boundary.
+        self.size = (self.size as usize - end) as u8;
+    }
+
+    /// Keeps the part before a boundary.
+    ///
+    /// # Safety
+    ///
+    /// - `size` is a boundary of `self`
+    ///
+    /// <details><summary>Contract</summary>
+    ///
+    /// ```text
+    /// requires { IsTrue (boundary self.old.text size) }
+    /// ensures { self.new.text ≡ front self.old.text size }
+    /// ```
+    ///
+    /// [How to read a contract](crate::contracts)
+    ///
+    /// </details>
+    #[inline]
+    pub(super) unsafe fn keep(&mut self, size: u8) {
+        // FIELDS: it is at most `self.size` by this function's `# Safety`, so the text begins where it did, and ends at
+        // a boundary, within the capacity.
+        self.size = size;
+    }
+
     /// The character that begins at a boundary before the end, and how many bytes it takes.
     ///
     /// # Safety
@@ -374,94 +431,11 @@ impl<const N: usize> ArrayString<N> {
 ///
 /// </details>
 #[inline]
-unsafe fn first_char(text: &str) -> (char, usize) {
+pub(super) unsafe fn first_char(text: &str) -> (char, usize) {
     let mut rest = text.chars();
     let Some(ch) = rest.next() else {
         // SAFETY: this is not reached: by this function's `# Safety`.
         unsafe { unreachable_unchecked!() };
     };
     (ch, text.len() - rest.as_str().len())
-}
-
-/// Calls `f` once with each character of a text, in order, and moves those for which it returns
-/// true together. The text is the `size` bytes of the array from `offset` on, and keeps
-/// its offset; `kept` becomes the size of what is kept. Each kept character is moved on its own, and
-/// only to the left. At each call of `f` the `kept` bytes from `offset` on are those of the
-/// characters that were kept so far: they are what a closure leaves that ends the loop.
-///
-/// # Safety
-///
-/// - `offset + size <= N`
-/// - `size <= 255`
-/// - the `size` bytes of `array` from `offset` on are UTF-8
-///
-/// <details><summary>Contract</summary>
-///
-/// ```text
-/// requires in_array { offset + size ≤ N }
-/// requires small { size ≤ 255 }
-/// requires text { IsUtf8 (take size (drop offset array.old)) }
-/// requires callable { IsCallableInTurn F.pre F.step f (chars (take size (drop offset array.old))) }
-/// ensures len { length array.new ≡ N }
-/// ensures at_most { kept.new ≤ size }
-/// ensures text { IsUtf8 (take kept.new (drop offset array.new)) }
-/// ensures filtered { IsFiltered F.step f (chars (take size (drop offset array.old))) (chars (take kept.new (drop offset array.new))) }
-/// ```
-///
-/// [How to read a contract](crate::contracts)
-///
-/// </details>
-#[inline]
-#[expect(clippy::cast_possible_truncation, reason = "`width` is that of a character, which is at most 4")]
-unsafe fn retain_at<const N: usize, F: FnMut(char) -> bool>(
-    array: &mut [u8; N],
-    kept: &mut u8,
-    offset: usize,
-    size: usize,
-    mut f: F,
-) {
-    // From `read` on no byte was written over.
-    // FIELDS: no character is kept so far, whatever the closure answers.
-    *kept = 0;
-    let mut read = 0;
-    while read < size {
-        // A byte of ASCII is its character; others take the decoder.
-        // SAFETY: this is within: `read < size`, and the array has the `size` bytes from `offset` on, whatever the
-        // closure answers.
-        let first = *unsafe { get_unchecked!(array, offset + read) };
-        if first < 0x80 {
-            if f(first as char) {
-                let to = offset + *kept as usize;
-                // SAFETY: `offset + read + 1 <= N`; `to + 1 <= N`: `*kept <= read`, since a turn adds to it at most
-                // what it adds to `read`, `read < size`, and the array has the `size` bytes from `offset` on, whatever
-                // the closure answers.
-                unsafe { shift(array, offset + read, to, 1, &mut Steps::new()) };
-                // FIELDS: the character was moved behind those that are kept; `*kept <= read < size`, so they end in
-                // the text, whatever the closure answers.
-                *kept += 1;
-            }
-            read += 1;
-        } else {
-            let all = &array[..];
-            // SAFETY: the `size` bytes from `offset` on were UTF-8 at the start. No byte from `read` on was
-            // written over, since `*kept <= read`: each turn adds no more to it. `read` goes on by whole
-            // characters, so one begins there, whatever the closure answers.
-            // SAFETY: this is within: `read < size`, and the array has the `size` bytes from `offset` on, whatever the
-            // closure answers.
-            let text = unsafe { str::from_utf8_unchecked(get_unchecked!(all, offset + read..offset + size)) };
-            // SAFETY: `0 < text.len()`: `read < size`, whatever the closure answers.
-            let (ch, width) = unsafe { first_char(text) };
-            if f(ch) {
-                let to = offset + *kept as usize;
-                // SAFETY: `offset + read + width <= N`; `to + width <= N`: the character ends in the text, the text in
-                // the array, and `*kept <= read`, since a turn adds to it at most what it adds to `read`, whatever the
-                // closure answers.
-                unsafe { shift(array, offset + read, to, width, &mut Steps::new()) };
-                // FIELDS: the character was moved behind those that are kept; `*kept <= read` and
-                // `read + width <= size`, so they end in the text, whatever the closure answers.
-                *kept += width as u8;
-            }
-            read += width;
-        }
-    }
 }

@@ -1,10 +1,11 @@
-// Made from crates/arraystring_core/src/array_string/in_place.rt by rust/erase. The proof is there. A change goes there.
-//! The private calls that change the text where it lies in the array: those that put something in, take
-//! something out, or move the text to the start of the array for it.
+// NOT PROVED: rust/proved.txt does not have the sources of this crate as they are.
+// Made from crates/arraystring_core/src/array_string/replaced_part.rt by rust/erase. The proof is there. A change goes there.
+//! A part of a text that is replaced by another text. The gap for it is opened in two ways: behind the
+//! text, or, where there is no room, by moving the front of the text too.
 
 use crate::arraystring_base::utils::{Steps, encode, shift, write_over};
 use crate::arraystring_core::ArrayString;
-use crate::arraystring_core::array_string::gap::{Span, compact_and_open_gap, open_gap};
+use crate::by_hand::str;
 
 impl<const N: usize> ArrayString<N> {
     /// Replaces the text between two boundaries by `given`. There must be room for it.
@@ -107,7 +108,8 @@ impl<const N: usize> ArrayString<N> {
         unsafe { write_over(&mut self.array, start, given.as_bytes()) };
     }
 
-    /// Puts `ch` at a boundary. There must be room for it.
+    /// Puts `ch` at a boundary. There must be room for it. It writes the bytes by `encode` and is no call
+    /// of `splice`, by which `try_insert` costs four instructions more (its curve in docs/speed.md).
     ///
     /// # Safety
     ///
@@ -131,9 +133,15 @@ impl<const N: usize> ArrayString<N> {
         let text = Span::new(self.start, self.size);
         let len = ch.len_utf8();
         if text.offset + text.size + len > Self::capacity() as usize {
-            // SAFETY: `at` is a boundary of `self`; `self.len() + ch.len_utf8() <= Self::capacity()`: by this
-            // function's `# Safety`.
-            return unsafe { self.compact_and_insert(at, ch) };
+            let mut utf8 = [0; 4];
+            // SAFETY: `ch.len_utf8() <= N`: there are four bytes, and no character has more.
+            unsafe { encode(ch, &mut utf8, 0) };
+            // SAFETY: `encode` wrote the `len` bytes of the UTF-8 of `ch` in front.
+            // SAFETY: this is within: `len` is at most 4, whatever was counted.
+            let given = unsafe { str::from_utf8_unchecked(get_unchecked!(utf8, ..len)) };
+            // SAFETY: `at` is a boundary of `self`; `self.len() - (at - at) + given.len() <= Self::capacity()`: by this
+            // function's `# Safety`, since `given` is the UTF-8 of `ch`.
+            return unsafe { self.compact_and_splice(at, at, given, &mut Steps::new()) };
         }
         // FIELDS: the new text ends within the capacity by the test above; `open_gap` and `encode` make it.
         self.size = (at + (len + (text.size - at))) as u8;
@@ -145,134 +153,151 @@ impl<const N: usize> ArrayString<N> {
         // capacity, which is at most `N`, and what is written ends in it.
         unsafe { encode(ch, &mut self.array, text.offset + at) };
     }
+}
 
-    /// Puts `ch` at a boundary of a text that has to move to the start of the array for it.
-    ///
-    /// # Safety
-    ///
-    /// - `at` is a boundary of `self`
-    /// - `self.len() + ch.len_utf8() <= Self::capacity()`
+/// Where a text lies in its array: the `size` bytes from the offset `offset` on.
+#[derive(Clone, Copy)]
+pub(crate) struct Span {
+    pub(crate) offset: usize,
+    pub(crate) size: usize,
+}
+
+impl Span {
+    /// The `size` bytes from `start` on, as a string has them.
     ///
     /// <details><summary>Contract</summary>
     ///
     /// ```text
-    /// requires boundary { IsTrue (boundary self.old.text at) }
-    /// requires room { size self.old.text + width ch ≤ cap N }
-    /// ensures { self.new.text ≡ front self.old.text at ++ (ch ∷ back self.old.text at) }
+    /// ensures offset { result.offset ≡ start }
+    /// ensures size { result.size ≡ size }
     /// ```
     ///
     /// [How to read a contract](crate::contracts)
     ///
     /// </details>
-    #[expect(clippy::cast_possible_truncation, reason = "the line before the write says why it fits")]
-    #[cold]
-    #[inline(never)]
-    pub(super) unsafe fn compact_and_insert(&mut self, at: usize, ch: char) {
-        let text = Span::new(self.start, self.size);
-        let len = ch.len_utf8();
-        // FIELDS: `compact_and_open_gap` moves the text there.
-        self.start = 0;
-        // FIELDS: it is the size of the new text, which is at most the capacity by this function's `# Safety`;
-        // `compact_and_open_gap` and `encode` make it.
-        self.size = (at + (len + (text.size - at))) as u8;
-        // SAFETY: `at <= text.size`; `text.offset + text.size <= Self::capacity()`;
-        // `at + (len + (text.size - at)) <= Self::capacity()`: by this function's `# Safety` and what the fields of
-        // `ArrayString` say.
-        unsafe { compact_and_open_gap(&mut self.array, text, at, at, len, &mut Steps::new()) };
-        // SAFETY: `at + ch.len_utf8() <= N`: by this function's `# Safety` the new text fits into the capacity, which
-        // is at most `N`, and `ch` ends in it.
-        unsafe { encode(ch, &mut self.array, at) };
+    #[inline(always)]
+    pub(super) fn new(start: u8, size: u8) -> Span {
+        Span { offset: start as usize, size: size as usize }
     }
+}
 
-    /// Takes out the text between two boundaries, without a move if it begins at index 0.
-    ///
-    /// # Safety
-    ///
-    /// - `start <= end`
-    /// - `start` is a boundary of `self`
-    /// - `end` is a boundary of `self`
-    ///
-    /// <details><summary>Contract</summary>
-    ///
-    /// ```text
-    /// requires order { start ≤ end }
-    /// requires start { IsTrue (boundary self.old.text start) }
-    /// requires end { IsTrue (boundary self.old.text end) }
-    /// requires countable { steps.old.moved ≤ 2 ^ 63 }
-    /// ensures text { self.new.text ≡ front self.old.text start ++ back self.old.text end }
-    /// ensures free { start ≡ 0 → steps.new.moved ≡ steps.old.moved }
-    /// ensures tail_alone { steps.new.moved ≤ steps.old.moved + (size self.old.text - end) }
-    /// ensures least { start ≢ end → steps.old.moved + min start (size self.old.text - end) ≤ steps.new.moved }
-    /// ensures counted { steps.old.moved ≤ steps.new.moved }
-    /// ensures looked { steps.new.looked ≡ steps.old.looked }
-    /// ```
-    ///
-    /// [How to read a contract](crate::contracts)
-    ///
-    /// </details>
-    #[inline]
-    #[expect(clippy::cast_possible_truncation, reason = "the line before the write says why it fits")]
-    pub(super) unsafe fn take_out(&mut self, start: usize, end: usize, steps: &mut Steps) {
-        if start == 0 {
-            // SAFETY: `end` is a boundary of `self`: by this function's `# Safety`, whatever was counted.
-            return unsafe { self.drop_front(end) };
-        }
-        let (offset, size) = (self.start as usize, self.size as usize);
-        let tail = size - end;
-        // FIELDS: it is at most `size`, since `start` is at most `end` by this function's `# Safety`; `shift` moves the
-        // `tail` bytes behind `end` to `start`, and both are boundaries, whatever was counted.
-        self.size = (start + tail) as u8;
-        // SAFETY: `offset + end + tail <= N`; `offset + start + tail <= N`: `end + tail` is the size of the text, which
-        // ends in the array, and `start` is at most `end`, whatever was counted.
-        unsafe { shift(&mut self.array, offset + end, offset + start, tail, steps) };
-    }
+/// Opens a gap of `len` bytes instead of the bytes from `start` to `end` of a text. There must be
+/// room after the text: it keeps its offset, and only the bytes after the gap move.
+///
+/// # Safety
+///
+/// - `start <= end`
+/// - `end <= text.size`
+/// - `text.offset + text.size <= ArrayString::<N>::capacity()`
+/// - `text.offset + (start + (len + (text.size - end))) <= ArrayString::<N>::capacity()`
+///
+/// <details><summary>Contract</summary>
+///
+/// ```text
+/// requires order { start ≤ end }
+/// requires within { end ≤ text.size }
+/// requires in_array { text.offset + text.size ≤ cap N }
+/// requires room { text.offset + (start + (len + (text.size - end))) ≤ cap N }
+/// requires countable { steps.old.moved ≤ 2 ^ 63 }
+/// ensures len { length array.new ≡ N }
+/// ensures front { take start (drop text.offset array.new) ≡ take start (drop text.offset array.old) }
+/// ensures tail { take (text.size - end) (drop (text.offset + (start + len)) array.new) ≡ take (text.size - end) (drop (text.offset + end) array.old) }
+/// ensures most { steps.new.moved ≤ steps.old.moved + (text.size - end) }
+/// ensures least { end ≢ start + len → steps.old.moved + (text.size - end) ≤ steps.new.moved }
+/// ensures counted { steps.old.moved ≤ steps.new.moved }
+/// ensures looked { steps.new.looked ≡ steps.old.looked }
+/// ```
+///
+/// [How to read a contract](crate::contracts)
+///
+/// </details>
+#[inline(always)]
+pub(super) unsafe fn open_gap<const N: usize>(
+    array: &mut [u8; N],
+    text: Span,
+    start: usize,
+    end: usize,
+    len: usize,
+    steps: &mut Steps,
+) {
+    let tail = text.size - end;
+    // SAFETY: `text.offset + end + tail <= N`; `text.offset + (start + len) + tail <= N`: by this function's
+    // `# Safety`, since the capacity is at most `N`, whatever was counted.
+    unsafe { shift(array, text.offset + end, text.offset + (start + len), tail, steps) };
+}
 
-    /// Drops the part before a boundary, without a move.
-    ///
-    /// # Safety
-    ///
-    /// - `end` is a boundary of `self`
-    ///
-    /// <details><summary>Contract</summary>
-    ///
-    /// ```text
-    /// requires { IsTrue (boundary self.old.text end) }
-    /// ensures { self.new.text ≡ back self.old.text end }
-    /// ```
-    ///
-    /// [How to read a contract](crate::contracts)
-    ///
-    /// </details>
-    #[inline]
-    #[expect(clippy::cast_possible_truncation, reason = "the line before the write says why it fits")]
-    pub(super) unsafe fn drop_front(&mut self, end: usize) {
-        // FIELDS: `end` is at most `self.size` by this function's `# Safety`, so the text behind it begins where the
-        // text ends, or before.
-        self.start = (self.start as usize + end) as u8;
-        // FIELDS: `end` is at most `self.size`; the text ends where it did, and begins at a boundary.
-        self.size = (self.size as usize - end) as u8;
-    }
+/// Opens a gap as `open_gap` does, in a text that moves to the start of the array. Each byte moves at
+/// most once.
+///
+/// # Safety
+///
+/// - `start <= end`
+/// - `end <= text.size`
+/// - `text.offset + text.size <= ArrayString::<N>::capacity()`
+/// - `start + (len + (text.size - end)) <= ArrayString::<N>::capacity()`
+///
+/// <details><summary>Contract</summary>
+///
+/// ```text
+/// requires order { start ≤ end }
+/// requires within { end ≤ text.size }
+/// requires in_array { text.offset + text.size ≤ cap N }
+/// requires room { start + (len + (text.size - end)) ≤ cap N }
+/// requires countable { steps.old.moved ≤ 2 ^ 63 }
+/// ensures len { length array.new ≡ N }
+/// ensures front { take start array.new ≡ take start (drop text.offset array.old) }
+/// ensures tail { take (text.size - end) (drop (start + len) array.new) ≡ take (text.size - end) (drop (text.offset + end) array.old) }
+/// ensures most { steps.new.moved ≤ steps.old.moved + (start + (text.size - end)) }
+/// ensures least { end ≢ start + len → steps.old.moved + min start (text.size - end) ≤ steps.new.moved }
+/// ensures counted { steps.old.moved ≤ steps.new.moved }
+/// ensures looked { steps.new.looked ≡ steps.old.looked }
+/// ```
+///
+/// [How to read a contract](crate::contracts)
+///
+/// </details>
+#[inline(always)]
+pub(super) unsafe fn compact_and_open_gap<const N: usize>(
+    array: &mut [u8; N],
+    text: Span,
+    start: usize,
+    end: usize,
+    len: usize,
+    steps: &mut Steps,
+) {
+    let tail = text.size - end;
+    // SAFETY: `text.offset + start <= N`; `start <= N`: by this function's `# Safety`, since the capacity is at most
+    // `N`, whatever was counted.
+    unsafe { shift_by_call(array, text.offset, 0, start, steps) };
+    // SAFETY: `text.offset + end + tail <= N`; `start + len + tail <= N`: by this function's `# Safety`, since the
+    // capacity is at most `N`, whatever was counted.
+    unsafe { shift_by_call(array, text.offset + end, start + len, tail, steps) };
+}
 
-    /// Keeps the part before a boundary.
-    ///
-    /// # Safety
-    ///
-    /// - `size` is a boundary of `self`
-    ///
-    /// <details><summary>Contract</summary>
-    ///
-    /// ```text
-    /// requires { IsTrue (boundary self.old.text size) }
-    /// ensures { self.new.text ≡ front self.old.text size }
-    /// ```
-    ///
-    /// [How to read a contract](crate::contracts)
-    ///
-    /// </details>
-    #[inline]
-    pub(super) unsafe fn keep(&mut self, size: u8) {
-        // FIELDS: it is at most `self.size` by this function's `# Safety`, so the text begins where it did, and ends at
-        // a boundary, within the capacity.
-        self.size = size;
-    }
+/// Moves as `shift` does, which is inlined. The code of both moves of `compact_and_open_gap` is here once.
+///
+/// # Safety
+///
+/// - `from + len <= N`
+/// - `to + len <= N`
+///
+/// <details><summary>Contract</summary>
+///
+/// ```text
+/// requires source { from + len ≤ N }
+/// requires target { to + len ≤ N }
+/// requires countable { steps.old.moved + len < 2 ^ 64 }
+/// ensures bytes { array.new ≡ take to array.old ++ (take len (drop from array.old) ++ drop (to + len) array.old) }
+/// ensures moved { steps.new.moved ≡ steps.old.moved + (if from == to then 0 else len) }
+/// ensures looked { steps.new.looked ≡ steps.old.looked }
+/// ```
+///
+/// [How to read a contract](crate::contracts)
+///
+/// </details>
+#[cold]
+#[inline(never)]
+unsafe fn shift_by_call<const N: usize>(array: &mut [u8; N], from: usize, to: usize, len: usize, steps: &mut Steps) {
+    // SAFETY: `from + len <= N`; `to + len <= N`: by this function's `# Safety`, whatever was counted.
+    unsafe { shift(array, from, to, len, steps) };
 }

@@ -1,6 +1,6 @@
 use Rattle.std.proofs.Common.{◌+◌, ◌-◌, arith}
 use Rattle.arraystring_core.proofs.GapLemmas.{shifted}
-use Rattle.arraystring_core.proofs.array_string.gap.open_gap.Goals as goal
+use Rattle.arraystring_core.proofs.array_string.replaced_part.open_gap.Goals as goal
 
 pub returns-clause-front : goal.returns-clause-front
 returns-clause-front g c =

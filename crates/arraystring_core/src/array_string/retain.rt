@@ -1,0 +1,85 @@
+//! The characters of a text that a closure keeps.
+ghost use Rattle.std.specs.Prelude.{◌≡◌, ◌+◌, ◌≤◌, chars, length, drop, take, IsUtf8};
+ghost use Rattle.std.specs.List.Retain.{IsFiltered};
+ghost use Rattle.arraystring_core.specs.Retain.{IsCallableInTurn};
+
+use crate::ArrayString;
+use crate::array_string::remove::first_char;
+use arraystring_base::utils::{Steps, shift};
+use std::str;
+
+impl<const N: usize> ArrayString<N> {
+    /// Keeps the characters for which `f` returns true and removes all others. `f` is called once
+    /// with each character, in order.
+    ///
+    /// # Precondition
+    ///
+    /// `f` must be callable with each character, in each state that its earlier calls leave.
+    ///
+    /// # Examples
+    ///
+    /// ```
+    /// let mut string = ArrayString::<8>::from("a-b-c");
+    /// string.retain(|ch| ch != '-');
+    /// assert_eq!(string.as_str(), "abc");
+    /// ```
+    pub fn retain<F: FnMut(char) -> bool + Drop>(&mut self, f: F)
+        requires { IsCallableInTurn F.pre F.step f self.old.text }
+        ensures { IsFiltered F.step f self.old.text self.new.text }
+    {
+        let (offset, size) = (self.start as usize, self.size as usize);
+        retain_at(&mut self.array, &mut self.size, offset, size, f);
+    }
+}
+
+/// Calls `f` once with each character of a text, in order, and moves those for which it returns
+/// true together. The text is the `size` bytes of the array from `offset` on, and keeps
+/// its offset; `kept` becomes the size of what is kept. Each kept character is moved on its own, and
+/// only to the left. At each call of `f` the `kept` bytes from `offset` on are those of the
+/// characters that were kept so far: they are what a closure leaves that ends the loop.
+fn retain_at<const N: usize, F: FnMut(char) -> bool + Drop>(
+    array: &mut [u8; N],
+    kept: &mut u8,
+    offset: usize,
+    size: usize,
+    mut f: F,
+)
+    requires in_array { offset + size ≤ N }
+    requires small { size ≤ 255 }
+    requires text { IsUtf8 (take size (drop offset array.old)) }
+    requires callable { IsCallableInTurn F.pre F.step f (chars (take size (drop offset array.old))) }
+    ensures len { length array.new ≡ N }
+    ensures at_most { kept.new ≤ size }
+    ensures text { IsUtf8 (take kept.new (drop offset array.new)) }
+    ensures filtered { IsFiltered F.step f (chars (take size (drop offset array.old))) (chars (take kept.new (drop offset array.new))) }
+{
+    // From `read` on no byte was written over.
+    *kept = 0;
+    let mut read = 0;
+    while read < size {
+        prove!(offset + read < N);
+        // A byte of ASCII is its character; others take the decoder.
+        let first = array[offset + read];
+        if first < 0x80 {
+            if f(first as char) {
+                let to = offset + *kept as usize;
+                shift(array, offset + read, to, 1, &mut Steps::new());
+                *kept += 1;
+            }
+            read += 1;
+        } else {
+            let all = &array[..];
+            // SAFETY: the `size` bytes from `offset` on were UTF-8 at the start. No byte from `read` on was
+            // written over, since `*kept <= read`: each turn adds no more to it. `read` goes on by whole
+            // characters, so one begins there, whatever the closure answers.
+            let text = unsafe { str::from_utf8_unchecked(&all[offset + read..offset + size]) };
+            let (ch, width) = first_char(text);
+            if f(ch) {
+                let to = offset + *kept as usize;
+                shift(array, offset + read, to, width, &mut Steps::new());
+                *kept += width as u8;
+            }
+            read += width;
+        }
+    }
+}
