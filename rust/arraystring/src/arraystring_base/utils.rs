@@ -1,9 +1,10 @@
+// NOT PROVED: rust/proved.txt does not have the sources of this crate as they are.
 // Made from crates/arraystring_base/src/utils.rt by rust/erase. The proof is there. A change goes there.
 //! Boundaries, cuts and moves of bytes, under the paths of the Rust crate. Sizes and indices count bytes of
 //! UTF-8.
 
 use crate::arraystring_base::error::OutOfBounds;
-pub use crate::arraystring_base::moves::{shift, write_over};
+pub use crate::arraystring_base::moves::{move_bytes, shift, write_by_call, write_over};
 pub use crate::arraystring_base::steps::{Steps, look};
 pub use crate::arraystring_base::utf8::{encode, is_boundary, last_char, truncate_str, truncate_str_counted};
 

@@ -1,3 +1,4 @@
+// NOT PROVED: rust/proved.txt does not have the sources of this crate as they are.
 // Made from crates/arraystring_core/src/array_string.rt by rust/erase. The proof is there. A change goes there.
 //! `ArrayString`: the type, and the calls that read all of it. The modules below have its other calls,
 //! `traits` its impls of traits. `append` and `in_place` have the private calls that put bytes into its

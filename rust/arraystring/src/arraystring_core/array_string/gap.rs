@@ -1,3 +1,4 @@
+// NOT PROVED: rust/proved.txt does not have the sources of this crate as they are.
 // Made from crates/arraystring_core/src/array_string/gap.rt by rust/erase. The proof is there. A change goes there.
 //! Gaps in an array, into which a text is put.
 

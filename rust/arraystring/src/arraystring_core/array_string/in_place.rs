@@ -1,3 +1,4 @@
+// NOT PROVED: rust/proved.txt does not have the sources of this crate as they are.
 // Made from crates/arraystring_core/src/array_string/in_place.rt by rust/erase. The proof is there. A change goes there.
 //! The private calls that change the text where it lies in the array: those that put something in, take
 //! something out, or move the text to the start of the array for it.

@@ -1,3 +1,4 @@
+// NOT PROVED: rust/proved.txt does not have the sources of this crate as they are.
 // Made from crates/arraystring_core/src/array_string/remove.rt by rust/erase. The proof is there. A change goes there.
 //! What is removed from a string: characters at the end, at an index or by a closure, and the text from an
 //! index on.
