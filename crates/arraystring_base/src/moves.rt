@@ -52,14 +52,14 @@ pub fn move_run<const N: usize>(array: &mut [u8; N], from: usize, to: usize, len
     ensures { array.new ≡ take to array.old ++ (take len (drop from array.old) ++ drop (to + len) array.old) }
 {
     let all = &mut array[..];
-    if N > 64 && len > 64 {
+    if len < 16 {
+        move_short_run::<N>(all, from, to, len);
+    } else if N > 64 && len > 64 {
         move_bytes(all, from, to, len);
     } else if N > 32 && len > 32 {
         move_ends::<32>(all, from, to, len);
-    } else if len >= 16 {
-        move_ends::<16>(all, from, to, len);
     } else {
-        move_short_run::<N>(all, from, to, len);
+        move_ends::<16>(all, from, to, len);
     }
 }
 
@@ -171,16 +171,15 @@ pub fn write_over<const N: usize>(array: &mut [u8; N], at: usize, given: &[u8])
     requires { at + length given.now ≤ N }
     ensures { array.new ≡ take at array.old ++ (given.now ++ drop (at + length given.now) array.old) }
 {
-    let len = given.len();
     let all = &mut array[..];
-    if N > 64 && len > 64 {
-        write_by_call(all, at, given);
-    } else if N > 32 && len > 32 {
-        copy_ends::<32>(all, at, given);
-    } else if len >= 16 {
-        copy_ends::<16>(all, at, given);
-    } else {
+    if given.len() < 16 {
         write_short_run::<N>(all, at, given);
+    } else if N > 64 && given.len() > 64 {
+        write_by_call(all, at, given);
+    } else if N > 32 && given.len() > 32 {
+        copy_ends::<32>(all, at, given);
+    } else {
+        copy_ends::<16>(all, at, given);
     }
 }
 

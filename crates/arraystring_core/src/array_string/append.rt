@@ -1,9 +1,8 @@
 //! The private calls that append: a character, a text, or what an iterator gives. Room behind the text is one
 //! test and one write, in `append_char` and `append_str`. All else is one function, `append_at_front`, which moves
 //! the text to the start of the array, or refuses. It takes a slice, and so stands once in a program.
-ghost use Rattle.std.specs.Prelude.{◌≡◌, ◌+◌, ◌-◌, ◌<◌, ◌≤◌, ◌↔◌, IfSome, [], ◌∷◌, ◌++◌, IsTrue, chars, ℕ, List, MatchOption, MatchResult};
-ghost use Rattle.arraystring_base.specs.Text.{size, width, cap, cut};
-ghost use Rattle.arraystring_core.specs.Edits.{Makes, from_out_of_bounds, addition};
+ghost use Rattle.std.specs.Prelude.{◌≡◌, ◌+◌, ◌-◌, ◌<◌, ◌≤◌, ◌↔◌, IfSome, [], ◌∷◌, ◌++◌, IsTrue, chars, ℕ, List, MatchOption, MatchResult, length, take, drop};
+ghost use Rattle.arraystring_base.specs.Text.{size, width, utf8, cap, cut};
 ghost use Rattle.std.specs.Borrow.{Bor};
 ghost use Rattle.std.specs.Iterator.{IsFiniteIterable};
 ghost use Rattle.arraystring_core.specs.Layout.{stored, IsStored};
@@ -95,6 +94,9 @@ impl<const N: usize> ArrayString<N> {
             return Some(next);
         }
         let from = *start as usize;
+        if from == 0 {
+            return None;
+        }
         let all = &mut array[..];
         let size = append_char_at_front(end - from, ch, all, from)?;
         *start = 0;
@@ -103,8 +105,8 @@ impl<const N: usize> ArrayString<N> {
     }
 
     /// Appends `string` to a text of the array that ends at `end`, and returns where it ends then. Returns
-    /// `None` if not all of it fits. Afterwards the `len` bytes from `start` on are UTF-8 and end within
-    /// the capacity.
+    /// `None` if not all of it fits: then it ends at `end` still. Afterwards the `len` bytes from `start`
+    /// on are UTF-8 and end within the capacity.
     #[inline(always)]
     pub(super) fn append_str(
         array: &mut [u8; N],
@@ -116,7 +118,7 @@ impl<const N: usize> ArrayString<N> {
         requires in_array { IsStored N array.old start.old len.old }
         requires end { end ≡ start.old + len.old }
         ensures in_array { IsStored N array.new start.new len.new }
-        ensures end { IfSome result (λ next. next ≡ start.new + len.new) }
+        ensures end { MatchOption result (end ≡ start.new + len.new) (λ next. next ≡ start.new + len.new) }
         ensures text { let t = (stored array.old start.old len.old).text in let new = (stored array.new start.new len.new).text in
             MatchOption result ((cap N < size t + size (chars string.now)) × (new ≡ t))
             (λ _. (size t + size (chars string.now) ≤ cap N) × (new ≡ t ++ chars string.now)) }
@@ -128,6 +130,9 @@ impl<const N: usize> ArrayString<N> {
             return Some(next);
         }
         let from = *start as usize;
+        if from == 0 {
+            return None;
+        }
         let all = &mut array[..];
         let size = append_at_front(end - from, string.as_bytes(), all, from)?;
         *start = 0;
@@ -194,7 +199,7 @@ fn append_at_front(size: usize, given: &[u8], array: &mut [u8], start: usize) ->
     ensures { MatchOption result
         ((cap (length array.old) < size + length given.now) × (array.new ≡ array.old))
         (λ new. (size + length given.now ≤ cap (length array.old)) × (new ≡ size + length given.now)
-            × (array.new ≡ take size (drop start array.old) ++ (given.now ++ drop new array.old))) }
+        × (array.new ≡ take size (drop start array.old) ++ (given.now ++ drop new array.old))) }
 {
     if size + given.len() > array.len().min(255) {
         return None;
@@ -212,7 +217,7 @@ fn append_char_at_front(size: usize, ch: char, array: &mut [u8], start: usize) -
     ensures { MatchOption result
         ((cap (length array.old) < size + width ch) × (array.new ≡ array.old))
         (λ new. (size + width ch ≤ cap (length array.old)) × (new ≡ size + width ch)
-            × (array.new ≡ take size (drop start array.old) ++ (utf8 ch ++ drop new array.old))) }
+        × (array.new ≡ take size (drop start array.old) ++ (utf8 ch ++ drop new array.old))) }
 {
     let mut bytes = [0; 4];
     let len = encode(ch, &mut bytes, 0);

@@ -70,7 +70,13 @@ impl<const N: usize> ArrayString<N> {
         ensures { Makes (addition self.old.text (chars string.now) (cap N)) self.old.text (from_out_of_bounds result) self.new.text }
     {
         let end = self.end();
-        match Self::append_str(&mut self.array, &mut self.start, &mut self.size, end, string) {
+        match Self::append_str(
+            &mut self.array,
+            &mut self.start,
+            &mut self.size,
+            end,
+            string,
+        ) {
             Some(_) => Ok(()),
             None => Err(OutOfBounds),
         }

@@ -77,21 +77,21 @@ pub unsafe fn shift<const N: usize>(array: &mut [u8; N], from: usize, to: usize,
 /// </details>
 pub unsafe fn move_run<const N: usize>(array: &mut [u8; N], from: usize, to: usize, len: usize) {
     let all = &mut array[..];
-    if N > 64 && len > 64 {
+    if len < 16 {
+        // SAFETY: `from + len <= all.len()`; `to + len <= all.len()`; `len <= N`; `len < 16`: by this function's
+        // `# Safety` and the tests above, since `len` is at most `N`.
+        unsafe { move_short_run::<N>(all, from, to, len) };
+    } else if N > 64 && len > 64 {
         // SAFETY: `from + len <= all.len()`; `to + len <= all.len()`: by this function's `# Safety`.
         unsafe { move_bytes(all, from, to, len) };
     } else if N > 32 && len > 32 {
         // SAFETY: `from + len <= all.len()`; `to + len <= all.len()`; `32 <= len`; `len - 32 <= 32`: by this function's
         // `# Safety` and the tests above, since `len` is at most `N`.
         unsafe { move_ends::<32>(all, from, to, len) };
-    } else if len >= 16 {
+    } else {
         // SAFETY: `from + len <= all.len()`; `to + len <= all.len()`; `16 <= len`; `len - 16 <= 16`: by this function's
         // `# Safety` and the tests above, since `len` is at most `N`.
         unsafe { move_ends::<16>(all, from, to, len) };
-    } else {
-        // SAFETY: `from + len <= all.len()`; `to + len <= all.len()`; `len <= N`; `len < 16`: by this function's
-        // `# Safety` and the tests above, since `len` is at most `N`.
-        unsafe { move_short_run::<N>(all, from, to, len) };
     }
 }
 
@@ -224,21 +224,21 @@ unsafe fn move_ends<const K: usize>(all: &mut [u8], from: usize, to: usize, len:
 pub unsafe fn write_over<const N: usize>(array: &mut [u8; N], at: usize, given: &[u8]) {
     let len = given.len();
     let all = &mut array[..];
-    if N > 64 && len > 64 {
+    if len < 16 {
+        // SAFETY: `at + given.len() <= all.len()`; `given.len() <= N`; `given.len() < 16`: by this function's
+        // `# Safety` and the tests above, since `len` is at most `N`.
+        unsafe { write_short_run::<N>(all, at, given) };
+    } else if N > 64 && len > 64 {
         // SAFETY: `at + given.len() <= all.len()`: by this function's `# Safety`.
         unsafe { write_by_call(all, at, given) };
     } else if N > 32 && len > 32 {
         // SAFETY: `at + given.len() <= all.len()`; `32 <= given.len()`; `given.len() - 32 <= 32`: by this function's
         // `# Safety` and the tests above, since `len` is at most `N`.
         unsafe { copy_ends::<32>(all, at, given) };
-    } else if len >= 16 {
+    } else {
         // SAFETY: `at + given.len() <= all.len()`; `16 <= given.len()`; `given.len() - 16 <= 16`: by this function's
         // `# Safety` and the tests above, since `len` is at most `N`.
         unsafe { copy_ends::<16>(all, at, given) };
-    } else {
-        // SAFETY: `at + given.len() <= all.len()`; `given.len() <= N`; `given.len() < 16`: by this function's
-        // `# Safety` and the tests above, since `len` is at most `N`.
-        unsafe { write_short_run::<N>(all, at, given) };
     }
 }
 

@@ -143,6 +143,9 @@ impl<const N: usize> ArrayString<N> {
             return Some(next);
         }
         let from = *start as usize;
+        if from == 0 {
+            return None;
+        }
         let all = &mut array[..];
         // SAFETY: `from + (end - from) <= all.len()`: by this function's `# Safety` the text ends at `end`, and within
         // the capacity.
@@ -197,6 +200,9 @@ impl<const N: usize> ArrayString<N> {
             return Some(next);
         }
         let from = *start as usize;
+        if from == 0 {
+            return None;
+        }
         let all = &mut array[..];
         // SAFETY: `from + (end - from) <= all.len()`: by this function's `# Safety` the text ends at `end`, and within
         // the capacity.
