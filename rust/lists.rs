@@ -144,6 +144,13 @@ pub const REQUIRED: &[Required] = &[
         why: "no program reaches it but by `shift`, which tests the same",
     },
     Required {
+        path: "arraystring_base::moves::write_by_call",
+        requires: &["requires { at + length given.now ≤ length all.old }"],
+        behind: "",
+        lines: "",
+        why: "no program reaches it",
+    },
+    Required {
         path: "arraystring_base::moves::write_over",
         requires: &["requires { at + length given.now ≤ N }"],
         behind: "",
@@ -373,11 +380,22 @@ pub struct Place {
 }
 
 const MEMCMP: &str = "std has the same answer, from the first bytes that differ; its `memcmp` has larger vectors";
+const MEMMOVE: &str = "std moves the same bytes, also where both runs overlap; its `memmove` is there already, and smaller";
 const SPLITS: &str = "it is `const`: the array is split twice, since stable Rust has no index of a slice in a constant";
 const LIKE_STR: &str = "no precondition bounds the range: it panics as the index of `str` does";
 const COUNT_STOPS: &str = "no precondition bounds the count, which stops at 2^64 - 1";
 
 pub const PLACES: &[Place] = &[
+    Place {
+        path: "arraystring_base::moves::move_bytes",
+        source: 0,
+        here: "
+            pub unsafe fn move_bytes(all: &mut [u8], from: usize, to: usize, len: usize) {
+                // SAFETY: this is within: by this function's `# Safety`.
+                unsafe { copy_within_unchecked!(all, from..from + len, to) };
+            }",
+        why: MEMMOVE,
+    },
     Place {
         path: "arraystring_base::steps::Steps::count_moves",
         source: 0x0ECD_4EB4_8C1A_0C39,
@@ -631,6 +649,9 @@ pub const LEFT_OUT: &[(&str, &str)] = &[
         "arraystring_base::utils::use crate::arraystring_base::moves::move_run",
         "`shift` calls it in its own module, and a Rust program is given `shift`, which counts",
     ),
+    ("arraystring_base::moves::move_long_run", BY_STD),
+    ("arraystring_base::moves::move_pairs", BY_STD),
+    ("arraystring_base::moves::put_pair", BY_STD),
     (
         "arraystring_core::array_string::range::ArrayString::between",
         "`get` asks std for the part, and `slice` has the index itself",

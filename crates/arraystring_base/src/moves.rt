@@ -1,7 +1,10 @@
-//! How a run of bytes is moved inside an array: as its first `K` and its last `K` bytes, which may
-//! overlap, and both are read before the first is written. `memmove` moves short runs in this way
+//! How a run of bytes is moved inside an array or a slice: as its first `K` and its last `K` bytes, which
+//! may overlap, and both are read before the first is written. `memmove` moves short runs in this way
 //! too. A byte that both have is written twice, to one offset, and counts as one move. They are read
 //! as vectors, since those stay in registers; arrays of bytes would be put on the stack.
+//!
+//! What is made for each size of an array is small. Long runs are moved by `move_bytes` and written by
+//! `write_by_call`, which take a slice.
 ghost use Rattle.std.specs.Prelude.{◌≡◌, ◌+◌, ◌-◌, ◌^◌, ◌==◌, if◌then◌else◌, ◌≤◌, ◌<◌, ◌++◌, length, take, drop};
 
 use crate::steps::Steps;
@@ -36,7 +39,8 @@ pub fn shift<const N: usize>(
 }
 
 /// Moves `len` bytes of the array from the offset `from` to the offset `to`; the two runs may overlap.
-/// No byte outside the target changes, and nothing is counted. Up to 256 bytes cost no call.
+/// No byte outside the target changes, and nothing is counted. Up to 64 bytes cost no call. What an
+/// array of `N` bytes can't have is not tested.
 ///
 /// # Precondition
 ///
@@ -47,129 +51,117 @@ pub fn move_run<const N: usize>(array: &mut [u8; N], from: usize, to: usize, len
     requires target { to + len ≤ N }
     ensures { array.new ≡ take to array.old ++ (take len (drop from array.old) ++ drop (to + len) array.old) }
 {
-    if N > 64 && len > 64 {
-        move_much(array, from, to, len);
+    let all = &mut array[..];
+    if len < 16 {
+        move_short_run::<N>(all, from, to, len);
+    } else if N > 64 && len > 64 {
+        move_bytes(all, from, to, len);
+    } else if N > 32 && len > 32 {
+        move_ends::<32>(all, from, to, len);
+    } else {
+        move_ends::<16>(all, from, to, len);
+    }
+}
+
+/// Moves `len` bytes of a slice from the offset `from` to the offset `to`, as `move_run` does those of
+/// an array. It stands once in a program, and costs a call.
+///
+/// # Precondition
+///
+/// Both runs must lie in the slice.
+#[inline(never)]
+pub fn move_bytes(all: &mut [u8], from: usize, to: usize, len: usize)
+    requires source { from + len ≤ length all.old }
+    requires target { to + len ≤ length all.old }
+    ensures { all.new ≡ take to all.old ++ (take len (drop from all.old) ++ drop (to + len) all.old) }
+{
+    if len > 64 {
+        move_long_run(all, from, to, len);
+    } else if len > 32 {
+        move_ends::<32>(all, from, to, len);
     } else if len >= 16 {
-        move_long_run(array, from, to, len);
+        move_ends::<16>(all, from, to, len);
     } else {
-        move_short_run(array, from, to, len);
-    }
-}
-
-/// Moves fewer than 16 bytes.
-#[inline(always)]
-fn move_short_run<const N: usize>(array: &mut [u8; N], from: usize, to: usize, len: usize)
-    requires source { from + len ≤ N }
-    requires target { to + len ≤ N }
-    requires short { len < 16 }
-    ensures { array.new ≡ take to array.old ++ (take len (drop from array.old) ++ drop (to + len) array.old) }
-{
-    if len >= 4 {
-        if len >= 8 {
-            move_ends::<N, 8>(array, from, to, len);
-        } else {
-            move_ends::<N, 4>(array, from, to, len);
-        }
-    } else if len >= 2 {
-        move_ends::<N, 2>(array, from, to, len);
-    } else if len == 1 {
-        move_ends::<N, 1>(array, from, to, len);
-    }
-}
-
-/// Moves 16 to 64 bytes. What an array of `N` bytes can't have is not tested.
-#[inline(always)]
-fn move_long_run<const N: usize>(array: &mut [u8; N], from: usize, to: usize, len: usize)
-    requires source { from + len ≤ N }
-    requires target { to + len ≤ N }
-    requires least { 16 ≤ len }
-    requires most { len ≤ 64 }
-    ensures { array.new ≡ take to array.old ++ (take len (drop from array.old) ++ drop (to + len) array.old) }
-{
-    if N > 32 && len > 32 {
-        move_ends::<N, 32>(array, from, to, len);
-    } else {
-        move_ends::<N, 16>(array, from, to, len);
+        move_short_run::<16>(all, from, to, len);
     }
 }
 
 /// Moves more than 64 bytes.
 #[inline(always)]
-fn move_much<const N: usize>(array: &mut [u8; N], from: usize, to: usize, len: usize)
-    requires source { from + len ≤ N }
-    requires target { to + len ≤ N }
+fn move_long_run(all: &mut [u8], from: usize, to: usize, len: usize)
+    requires source { from + len ≤ length all.old }
+    requires target { to + len ≤ length all.old }
     requires long { 64 < len }
-    ensures { array.new ≡ take to array.old ++ (take len (drop from array.old) ++ drop (to + len) array.old) }
+    ensures { all.new ≡ take to all.old ++ (take len (drop from all.old) ++ drop (to + len) all.old) }
 {
     if len <= 128 {
-        move_ends::<N, 64>(array, from, to, len);
-    } else if N <= 256 {
-        move_pairs::<N, 64>(array, from, to, len);
+        move_ends::<64>(all, from, to, len);
+    } else if len <= 256 {
+        move_pairs::<64>(all, from, to, len);
     } else {
-        move_any_run(array, from, to, len);
+        all.copy_within(from..from + len, to);
     }
 }
 
-/// Moves more than 128 bytes of an array of more than 256.
-#[cold]
-#[inline(never)]
-fn move_any_run<const N: usize>(array: &mut [u8; N], from: usize, to: usize, len: usize)
-    requires source { from + len ≤ N }
-    requires target { to + len ≤ N }
-    ensures { array.new ≡ take to array.old ++ (take len (drop from array.old) ++ drop (to + len) array.old) }
+/// Moves fewer than 16 bytes, of at most `N`. More than `N` are not tested for.
+#[inline(always)]
+fn move_short_run<const N: usize>(all: &mut [u8], from: usize, to: usize, len: usize)
+    requires source { from + len ≤ length all.old }
+    requires target { to + len ≤ length all.old }
+    requires most { len ≤ N }
+    requires short { len < 16 }
+    ensures { all.new ≡ take to all.old ++ (take len (drop from all.old) ++ drop (to + len) all.old) }
 {
-    let all = &mut array[..];
-    all.copy_within(from..from + len, to);
+    if N >= 4 && len >= 4 {
+        if N >= 8 && len >= 8 {
+            move_ends::<8>(all, from, to, len);
+        } else {
+            move_ends::<4>(all, from, to, len);
+        }
+    } else if N >= 2 && len >= 2 {
+        move_ends::<2>(all, from, to, len);
+    } else if len == 1 {
+        move_ends::<1>(all, from, to, len);
+    }
 }
 
 /// Moves `K` to `2 * K` bytes.
 #[inline(always)]
-fn move_ends<const N: usize, const K: usize>(
-    array: &mut [u8; N],
-    from: usize,
-    to: usize,
-    len: usize,
-)
-    requires source { from + len ≤ N }
-    requires target { to + len ≤ N }
+fn move_ends<const K: usize>(all: &mut [u8], from: usize, to: usize, len: usize)
+    requires source { from + len ≤ length all.old }
+    requires target { to + len ≤ length all.old }
     requires least { K ≤ len }
     requires most { len - K ≤ K }
-    ensures { array.new ≡ take to array.old ++ (take len (drop from array.old) ++ drop (to + len) array.old) }
+    ensures { all.new ≡ take to all.old ++ (take len (drop from all.old) ++ drop (to + len) all.old) }
 {
     let rest = len - K;
-    let all = &array[..];
     let first = bytes_of::<K>(all, from);
     let last = bytes_of::<K>(all, from + rest);
-    put_bytes(array, to, first);
-    put_bytes(array, to + rest, last);
+    put_bytes(all, to, first);
+    put_bytes(all, to + rest, last);
 }
 
 /// Moves `2 * K` to `4 * K` bytes.
 #[inline(always)]
-fn move_pairs<const N: usize, const K: usize>(
-    array: &mut [u8; N],
-    from: usize,
-    to: usize,
-    len: usize,
-)
-    requires source { from + len ≤ N }
-    requires target { to + len ≤ N }
+fn move_pairs<const K: usize>(all: &mut [u8], from: usize, to: usize, len: usize)
+    requires source { from + len ≤ length all.old }
+    requires target { to + len ≤ length all.old }
     requires least { K + K ≤ len }
     requires most { len - (K + K) ≤ K + K }
-    ensures { array.new ≡ take to array.old ++ (take len (drop from array.old) ++ drop (to + len) array.old) }
+    ensures { all.new ≡ take to all.old ++ (take len (drop from all.old) ++ drop (to + len) all.old) }
 {
     let rest = len - (K + K);
-    let all = &array[..];
     let front = bytes_of::<K>(all, from);
     let after_front = bytes_of::<K>(all, from + K);
     let before_end = bytes_of::<K>(all, from + rest);
     let end = bytes_of::<K>(all, from + rest + K);
-    put_pair(array, to, front, after_front);
-    put_pair(array, to + rest, before_end, end);
+    put_pair(all, to, front, after_front);
+    put_pair(all, to + rest, before_end, end);
 }
 
 /// Writes `given` over the bytes of the array from the offset `at` on. No other byte changes. Up to
-/// 64 bytes cost no call, and more bytes one of `memcpy`.
+/// 64 bytes cost no call, and more bytes one of `memcpy`. What an array of `N` bytes can't have is not
+/// tested.
 ///
 /// # Precondition
 ///
@@ -179,74 +171,67 @@ pub fn write_over<const N: usize>(array: &mut [u8; N], at: usize, given: &[u8])
     requires { at + length given.now ≤ N }
     ensures { array.new ≡ take at array.old ++ (given.now ++ drop (at + length given.now) array.old) }
 {
-    if given.len() >= 16 {
-        write_long_run(array, at, given);
-    } else {
-        write_short_run(array, at, given);
-    }
-}
-
-/// Writes fewer than 16 bytes.
-#[inline(always)]
-fn write_short_run<const N: usize>(array: &mut [u8; N], at: usize, given: &[u8])
-    requires room { at + length given.now ≤ N }
-    requires short { length given.now < 16 }
-    ensures { array.new ≡ take at array.old ++ (given.now ++ drop (at + length given.now) array.old) }
-{
-    let len = given.len();
-    if len >= 4 {
-        if len >= 8 {
-            copy_ends::<N, 8>(array, at, given);
-        } else {
-            copy_ends::<N, 4>(array, at, given);
-        }
-    } else if len >= 2 {
-        copy_ends::<N, 2>(array, at, given);
-    } else if len == 1 {
-        copy_ends::<N, 1>(array, at, given);
-    }
-}
-
-/// Writes at least 16 bytes. What an array of `N` bytes can't have is not tested.
-#[inline(always)]
-fn write_long_run<const N: usize>(array: &mut [u8; N], at: usize, given: &[u8])
-    requires room { at + length given.now ≤ N }
-    requires least { 16 ≤ length given.now }
-    ensures { array.new ≡ take at array.old ++ (given.now ++ drop (at + length given.now) array.old) }
-{
-    let len = given.len();
-    if N > 64 && len > 64 {
-        write_any_run(array, at, given);
-    } else if N > 32 && len > 32 {
-        copy_ends::<N, 32>(array, at, given);
-    } else {
-        copy_ends::<N, 16>(array, at, given);
-    }
-}
-
-/// Writes any number of bytes by one call.
-#[inline(always)]
-fn write_any_run<const N: usize>(array: &mut [u8; N], at: usize, given: &[u8])
-    requires { at + length given.now ≤ N }
-    ensures { array.new ≡ take at array.old ++ (given.now ++ drop (at + length given.now) array.old) }
-{
     let all = &mut array[..];
+    if given.len() < 16 {
+        write_short_run::<N>(all, at, given);
+    } else if N > 64 && given.len() > 64 {
+        write_by_call(all, at, given);
+    } else if N > 32 && given.len() > 32 {
+        copy_ends::<32>(all, at, given);
+    } else {
+        copy_ends::<16>(all, at, given);
+    }
+}
+
+/// Writes `given` over the bytes of a slice from the offset `at` on, as `write_over` does, by one call
+/// whatever its length.
+///
+/// # Precondition
+///
+/// `given` must fit into the slice from there.
+#[inline(always)]
+pub fn write_by_call(all: &mut [u8], at: usize, given: &[u8])
+    requires { at + length given.now ≤ length all.old }
+    ensures { all.new ≡ take at all.old ++ (given.now ++ drop (at + length given.now) all.old) }
+{
     all[at..at + given.len()].copy_from_slice(given);
+}
+
+/// Writes fewer than 16 bytes, of at most `N`. More than `N` are not tested for.
+#[inline(always)]
+fn write_short_run<const N: usize>(all: &mut [u8], at: usize, given: &[u8])
+    requires room { at + length given.now ≤ length all.old }
+    requires most { length given.now ≤ N }
+    requires short { length given.now < 16 }
+    ensures { all.new ≡ take at all.old ++ (given.now ++ drop (at + length given.now) all.old) }
+{
+    let len = given.len();
+    if N >= 4 && len >= 4 {
+        if N >= 8 && len >= 8 {
+            copy_ends::<8>(all, at, given);
+        } else {
+            copy_ends::<4>(all, at, given);
+        }
+    } else if N >= 2 && len >= 2 {
+        copy_ends::<2>(all, at, given);
+    } else if len == 1 {
+        copy_ends::<1>(all, at, given);
+    }
 }
 
 /// Writes `K` to `2 * K` bytes.
 #[inline(always)]
-fn copy_ends<const N: usize, const K: usize>(array: &mut [u8; N], at: usize, given: &[u8])
-    requires room { at + length given.now ≤ N }
+fn copy_ends<const K: usize>(all: &mut [u8], at: usize, given: &[u8])
+    requires room { at + length given.now ≤ length all.old }
     requires least { K ≤ length given.now }
     requires most { length given.now - K ≤ K }
-    ensures { array.new ≡ take at array.old ++ (given.now ++ drop (at + length given.now) array.old) }
+    ensures { all.new ≡ take at all.old ++ (given.now ++ drop (at + length given.now) all.old) }
 {
     let rest = given.len() - K;
     let first = bytes_of::<K>(given, 0);
     let last = bytes_of::<K>(given, rest);
-    put_bytes(array, at, first);
-    put_bytes(array, at + rest, last);
+    put_bytes(all, at, first);
+    put_bytes(all, at + rest, last);
 }
 
 /// The `K` bytes of `given` from `at` on.
@@ -260,26 +245,20 @@ fn bytes_of<const K: usize>(given: &[u8], at: usize) -> Simd<u8, K>
 
 /// Writes `K` bytes from `at` on.
 #[inline(always)]
-fn put_bytes<const N: usize, const K: usize>(array: &mut [u8; N], at: usize, bytes: Simd<u8, K>)
-    requires { at + K ≤ N }
-    ensures { array.new ≡ take at array.old ++ (bytes.entry ++ drop (at + K) array.old) }
+fn put_bytes<const K: usize>(all: &mut [u8], at: usize, bytes: Simd<u8, K>)
+    requires { at + K ≤ length all.old }
+    ensures { all.new ≡ take at all.old ++ (bytes.entry ++ drop (at + K) all.old) }
 {
-    let all = &mut array[..];
     bytes.copy_to_slice(&mut all[at..at + K]);
 }
 
 /// Writes `2 * K` bytes from `at` on.
 #[tactic(auto, using(crate::proofs::MoveLemmas::written_as_one))]
 #[inline(always)]
-fn put_pair<const N: usize, const K: usize>(
-    array: &mut [u8; N],
-    at: usize,
-    first: Simd<u8, K>,
-    second: Simd<u8, K>,
-)
-    requires { at + (K + K) ≤ N }
-    ensures { array.new ≡ take at array.old ++ ((first.entry ++ second.entry) ++ drop (at + (K + K)) array.old) }
+fn put_pair<const K: usize>(all: &mut [u8], at: usize, first: Simd<u8, K>, second: Simd<u8, K>)
+    requires { at + (K + K) ≤ length all.old }
+    ensures { all.new ≡ take at all.old ++ ((first.entry ++ second.entry) ++ drop (at + (K + K)) all.old) }
 {
-    put_bytes(array, at, first);
-    put_bytes(array, at + K, second);
+    put_bytes(all, at, first);
+    put_bytes(all, at + K, second);
 }

@@ -7,7 +7,7 @@ use Rattle.arraystring_base.specs.Text.{utf8, width, size, cap, front, back, bou
 use Rattle.arraystring_base.proofs.TextLaws.{chars-bytes, utf8-is, length-utf8, size-borrowed}
 use Rattle.arraystring_core.specs.Stored.{Stored}
 use Rattle.arraystring_core.specs.Layout.{stored, IsStored}
-use Rattle.arraystring_core.proofs.SpanLemmas.{Lies, appended, appended_at_start, filled}
+use Rattle.arraystring_core.proofs.SpanLemmas.{Lies, appended, appended_at_front, filled}
 
 module _ (ch : ℕ) (scalar : IsScalar ch) where
   pub char-utf8 : IsUtf8 (utf8 ch)
@@ -34,13 +34,11 @@ module _ {array_size : ℕ} {array : List ℕ} {p n : ℕ} (is : IsStored array_
       rw (wide, ← length-utf8 ch, ← char-chars ch scalar) (appended is e (char-utf8 ch scalar))
 
   -- the text was moved to offset 0 before
-  pub char-appended_at_start : {compact after : List ℕ} → n + width ch ≤ cap array_size
-      → compact ≡ take 0 array ++ (take n (drop p array) ++ drop (0 + n) array)
-      → after ≡ take n compact ++ (utf8 ch ++ drop (n + width ch) compact)
+  pub char-appended_at_front : {after : List ℕ} → n + width ch ≤ cap array_size
+      → after ≡ take n (drop p array) ++ (utf8 ch ++ drop (n + width ch) array)
       → Lies array_size after 0 (n + len) (v.text ++ ch ∷ [])
-  char-appended_at_start room moved =
-      rw (wide, ← length-utf8 ch, ← char-chars ch scalar)
-      (appended_at_start is moved e (char-utf8 ch scalar) (rw (length-utf8 ch) room))
+  char-appended_at_front =
+      rw (wide, ← length-utf8 ch, ← char-chars ch scalar) (appended_at_front is e (char-utf8 ch scalar))
 
   -- the gap is at the boundary m; offset and count are the span of the text
   module _ (m : ℕ) (b : boundary v.text m ≡ true) (room : size v.text + width ch ≤ cap array_size)

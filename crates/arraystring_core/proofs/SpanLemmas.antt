@@ -1,7 +1,7 @@
 -- A text at an offset of its array, and what it is once a part of it is replaced, dropped or kept.
-use Rattle.std.proofs.Common.{◌≡◌, ℕ, ◌+◌, ◌-◌, ◌≤◌, List, ◌++◌, length, take, drop, refl, ap, ◌∙◌, arith, IsUtf8, chars, true, take-take}
+use Rattle.std.proofs.Common.{◌≡◌, ℕ, ◌+◌, ◌-◌, ◌≤◌, List, ◌++◌, length, take, drop, refl, ap, ◌∙◌, arith, IsUtf8, chars, true, take-take, take_at, length-take-le, length-drop, length-append}
 use Rattle.std.proofs.lemmas.Str.{IsUtf8-append, chars-append}
-use Rattle.std.proofs.lemmas.List.{drop-take, drop-drop}
+use Rattle.std.proofs.lemmas.List.{drop-take, drop-drop, drop_at}
 use Rattle.std.proofs.Math.Seq.{take-add}
 use Rattle.arraystring_base.specs.Text.{size, cap, front, back, boundary}
 use Rattle.arraystring_base.proofs.TextLaws.{bytes-utf8, size-borrowed}
@@ -119,20 +119,19 @@ module _ {array_size : ℕ} {array : List ℕ} {p n : ℕ} (is : IsStored array_
           put 0 (omega (arith, spliced d u)) (rw at at moved) (rw sum (rw (at, many, wide) at tail))
           (written-from-zero _ _ _ start over)
 
--- the text was moved to offset 0
-module _ {array_size : ℕ} {array : List ℕ} {p n : ℕ} (is : IsStored array_size array p n) {compact : List ℕ}
-    (moved : compact ≡ take 0 array ++ (take n (drop p array) ++ drop (0 + n) array)) where
-  compacted : Lies array_size compact 0 n (stored array p n).text
-  compacted =
-      let there = shifted array compact p 0 n (omega arith) (omega arith) moved in
-      laid compact 0 n (stored-utf8 is) refl (there.long ∙ is.length) (omega arith) there.here
-
-  pub compact-stored : IsStored array_size compact 0 n
-  compact-stored = compacted.in_array
-
-  -- and `given` was written behind it
-  pub appended_at_start : {v : Stored} → stored array p n ≡ v → {given after : List ℕ} → IsUtf8 given
-      → n + length given ≤ cap array_size → after ≡ take n compact ++ (given ++ drop (n + length given) compact)
-      → Lies array_size after 0 (n + length given) (v.text ++ chars given)
-  appended_at_start e u room over =
-      rw (compacted.shown ∙ ap (λ w. w.text) e) at (appended compact-stored refl u (omega arith) (written-from-zero _ _ _ n over))
+-- the text was moved to offset 0, and `given` was written behind it
+pub appended_at_front : {array_size : ℕ} {array : List ℕ} {p n : ℕ} (is : IsStored array_size array p n) {v : Stored} → stored array p n ≡ v
+    → {given after : List ℕ} → IsUtf8 given → n + length given ≤ cap array_size
+    → after ≡ take n (drop p array) ++ (given ++ drop (n + length given) array)
+    → Lies array_size after 0 (n + length given) (v.text ++ chars given)
+appended_at_front {array_size} {array} {p} {n} is e {given} {after} u room put =
+    let text = take n (drop p array) in
+    let rest = given ++ drop (n + length given) array in
+    let front : length text ≡ n = length-take-le n (drop p array) (omega (arith, length-drop p array, is.length)) in
+    let long : length after ≡ array_size =
+    omega (arith, simp length-append at (ap length put), front, length-drop (n + length given) array, is.length) in
+    let zero : 0 + n ≡ n = omega arith in
+    joined (laid after 0 n (stored-utf8 is) (ap (λ w. w.text) e) long (omega arith) (ap (take n) put ∙ take_at text rest n front))
+    (laid after (0 + n) (length given) u refl long (omega arith)
+    (rw zero (ap (λ l. take (length given) (drop n l)) put ∙ ap (take (length given)) (drop_at text rest n front)
+    ∙ take_at given _ (length given) refl)))

@@ -1,8 +1,8 @@
-//! The private calls that append: a character, a text, or what an iterator gives. They move the text to the
-//! start of the array if there is no room after it.
-ghost use Rattle.std.specs.Prelude.{◌≡◌, ◌+◌, ◌-◌, ◌<◌, ◌≤◌, ◌↔◌, IfSome, [], ◌∷◌, ◌++◌, IsTrue, chars, ℕ, List, MatchOption, MatchResult};
-ghost use Rattle.arraystring_base.specs.Text.{size, width, cap, cut};
-ghost use Rattle.arraystring_core.specs.Edits.{Makes, from_out_of_bounds, addition};
+//! The private calls that append: a character, a text, or what an iterator gives. Room behind the text is one
+//! test and one write, in `append_char` and `append_str`. All else is one function, `append_at_front`, which moves
+//! the text to the start of the array, or refuses. It takes a slice, and so stands once in a program.
+ghost use Rattle.std.specs.Prelude.{◌≡◌, ◌+◌, ◌-◌, ◌<◌, ◌≤◌, ◌↔◌, IfSome, [], ◌∷◌, ◌++◌, IsTrue, chars, ℕ, List, MatchOption, MatchResult, length, take, drop};
+ghost use Rattle.arraystring_base.specs.Text.{size, width, utf8, cap, cut};
 ghost use Rattle.std.specs.Borrow.{Bor};
 ghost use Rattle.std.specs.Iterator.{IsFiniteIterable};
 ghost use Rattle.arraystring_core.specs.Layout.{stored, IsStored};
@@ -10,7 +10,7 @@ ghost use Rattle.arraystring_core.specs.Taken.{Takes, joined_pieces};
 
 use crate::ArrayString;
 use arraystring_base::error::OutOfBounds;
-use arraystring_base::utils::{Steps, encode, shift, truncate_str, write_over};
+use arraystring_base::utils::{encode, move_bytes, truncate_str, write_by_call, write_over};
 
 impl<const N: usize> ArrayString<N> {
     /// Whether there is room for `ch` after `len` bytes. ASCII has a test of its own, which the
@@ -25,44 +25,6 @@ impl<const N: usize> ArrayString<N> {
             return len < capacity;
         }
         len + 4 <= capacity || len + ch.len_utf8() <= capacity
-    }
-
-    /// `try_push` if there is no room after the text. A refusal makes no call.
-    #[inline(always)]
-    pub(super) fn try_push_near_end(&mut self, ch: char) -> Result<(), OutOfBounds>
-        ensures { Makes (addition self.old.text (ch ∷ []) (cap N)) self.old.text (from_out_of_bounds result) self.new.text }
-    {
-        if !Self::has_room(self.size as usize, ch) {
-            return Err(OutOfBounds);
-        }
-        self.compact_and_push(ch);
-        Ok(())
-    }
-
-    /// Adds `ch` at the end of a text that has to move to the start of the array for it.
-    #[cold]
-    #[inline(never)]
-    pub(super) fn compact_and_push(&mut self, ch: char)
-        requires { size self.old.text + width ch ≤ cap N }
-        ensures { self.new.text ≡ self.old.text ++ ch ∷ [] }
-    {
-        let (start, size) = (self.start as usize, self.size as usize);
-        self.start = 0;
-        shift(&mut self.array, start, 0, size, &mut Steps::new());
-        prove!(size < N);
-        let len = encode(ch, &mut self.array, size);
-        self.size = (size + len) as u8;
-    }
-
-    /// Adds `string` at the end of a text that has to move to the start of the array for it.
-    #[cold]
-    #[inline(never)]
-    pub(super) fn compact_and_push_str(&mut self, string: &str)
-        requires { size self.old.text + size (chars string.now) ≤ cap N }
-        ensures { self.new.text ≡ self.old.text ++ chars string.now }
-    {
-        let len = self.len() as usize;
-        self.compact_and_splice(len, len, string, &mut Steps::new());
     }
 
     /// Appends the characters before the first that does not fit. Refuses if there is such a one.
@@ -112,7 +74,7 @@ impl<const N: usize> ArrayString<N> {
     /// `None` if it does not fit. Afterwards the `len` bytes from `start` on are UTF-8 and end within
     /// the capacity.
     #[inline(always)]
-    fn append_char(
+    pub(super) fn append_char(
         array: &mut [u8; N],
         start: &mut u8,
         len: &mut u8,
@@ -126,19 +88,56 @@ impl<const N: usize> ArrayString<N> {
         ensures text { let t = (stored array.old start.old len.old).text in let new = (stored array.new start.new len.new).text in
             MatchOption result ((cap N < size t + size (ch ∷ [])) × (new ≡ t)) (λ _. (size t + size (ch ∷ []) ≤ cap N) × (new ≡ t ++ ch ∷ [])) }
     {
-        if !Self::has_room(end, ch) {
-            let size = end - *start as usize;
-            if !Self::has_room(size, ch) {
-                return None;
-            }
-            let size = compact_and_append(array, *start as usize, size, ch);
-            *start = 0;
-            *len = size as u8;
-            return Some(size);
+        if Self::has_room(end, ch) {
+            let next = end + encode(ch, array, end);
+            *len = (next - *start as usize) as u8;
+            return Some(next);
         }
-        let next = end + encode(ch, array, end);
-        *len = (next - *start as usize) as u8;
-        Some(next)
+        let from = *start as usize;
+        if from == 0 {
+            return None;
+        }
+        let all = &mut array[..];
+        let size = append_char_at_front(end - from, ch, all, from)?;
+        *start = 0;
+        *len = size as u8;
+        Some(size)
+    }
+
+    /// Appends `string` to a text of the array that ends at `end`, and returns where it ends then. Returns
+    /// `None` if not all of it fits: then it ends at `end` still. Afterwards the `len` bytes from `start`
+    /// on are UTF-8 and end within the capacity.
+    #[inline(always)]
+    pub(super) fn append_str(
+        array: &mut [u8; N],
+        start: &mut u8,
+        len: &mut u8,
+        end: usize,
+        string: &str,
+    ) -> Option<usize>
+        requires in_array { IsStored N array.old start.old len.old }
+        requires end { end ≡ start.old + len.old }
+        ensures in_array { IsStored N array.new start.new len.new }
+        ensures end { MatchOption result (end ≡ start.new + len.new) (λ next. next ≡ start.new + len.new) }
+        ensures text { let t = (stored array.old start.old len.old).text in let new = (stored array.new start.new len.new).text in
+            MatchOption result ((cap N < size t + size (chars string.now)) × (new ≡ t))
+            (λ _. (size t + size (chars string.now) ≤ cap N) × (new ≡ t ++ chars string.now)) }
+    {
+        let next = end + string.len();
+        if next <= Self::capacity() as usize {
+            *len += string.len() as u8;
+            write_over(array, end, string.as_bytes());
+            return Some(next);
+        }
+        let from = *start as usize;
+        if from == 0 {
+            return None;
+        }
+        let all = &mut array[..];
+        let size = append_at_front(end - from, string.as_bytes(), all, from)?;
+        *start = 0;
+        *len = size as u8;
+        Some(size)
     }
 
     /// Appends the pieces before the first that does not fit, and of that one what fits. Refuses
@@ -175,84 +174,52 @@ impl<const N: usize> ArrayString<N> {
     {
         let mut end = *start as usize + *len as usize;
         for piece in pieces {
-            let next = end + piece.len();
-            if next > Self::capacity() as usize {
-                let appended = Self::append_past_end(array, start, len, piece);
-                let Some(next) = appended else {
+            match Self::append_str(array, start, len, end, piece) {
+                Some(next) => {
+                    end = next;
+                }
+                None => {
+                    let part = truncate_str(piece, Self::capacity() - *len);
+                    let _ = Self::append_str(array, start, len, end, part);
                     return Err(OutOfBounds);
-                };
-                end = next;
-                continue;
+                }
             }
-            *len += piece.len() as u8;
-            write_over(array, end, piece.as_bytes());
-            end = next;
         }
         Ok(())
     }
-
-    /// Appends `string` to a text of the array, and returns where it ends then. If not all of it fits,
-    /// appends what does and returns `None`. It is for a text that has no room for `string` behind it.
-    /// Afterwards the `len` bytes from `start` on are UTF-8 and end within the capacity.
-    #[cold]
-    #[inline(never)]
-    fn append_past_end(
-        array: &mut [u8; N],
-        start: &mut u8,
-        len: &mut u8,
-        string: &str,
-    ) -> Option<usize>
-        requires { IsStored N array.old start.old len.old }
-        ensures in_array { IsStored N array.new start.new len.new }
-        ensures end { IfSome result (λ next. next ≡ start.new + len.new) }
-        ensures text { let t = (stored array.old start.old len.old).text in let new = (stored array.new start.new len.new).text in
-            MatchOption result ((cap N < size t + size (chars string.now)) × (new ≡ t ++ cut (chars string.now) (cap N - size t)))
-            (λ _. (size t + size (chars string.now) ≤ cap N) × (new ≡ t ++ chars string.now)) }
-    {
-        let part = truncate_str(string, Self::capacity() - *len);
-        make_room(array, start, *len as usize, part.len());
-        let end = *start as usize + *len as usize;
-        *len += part.len() as u8;
-        write_over(array, end, part.as_bytes());
-        if part.len() < string.len() {
-            return None;
-        }
-        Some(end + part.len())
-    }
 }
 
-/// Moves a text to the start of the array, appends `ch`, and returns the size that it has then.
+/// Moves a text, the `size` bytes of the array from `start` on, to the start of the array, and appends
+/// `given`. Returns the size that it has then. Returns `None` if that is more than the array or 255
+/// bytes have room for, and then changes nothing.
 #[cold]
 #[inline(never)]
-fn compact_and_append<const N: usize>(
-    array: &mut [u8; N],
-    start: usize,
-    size: usize,
-    ch: char,
-) -> usize
-    requires in_array { IsStored N array.old start size }
-    requires room { size + width ch ≤ cap N }
-    ensures size { result ≡ size + width ch }
-    ensures in_array { IsStored N array.new 0 result }
-    ensures text { (stored array.new 0 result).text ≡ (stored array.old start size).text ++ ch ∷ [] }
+fn append_at_front(size: usize, given: &[u8], array: &mut [u8], start: usize) -> Option<usize>
+    requires { start + size ≤ length array.old }
+    ensures { MatchOption result
+        ((cap (length array.old) < size + length given.now) × (array.new ≡ array.old))
+        (λ new. (size + length given.now ≤ cap (length array.old)) × (new ≡ size + length given.now)
+        × (array.new ≡ take size (drop start array.old) ++ (given.now ++ drop new array.old))) }
 {
-    shift(array, start, 0, size, &mut Steps::new());
-    prove!(size < N);
-    size + encode(ch, array, size)
+    if size + given.len() > array.len().min(255) {
+        return None;
+    }
+    move_bytes(array, start, 0, size);
+    write_by_call(array, size, given);
+    Some(size + given.len())
 }
 
-/// Moves a text to the start of the array if there is no room for `more` bytes behind it.
-#[inline(always)]
-fn make_room<const N: usize>(array: &mut [u8; N], start: &mut u8, size: usize, more: usize)
-    requires in_array { IsStored N array.old start.old size }
-    requires fits { size + more ≤ cap N }
-    ensures in_array { IsStored N array.new start.new size }
-    ensures room { start.new + size + more ≤ cap N }
-    ensures text { (stored array.new start.new size).text ≡ (stored array.old start.old size).text }
+/// `append_at_front` of the UTF-8 of `ch`.
+#[cold]
+#[inline(never)]
+fn append_char_at_front(size: usize, ch: char, array: &mut [u8], start: usize) -> Option<usize>
+    requires { start + size ≤ length array.old }
+    ensures { MatchOption result
+        ((cap (length array.old) < size + width ch) × (array.new ≡ array.old))
+        (λ new. (size + width ch ≤ cap (length array.old)) × (new ≡ size + width ch)
+        × (array.new ≡ take size (drop start array.old) ++ (utf8 ch ++ drop new array.old))) }
 {
-    let from = *start as usize;
-    if from + size + more > ArrayString::<N>::capacity() as usize {
-        *start = 0;
-        shift(array, from, 0, size, &mut Steps::new());
-    }
+    let mut bytes = [0; 4];
+    let len = encode(ch, &mut bytes, 0);
+    append_at_front(size, &bytes[..len], array, start)
 }

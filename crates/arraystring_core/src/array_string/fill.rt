@@ -3,7 +3,7 @@ ghost use Rattle.std.specs.Prelude.{◌≡◌, ◌+◌, ◌<◌, ◌≤◌, ◌+
 ghost use Rattle.arraystring_base.specs.Text.{cap};
 
 use crate::ArrayString;
-use arraystring_base::utils::write_over;
+use arraystring_base::utils::{write_by_call, write_over};
 
 /// Writes `given` at the start of a new array. In a large one it is written by one call whatever its
 /// length, and the compiler then makes fewer copies of the array on its way out.
@@ -13,7 +13,8 @@ pub(super) fn fill<const N: usize>(array: &mut [u8; N], given: &[u8])
     ensures { array.new ≡ take 0 array.old ++ (given.now ++ drop (0 + length given.now) array.old) }
 {
     if N > 64 {
-        write_by_call(array, 0, given);
+        let all = &mut array[..];
+        write_by_call(all, 0, given);
     } else {
         write_over(array, 0, given);
     }
@@ -34,7 +35,8 @@ pub(super) fn try_fill<const N: usize>(array: &mut [u8; N], given: &[u8]) -> (bo
     }
     let refused = given.len() > ArrayString::<N>::capacity() as usize;
     let size = if refused { 0 } else { given.len() };
-    write_by_call(array, 0, &given[..size]);
+    let all = &mut array[..];
+    write_by_call(all, 0, &given[..size]);
     (refused, size as u8)
 }
 
@@ -52,14 +54,4 @@ fn try_fill_small<const N: usize>(array: &mut [u8; N], given: &[u8]) -> (bool, u
     }
     write_over(array, 0, given);
     (false, given.len() as u8)
-}
-
-/// Writes `given` over the bytes from `at` on, as `write_over` does, by one call whatever its length.
-#[inline(always)]
-fn write_by_call<const N: usize>(array: &mut [u8; N], at: usize, given: &[u8])
-    requires { at + length given.now ≤ N }
-    ensures { array.new ≡ take at array.old ++ (given.now ++ drop (at + length given.now) array.old) }
-{
-    let all = &mut array[..];
-    all[at..at + given.len()].copy_from_slice(given);
 }

@@ -8,7 +8,7 @@ ghost use Rattle.arraystring_core.specs.Taken.{Takes, Gives, joined, joined_piec
 
 use crate::ArrayString;
 use arraystring_base::error::OutOfBounds;
-use arraystring_base::utils::{encode, truncate_str, write_over};
+use arraystring_base::utils::truncate_str;
 
 impl<const N: usize> ArrayString<N> {
     /// Appends `ch`.
@@ -30,11 +30,10 @@ impl<const N: usize> ArrayString<N> {
         ensures { Makes (addition self.old.text (ch ∷ []) (cap N)) self.old.text (from_out_of_bounds result) self.new.text }
     {
         let end = self.end();
-        if Self::has_room(end, ch) {
-            self.push_unchecked(ch);
-            return Ok(());
+        match Self::append_char(&mut self.array, &mut self.start, &mut self.size, end, ch) {
+            Some(_) => Ok(()),
+            None => Err(OutOfBounds),
         }
-        self.try_push_near_end(ch)
     }
 
     /// Appends `ch`.
@@ -47,12 +46,9 @@ impl<const N: usize> ArrayString<N> {
         requires { size self.old.text + width ch ≤ cap N }
         ensures { self.new.text ≡ self.old.text ++ ch ∷ [] }
     {
-        let end = self.end();
-        if !Self::has_room(end, ch) {
-            return self.compact_and_push(ch);
+        if self.try_push(ch).is_err() {
+            unreachable!();
         }
-        let len = encode(ch, &mut self.array, end);
-        self.size = (self.size as usize + len) as u8;
     }
 
     /// Appends `string`.
@@ -73,18 +69,17 @@ impl<const N: usize> ArrayString<N> {
     pub fn try_push_str(&mut self, string: &str) -> Result<(), OutOfBounds>
         ensures { Makes (addition self.old.text (chars string.now) (cap N)) self.old.text (from_out_of_bounds result) self.new.text }
     {
-        // Room after the text is tested first: if there is some, it is the only test.
-        let size = self.len() as usize;
-        let capacity = Self::capacity() as usize;
-        if self.start as usize + size + string.len() > capacity {
-            if size + string.len() > capacity {
-                return Err(OutOfBounds);
-            }
-            self.compact_and_push_str(string);
-        } else {
-            self.push_str_unchecked(string);
+        let end = self.end();
+        match Self::append_str(
+            &mut self.array,
+            &mut self.start,
+            &mut self.size,
+            end,
+            string,
+        ) {
+            Some(_) => Ok(()),
+            None => Err(OutOfBounds),
         }
-        Ok(())
     }
 
     /// Appends the longest prefix of whole characters of `string` that fits.
@@ -113,12 +108,9 @@ impl<const N: usize> ArrayString<N> {
         requires { size self.old.text + size (chars string.now) ≤ cap N }
         ensures { self.new.text ≡ self.old.text ++ chars string.now }
     {
-        let end = self.end();
-        if end + string.len() > Self::capacity() as usize {
-            return self.compact_and_push_str(string);
+        if self.try_push_str(string).is_err() {
+            unreachable!();
         }
-        self.size = (self.size as usize + string.len()) as u8;
-        write_over(&mut self.array, end, string.as_bytes());
     }
 
     /// Appends the longest prefix of the characters that fits.

@@ -1,9 +1,12 @@
 // NOT PROVED: rust/proved.txt does not have the sources of this crate as they are.
 // Made from crates/arraystring_base/src/moves.rt by rust/erase. The proof is there. A change goes there.
-//! How a run of bytes is moved inside an array: as its first `K` and its last `K` bytes, which may
-//! overlap, and both are read before the first is written. `memmove` moves short runs in this way
+//! How a run of bytes is moved inside an array or a slice: as its first `K` and its last `K` bytes, which
+//! may overlap, and both are read before the first is written. `memmove` moves short runs in this way
 //! too. A byte that both have is written twice, to one offset, and counts as one move. They are read
 //! as vectors, since those stay in registers; arrays of bytes would be put on the stack.
+//!
+//! What is made for each size of an array is small. Long runs are moved by `move_bytes` and written by
+//! `write_by_call`, which take a slice.
 
 use crate::arraystring_base::steps::Steps;
 use crate::by_hand::simd::Simd;
@@ -54,7 +57,8 @@ pub unsafe fn shift<const N: usize>(array: &mut [u8; N], from: usize, to: usize,
 }
 
 /// Moves `len` bytes of the array from the offset `from` to the offset `to`; the two runs may overlap.
-/// No byte outside the target changes, and nothing is counted. Up to 256 bytes cost no call.
+/// No byte outside the target changes, and nothing is counted. Up to 64 bytes cost no call. What an
+/// array of `N` bytes can't have is not tested.
 ///
 /// # Safety
 ///
@@ -72,242 +76,136 @@ pub unsafe fn shift<const N: usize>(array: &mut [u8; N], from: usize, to: usize,
 ///
 /// </details>
 pub unsafe fn move_run<const N: usize>(array: &mut [u8; N], from: usize, to: usize, len: usize) {
-    if N > 64 && len > 64 {
-        // SAFETY: `from + len <= N`; `to + len <= N`; `64 < len`: by this function's `# Safety` and the tests above.
-        unsafe { move_much(array, from, to, len) };
-    } else if len >= 16 {
-        // SAFETY: `from + len <= N`; `to + len <= N`; `16 <= len`; `len <= 64`: by this function's `# Safety` and the
-        // tests above, since `len` is at most `N`.
-        unsafe { move_long_run(array, from, to, len) };
+    let all = &mut array[..];
+    if len < 16 {
+        // SAFETY: `from + len <= all.len()`; `to + len <= all.len()`; `len <= N`; `len < 16`: by this function's
+        // `# Safety` and the tests above, since `len` is at most `N`.
+        unsafe { move_short_run::<N>(all, from, to, len) };
+    } else if N > 64 && len > 64 {
+        // SAFETY: `from + len <= all.len()`; `to + len <= all.len()`: by this function's `# Safety`.
+        unsafe { move_bytes(all, from, to, len) };
+    } else if N > 32 && len > 32 {
+        // SAFETY: `from + len <= all.len()`; `to + len <= all.len()`; `32 <= len`; `len - 32 <= 32`: by this function's
+        // `# Safety` and the tests above, since `len` is at most `N`.
+        unsafe { move_ends::<32>(all, from, to, len) };
     } else {
-        // SAFETY: `from + len <= N`; `to + len <= N`; `len < 16`: by this function's `# Safety` and the tests above.
-        unsafe { move_short_run(array, from, to, len) };
+        // SAFETY: `from + len <= all.len()`; `to + len <= all.len()`; `16 <= len`; `len - 16 <= 16`: by this function's
+        // `# Safety` and the tests above, since `len` is at most `N`.
+        unsafe { move_ends::<16>(all, from, to, len) };
     }
 }
 
-/// Moves fewer than 16 bytes.
+/// Moves `len` bytes of a slice from the offset `from` to the offset `to`, as `move_run` does those of
+/// an array. It stands once in a program, and costs a call.
 ///
 /// # Safety
 ///
-/// - `from + len <= N`
-/// - `to + len <= N`
+/// The run that is moved must lie in the slice. So must the run that is written over.
+///
+/// <details><summary>Contract</summary>
+///
+/// ```text
+/// requires source { from + len ≤ length all.old }
+/// requires target { to + len ≤ length all.old }
+/// ensures { all.new ≡ take to all.old ++ (take len (drop from all.old) ++ drop (to + len) all.old) }
+/// ```
+///
+/// [How to read a contract](crate::contracts)
+///
+/// </details>
+///
+/// Another body runs here than the one that was proved: std moves the bytes, by `memmove`.
+#[inline(never)]
+pub unsafe fn move_bytes(all: &mut [u8], from: usize, to: usize, len: usize) {
+    // SAFETY: this is within: by this function's `# Safety`.
+    unsafe { copy_within_unchecked!(all, from..from + len, to) };
+}
+
+/// Moves fewer than 16 bytes, of at most `N`. More than `N` are not tested for.
+///
+/// # Safety
+///
+/// - `from + len <= all.len()`
+/// - `to + len <= all.len()`
+/// - `len <= N`
 /// - `len < 16`
 ///
 /// <details><summary>Contract</summary>
 ///
 /// ```text
-/// requires source { from + len ≤ N }
-/// requires target { to + len ≤ N }
+/// requires source { from + len ≤ length all.old }
+/// requires target { to + len ≤ length all.old }
+/// requires most { len ≤ N }
 /// requires short { len < 16 }
-/// ensures { array.new ≡ take to array.old ++ (take len (drop from array.old) ++ drop (to + len) array.old) }
+/// ensures { all.new ≡ take to all.old ++ (take len (drop from all.old) ++ drop (to + len) all.old) }
 /// ```
 ///
 /// [How to read a contract](crate::contracts)
 ///
 /// </details>
-unsafe fn move_short_run<const N: usize>(array: &mut [u8; N], from: usize, to: usize, len: usize) {
-    if len >= 4 {
-        if len >= 8 {
-            // SAFETY: `from + len <= N`; `to + len <= N`; `8 <= len`; `len - 8 <= 8`: by this function's `# Safety` and
-            // the tests above.
-            unsafe { move_ends::<N, 8>(array, from, to, len) };
+unsafe fn move_short_run<const N: usize>(all: &mut [u8], from: usize, to: usize, len: usize) {
+    if N >= 4 && len >= 4 {
+        if N >= 8 && len >= 8 {
+            // SAFETY: `from + len <= all.len()`; `to + len <= all.len()`; `8 <= len`; `len - 8 <= 8`: by this
+            // function's `# Safety` and the tests above.
+            unsafe { move_ends::<8>(all, from, to, len) };
         } else {
-            // SAFETY: `from + len <= N`; `to + len <= N`; `4 <= len`; `len - 4 <= 4`: by this function's `# Safety` and
-            // the tests above.
-            unsafe { move_ends::<N, 4>(array, from, to, len) };
+            // SAFETY: `from + len <= all.len()`; `to + len <= all.len()`; `4 <= len`; `len - 4 <= 4`: by this
+            // function's `# Safety` and the tests above.
+            unsafe { move_ends::<4>(all, from, to, len) };
         }
-    } else if len >= 2 {
-        // SAFETY: `from + len <= N`; `to + len <= N`; `2 <= len`; `len - 2 <= 2`: by this function's `# Safety` and the
-        // tests above.
-        unsafe { move_ends::<N, 2>(array, from, to, len) };
+    } else if N >= 2 && len >= 2 {
+        // SAFETY: `from + len <= all.len()`; `to + len <= all.len()`; `2 <= len`; `len - 2 <= 2`: by this function's
+        // `# Safety` and the tests above.
+        unsafe { move_ends::<2>(all, from, to, len) };
     } else if len == 1 {
-        // SAFETY: `from + len <= N`; `to + len <= N`; `1 <= len`; `len - 1 <= 1`: by this function's `# Safety` and the
-        // tests above.
-        unsafe { move_ends::<N, 1>(array, from, to, len) };
+        // SAFETY: `from + len <= all.len()`; `to + len <= all.len()`; `1 <= len`; `len - 1 <= 1`: by this function's
+        // `# Safety` and the tests above.
+        unsafe { move_ends::<1>(all, from, to, len) };
     }
-}
-
-/// Moves 16 to 64 bytes. What an array of `N` bytes can't have is not tested.
-///
-/// # Safety
-///
-/// - `from + len <= N`
-/// - `to + len <= N`
-/// - `16 <= len`
-/// - `len <= 64`
-///
-/// <details><summary>Contract</summary>
-///
-/// ```text
-/// requires source { from + len ≤ N }
-/// requires target { to + len ≤ N }
-/// requires least { 16 ≤ len }
-/// requires most { len ≤ 64 }
-/// ensures { array.new ≡ take to array.old ++ (take len (drop from array.old) ++ drop (to + len) array.old) }
-/// ```
-///
-/// [How to read a contract](crate::contracts)
-///
-/// </details>
-unsafe fn move_long_run<const N: usize>(array: &mut [u8; N], from: usize, to: usize, len: usize) {
-    if N > 32 && len > 32 {
-        // SAFETY: `from + len <= N`; `to + len <= N`; `32 <= len`; `len - 32 <= 32`: by this function's `# Safety` and
-        // the tests above, since `len` is at most `N`.
-        unsafe { move_ends::<N, 32>(array, from, to, len) };
-    } else {
-        // SAFETY: `from + len <= N`; `to + len <= N`; `16 <= len`; `len - 16 <= 16`: by this function's `# Safety` and
-        // the tests above, since `len` is at most `N`.
-        unsafe { move_ends::<N, 16>(array, from, to, len) };
-    }
-}
-
-/// Moves more than 64 bytes.
-///
-/// # Safety
-///
-/// - `from + len <= N`
-/// - `to + len <= N`
-/// - `64 < len`
-///
-/// <details><summary>Contract</summary>
-///
-/// ```text
-/// requires source { from + len ≤ N }
-/// requires target { to + len ≤ N }
-/// requires long { 64 < len }
-/// ensures { array.new ≡ take to array.old ++ (take len (drop from array.old) ++ drop (to + len) array.old) }
-/// ```
-///
-/// [How to read a contract](crate::contracts)
-///
-/// </details>
-unsafe fn move_much<const N: usize>(array: &mut [u8; N], from: usize, to: usize, len: usize) {
-    if len <= 128 {
-        // SAFETY: `from + len <= N`; `to + len <= N`; `64 <= len`; `len - 64 <= 64`: by this function's `# Safety` and
-        // the tests above.
-        unsafe { move_ends::<N, 64>(array, from, to, len) };
-    } else if N <= 256 {
-        // SAFETY: `from + len <= N`; `to + len <= N`; `64 + 64 <= len`; `len - (64 + 64) <= 64 + 64`: by this
-        // function's `# Safety` and the tests above, since `len` is at most `N`.
-        unsafe { move_pairs::<N, 64>(array, from, to, len) };
-    } else {
-        // SAFETY: `from + len <= N`; `to + len <= N`: by this function's `# Safety`.
-        unsafe { move_any_run(array, from, to, len) };
-    }
-}
-
-/// Moves more than 128 bytes of an array of more than 256.
-///
-/// # Safety
-///
-/// - `from + len <= N`
-/// - `to + len <= N`
-///
-/// <details><summary>Contract</summary>
-///
-/// ```text
-/// requires source { from + len ≤ N }
-/// requires target { to + len ≤ N }
-/// ensures { array.new ≡ take to array.old ++ (take len (drop from array.old) ++ drop (to + len) array.old) }
-/// ```
-///
-/// [How to read a contract](crate::contracts)
-///
-/// </details>
-#[cold]
-#[inline(never)]
-unsafe fn move_any_run<const N: usize>(array: &mut [u8; N], from: usize, to: usize, len: usize) {
-    let all = &mut array[..];
-    // SAFETY: this is within: by this function's `# Safety`.
-    unsafe { copy_within_unchecked!(all, from..from + len, to) };
 }
 
 /// Moves `K` to `2 * K` bytes.
 ///
 /// # Safety
 ///
-/// - `from + len <= N`
-/// - `to + len <= N`
+/// - `from + len <= all.len()`
+/// - `to + len <= all.len()`
 /// - `K <= len`
 /// - `len - K <= K`
 ///
 /// <details><summary>Contract</summary>
 ///
 /// ```text
-/// requires source { from + len ≤ N }
-/// requires target { to + len ≤ N }
+/// requires source { from + len ≤ length all.old }
+/// requires target { to + len ≤ length all.old }
 /// requires least { K ≤ len }
 /// requires most { len - K ≤ K }
-/// ensures { array.new ≡ take to array.old ++ (take len (drop from array.old) ++ drop (to + len) array.old) }
+/// ensures { all.new ≡ take to all.old ++ (take len (drop from all.old) ++ drop (to + len) all.old) }
 /// ```
 ///
 /// [How to read a contract](crate::contracts)
 ///
 /// </details>
-unsafe fn move_ends<const N: usize, const K: usize>(array: &mut [u8; N], from: usize, to: usize, len: usize) {
+unsafe fn move_ends<const K: usize>(all: &mut [u8], from: usize, to: usize, len: usize) {
     let rest = len - K;
-    let all = &array[..];
-    // SAFETY: `from + K <= all.len()`: `all` is the array, which has the `len` bytes from `from` on by this function's
-    // `# Safety`, and `rest + K` is `len`.
-    let first = unsafe { bytes_of::<K>(all, from) };
-    // SAFETY: `from + rest + K <= all.len()`: `all` is the array, which has the `len` bytes from `from` on by this
-    // function's `# Safety`, and `rest + K` is `len`.
-    let last = unsafe { bytes_of::<K>(all, from + rest) };
-    // SAFETY: `to + K <= N`: the array has the `len` bytes from `to` on by this function's `# Safety`, and `rest + K`
-    // is `len`.
-    unsafe { put_bytes(array, to, first) };
-    // SAFETY: `to + rest + K <= N`: the array has the `len` bytes from `to` on by this function's `# Safety`, and
+    // SAFETY: `from + K <= all.len()`: the slice has the `len` bytes from `from` on by this function's `# Safety`, and
     // `rest + K` is `len`.
-    unsafe { put_bytes(array, to + rest, last) };
-}
-
-/// Moves `2 * K` to `4 * K` bytes.
-///
-/// # Safety
-///
-/// - `from + len <= N`
-/// - `to + len <= N`
-/// - `K + K <= len`
-/// - `len - (K + K) <= K + K`
-///
-/// <details><summary>Contract</summary>
-///
-/// ```text
-/// requires source { from + len ≤ N }
-/// requires target { to + len ≤ N }
-/// requires least { K + K ≤ len }
-/// requires most { len - (K + K) ≤ K + K }
-/// ensures { array.new ≡ take to array.old ++ (take len (drop from array.old) ++ drop (to + len) array.old) }
-/// ```
-///
-/// [How to read a contract](crate::contracts)
-///
-/// </details>
-unsafe fn move_pairs<const N: usize, const K: usize>(array: &mut [u8; N], from: usize, to: usize, len: usize) {
-    // SAFETY: by this function's `# Safety`.
-    unsafe { known!(source: from + len <= N) };
-    let rest = len - (K + K);
-    let all = &array[..];
-    // SAFETY: `from + K <= all.len()`: `all` is the array, which has the `len` bytes from `from` on by this function's
-    // `# Safety`, and `rest + K + K` is `len`.
-    let front = unsafe { bytes_of::<K>(all, from) };
-    // SAFETY: `from + K + K <= all.len()`: `all` is the array, which has the `len` bytes from `from` on by this
-    // function's `# Safety`, and `rest + K + K` is `len`.
-    let after_front = unsafe { bytes_of::<K>(all, from + K) };
-    // SAFETY: `from + rest + K <= all.len()`: `all` is the array, which has the `len` bytes from `from` on by this
-    // function's `# Safety`, and `rest + K + K` is `len`.
-    let before_end = unsafe { bytes_of::<K>(all, from + rest) };
-    // SAFETY: `from + rest + K + K <= all.len()`: `all` is the array, which has the `len` bytes from `from` on by this
-    // function's `# Safety`, and `rest + K + K` is `len`.
-    let end = unsafe { bytes_of::<K>(all, from + rest + K) };
-    // SAFETY: `to + (K + K) <= N`: the array has the `len` bytes from `to` on, and `rest + (K + K)` is `len`.
-    unsafe { put_pair(array, to, front, after_front) };
-    // SAFETY: `to + rest + (K + K) <= N`: the array has the `len` bytes from `to` on, and `rest + (K + K)` is `len`.
-    unsafe { put_pair(array, to + rest, before_end, end) };
+    let first = unsafe { bytes_of::<K>(all, from) };
+    // SAFETY: `from + rest + K <= all.len()`: the slice has the `len` bytes from `from` on by this function's
+    // `# Safety`, and `rest + K` is `len`.
+    let last = unsafe { bytes_of::<K>(all, from + rest) };
+    // SAFETY: `to + K <= all.len()`: the slice has the `len` bytes from `to` on by this function's `# Safety`, and
+    // `rest + K` is `len`.
+    unsafe { put_bytes(all, to, first) };
+    // SAFETY: `to + rest + K <= all.len()`: the slice has the `len` bytes from `to` on by this function's `# Safety`,
+    // and `rest + K` is `len`.
+    unsafe { put_bytes(all, to + rest, last) };
 }
 
 /// Writes `given` over the bytes of the array from the offset `at` on. No other byte changes. Up to
-/// 64 bytes cost no call, and more bytes one of `memcpy`.
+/// 64 bytes cost no call, and more bytes one of `memcpy`. What an array of `N` bytes can't have is not
+/// tested.
 ///
 /// # Safety
 ///
@@ -324,145 +222,123 @@ unsafe fn move_pairs<const N: usize, const K: usize>(array: &mut [u8; N], from: 
 ///
 /// </details>
 pub unsafe fn write_over<const N: usize>(array: &mut [u8; N], at: usize, given: &[u8]) {
-    if given.len() >= 16 {
-        // SAFETY: `at + given.len() <= N`; `16 <= given.len()`: by this function's `# Safety` and the tests above.
-        unsafe { write_long_run(array, at, given) };
+    let all = &mut array[..];
+    if given.len() < 16 {
+        // SAFETY: `at + given.len() <= all.len()`; `given.len() <= N`; `given.len() < 16`: by this function's
+        // `# Safety` and the tests above, since `len` is at most `N`.
+        unsafe { write_short_run::<N>(all, at, given) };
+    } else if N > 64 && given.len() > 64 {
+        // SAFETY: `at + given.len() <= all.len()`: by this function's `# Safety`.
+        unsafe { write_by_call(all, at, given) };
+    } else if N > 32 && given.len() > 32 {
+        // SAFETY: `at + given.len() <= all.len()`; `32 <= given.len()`; `given.len() - 32 <= 32`: by this function's
+        // `# Safety` and the tests above, since `len` is at most `N`.
+        unsafe { copy_ends::<32>(all, at, given) };
     } else {
-        // SAFETY: `at + given.len() <= N`; `given.len() < 16`: by this function's `# Safety` and the tests above.
-        unsafe { write_short_run(array, at, given) };
+        // SAFETY: `at + given.len() <= all.len()`; `16 <= given.len()`; `given.len() - 16 <= 16`: by this function's
+        // `# Safety` and the tests above, since `len` is at most `N`.
+        unsafe { copy_ends::<16>(all, at, given) };
     }
 }
 
-/// Writes fewer than 16 bytes.
+/// Writes `given` over the bytes of a slice from the offset `at` on, as `write_over` does, by one call
+/// whatever its length.
 ///
 /// # Safety
 ///
-/// - `at + given.len() <= N`
+/// What is written must lie in the slice.
+///
+/// <details><summary>Contract</summary>
+///
+/// ```text
+/// requires { at + length given.now ≤ length all.old }
+/// ensures { all.new ≡ take at all.old ++ (given.now ++ drop (at + length given.now) all.old) }
+/// ```
+///
+/// [How to read a contract](crate::contracts)
+///
+/// </details>
+pub unsafe fn write_by_call(all: &mut [u8], at: usize, given: &[u8]) {
+    // SAFETY: this is within: by this function's `# Safety`.
+    unsafe { copy_from_slice_unchecked!(all, at..at + given.len(), given) };
+}
+
+/// Writes fewer than 16 bytes, of at most `N`. More than `N` are not tested for.
+///
+/// # Safety
+///
+/// - `at + given.len() <= all.len()`
+/// - `given.len() <= N`
 /// - `given.len() < 16`
 ///
 /// <details><summary>Contract</summary>
 ///
 /// ```text
-/// requires room { at + length given.now ≤ N }
+/// requires room { at + length given.now ≤ length all.old }
+/// requires most { length given.now ≤ N }
 /// requires short { length given.now < 16 }
-/// ensures { array.new ≡ take at array.old ++ (given.now ++ drop (at + length given.now) array.old) }
+/// ensures { all.new ≡ take at all.old ++ (given.now ++ drop (at + length given.now) all.old) }
 /// ```
 ///
 /// [How to read a contract](crate::contracts)
 ///
 /// </details>
-unsafe fn write_short_run<const N: usize>(array: &mut [u8; N], at: usize, given: &[u8]) {
+unsafe fn write_short_run<const N: usize>(all: &mut [u8], at: usize, given: &[u8]) {
     let len = given.len();
-    if len >= 4 {
-        if len >= 8 {
-            // SAFETY: `at + given.len() <= N`; `8 <= given.len()`; `given.len() - 8 <= 8`: by this function's
+    if N >= 4 && len >= 4 {
+        if N >= 8 && len >= 8 {
+            // SAFETY: `at + given.len() <= all.len()`; `8 <= given.len()`; `given.len() - 8 <= 8`: by this function's
             // `# Safety` and the tests above.
-            unsafe { copy_ends::<N, 8>(array, at, given) };
+            unsafe { copy_ends::<8>(all, at, given) };
         } else {
-            // SAFETY: `at + given.len() <= N`; `4 <= given.len()`; `given.len() - 4 <= 4`: by this function's
+            // SAFETY: `at + given.len() <= all.len()`; `4 <= given.len()`; `given.len() - 4 <= 4`: by this function's
             // `# Safety` and the tests above.
-            unsafe { copy_ends::<N, 4>(array, at, given) };
+            unsafe { copy_ends::<4>(all, at, given) };
         }
-    } else if len >= 2 {
-        // SAFETY: `at + given.len() <= N`; `2 <= given.len()`; `given.len() - 2 <= 2`: by this function's `# Safety`
-        // and the tests above.
-        unsafe { copy_ends::<N, 2>(array, at, given) };
+    } else if N >= 2 && len >= 2 {
+        // SAFETY: `at + given.len() <= all.len()`; `2 <= given.len()`; `given.len() - 2 <= 2`: by this function's
+        // `# Safety` and the tests above.
+        unsafe { copy_ends::<2>(all, at, given) };
     } else if len == 1 {
-        // SAFETY: `at + given.len() <= N`; `1 <= given.len()`; `given.len() - 1 <= 1`: by this function's `# Safety`
-        // and the tests above.
-        unsafe { copy_ends::<N, 1>(array, at, given) };
+        // SAFETY: `at + given.len() <= all.len()`; `1 <= given.len()`; `given.len() - 1 <= 1`: by this function's
+        // `# Safety` and the tests above.
+        unsafe { copy_ends::<1>(all, at, given) };
     }
-}
-
-/// Writes at least 16 bytes. What an array of `N` bytes can't have is not tested.
-///
-/// # Safety
-///
-/// - `at + given.len() <= N`
-/// - `16 <= given.len()`
-///
-/// <details><summary>Contract</summary>
-///
-/// ```text
-/// requires room { at + length given.now ≤ N }
-/// requires least { 16 ≤ length given.now }
-/// ensures { array.new ≡ take at array.old ++ (given.now ++ drop (at + length given.now) array.old) }
-/// ```
-///
-/// [How to read a contract](crate::contracts)
-///
-/// </details>
-unsafe fn write_long_run<const N: usize>(array: &mut [u8; N], at: usize, given: &[u8]) {
-    let len = given.len();
-    if N > 64 && len > 64 {
-        // SAFETY: `at + given.len() <= N`: by this function's `# Safety`.
-        unsafe { write_any_run(array, at, given) };
-    } else if N > 32 && len > 32 {
-        // SAFETY: `at + given.len() <= N`; `32 <= given.len()`; `given.len() - 32 <= 32`: by this function's `# Safety`
-        // and the tests above, since `len` is at most `N`.
-        unsafe { copy_ends::<N, 32>(array, at, given) };
-    } else {
-        // SAFETY: `at + given.len() <= N`; `16 <= given.len()`; `given.len() - 16 <= 16`: by this function's `# Safety`
-        // and the tests above, since `len` is at most `N`.
-        unsafe { copy_ends::<N, 16>(array, at, given) };
-    }
-}
-
-/// Writes any number of bytes by one call.
-///
-/// # Safety
-///
-/// - `at + given.len() <= N`
-///
-/// <details><summary>Contract</summary>
-///
-/// ```text
-/// requires { at + length given.now ≤ N }
-/// ensures { array.new ≡ take at array.old ++ (given.now ++ drop (at + length given.now) array.old) }
-/// ```
-///
-/// [How to read a contract](crate::contracts)
-///
-/// </details>
-unsafe fn write_any_run<const N: usize>(array: &mut [u8; N], at: usize, given: &[u8]) {
-    let all = &mut array[..];
-    // SAFETY: this is within: by this function's `# Safety`.
-    unsafe { copy_from_slice_unchecked!(all, at..at + given.len(), given) };
 }
 
 /// Writes `K` to `2 * K` bytes.
 ///
 /// # Safety
 ///
-/// - `at + given.len() <= N`
+/// - `at + given.len() <= all.len()`
 /// - `K <= given.len()`
 /// - `given.len() - K <= K`
 ///
 /// <details><summary>Contract</summary>
 ///
 /// ```text
-/// requires room { at + length given.now ≤ N }
+/// requires room { at + length given.now ≤ length all.old }
 /// requires least { K ≤ length given.now }
 /// requires most { length given.now - K ≤ K }
-/// ensures { array.new ≡ take at array.old ++ (given.now ++ drop (at + length given.now) array.old) }
+/// ensures { all.new ≡ take at all.old ++ (given.now ++ drop (at + length given.now) all.old) }
 /// ```
 ///
 /// [How to read a contract](crate::contracts)
 ///
 /// </details>
-unsafe fn copy_ends<const N: usize, const K: usize>(array: &mut [u8; N], at: usize, given: &[u8]) {
+unsafe fn copy_ends<const K: usize>(all: &mut [u8], at: usize, given: &[u8]) {
     let rest = given.len() - K;
     // SAFETY: `K <= given.len()`: `rest + K` is `given.len()`, which is at least `K` by this function's `# Safety`.
     let first = unsafe { bytes_of::<K>(given, 0) };
     // SAFETY: `rest + K <= given.len()`: `rest + K` is `given.len()`, which is at least `K` by this function's
     // `# Safety`.
     let last = unsafe { bytes_of::<K>(given, rest) };
-    // SAFETY: `at + K <= N`: the array has the `given.len()` bytes from `at` on by this function's `# Safety`, and
-    // `rest + K` is `given.len()`.
-    unsafe { put_bytes(array, at, first) };
-    // SAFETY: `at + rest + K <= N`: the array has the `given.len()` bytes from `at` on by this function's `# Safety`,
+    // SAFETY: `at + K <= all.len()`: the slice has the `given.len()` bytes from `at` on by this function's `# Safety`,
     // and `rest + K` is `given.len()`.
-    unsafe { put_bytes(array, at + rest, last) };
+    unsafe { put_bytes(all, at, first) };
+    // SAFETY: `at + rest + K <= all.len()`: the slice has the `given.len()` bytes from `at` on by this function's
+    // `# Safety`, and `rest + K` is `given.len()`.
+    unsafe { put_bytes(all, at + rest, last) };
 }
 
 /// The `K` bytes of `given` from `at` on.
@@ -490,48 +366,19 @@ unsafe fn bytes_of<const K: usize>(given: &[u8], at: usize) -> Simd<u8, K> {
 ///
 /// # Safety
 ///
-/// - `at + K <= N`
+/// - `at + K <= all.len()`
 ///
 /// <details><summary>Contract</summary>
 ///
 /// ```text
-/// requires { at + K ≤ N }
-/// ensures { array.new ≡ take at array.old ++ (bytes.entry ++ drop (at + K) array.old) }
+/// requires { at + K ≤ length all.old }
+/// ensures { all.new ≡ take at all.old ++ (bytes.entry ++ drop (at + K) all.old) }
 /// ```
 ///
 /// [How to read a contract](crate::contracts)
 ///
 /// </details>
-unsafe fn put_bytes<const N: usize, const K: usize>(array: &mut [u8; N], at: usize, bytes: Simd<u8, K>) {
-    let all = &mut array[..];
+unsafe fn put_bytes<const K: usize>(all: &mut [u8], at: usize, bytes: Simd<u8, K>) {
     // SAFETY: this is within: by this function's `# Safety`.
     bytes.copy_to_slice(unsafe { get_unchecked_mut!(all, at..at + K) });
-}
-
-/// Writes `2 * K` bytes from `at` on.
-///
-/// # Safety
-///
-/// - `at + (K + K) <= N`
-///
-/// <details><summary>Contract</summary>
-///
-/// ```text
-/// requires { at + (K + K) ≤ N }
-/// ensures { array.new ≡ take at array.old ++ ((first.entry ++ second.entry) ++ drop (at + (K + K)) array.old) }
-/// ```
-///
-/// [How to read a contract](crate::contracts)
-///
-/// </details>
-unsafe fn put_pair<const N: usize, const K: usize>(
-    array: &mut [u8; N],
-    at: usize,
-    first: Simd<u8, K>,
-    second: Simd<u8, K>,
-) {
-    // SAFETY: `at + K <= N`: by this function's `# Safety`.
-    unsafe { put_bytes(array, at, first) };
-    // SAFETY: `at + K + K <= N`: by this function's `# Safety`.
-    unsafe { put_bytes(array, at + K, second) };
 }

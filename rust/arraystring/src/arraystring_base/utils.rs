@@ -4,7 +4,7 @@
 //! UTF-8.
 
 use crate::arraystring_base::error::OutOfBounds;
-pub use crate::arraystring_base::moves::{shift, write_over};
+pub use crate::arraystring_base::moves::{move_bytes, shift, write_by_call, write_over};
 pub use crate::arraystring_base::steps::{Steps, look};
 pub use crate::arraystring_base::utf8::{encode, is_boundary, last_char, truncate_str, truncate_str_counted};
 

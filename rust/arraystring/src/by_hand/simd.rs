@@ -2,18 +2,18 @@
 
 use core::marker::PhantomData;
 
-/// `K` bytes, of which there are at most 64. Few are held as they are, and many as words, which the compiler keeps in registers
-/// where an array of bytes would go through the stack.
+/// `K` bytes, of which there are at most 64. Few are held as they are, and many as words of 16 bytes, which the compiler keeps in
+/// registers where an array of bytes would go through the stack.
 #[derive(Clone, Copy)]
 pub(crate) struct Simd<T, const K: usize> {
     bytes: [u8; K],
-    words: [u64; 8],
+    words: [u128; 4],
     lanes: PhantomData<[T; K]>,
 }
 
 impl<const K: usize> Simd<u8, K> {
     /// Whether the bytes are held as words.
-    const IN_WORDS: bool = K > 32 && K % 8 == 0;
+    const IN_WORDS: bool = K % 16 == 0;
 
     /// The first `K` bytes of a slice. It panics where there are fewer.
     #[inline(always)]
@@ -21,14 +21,14 @@ impl<const K: usize> Simd<u8, K> {
         const { assert!(K <= 64) };
         let Some(given) = slice.first_chunk::<K>() else { too_short() };
         if !Self::IN_WORDS {
-            return Simd { bytes: *given, words: [0; 8], lanes: PhantomData };
+            return Simd { bytes: *given, words: [0; 4], lanes: PhantomData };
         }
         // One by one, since a loop would stay one where code is made small.
-        let word = |at: usize| match given.get(8 * at..).and_then(<[u8]>::first_chunk) {
-            Some(eight) => u64::from_ne_bytes(*eight),
+        let word = |at: usize| match given.get(16 * at..).and_then(<[u8]>::first_chunk) {
+            Some(bytes) => u128::from_ne_bytes(*bytes),
             None => 0,
         };
-        let words = [word(0), word(1), word(2), word(3), word(4), word(5), word(6), word(7)];
+        let words = [word(0), word(1), word(2), word(3)];
         Simd { bytes: [0; K], words, lanes: PhantomData }
     }
 
@@ -41,18 +41,14 @@ impl<const K: usize> Simd<u8, K> {
             return;
         }
         let mut write = |at: usize| {
-            if let Some(eight) = target.get_mut(8 * at..).and_then(<[u8]>::first_chunk_mut) {
-                *eight = self.words[at].to_ne_bytes();
+            if let Some(bytes) = target.get_mut(16 * at..).and_then(<[u8]>::first_chunk_mut) {
+                *bytes = self.words[at].to_ne_bytes();
             }
         };
         write(0);
         write(1);
         write(2);
         write(3);
-        write(4);
-        write(5);
-        write(6);
-        write(7);
     }
 }
 

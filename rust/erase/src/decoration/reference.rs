@@ -262,6 +262,8 @@ pub const FATES: &[(&str, Fate)] = &[
     ),
     ("moves::write_over", Unsafe(&[])),
     ("moves::move_run", Unsafe(&[])),
+    ("moves::move_bytes", Unsafe(&[])),
+    ("moves::write_by_call", Unsafe(&[])),
     (
         "moves::shift",
         Unsafe(&[
@@ -298,6 +300,7 @@ pub const FATES: &[(&str, Fate)] = &[
 
 /// What a body does here, as the reference says below its contract, by the path of its place in the list.
 pub const OTHERS: &[(&str, &str)] = &[
+    ("arraystring_base::moves::move_bytes", "std moves the bytes, by `memmove`"),
     ("arraystring_base::steps::Steps::count_moves", COUNT_STOPS),
     ("arraystring_base::steps::look", COUNT_STOPS),
     ("arraystring_core::array_string::ArrayString::as_str", SPLITS),

@@ -23,9 +23,9 @@ const SUBJECTS: &[Subject] = &[
     subject(&["from_iterator_unchecked"], "the items of `pieces`", ITEMS),
     subject(&["from_chars_unchecked"], "the items of `characters`", ITEMS),
     subject(&["encode"], "`at + ch.len_utf8()", WRITTEN),
-    subject(&["write_over"], "`at + given.len()", WRITTEN),
-    subject(&["move_run", "shift"], "`from + len", "the run that is moved"),
-    subject(&["move_run", "shift"], "`to + len", "the run that is written over"),
+    subject(&["write_over", "write_by_call"], "`at + given.len()", WRITTEN),
+    subject(&["move_run", "move_bytes", "shift"], "`from + len", "the run that is moved"),
+    subject(&["move_run", "move_bytes", "shift"], "`to + len", "the run that is written over"),
 ];
 
 const TEXT_AFTER: &str = "the text after the call";
@@ -37,6 +37,7 @@ const WRITTEN: &str = "what is written";
 const DEMANDS: &[(&str, &str)] = &[
     (" <= Self::capacity()`", "must fit into the capacity"),
     (" <= N`", "must lie in the array"),
+    (" <= all.len()`", "must lie in the slice"),
     (" is a boundary of `self`", "must be a boundary of the text"),
     (" is well-formed UTF-8", "must be well-formed UTF-8"),
     (
@@ -92,6 +93,7 @@ mod tests {
     const GIVEN: &str =
         "All that the iterator gives must fit into the capacity together, also if it never ends, or panics.";
     const BOTH_RUNS: &str = "The run that is moved must lie in the array. So must the run that is written over.";
+    const RUNS_OF_SLICE: &str = "The run that is moved must lie in the slice. So must the run that is written over.";
 
     /// Each public call that is `unsafe`: what its contract requires that Rust does not do without, and how it was said of that in
     /// words by who read both.
@@ -100,9 +102,21 @@ mod tests {
         ("arraystring_base/moves.rs", "move_run", &["source { from + len ≤ N }", "target { to + len ≤ N }"], BOTH_RUNS),
         (
             "arraystring_base/moves.rs",
+            "move_bytes",
+            &["source { from + len ≤ length all.old }", "target { to + len ≤ length all.old }"],
+            RUNS_OF_SLICE,
+        ),
+        (
+            "arraystring_base/moves.rs",
             "write_over",
             &["{ at + length given.now ≤ N }"],
             "What is written must lie in the array.",
+        ),
+        (
+            "arraystring_base/moves.rs",
+            "write_by_call",
+            &["{ at + length given.now ≤ length all.old }"],
+            "What is written must lie in the slice.",
         ),
         ("arraystring_base/utf8.rs", "encode", &["{ at + width ch ≤ N }"], "What is written must lie in the array."),
         (
@@ -256,6 +270,8 @@ mod tests {
         ),
         (&["utf8::encode"], &["`at + ch.len_utf8() <= N`"], "What is written must lie in the array."),
         (&["moves::write_over"], &["`at + given.len() <= N`"], "What is written must lie in the array."),
+        (&["moves::write_by_call"], &["`at + given.len() <= all.len()`"], "What is written must lie in the slice."),
+        (&["moves::move_bytes"], &["`from + len <= all.len()`", "`to + len <= all.len()`"], RUNS_OF_SLICE),
         (&["moves::move_run", "moves::shift"], &["`from + len <= N`", "`to + len <= N`"], BOTH_RUNS),
     ];
 

@@ -5,7 +5,7 @@ use Rattle.arraystring_base.proofs.moves.move_pairs.Goals as goal
 pub returns : goal.returns
 returns g c =
     let k = g.row.K in
-    let old = c.args.array.now in
+    let old = c.args.all.now in
     let from = c.args.from in
     moved-by-ends old old _ _ from c.args.to (k + k) c.args.len (omega arith) (omega arith) c.requires.least
     (read-as-one old _ _ from k c.bytes_of-front.ensures c.bytes_of-after_front.ensures) c.put_pair.ensures _ _ c.requires.most

@@ -5,6 +5,6 @@ use Rattle.arraystring_base.proofs.moves.put_bytes.Goals as goal
 pub returns : goal.returns
 returns g c =
     let size : c.args.at + g.row.K - c.args.at ≡ g.row.K = omega arith in
-    let part = take g.row.K (drop c.args.at c.args.array.now) in
+    let part = take g.row.K (drop c.args.at c.args.all.now) in
     let long : length part ≡ length c.args.bytes = omega (arith, length-take {A = ℕ}, length-drop {A = ℕ}) in
     rw (size, put_chunk_whole part c.args.bytes long, drop-drop)

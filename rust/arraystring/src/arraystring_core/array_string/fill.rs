@@ -2,7 +2,7 @@
 // Made from crates/arraystring_core/src/array_string/fill.rt by rust/erase. The proof is there. A change goes there.
 //! How the array of a new string is filled.
 
-use crate::arraystring_base::utils::write_over;
+use crate::arraystring_base::utils::{write_by_call, write_over};
 use crate::arraystring_core::ArrayString;
 
 /// Writes `given` at the start of a new array. In a large one it is written by one call whatever its
@@ -25,8 +25,9 @@ use crate::arraystring_core::ArrayString;
 #[inline(always)]
 pub(super) unsafe fn fill<const N: usize>(array: &mut [u8; N], given: &[u8]) {
     if N > 64 {
-        // SAFETY: `given.len() <= N`: by this function's `# Safety`.
-        unsafe { write_by_call(array, 0, given) };
+        let all = &mut array[..];
+        // SAFETY: `given.len() <= all.len()`: by this function's `# Safety`.
+        unsafe { write_by_call(all, 0, given) };
     } else {
         // SAFETY: `given.len() <= N`: by this function's `# Safety`.
         unsafe { write_over(array, 0, given) };
@@ -58,9 +59,10 @@ pub(super) fn try_fill<const N: usize>(array: &mut [u8; N], given: &[u8]) -> (bo
     }
     let refused = given.len() > ArrayString::<N>::capacity() as usize;
     let size = if refused { 0 } else { given.len() };
-    // SAFETY: `given[..size].len() <= N`: `size` is at most the capacity, and that at most `N`.
+    let all = &mut array[..];
+    // SAFETY: `given[..size].len() <= all.len()`: `size` is at most the capacity, and that at most `N`.
     // SAFETY: this is within: `size` is 0 or `given.len()`.
-    unsafe { write_by_call(array, 0, get_unchecked!(given, ..size)) };
+    unsafe { write_by_call(all, 0, get_unchecked!(given, ..size)) };
     (refused, size as u8)
 }
 
@@ -92,27 +94,4 @@ unsafe fn try_fill_small<const N: usize>(array: &mut [u8; N], given: &[u8]) -> (
     // SAFETY: `given.len() <= N`: by the test above.
     unsafe { write_over(array, 0, given) };
     (false, given.len() as u8)
-}
-
-/// Writes `given` over the bytes from `at` on, as `write_over` does, by one call whatever its length.
-///
-/// # Safety
-///
-/// - `at + given.len() <= N`
-///
-/// <details><summary>Contract</summary>
-///
-/// ```text
-/// requires { at + length given.now ≤ N }
-/// ensures { array.new ≡ take at array.old ++ (given.now ++ drop (at + length given.now) array.old) }
-/// ```
-///
-/// [How to read a contract](crate::contracts)
-///
-/// </details>
-#[inline(always)]
-unsafe fn write_by_call<const N: usize>(array: &mut [u8; N], at: usize, given: &[u8]) {
-    let all = &mut array[..];
-    // SAFETY: this is within: by this function's `# Safety`.
-    unsafe { copy_from_slice_unchecked!(all, at..at + given.len(), given) };
 }

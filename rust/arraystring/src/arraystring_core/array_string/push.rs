@@ -3,7 +3,7 @@
 //! What is appended: characters, texts, and what an iterator gives.
 
 use crate::arraystring_base::error::OutOfBounds;
-use crate::arraystring_base::utils::{encode, truncate_str, write_over};
+use crate::arraystring_base::utils::truncate_str;
 use crate::arraystring_core::ArrayString;
 
 impl<const N: usize> ArrayString<N> {
@@ -38,14 +38,12 @@ impl<const N: usize> ArrayString<N> {
     #[inline(always)]
     pub fn try_push(&mut self, ch: char) -> Result<(), OutOfBounds> {
         let end = self.end();
-        // SAFETY: `end <= 255`: the text ends within the capacity, as the fields of `ArrayString` say.
-        if unsafe { Self::has_room(end, ch) } {
-            // SAFETY: `self.len() + ch.len_utf8() <= Self::capacity()`: `has_room` returned true for `end`, which is at
-            // least `self.len()`.
-            unsafe { self.push_unchecked(ch) };
-            return Ok(());
+        // SAFETY: the `self.size` bytes of `self.array` from `self.start` on are UTF-8 and end within the capacity;
+        // `end == self.start + self.size`: as the fields of `ArrayString` say.
+        match unsafe { Self::append_char(&mut self.array, &mut self.start, &mut self.size, end, ch) } {
+            Some(_) => Ok(()),
+            None => Err(OutOfBounds),
         }
-        self.try_push_near_end(ch)
     }
 
     /// Appends `ch`.
@@ -75,21 +73,14 @@ impl<const N: usize> ArrayString<N> {
     /// [How to read a contract](crate::contracts)
     ///
     /// </details>
-    #[expect(clippy::cast_possible_truncation, reason = "the line before the write says why it fits")]
     #[inline(always)]
     pub unsafe fn push_unchecked(&mut self, ch: char) {
         required!(self.len() as usize + ch.len_utf8() <= Self::capacity() as usize);
-        let end = self.end();
-        // SAFETY: `end <= 255`: the text ends within the capacity, as the fields of `ArrayString` say.
-        if !unsafe { Self::has_room(end, ch) } {
-            // SAFETY: `self.len() + ch.len_utf8() <= Self::capacity()`: by this function's `# Safety`.
-            return unsafe { self.compact_and_push(ch) };
+        if self.try_push(ch).is_err() {
+            // SAFETY: this is not reached: by this function's `# Safety` the text with `ch` fits, and `try_push`
+            // refuses nothing else.
+            unsafe { unreachable_unchecked!() };
         }
-        // SAFETY: `end + ch.len_utf8() <= N`: `has_room` returned true, and the capacity is at most `N`.
-        let len = unsafe { encode(ch, &mut self.array, end) };
-        // FIELDS: `has_room` returned true for `end`, so the text with `ch` ends within the capacity, and `encode`
-        // wrote `ch` at its end.
-        self.size = (self.size as usize + len) as u8;
     }
 
     /// Appends `string`.
@@ -122,21 +113,13 @@ impl<const N: usize> ArrayString<N> {
     #[inline]
     pub fn try_push_str<S: AsRef<str>>(&mut self, string: S) -> Result<(), OutOfBounds> {
         let string = string.as_ref();
-        // Room after the text is tested first: if there is some, it is the only test.
-        let size = self.len() as usize;
-        let capacity = Self::capacity() as usize;
-        if self.start as usize + size + string.len() > capacity {
-            if size + string.len() > capacity {
-                return Err(OutOfBounds);
-            }
-            // SAFETY: `self.len() + string.len() <= Self::capacity()`: by the inner test above.
-            unsafe { self.compact_and_push_str(string) };
-        } else {
-            // SAFETY: `self.len() + string.len() <= Self::capacity()`: by the test above, in which `self.start` is
-            // added, too.
-            unsafe { self.push_str_unchecked(string) };
+        let end = self.end();
+        // SAFETY: the `self.size` bytes of `self.array` from `self.start` on are UTF-8 and end within the capacity;
+        // `end == self.start + self.size`: as the fields of `ArrayString` say.
+        match unsafe { Self::append_str(&mut self.array, &mut self.start, &mut self.size, end, string) } {
+            Some(_) => Ok(()),
+            None => Err(OutOfBounds),
         }
-        Ok(())
     }
 
     /// Appends the longest prefix of whole characters of `string` that fits.
@@ -196,21 +179,15 @@ impl<const N: usize> ArrayString<N> {
     /// [How to read a contract](crate::contracts)
     ///
     /// </details>
-    #[expect(clippy::cast_possible_truncation, reason = "the line before the write says why it fits")]
     #[inline]
     pub unsafe fn push_str_unchecked<S: AsRef<str>>(&mut self, string: S) {
         let string = string.as_ref();
         required!(self.len() as usize + string.len() <= Self::capacity() as usize);
-        let end = self.end();
-        if end + string.len() > Self::capacity() as usize {
-            // SAFETY: `self.len() + string.len() <= Self::capacity()`: by this function's `# Safety`.
-            return unsafe { self.compact_and_push_str(string) };
+        if self.try_push_str(string).is_err() {
+            // SAFETY: this is not reached: by this function's `# Safety` the text with `string` fits, and
+            // `try_push_str` refuses nothing else.
+            unsafe { unreachable_unchecked!() };
         }
-        // FIELDS: by the test above the text with `string` ends within the capacity, and `write_over` writes `string`
-        // at its end.
-        self.size = (self.size as usize + string.len()) as u8;
-        // SAFETY: `end + string.as_bytes().len() <= N`: by the test above, and the capacity is at most `N`.
-        unsafe { write_over(&mut self.array, end, string.as_bytes()) };
     }
 
     /// Appends the longest prefix of the characters that fits.
