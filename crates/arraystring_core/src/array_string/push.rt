@@ -46,9 +46,9 @@ impl<const N: usize> ArrayString<N> {
         requires { size self.old.text + width ch ≤ cap N }
         ensures { self.new.text ≡ self.old.text ++ ch ∷ [] }
     {
-        if self.try_push(ch).is_err() {
+        let Ok(()) = self.try_push(ch) else {
             unreachable!();
-        }
+        };
     }
 
     /// Appends `string`.
@@ -108,9 +108,9 @@ impl<const N: usize> ArrayString<N> {
         requires { size self.old.text + size (chars string.now) ≤ cap N }
         ensures { self.new.text ≡ self.old.text ++ chars string.now }
     {
-        if self.try_push_str(string).is_err() {
+        let Ok(()) = self.try_push_str(string) else {
             unreachable!();
-        }
+        };
     }
 
     /// Appends the longest prefix of the characters that fits.

@@ -222,16 +222,15 @@ unsafe fn move_ends<const K: usize>(all: &mut [u8], from: usize, to: usize, len:
 ///
 /// </details>
 pub unsafe fn write_over<const N: usize>(array: &mut [u8; N], at: usize, given: &[u8]) {
-    let len = given.len();
     let all = &mut array[..];
-    if len < 16 {
+    if given.len() < 16 {
         // SAFETY: `at + given.len() <= all.len()`; `given.len() <= N`; `given.len() < 16`: by this function's
         // `# Safety` and the tests above, since `len` is at most `N`.
         unsafe { write_short_run::<N>(all, at, given) };
-    } else if N > 64 && len > 64 {
+    } else if N > 64 && given.len() > 64 {
         // SAFETY: `at + given.len() <= all.len()`: by this function's `# Safety`.
         unsafe { write_by_call(all, at, given) };
-    } else if N > 32 && len > 32 {
+    } else if N > 32 && given.len() > 32 {
         // SAFETY: `at + given.len() <= all.len()`; `32 <= given.len()`; `given.len() - 32 <= 32`: by this function's
         // `# Safety` and the tests above, since `len` is at most `N`.
         unsafe { copy_ends::<32>(all, at, given) };

@@ -158,8 +158,8 @@ impl<const N: usize> ArrayString<N> {
     }
 
     /// Appends `string` to a text of the array that ends at `end`, and returns where it ends then. Returns
-    /// `None` if not all of it fits. Afterwards the `len` bytes from `start` on are UTF-8 and end within
-    /// the capacity.
+    /// `None` if not all of it fits: then it ends at `end` still. Afterwards the `len` bytes from `start`
+    /// on are UTF-8 and end within the capacity.
     ///
     /// # Safety
     ///
@@ -172,7 +172,7 @@ impl<const N: usize> ArrayString<N> {
     /// requires in_array { IsStored N array.old start.old len.old }
     /// requires end { end ≡ start.old + len.old }
     /// ensures in_array { IsStored N array.new start.new len.new }
-    /// ensures end { IfSome result (λ next. next ≡ start.new + len.new) }
+    /// ensures end { MatchOption result (end ≡ start.new + len.new) (λ next. next ≡ start.new + len.new) }
     /// ensures text { let t = (stored array.old start.old len.old).text in let new = (stored array.new start.new len.new).text in
     ///     MatchOption result ((cap N < size t + size (chars string.now)) × (new ≡ t))
     ///     (λ _. (size t + size (chars string.now) ≤ cap N) × (new ≡ t ++ chars string.now)) }
@@ -304,7 +304,7 @@ impl<const N: usize> ArrayString<N> {
 /// ensures { MatchOption result
 ///     ((cap (length array.old) < size + length given.now) × (array.new ≡ array.old))
 ///     (λ new. (size + length given.now ≤ cap (length array.old)) × (new ≡ size + length given.now)
-///         × (array.new ≡ take size (drop start array.old) ++ (given.now ++ drop new array.old))) }
+///     × (array.new ≡ take size (drop start array.old) ++ (given.now ++ drop new array.old))) }
 /// ```
 ///
 /// [How to read a contract](crate::contracts)
@@ -337,7 +337,7 @@ unsafe fn append_at_front(size: usize, given: &[u8], array: &mut [u8], start: us
 /// ensures { MatchOption result
 ///     ((cap (length array.old) < size + width ch) × (array.new ≡ array.old))
 ///     (λ new. (size + width ch ≤ cap (length array.old)) × (new ≡ size + width ch)
-///         × (array.new ≡ take size (drop start array.old) ++ (utf8 ch ++ drop new array.old))) }
+///     × (array.new ≡ take size (drop start array.old) ++ (utf8 ch ++ drop new array.old))) }
 /// ```
 ///
 /// [How to read a contract](crate::contracts)
