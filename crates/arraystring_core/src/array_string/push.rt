@@ -30,9 +30,10 @@ impl<const N: usize> ArrayString<N> {
         ensures { Makes (addition self.old.text (ch ∷ []) (cap N)) self.old.text (from_out_of_bounds result) self.new.text }
     {
         let end = self.end();
-        match Self::append_char(&mut self.array, &mut self.start, &mut self.size, end, ch) {
+        match Self::append_char_behind(&mut self.array, self.start, &mut self.size, end, ch) {
             Some(_) => Ok(()),
-            None => Err(OutOfBounds),
+            None if self.start == 0 => Err(OutOfBounds),
+            None => self.push_at_front(ch),
         }
     }
 

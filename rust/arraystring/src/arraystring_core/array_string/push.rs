@@ -40,9 +40,10 @@ impl<const N: usize> ArrayString<N> {
         let end = self.end();
         // SAFETY: the `self.size` bytes of `self.array` from `self.start` on are UTF-8 and end within the capacity;
         // `end == self.start + self.size`: as the fields of `ArrayString` say.
-        match unsafe { Self::append_char(&mut self.array, &mut self.start, &mut self.size, end, ch) } {
+        match unsafe { Self::append_char_behind(&mut self.array, self.start, &mut self.size, end, ch) } {
             Some(_) => Ok(()),
-            None => Err(OutOfBounds),
+            None if self.start == 0 => Err(OutOfBounds),
+            None => self.push_at_front(ch),
         }
     }
 
