@@ -25,8 +25,8 @@ pub mod lists;
 
 use lists::{
     ADDED, ASKED, ASKED_EACH, ASKED_EACH_WHY, Added, BY_CODE, BY_HAND, CRATES, DROP_BOUND, FREE_ATTRIBUTES, HEADS,
-    KNOWN, KNOWN_NAMES, LAWS, LEFT_OUT, ORDERS, PLACES, PROVE, Place, REQUIRED, REWRITES, Required, Rewrite, SAFE,
-    Safe, Then, UNSAFE_BLOCK, UNSAFE_FN, USES, Uses, WALK,
+    KNOWN_NAMES, LAWS, LEFT_OUT, ORDERS, PLACES, PROVE, Place, REQUIRED, REWRITES, Required, Rewrite, SAFE, Safe, Then,
+    UNSAFE_BLOCK, UNSAFE_FN, USES, Uses, WALK,
 };
 
 // ---- Tokens ----
@@ -1315,24 +1315,6 @@ fn undo_asked_each(head: &mut Vec<Token>, body: &mut Vec<Token>, reading: &mut R
     }
 }
 
-/// Undoes `unsafe { known!(name: fact) };` at the start of the body of an `unsafe fn`, if the clause of that name says so: a safe function is
-/// called where its clauses do not hold.
-fn undo_known(body: &mut Vec<Token>, source: &Item, reading: &mut Reading) {
-    let line = pattern("unsafe { known!($item: $fact) };");
-    let mut bound = Bound::new();
-    while let Some(end) = matched(&line, body, 1, &mut bound) {
-        let (name, fact) = (shown(&bound["item"]), shown(&bound["fact"]));
-        let clause = format!("requires {name} {{ {} }}", fact.replace("<=", "≤"));
-        let is_so = |clauses: &Token| clauses.text.split_whitespace().collect::<Vec<_>>().join(" ") == clause;
-        if !source.clauses.iter().any(is_so) {
-            return;
-        }
-        put(body, 1..end, Vec::new());
-        reading.note(KNOWN);
-        bound.clear();
-    }
-}
-
 /// Where the `unsafe` of a function stands in its head, and not that of the type of a parameter.
 fn unsafe_of(head: &[Token]) -> Option<usize> {
     let before = head.iter().position(|token| token.is("fn"))?.checked_sub(1)?;
@@ -1353,9 +1335,6 @@ fn as_in_source(made: &Item, source: &Item, reading: &mut Reading) -> Item {
         head = undone(head, HEADS, &made.path, reading);
         undo_asked(&mut head, &mut body, reading);
         undo_asked_each(&mut head, &mut body, reading);
-        if is_unsafe.is_some() {
-            undo_known(&mut body, source, reading);
-        }
         body = undone(without_unsafe_blocks(body, reading), REWRITES, &made.path, reading);
     }
     Item { head, body, ..made.clone() }
@@ -1369,11 +1348,8 @@ fn known_names() -> BTreeSet<String> {
         (pair[1].is("(") || pair[1].is("!")).then(|| pair[0].text.clone())
     };
     let patterns = REWRITES.iter().flat_map(|rewrite| [rewrite.made, rewrite.source]).filter_map(first);
-    let listed = KNOWN_NAMES
-        .iter()
-        .map(|(name, _)| *name)
-        .chain(["known", "required", "required_of_each", "prove"])
-        .map(str::to_string);
+    let listed =
+        KNOWN_NAMES.iter().map(|(name, _)| *name).chain(["required", "required_of_each", "prove"]).map(str::to_string);
     patterns.chain(listed).collect()
 }
 

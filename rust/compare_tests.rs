@@ -546,7 +546,6 @@ fn an_access_is_of_the_same_operand_at_the_same_index() {
         ("a[b].c()", "*get_unchecked!(a, b).c()"),
         ("&h(&mut d)[..d]", "get_unchecked!(h(&mut d), ..d)"),
         ("a.b()[c()].copy_from_slice(d)", "copy_from_slice_unchecked!(a.b(), c(), d)"),
-        ("a.b().copy_within(c(), d())", "copy_within_unchecked!(a.b(), c(), d())"),
         ("&a + c[b]", "get_unchecked!(a + c, b)"),
         ("&return[a]", "get_unchecked!(return, a)"),
     ] {
@@ -581,7 +580,7 @@ fn unsafe_stands_around_one_access_and_no_more() {
         ("g(&a[b..c])", "g(unsafe { get_unchecked!(a, b..c) })"),
         ("a[b..].make_ascii_uppercase()", "unsafe { get_unchecked_mut!(a, b..) }.make_ascii_uppercase()"),
         ("a[b..c].copy_from_slice(d)", "unsafe { copy_from_slice_unchecked!(a, b..c, d) }"),
-        ("a.copy_within(b..c, d)", "unsafe { copy_within_unchecked!(a, b..c, d) }"),
+        ("a.copy_within(b..c, d)", "a.copy_within(b..c, d)"),
         ("unreachable!()", "unsafe { unreachable_unchecked!() }"),
         // (one inside another one, or inside a call, is in the `unsafe` of that)
         ("let b = a[c[d]]", "let b = *unsafe { get_unchecked!(a, *get_unchecked!(c, d)) }"),
@@ -611,11 +610,6 @@ fn what_is_required_makes_a_function_unsafe() {
     same(source, "unsafe fn f(a: u8) {\n    g(a);\n}\n");
     differs(source, "fn f(a: u8) {\n    g(a);\n}\n", "is no `unsafe fn`, and the list does not say why");
     differs("fn f(a: u8) {\n    g(a);\n}\n", "unsafe fn f(a: u8) {\n    g(a);\n}\n", "for `fn f");
-    same(source, "unsafe fn f(a: u8) {\n    unsafe { known!(small: a <= b) };\n    g(a);\n}\n");
-    differs(source, "unsafe fn f(a: u8) {\n    unsafe { known!(small: a <= c) };\n    g(a);\n}\n", "known");
-    differs(source, "unsafe fn f(a: u8) {\n    unsafe { known!(other: a <= b) };\n    g(a);\n}\n", "known");
-    differs(source, "unsafe fn f(a: u8) {\n    known!(small: a <= b);\n    g(a);\n}\n", "known");
-    differs(source, "unsafe fn f(a: u8) {\n    g(a);\n    unsafe { known!(small: a <= b) };\n}\n", "known");
     let pointer = source.replace("a: u8", "a: u8, b: fn(u8)");
     differs(&pointer, "fn f(a: u8, b: unsafe fn(u8)) {\n    g(a);\n}\n", "for `u8 , b : fn");
     // (a call of a safe function may be where its clause does not hold)
@@ -628,8 +622,6 @@ fn what_is_required_makes_a_function_unsafe() {
         ..NONE
     };
     assert_eq!(pair(&SAFE, source, "fn f(a: u8) {\n    g(a);\n}\n"), [""; 0]);
-    let found = pair(&SAFE, source, "fn f(a: u8) {\n    unsafe { known!(small: a <= b) };\n    g(a);\n}\n");
-    assert!(found.len() == 1 && found[0].contains("known"), "{found:?}");
 }
 
 #[test]
@@ -777,7 +769,7 @@ fn a_name_that_is_known_is_that_of_a_call() {
         "impl A { fn look(&self) {} }\n",
         "`arraystring_base::a::A::look` has the name",
     );
-    for name in ["look", "look_unchecked", "get_unchecked", "unreachable", "known", "prove"] {
+    for name in ["look", "look_unchecked", "get_unchecked", "unreachable", "prove"] {
         let program = format!("use super::b as {name};\n");
         differs(&program, &program, "of what a rewrite knows");
     }

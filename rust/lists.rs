@@ -64,7 +64,6 @@ pub const REWRITES: &[Rewrite] = &[
         "",
         NO_TEST,
     ),
-    rewrite("copy_within_unchecked!($fields, $at, $to)", "$fields.copy_within($at, $to)", End, "", NO_TEST),
     rewrite("unreachable_unchecked!()", "unreachable!()", End, "", "it is never reached, by the proof"),
     rewrite("crate::by_hand::char::from_u32_unchecked(", "char::from_u32_unchecked(", Anything, UTF8, SAME_CALL),
     rewrite("look_unchecked(", "look(", Anything, UTF8, TWIN),
@@ -274,7 +273,6 @@ pub const REQUIRED: &[Required] = &[
 
 pub const UNSAFE_BLOCK: &str = "`unsafe { }` around one call or access";
 pub const UNSAFE_FN: &str = "`unsafe fn`";
-pub const KNOWN: &str = "`unsafe { known!(..) }`";
 pub const DROP_BOUND: &str = "`+ Drop`";
 pub const PROVE: &str = "`prove!(..);`";
 
@@ -285,7 +283,6 @@ pub const BY_CODE: &[(&str, &str)] = &[
         "the function is declared `unsafe fn` in the Rust crate, and what it requires is proved; or it is an access without a test",
     ),
     (UNSAFE_FN, "the source has a `requires`; where it has one and is safe here, `SAFE` says why"),
-    (KNOWN, "its words are those of the named clause of the function, told to rustc"),
     (DROP_BOUND, "a bound that a value may be dropped, which each may be in Rust"),
     (PROVE, "a step of a proof"),
 ];
@@ -380,7 +377,8 @@ pub struct Place {
 }
 
 const MEMCMP: &str = "std has the same answer, from the first bytes that differ; its `memcmp` has larger vectors";
-const MEMMOVE: &str = "std moves the same bytes, also where both runs overlap; its `memmove` is there already, and smaller";
+const MEMMOVE: &str =
+    "std moves the same bytes, also where both runs overlap; its `memmove` is there already, and smaller";
 const SPLITS: &str = "it is `const`: the array is split twice, since stable Rust has no index of a slice in a constant";
 const LIKE_STR: &str = "no precondition bounds the range: it panics as the index of `str` does";
 const COUNT_STOPS: &str = "no precondition bounds the count, which stops at 2^64 - 1";
@@ -388,7 +386,7 @@ const COUNT_STOPS: &str = "no precondition bounds the count, which stops at 2^64
 pub const PLACES: &[Place] = &[
     Place {
         path: "arraystring_base::moves::move_bytes",
-        source: 0,
+        source: 0xE24B_1C49_E617_B213,
         here: "
             pub unsafe fn move_bytes(all: &mut [u8], from: usize, to: usize, len: usize) {
                 // SAFETY: this is within: by this function's `# Safety`.
@@ -818,8 +816,7 @@ pub const BY_HAND: &[(&str, &str)] = &[
     ("by_hand/simd.rs", "the vectors of the sources, as arrays or words. A fault in it could break UTF-8"),
     (
         "by_hand/access.rs",
-        "what is read and written without a test, what is told to rustc, and `from_utf8_unchecked` and `from_u32_unchecked`, \
-         which `checked` tests. A fault in it could break UTF-8",
+        "what is read and written without a test, and `from_utf8_unchecked` and `from_u32_unchecked`, which `checked` tests. A fault in it could break UTF-8",
     ),
     ("by_hand/contracts.rs", "the page on contracts"),
     ("by_hand/count_tests.rs", "tests"),

@@ -696,7 +696,7 @@ const WORDS: &[Words] = &[
     words(
         "a branch, a walk or a return, which goes where it goes in Rust; a `for` asks an iterator for the next item \
          until there is none",
-        "if else match for in while break continue return ?",
+        "if else match for in while break return ?",
     ),
     words(
         "values of the same numbers of bits, and Unicode scalar values; where a `usize` has 32 bits for the 64 of the \
@@ -726,8 +726,8 @@ const WORDS: &[Words] = &[
     words(
         "calls of std: Rattle's std has the contract of Rust's, and rust/arraystring/tests plays them beside \
          `String`",
-        ".chars() .copy_from_slice() .copy_within() .is_char_boundary() .is_whitespace() .len_utf8() .min() \
-         .saturating_add() .split_first() char::REPLACEMENT_CHARACTER char::from_u32 char::from_u32_unchecked \
+        ".chars() .copy_from_slice() .is_char_boundary() .is_whitespace() .len_utf8() .min() .saturating_add() \
+         .split_first() char::REPLACEMENT_CHARACTER char::from_u32 char::from_u32_unchecked \
          str::from_utf8_unchecked use:core::char",
     ),
     words(
@@ -1079,7 +1079,7 @@ const NEW_WORD: &str = "which is in no list: read what Rattle and what Rust mean
 // ---- Order ----
 
 /// Calls that copy, and whose operand stands before a point.
-const COPIES: &[&str] = &["copy_from_slice", "copy_within"];
+const COPIES: &[&str] = &["copy_from_slice"];
 
 /// Where the operand begins that ends before an index, if it is a path of fields and of plain calls.
 fn start_of_path(tokens: &[Token], end: usize, changing: &BTreeSet<String>, check: &mut Check) -> Option<usize> {

@@ -189,7 +189,6 @@ pub fn write_over<const N: usize>(array: &mut [u8; N], at: usize, given: &[u8])
 /// # Precondition
 ///
 /// `given` must fit into the slice from there.
-#[inline(always)]
 pub fn write_by_call(all: &mut [u8], at: usize, given: &[u8])
     requires { at + length given.now ≤ length all.old }
     ensures { all.new ≡ take at all.old ++ (given.now ++ drop (at + length given.now) all.old) }

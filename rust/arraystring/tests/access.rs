@@ -1,6 +1,6 @@
 //! What `src/by_hand/access.rs` does, which is a part of this test as it is of the crate: within, each macro does what the plain
 //! access of a slice does, in a build that tests it and in one that does not. Where it is tested, with debug assertions or with the
-//! feature `checked`, the first place that is not within panics, and so does a clause that does not hold.
+//! feature `checked`, the first place that is not within panics.
 
 #[macro_use]
 #[path = "../src/by_hand/access.rs"]
@@ -128,22 +128,6 @@ fn what_is_moved_is_as_it_is_plainly() {
 }
 
 #[test]
-fn what_is_known_and_holds_is_passed() {
-    fn sum(part: usize, more: usize, most: usize) -> usize {
-        unsafe { known!(source: part + more <= most) };
-        part + more
-    }
-    for part in 0..=MOST {
-        for more in 0..=MOST {
-            for spare in 0..=2 {
-                assert_eq!(sum(part, more, part + more + spare), part + more);
-            }
-        }
-    }
-    assert_eq!([sum(usize::MAX, 0, usize::MAX), sum(1, usize::MAX - 1, usize::MAX)], [usize::MAX; 2]);
-}
-
-#[test]
 fn what_is_made_of_a_number_or_of_bytes_is_as_it_is_made_with_a_test() {
     for ch in ('\0'..='\u{2FF}')
         .chain('\u{D7F0}'..='\u{E010}')
@@ -171,7 +155,7 @@ fn no_macro_has_an_unsafe_of_its_own() {
     let text = include_str!("../src/by_hand/access.rs");
     let (macros, behind) = text.split_once("/// What the sources use of `char`.").expect("the macros stand in front");
     let code = macros.lines().filter(|line| !line.trim_start().starts_with("//"));
-    assert_eq!(code.clone().filter(|line| line.starts_with("macro_rules! ")).count(), 9);
+    assert_eq!(code.clone().filter(|line| line.starts_with("macro_rules! ")).count(), 8);
     assert_eq!(code.filter(|line| line.contains("unsafe")).count(), 0);
     assert!(!behind.contains("\nmacro_rules! "));
 }
@@ -325,30 +309,6 @@ mod tested {
                 assert!(!run(0, size, last + 1), "to {size} of {len}");
                 assert!(!run(last + 1, len + 1, 0), "from {size} of {len}");
                 assert!(!run(0, size, usize::MAX), "{size} of {len}");
-            }
-        }
-    }
-
-    #[test]
-    fn a_clause_that_does_not_hold_panics() {
-        // (Numbers that the compiler can't see, as it would leave out a test that it finds undefined.)
-        fn is_passed(part: usize, more: usize, most: usize) -> Option<String> {
-            let (part, more, most) = black_box((part, more, most));
-            panic_of(|| {
-                unsafe { known!(source: part + more <= most) };
-            })
-        }
-        let why = Some("the clause `source` does not hold".to_string());
-        for part in 0..=MOST {
-            for more in 0..=MOST {
-                assert_eq!(is_passed(part, more, part + more), None);
-                if part + more > 0 {
-                    assert_eq!(is_passed(part, more, part + more - 1), why, "{part} {more}");
-                    assert_eq!(is_passed(part, more, 0), why, "{part} {more}");
-                }
-                if more > 0 {
-                    assert_eq!(is_passed(usize::MAX - more + 1, more, usize::MAX), why, "{part} {more}");
-                }
             }
         }
     }

@@ -99,10 +99,9 @@ fn a_move_past_the_array_panics_at_each_length() {
     assert_eq!(counts, [16, 92, 320, 800, 1200]);
 }
 
-/// What the last byte that can be moved does, and what the first one that can't says, where the run is so long and the array so
-/// short that a clause of the move is told to the compiler.
+/// What the last byte that can be moved does, and what the first one that can't says, where the run is so long that a call moves it.
 #[test]
-fn what_is_required_is_tested_before_a_clause_is_told_to_the_compiler() {
+fn what_is_required_is_tested_before_a_call_moves_a_long_run() {
     let why = Some("it is required that `from <= N && len <= N - from`");
     let moved = |from: usize, len: usize| {
         let (mut array, mut steps) = ([7; 255], Steps::new());

@@ -153,3 +153,68 @@ fn edits_move_what_stands_behind_them() {
     edited_at_each_size::<255>();
     edited_at_each_size::<300>();
 }
+
+/// Moves each run of more than 64 bytes, which one call moves, from each offset to each. Returns how many moves there were.
+fn moved_by_a_call<const N: usize>() -> usize {
+    let mut count = 0;
+    for len in 65..=N {
+        for (from, to) in (0..=N - len).flat_map(|from| (0..=N - len).map(move |to| (from, to))) {
+            is_moved::<N>(from, to, len);
+            count += 1;
+        }
+    }
+    count
+}
+
+#[test]
+fn long_runs_are_moved_from_each_offset_to_each() {
+    let counts = [moved_by_a_call::<65>(), moved_by_a_call::<80>(), moved_by_a_call::<129>(), moved_by_a_call::<160>()];
+    // The sums of the first 1, 16, 65 and 96 squares.
+    assert_eq!(counts, [1, 1_496, 93_665, 299_536]);
+}
+
+/// Appends to texts of each size at each offset: what ends where the array does, a byte more, what fills the string, and a byte
+/// more. Returns how often the text moved to the front, and how often it was refused.
+fn appended_at_each_offset<const N: usize>() -> (usize, usize) {
+    let capacity = N.min(255);
+    let (mut moved, mut refused) = (0, 0);
+    for size in 0..=capacity {
+        let text = letters(size);
+        for offset in 0..=capacity - size {
+            let mut string = ArrayString::<N>::from(("m".repeat(offset) + &text).as_str());
+            string.drain(..offset as u8).expect("the front");
+            let (behind, room) = (capacity - offset - size, capacity - size);
+            for more in [behind, behind + 1, room, room + 1] {
+                let (given, mut appended) = (letters(more), string);
+                let is_refused = appended.try_push_str(&given).is_err();
+                let wanted = if is_refused { text.clone() } else { text.clone() + &given };
+                assert_eq!((is_refused, appended.as_str()), (more > room, wanted.as_str()), "{size} {offset} {more}");
+                moved += usize::from(behind < more && more <= room);
+                refused += usize::from(is_refused);
+            }
+            for ch in ['b', 'é', '€', '🤔'] {
+                let mut appended = string;
+                let is_refused = appended.try_push(ch).is_err();
+                let wanted = if is_refused { text.clone() } else { format!("{text}{ch}") };
+                let is_wanted = (ch.len_utf8() > room, wanted.as_str());
+                assert_eq!((is_refused, appended.as_str()), is_wanted, "{size} {offset} {ch}");
+            }
+        }
+    }
+    (moved, refused)
+}
+
+#[test]
+fn a_text_moves_to_the_front_from_each_offset() {
+    // Two moves at each of the offsets above 0, and a refusal at each offset: at 0, where no room is in front, it is two.
+    fn wanted(capacity: usize) -> (usize, usize) {
+        let above: usize = (0..=capacity).map(|size| capacity - size).sum();
+        (2 * above, above + 2 * (capacity + 1))
+    }
+    assert_eq!(appended_at_each_offset::<1>(), wanted(1));
+    assert_eq!(appended_at_each_offset::<23>(), wanted(23));
+    assert_eq!(appended_at_each_offset::<64>(), wanted(64));
+    assert_eq!(appended_at_each_offset::<80>(), wanted(80));
+    assert_eq!(appended_at_each_offset::<255>(), wanted(255));
+    assert_eq!(appended_at_each_offset::<300>(), wanted(255));
+}

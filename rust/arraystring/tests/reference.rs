@@ -176,6 +176,7 @@ fn what_runs_in_place_of_a_proved_body_is_said_below_its_contract() {
     }
     found.sort();
     let wanted = [
+        "arraystring_base/moves: move_bytes",
         "arraystring_base/steps: count_moves",
         "arraystring_base/steps: look",
         "arraystring_core/array_string/construct: from_utf8",

@@ -157,7 +157,6 @@ impl<'a> Body<'a> {
                 Ok(!(closes == at + 3 && self.has_range(at, closes)))
             }
             "unreachable" => Ok(self.text(at + 1) == "!"),
-            "copy_within" => Ok(at > 1 && self.text(at - 1) == "." && self.text(at + 1) == "("),
             _ => Ok(false),
         }
     }
@@ -171,7 +170,6 @@ impl<'a> Body<'a> {
                 let end = if is_copied && self.has_range(at, closes) { self.closing(closes + 3)? } else { closes };
                 Ok(self.operand_start(at - 1)?..=end)
             }
-            "copy_within" => Ok(self.operand_start(at - 2)?..=self.closing(at + 1)?),
             _ => Ok(at..=self.closing(at + 2)?),
         }
     }

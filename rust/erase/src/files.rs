@@ -16,7 +16,7 @@ use crate::lists::{ADDED, BY_HAND, CRATES, LEFT_OUT, PLACES, REQUIRED};
 use crate::names::{self, named};
 use crate::places::{is_left_out, twins};
 use crate::reasons::{self, Reasons};
-use crate::rules::{KNOWN, ORDER, WIDER};
+use crate::rules::{ORDER, WIDER};
 use crate::width;
 
 /// Each file of the Rust crate that is made, by its path in `src`.
@@ -108,7 +108,6 @@ pub fn entries(reasons: &[Reasons]) -> Vec<String> {
     names.extend(OTHERS.iter().map(|(path, _)| format!("other {path}")));
     names.extend(BY_STD.iter().map(|rule| format!("by std {}", rule.path)));
     names.extend(BY_STD.iter().flat_map(|rule| rule.calls).map(|call| format!("by std {call}")));
-    names.extend(KNOWN.iter().map(|(call, clause)| format!("known {call} {clause}")));
     names.extend(reasons.iter().flat_map(Reasons::entries));
     names.extend(given_up().iter().map(|clause| format!("given up `{clause}`")));
     names.extend(named().iter().flat_map(|named| &named.paths).map(|path| format!("named {path}")));

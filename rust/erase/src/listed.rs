@@ -9,7 +9,7 @@ use crate::decoration::sections::lines;
 use crate::files::read;
 use crate::lists::{ADDED, ASKED_EACH, BY_HAND, BY_STD as WHY_BY_STD, LEFT_OUT, PLACES};
 use crate::places::{asked, taken, twins};
-use crate::rules::{KNOWN, WIDER};
+use crate::rules::WIDER;
 
 /// The page, from the top of the repository.
 const PAGE: &str = "rust/arraystring/TRUST.md";
@@ -87,8 +87,6 @@ fn changed() -> Vec<String> {
     items.push(item(&quoted(&constant), "they are `const`"));
     items
         .extend(twins().map(|rule| item(&quoted(&[rule.of]), &format!("bodies call `{}`, without a test", rule.twin))));
-    let known: Vec<_> = KNOWN.iter().map(|(call, _)| *call).collect();
-    items.push(item(&quoted(&known), "a clause of each is told to rustc at the start of its body"));
     items.extend(wider());
     items
 }
@@ -196,7 +194,6 @@ mod tests {
         }
         OTHERS.iter().for_each(|(_, here)| has(&format!(": {here}.")));
         twins().for_each(|rule| has(&format!("- `{}`: bodies call `{}`", rule.of, rule.twin)));
-        KNOWN.iter().for_each(|(call, _)| has(&format!("`{call}`")));
         assert_eq!(ADDED.iter().filter(|entry| list.contains(&format!("`: {}.", entry.why))).count(), 2);
         has("- more calls in `impl<const N: usize> Iterator for Drain<N>`: callers that make room ask for it.");
         has("- more calls in `impl<'a> Iterator for Units<'a>`: callers that make room ask for it.");

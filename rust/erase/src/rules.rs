@@ -88,11 +88,6 @@ pub const GIVEN_UP: &[&str] = &[
     "IsCallableInTurn F.pre F.step f (chars (take size (drop offset array.old)))",
 ];
 
-/// The clauses that stand at the start of a body as known, by their function and their name, if they have one. An access needs
-/// none, since it has no test. This one is for cells of docs/speed.md at 255: without it `try_insert`, `try_insert_str`,
-/// `replace_range` and `remove` in the middle take some twenty instructions more.
-pub const KNOWN: &[(&str, &str)] = &[];
-
 /// Paths by which a known function is public elsewhere, beside that of its definition.
 pub const ELSEWHERE: &[(&str, &str)] = &[("look", "arraystring_base::utils::look")];
 

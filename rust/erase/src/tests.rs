@@ -314,31 +314,6 @@ fn made_as(path: &str, text: &str) -> Result<String, String> {
     erased(path, text).map_err(|fault| fault.why)
 }
 
-/// What comes of a worker in whose body a clause is known.
-fn move_pairs(requires: &str) -> Result<String, String> {
-    let text = format!(
-        "/// Moves.\nfn move_pairs<const N: usize>(array: &mut [u8; N], to: usize, len: usize)\n    requires {requires}\n{{\n    write(array);\n}}\n"
-    );
-    made_as("arraystring_base/src/moves.rt", &text)
-}
-
-#[test]
-fn a_clause_of_the_list_is_known_at_the_start_of_its_body() {
-    let known = "len: usize) {\n    // SAFETY: by this function's `# Safety`.\n    unsafe { known!(source: to + len <= N) };\n    write(array";
-    let text = move_pairs("source { to + len ≤ N }").unwrap();
-    assert!(text.contains(known), "{text}");
-    for no_test in ["room { to + len ≤ N }", "source { IsUtf8 (take len (drop to array.old)) }"] {
-        assert_eq!(move_pairs(no_test).unwrap_err(), NOT_KNOWN);
-    }
-}
-
-const NOT_KNOWN: &str = "`moves::move_pairs`: it has no test `source` that could be known";
-
-#[test]
-fn a_clause_that_is_given_up_is_never_known() {
-    assert_eq!(move_pairs("source { steps.old.moved ≤ 2 ^ 63 }").unwrap_err(), NOT_KNOWN);
-}
-
 #[test]
 fn what_is_tested_for_the_proof_alone_goes() {
     let body = "fn find(at: usize) {\n    prove!(at < 3);\n    f();\n}\n";
@@ -396,8 +371,7 @@ pub fn slice<R: RangeBounds<u8>>(&self, range: R) -> &str
         made_as("arraystring_core/src/array_string/range.rt", &format!("impl ArrayString {{\n{text}}}\n")).unwrap();
     assert!(
         made.contains("\npub fn slice<")
-            && made.contains("\n    &self.as_str()[start..end]\n")
-            && !made.contains("known!"),
+            && made.contains("\n    &self.as_str()[start..end]\n"),
         "{made}"
     );
 }

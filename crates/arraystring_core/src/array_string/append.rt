@@ -3,6 +3,7 @@
 //! the text to the start of the array, or refuses. It takes a slice, and so stands once in a program.
 ghost use Rattle.std.specs.Prelude.{◌≡◌, ◌+◌, ◌-◌, ◌<◌, ◌≤◌, ◌↔◌, IfSome, [], ◌∷◌, ◌++◌, IsTrue, chars, ℕ, List, MatchOption, MatchResult, length, take, drop};
 ghost use Rattle.arraystring_base.specs.Text.{size, width, utf8, cap, cut};
+ghost use Rattle.arraystring_core.specs.Edits.{Makes, from_out_of_bounds, addition};
 ghost use Rattle.std.specs.Borrow.{Bor};
 ghost use Rattle.std.specs.Iterator.{IsFiniteIterable};
 ghost use Rattle.arraystring_core.specs.Layout.{stored, IsStored};
@@ -70,11 +71,38 @@ impl<const N: usize> ArrayString<N> {
         Ok(())
     }
 
+    /// Appends `ch` behind a text of the array that ends at `end`, and returns where it ends then. Returns
+    /// `None` if there is no room behind it, and then changes nothing. Afterwards the `len` bytes from
+    /// `start` on are UTF-8 and end within the capacity.
+    #[inline(always)]
+    pub(super) fn append_char_behind(
+        array: &mut [u8; N],
+        start: u8,
+        len: &mut u8,
+        end: usize,
+        ch: char,
+    ) -> Option<usize>
+        requires in_array { IsStored N array.old start len.old }
+        requires end { end ≡ start + len.old }
+        ensures in_array { IsStored N array.new start len.new }
+        ensures end { IfSome result (λ next. next ≡ start + len.new) }
+        ensures text { let t = (stored array.old start len.old).text in let new = (stored array.new start len.new).text in
+            MatchOption result ((cap N < end + width ch) × (array.new ≡ array.old) × (len.new ≡ len.old))
+            (λ _. (size t + size (ch ∷ []) ≤ cap N) × (new ≡ t ++ ch ∷ [])) }
+    {
+        if !Self::has_room(end, ch) {
+            return None;
+        }
+        let next = end + encode(ch, array, end);
+        *len = (next - start as usize) as u8;
+        Some(next)
+    }
+
     /// Appends `ch` to a text of the array that ends at `end`, and returns where it ends then. Returns
     /// `None` if it does not fit. Afterwards the `len` bytes from `start` on are UTF-8 and end within
     /// the capacity.
     #[inline(always)]
-    pub(super) fn append_char(
+    fn append_char(
         array: &mut [u8; N],
         start: &mut u8,
         len: &mut u8,
@@ -88,9 +116,7 @@ impl<const N: usize> ArrayString<N> {
         ensures text { let t = (stored array.old start.old len.old).text in let new = (stored array.new start.new len.new).text in
             MatchOption result ((cap N < size t + size (ch ∷ [])) × (new ≡ t)) (λ _. (size t + size (ch ∷ []) ≤ cap N) × (new ≡ t ++ ch ∷ [])) }
     {
-        if Self::has_room(end, ch) {
-            let next = end + encode(ch, array, end);
-            *len = (next - *start as usize) as u8;
+        if let Some(next) = Self::append_char_behind(array, *start, len, end, ch) {
             return Some(next);
         }
         let from = *start as usize;
@@ -102,6 +128,23 @@ impl<const N: usize> ArrayString<N> {
         *start = 0;
         *len = size as u8;
         Some(size)
+    }
+
+    /// Appends `ch` to a text that has to move to the start of the array for it, if it fits so. It stands
+    /// apart from `try_push`, each of whose calls would be longer.
+    #[cold]
+    #[inline(never)]
+    pub(super) fn push_at_front(&mut self, ch: char) -> Result<(), OutOfBounds>
+        ensures { Makes (addition self.old.text (ch ∷ []) (cap N)) self.old.text (from_out_of_bounds result) self.new.text }
+    {
+        let all = &mut self.array[..];
+        let appended = append_char_at_front(self.size as usize, ch, all, self.start as usize);
+        let Some(size) = appended else {
+            return Err(OutOfBounds);
+        };
+        self.start = 0;
+        self.size = size as u8;
+        Ok(())
     }
 
     /// Appends `string` to a text of the array that ends at `end`, and returns where it ends then. Returns

@@ -30,9 +30,10 @@ impl<const N: usize> ArrayString<N> {
         ensures { Makes (addition self.old.text (ch ∷ []) (cap N)) self.old.text (from_out_of_bounds result) self.new.text }
     {
         let end = self.end();
-        match Self::append_char(&mut self.array, &mut self.start, &mut self.size, end, ch) {
+        match Self::append_char_behind(&mut self.array, self.start, &mut self.size, end, ch) {
             Some(_) => Ok(()),
-            None => Err(OutOfBounds),
+            None if self.start == 0 => Err(OutOfBounds),
+            None => self.push_at_front(ch),
         }
     }
 
@@ -46,9 +47,9 @@ impl<const N: usize> ArrayString<N> {
         requires { size self.old.text + width ch ≤ cap N }
         ensures { self.new.text ≡ self.old.text ++ ch ∷ [] }
     {
-        if self.try_push(ch).is_err() {
+        let Ok(()) = self.try_push(ch) else {
             unreachable!();
-        }
+        };
     }
 
     /// Appends `string`.
@@ -108,9 +109,9 @@ impl<const N: usize> ArrayString<N> {
         requires { size self.old.text + size (chars string.now) ≤ cap N }
         ensures { self.new.text ≡ self.old.text ++ chars string.now }
     {
-        if self.try_push_str(string).is_err() {
+        let Ok(()) = self.try_push_str(string) else {
             unreachable!();
-        }
+        };
     }
 
     /// Appends the longest prefix of the characters that fits.

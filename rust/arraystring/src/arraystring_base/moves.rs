@@ -258,6 +258,7 @@ pub unsafe fn write_over<const N: usize>(array: &mut [u8; N], at: usize, given: 
 /// [How to read a contract](crate::contracts)
 ///
 /// </details>
+#[inline]
 pub unsafe fn write_by_call(all: &mut [u8], at: usize, given: &[u8]) {
     // SAFETY: this is within: by this function's `# Safety`.
     unsafe { copy_from_slice_unchecked!(all, at..at + given.len(), given) };

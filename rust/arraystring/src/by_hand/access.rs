@@ -1,5 +1,4 @@
-//! What is read and written without a test that it is there, what is proved and told to rustc, and what is made of numbers and
-//! bytes without a test, which the feature `checked` makes.
+//! What is read and written without a test that it is there, and what is made of numbers and bytes without a test, which the feature `checked` makes.
 //!
 //! A function of the sources is accepted only if it is proved never to panic. So each index and each part in it is within, each
 //! copy is between parts of one length, and no `unreachable!()` is reached. rustc can't see that proof, and would test all
@@ -68,19 +67,6 @@ macro_rules! unreachable_unchecked {
     () => {
         if crate::access::IS_TESTED { unreachable!() } else { core::hint::unreachable_unchecked() }
     };
-}
-
-/// Tells rustc a clause that is proved of each call, as `unsafe { known!(source: from + len <= N) }`: also that the sum does not wrap.
-/// Where accesses are tested, it is, too.
-macro_rules! known {
-    ($clause:ident: $part:ident + $more:ident <= $most:expr) => {{
-        let is_so = $part.checked_add($more).is_some_and(|sum| sum <= $most);
-        if crate::access::IS_TESTED {
-            assert!(is_so, concat!("the clause `", stringify!($clause), "` does not hold"))
-        } else {
-            core::hint::assert_unchecked(is_so)
-        }
-    }};
 }
 
 /// What a public function requires, which is tested with debug assertions and with the feature `checked`: a line at the start of its body.

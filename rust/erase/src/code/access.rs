@@ -18,10 +18,6 @@ pub fn rewrite(body: &Body, at: usize, is_outer: bool, edits: &mut Edits, tally:
     let block = if is_outer { "unsafe { " } else { "" };
     match body.text(at) {
         "[" => index(body, at, block, edits)?,
-        "copy_within" => {
-            edits.insert(start, format!("{block}copy_within_unchecked!("));
-            edits.replace(body.at(at - 1).start..body.at(at + 1).end, ", ");
-        }
         _ => edits.replace(body.at(at), format!("{block}unreachable_unchecked")),
     }
     if is_outer {

@@ -6,7 +6,6 @@ use crate::edits::{indent, line_start};
 use crate::items::Item;
 use crate::lists::REQUIRED;
 use crate::needs::proves;
-use crate::rules::KNOWN;
 
 impl<'a> Pass<'a, '_> {
     /// Makes a function.
@@ -18,7 +17,6 @@ impl<'a> Pass<'a, '_> {
         self.head(item.head.clone());
         self.wider(item)?;
         self.required(item)?;
-        self.known_clauses(item)?;
         self.contract(item)?;
         self.body(item)
     }
@@ -57,26 +55,6 @@ impl<'a> Pass<'a, '_> {
             self.tally.count("lines that test what is required");
         }
         self.tally.used.insert(format!("required {}", required.path));
-        Ok(())
-    }
-
-    /// Puts the clauses that are known at the start of a body, if something in Rust may rest on them.
-    fn known_clauses(&mut self, item: &Item) -> Result<(), Fault> {
-        let call = item.call();
-        for (_, name) in KNOWN.iter().filter(|(of, _)| *of == call) {
-            let contract = self.known.of.get(&item.path);
-            let said = contract.map(|contract| Ok((contract.kept(), contract.said()?))).transpose()?;
-            let said = said.and_then(|(kept, said)| kept.zip(said).find(|(clause, _)| clause.name == *name));
-            let test = said.as_ref().and_then(|(_, said)| said.strip_prefix('`')?.strip_suffix('`'));
-            let Some(test) = test.filter(|test| !test.contains('`')) else {
-                let why = format!("`{call}`: it has no test `{name}` that could be known");
-                return Err(Fault::new(item.head.start, why));
-            };
-            let indent = self.indent_of_body(item.body);
-            self.edits.insert(item.body, format!("\n{indent}unsafe {{ known!({name}: {test}) }};"));
-            self.tally.count("clauses that are known");
-            self.tally.used.insert(format!("known {call} {name}"));
-        }
         Ok(())
     }
 

@@ -141,15 +141,12 @@ impl Decoration<'_> {
         Ok(others)
     }
 
-    /// Says before each call of what is `unsafe`, and before each access, each write of a field and what is known, why it is right.
+    /// Says before each call of what is `unsafe`, and before each access and each write of a field, why it is right.
     fn needs(&mut self, item: &Item, contract: &Contract) -> Result<(), Fault> {
         let body = Body::new(self.text, &item.tokens);
         let fault = |why: &str| Fault::new(contract.at, format!("the code of `{}` {why}", item.path));
         let parameters = lent_numbers(&contract.head);
         let all = || 0..item.tokens.len();
-        for at in all().filter(|at| body.text(*at) == "known" && body.text(*at + 1) == "!") {
-            self.say(&body, at, SAFETY, "by this function's `# Safety`");
-        }
         let mut calls = self.calls_of_workers(item, &body, contract.at)?.into_iter();
         let mut accesses = all().filter(|at| body.is_unchecked(*at));
         let mut writes = all().filter(|at| body.is_write(*at, &parameters));

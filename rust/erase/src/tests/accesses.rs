@@ -31,8 +31,6 @@ fn each_form_of_an_access_is_written_without_a_test() {
         ("all[a..b].make_ascii_uppercase();", "unsafe { get_unchecked_mut!(all, a..b) }.make_ascii_uppercase();"),
         ("all[a..b].make_ascii_lowercase();", "unsafe { get_unchecked_mut!(all, a..b) }.make_ascii_lowercase();"),
         ("all[a..a + 2].copy_from_slice(&[b, c]);", "unsafe { copy_from_slice_unchecked!(all, a..a + 2, &[b, c]) };"),
-        ("all.copy_within(a..b, to);", "unsafe { copy_within_unchecked!(all, a..b, to) };"),
-        ("self.array.copy_within(a..b, to);", "unsafe { copy_within_unchecked!(self.array, a..b, to) };"),
         ("let Some(a) = b else { unreachable!() };", "let Some(a) = b else { unsafe { unreachable_unchecked!() } };"),
     ] {
         assert_eq!(line(given), Ok(wanted.to_string()), "{given}");

@@ -120,14 +120,14 @@ fn a_rule_that_matches_nothing_is_told() {
     use crate::files::{all_used, entries};
     use crate::lists::{ADDED, LEFT_OUT, PLACES, REQUIRED};
     use crate::places::twins;
-    use crate::rules::{KNOWN, ORDER, WIDER};
+    use crate::rules::{ORDER, WIDER};
     let crates = concat!(env!("CARGO_MANIFEST_DIR"), "/../../crates");
     let (_, mut tally) = crate::files::made(std::path::Path::new(crates)).unwrap();
     let reasons = tally.reasons.iter().map(|reasons| reasons.entries().len()).sum::<usize>();
     let named = named().iter().map(|named| named.paths.len()).sum::<usize>();
     let of_std = BY_STD.iter().map(|rule| rule.calls.len()).sum::<usize>();
     let wider = WIDER.iter().map(|(_, calls)| calls.len()).sum::<usize>();
-    let lists = [FATES.len(), wider, PLACES.len(), OTHERS.len(), BY_STD.len(), of_std, KNOWN.len(), reasons, named];
+    let lists = [FATES.len(), wider, PLACES.len(), OTHERS.len(), BY_STD.len(), of_std, reasons, named];
     let more = [ADDED.len(), ALIASES.len(), ONCE.len(), ORDER.len(), MORE.len(), LEFT_OUT.len(), REQUIRED.len()];
     let more = [more.iter().sum(), twins().count(), given_up().len()];
     let all = lists.iter().chain(&more).sum::<usize>();

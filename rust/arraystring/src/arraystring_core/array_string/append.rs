@@ -101,6 +101,51 @@ impl<const N: usize> ArrayString<N> {
         Ok(())
     }
 
+    /// Appends `ch` behind a text of the array that ends at `end`, and returns where it ends then. Returns
+    /// `None` if there is no room behind it, and then changes nothing. Afterwards the `len` bytes from
+    /// `start` on are UTF-8 and end within the capacity.
+    ///
+    /// # Safety
+    ///
+    /// - the `*len` bytes of `array` from `start` on are UTF-8 and end within the capacity
+    /// - `end == start + *len`
+    ///
+    /// <details><summary>Contract</summary>
+    ///
+    /// ```text
+    /// requires in_array { IsStored N array.old start len.old }
+    /// requires end { end ≡ start + len.old }
+    /// ensures in_array { IsStored N array.new start len.new }
+    /// ensures end { IfSome result (λ next. next ≡ start + len.new) }
+    /// ensures text { let t = (stored array.old start len.old).text in let new = (stored array.new start len.new).text in
+    ///     MatchOption result ((cap N < end + width ch) × (array.new ≡ array.old) × (len.new ≡ len.old))
+    ///     (λ _. (size t + size (ch ∷ []) ≤ cap N) × (new ≡ t ++ ch ∷ [])) }
+    /// ```
+    ///
+    /// [How to read a contract](crate::contracts)
+    ///
+    /// </details>
+    #[expect(clippy::cast_possible_truncation, reason = "the line before the write says why it fits")]
+    #[inline(always)]
+    pub(super) unsafe fn append_char_behind(
+        array: &mut [u8; N],
+        start: u8,
+        len: &mut u8,
+        end: usize,
+        ch: char,
+    ) -> Option<usize> {
+        // SAFETY: `end <= 255`: by this function's `# Safety` the text ends at `end`, and within the capacity.
+        if !unsafe { Self::has_room(end, ch) } {
+            return None;
+        }
+        // SAFETY: `end + ch.len_utf8() <= N`: `has_room` returned true, and the capacity is at most `N`.
+        let next = end + unsafe { encode(ch, array, end) };
+        // FIELDS: the text with `ch` ends at `next`, which is within the capacity, since `has_room` returned true for
+        // `end`.
+        *len = (next - start as usize) as u8;
+        Some(next)
+    }
+
     /// Appends `ch` to a text of the array that ends at `end`, and returns where it ends then. Returns
     /// `None` if it does not fit. Afterwards the `len` bytes from `start` on are UTF-8 and end within
     /// the capacity.
@@ -126,20 +171,10 @@ impl<const N: usize> ArrayString<N> {
     /// </details>
     #[expect(clippy::cast_possible_truncation, reason = "the line before the write says why it fits")]
     #[inline(always)]
-    pub(super) unsafe fn append_char(
-        array: &mut [u8; N],
-        start: &mut u8,
-        len: &mut u8,
-        end: usize,
-        ch: char,
-    ) -> Option<usize> {
-        // SAFETY: `end <= 255`: by this function's `# Safety` the text ends at `end`, and within the capacity.
-        if unsafe { Self::has_room(end, ch) } {
-            // SAFETY: `end + ch.len_utf8() <= N`: `has_room` returned true, and the capacity is at most `N`.
-            let next = end + unsafe { encode(ch, array, end) };
-            // FIELDS: the text with `ch` ends at `next`, which is within the capacity, since `has_room` returned true
-            // for `end`.
-            *len = (next - *start as usize) as u8;
+    unsafe fn append_char(array: &mut [u8; N], start: &mut u8, len: &mut u8, end: usize, ch: char) -> Option<usize> {
+        // SAFETY: the `*len` bytes of `array` from `*start` on are UTF-8 and end within the capacity;
+        // `end == *start + *len`: by this function's `# Safety`.
+        if let Some(next) = unsafe { Self::append_char_behind(array, *start, len, end, ch) } {
             return Some(next);
         }
         let from = *start as usize;
@@ -155,6 +190,35 @@ impl<const N: usize> ArrayString<N> {
         // FIELDS: `append_char_at_front` returns the size of the text with `ch`, which is at most the capacity.
         *len = size as u8;
         Some(size)
+    }
+
+    /// Appends `ch` to a text that has to move to the start of the array for it, if it fits so. It stands
+    /// apart from `try_push`, each of whose calls would be longer.
+    ///
+    /// <details><summary>Contract</summary>
+    ///
+    /// ```text
+    /// ensures { Makes (addition self.old.text (ch ∷ []) (cap N)) self.old.text (from_out_of_bounds result) self.new.text }
+    /// ```
+    ///
+    /// [How to read a contract](crate::contracts)
+    ///
+    /// </details>
+    #[expect(clippy::cast_possible_truncation, reason = "the line before the write says why it fits")]
+    #[cold]
+    #[inline(never)]
+    pub(super) fn push_at_front(&mut self, ch: char) -> Result<(), OutOfBounds> {
+        let all = &mut self.array[..];
+        // SAFETY: `self.start + self.size <= all.len()`: as the fields of `ArrayString` say.
+        let appended = unsafe { append_char_at_front(self.size as usize, ch, all, self.start as usize) };
+        let Some(size) = appended else {
+            return Err(OutOfBounds);
+        };
+        // FIELDS: `append_char_at_front` moved the text there, and wrote `ch` at its end.
+        self.start = 0;
+        // FIELDS: `append_char_at_front` returns the size of the text with `ch`, which is at most the capacity.
+        self.size = size as u8;
+        Ok(())
     }
 
     /// Appends `string` to a text of the array that ends at `end`, and returns where it ends then. Returns

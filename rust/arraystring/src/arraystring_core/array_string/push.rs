@@ -40,9 +40,10 @@ impl<const N: usize> ArrayString<N> {
         let end = self.end();
         // SAFETY: the `self.size` bytes of `self.array` from `self.start` on are UTF-8 and end within the capacity;
         // `end == self.start + self.size`: as the fields of `ArrayString` say.
-        match unsafe { Self::append_char(&mut self.array, &mut self.start, &mut self.size, end, ch) } {
+        match unsafe { Self::append_char_behind(&mut self.array, self.start, &mut self.size, end, ch) } {
             Some(_) => Ok(()),
-            None => Err(OutOfBounds),
+            None if self.start == 0 => Err(OutOfBounds),
+            None => self.push_at_front(ch),
         }
     }
 
@@ -76,11 +77,11 @@ impl<const N: usize> ArrayString<N> {
     #[inline(always)]
     pub unsafe fn push_unchecked(&mut self, ch: char) {
         required!(self.len() as usize + ch.len_utf8() <= Self::capacity() as usize);
-        if self.try_push(ch).is_err() {
+        let Ok(()) = self.try_push(ch) else {
             // SAFETY: this is not reached: by this function's `# Safety` the text with `ch` fits, and `try_push`
             // refuses nothing else.
             unsafe { unreachable_unchecked!() };
-        }
+        };
     }
 
     /// Appends `string`.
@@ -183,11 +184,11 @@ impl<const N: usize> ArrayString<N> {
     pub unsafe fn push_str_unchecked<S: AsRef<str>>(&mut self, string: S) {
         let string = string.as_ref();
         required!(self.len() as usize + string.len() <= Self::capacity() as usize);
-        if self.try_push_str(string).is_err() {
+        let Ok(()) = self.try_push_str(string) else {
             // SAFETY: this is not reached: by this function's `# Safety` the text with `string` fits, and
             // `try_push_str` refuses nothing else.
             unsafe { unreachable_unchecked!() };
-        }
+        };
     }
 
     /// Appends the longest prefix of the characters that fits.

@@ -1,5 +1,4 @@
-use Rattle.std.proofs.Common.{refl, ap, sym, ◌∙◌, arith, rules}
-use Rattle.arraystring_core.proofs.CauseLemmas.{makes-addition, refuses-addition}
+use Rattle.std.proofs.Common.{◌∙◌, rules}
 use Rattle.arraystring_core.proofs.StoredLaws.{opened-end}
 use Rattle.arraystring_core.proofs.array_string.ArrayString.try_push_str.Goals as goal
 

@@ -1,4 +1,4 @@
-use Rattle.std.proofs.Common.{◌≡◌, ◌+◌, length, refl, arith}
+use Rattle.std.proofs.Common.{◌+◌, length, refl, arith}
 use Rattle.arraystring_core.proofs.GapLemmas.{shifted}
 use Rattle.arraystring_core.proofs.array_string.append.append_at_front.Goals as goal
 

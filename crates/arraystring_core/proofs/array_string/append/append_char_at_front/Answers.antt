@@ -1,4 +1,4 @@
-use Rattle.std.proofs.Common.{◌≡◌, ℕ, List, take, sym, ap, ◌∙◌, arith, rules, length, length-take-le, take_at}
+use Rattle.std.proofs.Common.{◌≡◌, take, sym, ap, ◌∙◌, arith, rules, length, length-take-le, take_at}
 use Rattle.arraystring_base.specs.Text.{utf8}
 use Rattle.arraystring_base.proofs.TextLaws.{width-bounds, length-utf8}
 use Rattle.arraystring_core.proofs.array_string.append.append_char_at_front.Goals as goal
