@@ -64,8 +64,8 @@ impl<const N: usize> ArrayString<N> {
         write_over(&mut self.array, start, given.as_bytes());
     }
 
-    /// Puts `ch` at a boundary. There must be room for it. It writes the bytes by `encode` and is no call
-    /// of `splice`, by which `try_insert` costs four instructions more (its curve in docs/speed.md).
+    /// Puts `ch` at a boundary. There must be room for it. It is no call of `splice`, by which `try_insert`
+    /// takes some ten instructions more (its curve in docs/speed.md).
     #[inline(always)]
     pub(super) fn put_char(&mut self, at: usize, ch: char)
         requires boundary { IsTrue (boundary self.old.text at) }
@@ -90,15 +90,15 @@ impl<const N: usize> ArrayString<N> {
 
 /// Where a text lies in its array: the `size` bytes from the offset `offset` on.
 #[derive(Clone, Copy)]
-pub(crate) struct Span {
-    pub(crate) offset: usize,
-    pub(crate) size: usize,
+struct Span {
+    offset: usize,
+    size: usize,
 }
 
 impl Span {
     /// The `size` bytes from `start` on, as a string has them.
     #[inline(always)]
-    pub(super) fn new(start: u8, size: u8) -> Span
+    fn new(start: u8, size: u8) -> Span
         ensures offset { result.offset ≡ start }
         ensures size { result.size ≡ size }
     {
@@ -112,7 +112,7 @@ impl Span {
 /// Opens a gap of `len` bytes instead of the bytes from `start` to `end` of a text. There must be
 /// room after the text: it keeps its offset, and only the bytes after the gap move.
 #[inline(always)]
-pub(super) fn open_gap<const N: usize>(
+fn open_gap<const N: usize>(
     array: &mut [u8; N],
     text: Span,
     start: usize,
@@ -146,7 +146,7 @@ pub(super) fn open_gap<const N: usize>(
 /// Opens a gap as `open_gap` does, in a text that moves to the start of the array. Each byte moves at
 /// most once.
 #[inline(always)]
-pub(super) fn compact_and_open_gap<const N: usize>(
+fn compact_and_open_gap<const N: usize>(
     array: &mut [u8; N],
     text: Span,
     start: usize,

@@ -108,8 +108,8 @@ impl<const N: usize> ArrayString<N> {
         unsafe { write_over(&mut self.array, start, given.as_bytes()) };
     }
 
-    /// Puts `ch` at a boundary. There must be room for it. It writes the bytes by `encode` and is no call
-    /// of `splice`, by which `try_insert` costs four instructions more (its curve in docs/speed.md).
+    /// Puts `ch` at a boundary. There must be room for it. It is no call of `splice`, by which `try_insert`
+    /// takes some ten instructions more (its curve in docs/speed.md).
     ///
     /// # Safety
     ///
@@ -157,9 +157,9 @@ impl<const N: usize> ArrayString<N> {
 
 /// Where a text lies in its array: the `size` bytes from the offset `offset` on.
 #[derive(Clone, Copy)]
-pub(crate) struct Span {
-    pub(crate) offset: usize,
-    pub(crate) size: usize,
+struct Span {
+    offset: usize,
+    size: usize,
 }
 
 impl Span {
@@ -176,7 +176,7 @@ impl Span {
     ///
     /// </details>
     #[inline(always)]
-    pub(super) fn new(start: u8, size: u8) -> Span {
+    fn new(start: u8, size: u8) -> Span {
         Span { offset: start as usize, size: size as usize }
     }
 }
@@ -212,7 +212,7 @@ impl Span {
 ///
 /// </details>
 #[inline(always)]
-pub(super) unsafe fn open_gap<const N: usize>(
+unsafe fn open_gap<const N: usize>(
     array: &mut [u8; N],
     text: Span,
     start: usize,
@@ -257,7 +257,7 @@ pub(super) unsafe fn open_gap<const N: usize>(
 ///
 /// </details>
 #[inline(always)]
-pub(super) unsafe fn compact_and_open_gap<const N: usize>(
+unsafe fn compact_and_open_gap<const N: usize>(
     array: &mut [u8; N],
     text: Span,
     start: usize,
