@@ -7,8 +7,8 @@ use crate::error::{Error, OutOfBounds, Utf8, Utf16};
 
 mod traits;
 
-/// A string of at most 63 bytes of UTF-8. Calls that it lacks are made on the [`ArrayString<63>`](crate::ArrayString) in
-/// its field `0`.
+/// A string of at most 63 bytes of UTF-8, under a name of its own. Its field `0` is an
+/// [`ArrayString<63>`](crate::ArrayString), which has the calls that it lacks.
 ///
 /// # Examples
 ///
@@ -20,7 +20,16 @@ mod traits;
 /// assert_eq!(key.0.as_str(), "user:42");
 /// ```
 ///
-/// It takes 65 bytes. What an [`ArrayString`](crate::ArrayString) has beside this is called on it too, by `Deref`.
+/// In Rust these calls are made on the string itself, too, by `Deref` and `DerefMut`. It takes 65 bytes.
+///
+/// ```
+/// use arraystring::CacheString;
+///
+/// let (mut key, mut other) = (CacheString::from("user:"), CacheString::from("user:"));
+/// key.push_str("42");
+/// other.0.push_str("42");
+/// assert!(key == other && size_of::<CacheString>() == 65);
+/// ```
 #[derive(Clone, Copy, Debug)]
 pub struct CacheString(pub ArrayString<63>);
 
@@ -176,8 +185,8 @@ impl CacheString {
     ///
     /// # In Rust
     ///
-    /// An iterator that never ends, or that panics, is allowed. The call stops at the first item that does not fit, so
-    /// only empty pieces without an end keep it. What was taken before a panic is a text.
+    /// An iterator that never ends, or that panics, is allowed. The call stops at the first piece that does not fit. So
+    /// it does not return where empty pieces come without an end.
     ///
     /// # Examples
     ///
@@ -212,8 +221,8 @@ impl CacheString {
     ///
     /// # In Rust
     ///
-    /// An iterator that never ends, or that panics, is allowed. The call stops at the first item that does not fit, so
-    /// only empty pieces without an end keep it. What was taken before a panic is a text.
+    /// An iterator that never ends, or that panics, is allowed. The call stops at the first piece that does not fit. So
+    /// it does not return where empty pieces come without an end.
     ///
     /// # Examples
     ///
@@ -287,8 +296,8 @@ impl CacheString {
     ///
     /// # In Rust
     ///
-    /// An iterator that never ends, or that panics, is allowed. The call stops at the first item that does not fit, so
-    /// only empty pieces without an end keep it. What was taken before a panic is a text.
+    /// An iterator that never ends, or that panics, is allowed. The call stops at the first character that does not
+    /// fit.
     ///
     /// # Examples
     ///
@@ -323,8 +332,8 @@ impl CacheString {
     ///
     /// # In Rust
     ///
-    /// An iterator that never ends, or that panics, is allowed. The call stops at the first item that does not fit, so
-    /// only empty pieces without an end keep it. What was taken before a panic is a text.
+    /// An iterator that never ends, or that panics, is allowed. The call stops at the first character that does not
+    /// fit.
     ///
     /// # Examples
     ///

@@ -128,8 +128,8 @@ impl<const N: usize> ArrayString<N> {
     ///
     /// # In Rust
     ///
-    /// An iterator that never ends, or that panics, is allowed. The call stops at the first item that does not fit, so
-    /// only empty pieces without an end keep it. What was taken before a panic is a text.
+    /// An iterator that never ends, or that panics, is allowed. The call stops at the first piece that does not fit. So
+    /// it does not return where empty pieces come without an end.
     ///
     /// # Examples
     ///
@@ -172,8 +172,8 @@ impl<const N: usize> ArrayString<N> {
     ///
     /// # In Rust
     ///
-    /// An iterator that never ends, or that panics, is allowed. The call stops at the first item that does not fit, so
-    /// only empty pieces without an end keep it. What was taken before a panic is a text.
+    /// An iterator that never ends, or that panics, is allowed. The call stops at the first piece that does not fit. So
+    /// it does not return where empty pieces come without an end.
     ///
     /// # Examples
     ///
@@ -266,8 +266,8 @@ impl<const N: usize> ArrayString<N> {
     ///
     /// # In Rust
     ///
-    /// An iterator that never ends, or that panics, is allowed. The call stops at the first item that does not fit, so
-    /// only empty pieces without an end keep it. What was taken before a panic is a text.
+    /// An iterator that never ends, or that panics, is allowed. The call stops at the first character that does not
+    /// fit.
     ///
     /// # Examples
     ///
@@ -309,8 +309,8 @@ impl<const N: usize> ArrayString<N> {
     ///
     /// # In Rust
     ///
-    /// An iterator that never ends, or that panics, is allowed. The call stops at the first item that does not fit, so
-    /// only empty pieces without an end keep it. What was taken before a panic is a text.
+    /// An iterator that never ends, or that panics, is allowed. The call stops at the first character that does not
+    /// fit.
     ///
     /// # Examples
     ///

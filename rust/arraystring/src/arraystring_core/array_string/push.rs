@@ -216,8 +216,8 @@ impl<const N: usize> ArrayString<N> {
     ///
     /// # In Rust
     ///
-    /// An iterator that never ends, or that panics, is allowed. The call stops at the first item that does not fit, so
-    /// only empty pieces without an end keep it. What was taken before a panic is a text.
+    /// An iterator that never ends, or that panics, is allowed. The call stops at the first character that does not
+    /// fit. Where the iterator panics, the text has the characters before that.
     ///
     /// # Examples
     ///
@@ -252,8 +252,9 @@ impl<const N: usize> ArrayString<N> {
     ///
     /// # In Rust
     ///
-    /// An iterator that never ends, or that panics, is allowed. The call stops at the first item that does not fit, so
-    /// only empty pieces without an end keep it. What was taken before a panic is a text.
+    /// An iterator that never ends, or that panics, is allowed. The call stops at the first piece that does not fit. So
+    /// it does not return where empty pieces come without an end. Where the iterator panics, the text has the pieces
+    /// before that.
     ///
     /// # Examples
     ///
