@@ -143,40 +143,6 @@ impl CacheString {
         CacheString(ArrayString::from_str_truncate(string))
     }
 
-    /// Creates a string from `string`.
-    ///
-    /// # Safety
-    ///
-    /// The text after the call must fit into the capacity.
-    ///
-    /// # Examples
-    ///
-    /// ```
-    /// use arraystring::CacheString;
-    ///
-    /// // SAFETY: the text takes less than 63 bytes.
-    /// let key = unsafe { CacheString::from_str_unchecked("user:42") };
-    /// assert_eq!(key, "user:42");
-    /// ```
-    ///
-    /// <details><summary>Contract</summary>
-    ///
-    /// ```text
-    /// requires { size (chars string.now) ≤ 63 }
-    /// ensures { result.0.text ≡ chars string.now }
-    /// ```
-    ///
-    /// [How to read a contract](crate::contracts)
-    ///
-    /// </details>
-    #[must_use]
-    #[inline]
-    pub unsafe fn from_str_unchecked<S: AsRef<str>>(string: S) -> Self {
-        let string = string.as_ref();
-        // SAFETY: `string.len() <= Self::capacity()`: by this function's `# Safety`.
-        CacheString(unsafe { ArrayString::from_str_unchecked(string) })
-    }
-
     /// Creates a string from all pieces, joined.
     ///
     /// # Errors
@@ -251,43 +217,6 @@ impl CacheString {
         CacheString(ArrayString::from_iterator(pieces))
     }
 
-    /// Creates a string from all pieces, joined.
-    ///
-    /// # Safety
-    ///
-    /// All that the iterator gives must fit into the capacity together, also if it never ends, or panics.
-    ///
-    /// # Examples
-    ///
-    /// ```
-    /// use arraystring::CacheString;
-    ///
-    /// // SAFETY: the pieces take less than 63 bytes together.
-    /// let key = unsafe { CacheString::from_iterator_unchecked(["user", ":", "42"]) };
-    /// assert_eq!(key, "user:42");
-    /// ```
-    ///
-    /// <details><summary>Contract</summary>
-    ///
-    /// ```text
-    /// requires ends { IsFiniteIterable I.into_iter_gives I.IntoIter.can_next I.IntoIter.remaining pieces }
-    /// requires fits { Fits I.into_iter_gives I.IntoIter.next_gives joined_pieces pieces 63 }
-    /// ensures taken { (taken : List (Bor (List ℕ))) × TakesAll I.into_iter_gives I.IntoIter.next_gives pieces taken
-    ///     × (result.0.text ≡ joined_pieces taken) }
-    /// ensures whole { (all : List (List ℕ)) → Gives I.into_iter_gives I.IntoIter.next_gives piece_text pieces all
-    ///     → result.0.text ≡ joined all }
-    /// ```
-    ///
-    /// [How to read a contract](crate::contracts)
-    ///
-    /// </details>
-    #[inline]
-    pub unsafe fn from_iterator_unchecked<U: AsRef<str>, I: IntoIterator<Item = U>>(pieces: I) -> Self {
-        // SAFETY: the items of `pieces` take at most `Self::capacity()` bytes together: by this function's `# Safety`,
-        // also where the iterator does not end.
-        CacheString(unsafe { ArrayString::from_iterator_unchecked(pieces) })
-    }
-
     /// Creates a string from all characters.
     ///
     /// # Errors
@@ -360,43 +289,6 @@ impl CacheString {
     #[inline]
     pub fn from_chars<I: IntoIterator<Item = char>>(characters: I) -> Self {
         CacheString(ArrayString::from_chars(characters))
-    }
-
-    /// Creates a string from all characters.
-    ///
-    /// # Safety
-    ///
-    /// All that the iterator gives must fit into the capacity together, also if it never ends, or panics.
-    ///
-    /// # Examples
-    ///
-    /// ```
-    /// use arraystring::CacheString;
-    ///
-    /// // SAFETY: the letters take a byte each, and there are 26.
-    /// let letters = unsafe { CacheString::from_chars_unchecked('a'..='z') };
-    /// assert_eq!(letters.len(), 26);
-    /// ```
-    ///
-    /// <details><summary>Contract</summary>
-    ///
-    /// ```text
-    /// requires ends { IsFiniteIterable I.into_iter_gives I.IntoIter.can_next I.IntoIter.remaining characters }
-    /// requires fits { Fits I.into_iter_gives I.IntoIter.next_gives (λ cs. cs) characters 63 }
-    /// ensures taken { (taken : List ℕ) × TakesAll I.into_iter_gives I.IntoIter.next_gives characters taken
-    ///     × (result.0.text ≡ taken) }
-    /// ensures whole { (all : List ℕ) → Gives I.into_iter_gives I.IntoIter.next_gives (λ c. c) characters all
-    ///     → result.0.text ≡ all }
-    /// ```
-    ///
-    /// [How to read a contract](crate::contracts)
-    ///
-    /// </details>
-    #[inline]
-    pub unsafe fn from_chars_unchecked<I: IntoIterator<Item = char>>(characters: I) -> Self {
-        // SAFETY: the items of `characters` take at most `Self::capacity()` bytes together: by this function's
-        // `# Safety`, also where the iterator does not end.
-        CacheString(unsafe { ArrayString::from_chars_unchecked(characters) })
     }
 
     /// Creates a string from the UTF-8 in `given`.
@@ -474,42 +366,6 @@ impl CacheString {
     pub fn from_utf8<B: AsRef<[u8]>>(given: B) -> Result<Self, Utf8> {
         let given = given.as_ref();
         Ok(CacheString(ArrayString::from_utf8(given)?))
-    }
-
-    /// Creates a string from the UTF-8 in `given`.
-    ///
-    /// # Safety
-    ///
-    /// The bytes must be well-formed UTF-8. They must fit into the capacity.
-    ///
-    /// # Examples
-    ///
-    /// ```
-    /// use arraystring::CacheString;
-    ///
-    /// // SAFETY: each byte is ASCII, and there are seven.
-    /// let key = unsafe { CacheString::from_utf8_unchecked(b"user:42") };
-    /// assert_eq!(key, "user:42");
-    /// ```
-    ///
-    /// <details><summary>Contract</summary>
-    ///
-    /// ```text
-    /// requires well_formed { IsWellFormed given.now }
-    /// requires fits { length given.now ≤ 63 }
-    /// ensures bytes { bytes result.0.text ≡ given.now }
-    /// ensures text { IsText result.0.text }
-    /// ```
-    ///
-    /// [How to read a contract](crate::contracts)
-    ///
-    /// </details>
-    #[must_use]
-    #[inline]
-    pub unsafe fn from_utf8_unchecked<B: AsRef<[u8]>>(given: B) -> Self {
-        let given = given.as_ref();
-        // SAFETY: `given` is well-formed UTF-8; `given.len() <= Self::capacity()`: by this function's `# Safety`.
-        CacheString(unsafe { ArrayString::from_utf8_unchecked(given) })
     }
 
     /// Creates a string from the UTF-16 in `units`.
@@ -643,5 +499,155 @@ impl CacheString {
     #[inline]
     pub fn split_off(&mut self, at: u8) -> Result<Self, Error> {
         Ok(CacheString(self.0.split_off(at)?))
+    }
+}
+
+/// # Unchecked
+///
+/// Most programs need none of these calls. What stands under *Safety* is for the caller to keep. A release build
+/// without the feature `checked` does not test it.
+impl CacheString {
+    /// Creates a string from `string`.
+    ///
+    /// # Safety
+    ///
+    /// The text after the call must fit into the capacity.
+    ///
+    /// # Examples
+    ///
+    /// ```
+    /// use arraystring::CacheString;
+    ///
+    /// // SAFETY: the text takes less than 63 bytes.
+    /// let key = unsafe { CacheString::from_str_unchecked("user:42") };
+    /// assert_eq!(key, "user:42");
+    /// ```
+    ///
+    /// <details><summary>Contract</summary>
+    ///
+    /// ```text
+    /// requires { size (chars string.now) ≤ 63 }
+    /// ensures { result.0.text ≡ chars string.now }
+    /// ```
+    ///
+    /// [How to read a contract](crate::contracts)
+    ///
+    /// </details>
+    #[must_use]
+    #[inline]
+    pub unsafe fn from_str_unchecked<S: AsRef<str>>(string: S) -> Self {
+        let string = string.as_ref();
+        // SAFETY: `string.len() <= Self::capacity()`: by this function's `# Safety`.
+        CacheString(unsafe { ArrayString::from_str_unchecked(string) })
+    }
+
+    /// Creates a string from all pieces, joined.
+    ///
+    /// # Safety
+    ///
+    /// All that the iterator gives must fit into the capacity together, also if it never ends, or panics.
+    ///
+    /// # Examples
+    ///
+    /// ```
+    /// use arraystring::CacheString;
+    ///
+    /// // SAFETY: the pieces take less than 63 bytes together.
+    /// let key = unsafe { CacheString::from_iterator_unchecked(["user", ":", "42"]) };
+    /// assert_eq!(key, "user:42");
+    /// ```
+    ///
+    /// <details><summary>Contract</summary>
+    ///
+    /// ```text
+    /// requires ends { IsFiniteIterable I.into_iter_gives I.IntoIter.can_next I.IntoIter.remaining pieces }
+    /// requires fits { Fits I.into_iter_gives I.IntoIter.next_gives joined_pieces pieces 63 }
+    /// ensures taken { (taken : List (Bor (List ℕ))) × TakesAll I.into_iter_gives I.IntoIter.next_gives pieces taken
+    ///     × (result.0.text ≡ joined_pieces taken) }
+    /// ensures whole { (all : List (List ℕ)) → Gives I.into_iter_gives I.IntoIter.next_gives piece_text pieces all
+    ///     → result.0.text ≡ joined all }
+    /// ```
+    ///
+    /// [How to read a contract](crate::contracts)
+    ///
+    /// </details>
+    #[inline]
+    pub unsafe fn from_iterator_unchecked<U: AsRef<str>, I: IntoIterator<Item = U>>(pieces: I) -> Self {
+        // SAFETY: the items of `pieces` take at most `Self::capacity()` bytes together: by this function's `# Safety`,
+        // also where the iterator does not end.
+        CacheString(unsafe { ArrayString::from_iterator_unchecked(pieces) })
+    }
+
+    /// Creates a string from all characters.
+    ///
+    /// # Safety
+    ///
+    /// All that the iterator gives must fit into the capacity together, also if it never ends, or panics.
+    ///
+    /// # Examples
+    ///
+    /// ```
+    /// use arraystring::CacheString;
+    ///
+    /// // SAFETY: the letters take a byte each, and there are 26.
+    /// let letters = unsafe { CacheString::from_chars_unchecked('a'..='z') };
+    /// assert_eq!(letters.len(), 26);
+    /// ```
+    ///
+    /// <details><summary>Contract</summary>
+    ///
+    /// ```text
+    /// requires ends { IsFiniteIterable I.into_iter_gives I.IntoIter.can_next I.IntoIter.remaining characters }
+    /// requires fits { Fits I.into_iter_gives I.IntoIter.next_gives (λ cs. cs) characters 63 }
+    /// ensures taken { (taken : List ℕ) × TakesAll I.into_iter_gives I.IntoIter.next_gives characters taken
+    ///     × (result.0.text ≡ taken) }
+    /// ensures whole { (all : List ℕ) → Gives I.into_iter_gives I.IntoIter.next_gives (λ c. c) characters all
+    ///     → result.0.text ≡ all }
+    /// ```
+    ///
+    /// [How to read a contract](crate::contracts)
+    ///
+    /// </details>
+    #[inline]
+    pub unsafe fn from_chars_unchecked<I: IntoIterator<Item = char>>(characters: I) -> Self {
+        // SAFETY: the items of `characters` take at most `Self::capacity()` bytes together: by this function's
+        // `# Safety`, also where the iterator does not end.
+        CacheString(unsafe { ArrayString::from_chars_unchecked(characters) })
+    }
+
+    /// Creates a string from the UTF-8 in `given`.
+    ///
+    /// # Safety
+    ///
+    /// The bytes must be well-formed UTF-8. They must fit into the capacity.
+    ///
+    /// # Examples
+    ///
+    /// ```
+    /// use arraystring::CacheString;
+    ///
+    /// // SAFETY: each byte is ASCII, and there are seven.
+    /// let key = unsafe { CacheString::from_utf8_unchecked(b"user:42") };
+    /// assert_eq!(key, "user:42");
+    /// ```
+    ///
+    /// <details><summary>Contract</summary>
+    ///
+    /// ```text
+    /// requires well_formed { IsWellFormed given.now }
+    /// requires fits { length given.now ≤ 63 }
+    /// ensures bytes { bytes result.0.text ≡ given.now }
+    /// ensures text { IsText result.0.text }
+    /// ```
+    ///
+    /// [How to read a contract](crate::contracts)
+    ///
+    /// </details>
+    #[must_use]
+    #[inline]
+    pub unsafe fn from_utf8_unchecked<B: AsRef<[u8]>>(given: B) -> Self {
+        let given = given.as_ref();
+        // SAFETY: `given` is well-formed UTF-8; `given.len() <= Self::capacity()`: by this function's `# Safety`.
+        CacheString(unsafe { ArrayString::from_utf8_unchecked(given) })
     }
 }

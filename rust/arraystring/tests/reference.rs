@@ -281,6 +281,26 @@ fn what_counts_says_first_that_most_programs_need_none_of_it() {
 }
 
 #[test]
+fn what_most_programs_do_without_stands_in_blocks_behind_the_other_calls() {
+    let titles = [("_unchecked", "# Unchecked"), ("_counted", "# Counted")];
+    let (mut count, mut file, mut title) = (0, String::new(), None);
+    for item in items() {
+        if item.head.trim_start().starts_with("impl") {
+            let found = item.docs.first().and_then(|line| titles.iter().position(|(_, title)| line == title));
+            // (a file begins with its other calls)
+            assert!(item.file != file || found >= title || item.head.contains(" for "), "{}: {}", item.file, item.head);
+            (file, title) = (item.file, found);
+        } else if let Some(call) = item.head.strip_prefix("    pub ").and_then(|head| head.split_once("fn ")) {
+            let name = call.1.split(['(', '<']).next().unwrap_or_default();
+            let wanted = titles.iter().position(|(ending, _)| name.ends_with(ending));
+            assert_eq!(title, wanted, "{}: {name}", item.file);
+            count += usize::from(wanted.is_some());
+        }
+    }
+    assert_eq!(count, 18, "the calls of the two types with these endings");
+}
+
+#[test]
 fn what_is_said_of_an_iterator_is_true_of_the_call() {
     let mut count = 0;
     for item in items() {

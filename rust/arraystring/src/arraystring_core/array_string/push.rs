@@ -47,50 +47,6 @@ impl<const N: usize> ArrayString<N> {
         self.try_push_near_end(ch)
     }
 
-    /// Appends `ch`.
-    ///
-    /// # Safety
-    ///
-    /// The text after the call must fit into the capacity.
-    ///
-    /// # Examples
-    ///
-    /// ```
-    /// use arraystring::ArrayString;
-    ///
-    /// let mut string = ArrayString::<4>::from("abc");
-    /// // SAFETY: there is room for one more byte.
-    /// unsafe { string.push_unchecked('d') };
-    /// assert_eq!(string, "abcd");
-    /// ```
-    ///
-    /// <details><summary>Contract</summary>
-    ///
-    /// ```text
-    /// requires { size self.old.text + width ch ≤ cap N }
-    /// ensures { self.new.text ≡ self.old.text ++ ch ∷ [] }
-    /// ```
-    ///
-    /// [How to read a contract](crate::contracts)
-    ///
-    /// </details>
-    #[expect(clippy::cast_possible_truncation, reason = "the line before the write says why it fits")]
-    #[inline(always)]
-    pub unsafe fn push_unchecked(&mut self, ch: char) {
-        required!(self.len() as usize + ch.len_utf8() <= Self::capacity() as usize);
-        let end = self.end();
-        // SAFETY: `end <= 255`: the text ends within the capacity, as the fields of `ArrayString` say.
-        if !unsafe { Self::has_room(end, ch) } {
-            // SAFETY: `self.len() + ch.len_utf8() <= Self::capacity()`: by this function's `# Safety`.
-            return unsafe { self.compact_and_push(ch) };
-        }
-        // SAFETY: `end + ch.len_utf8() <= N`: `has_room` returned true, and the capacity is at most `N`.
-        let len = unsafe { encode(ch, &mut self.array, end) };
-        // FIELDS: `has_room` returned true for `end`, so the text with `ch` ends within the capacity, and `encode`
-        // wrote `ch` at its end.
-        self.size = (self.size as usize + len) as u8;
-    }
-
     /// Appends `string`.
     ///
     /// # Errors
@@ -168,50 +124,6 @@ impl<const N: usize> ArrayString<N> {
         unsafe { self.push_str_unchecked(truncate_str(string, room)) };
     }
 
-    /// Appends `string`.
-    ///
-    /// # Safety
-    ///
-    /// The text after the call must fit into the capacity.
-    ///
-    /// # Examples
-    ///
-    /// ```
-    /// use arraystring::ArrayString;
-    ///
-    /// let mut string = ArrayString::<4>::from("ab");
-    /// // SAFETY: there is room for two more bytes, and `é` takes two.
-    /// unsafe { string.push_str_unchecked("é") };
-    /// assert_eq!(string, "abé");
-    /// ```
-    ///
-    /// <details><summary>Contract</summary>
-    ///
-    /// ```text
-    /// requires { size self.old.text + size (chars string.now) ≤ cap N }
-    /// ensures { self.new.text ≡ self.old.text ++ chars string.now }
-    /// ```
-    ///
-    /// [How to read a contract](crate::contracts)
-    ///
-    /// </details>
-    #[expect(clippy::cast_possible_truncation, reason = "the line before the write says why it fits")]
-    #[inline]
-    pub unsafe fn push_str_unchecked<S: AsRef<str>>(&mut self, string: S) {
-        let string = string.as_ref();
-        required!(self.len() as usize + string.len() <= Self::capacity() as usize);
-        let end = self.end();
-        if end + string.len() > Self::capacity() as usize {
-            // SAFETY: `self.len() + string.len() <= Self::capacity()`: by this function's `# Safety`.
-            return unsafe { self.compact_and_push_str(string) };
-        }
-        // FIELDS: by the test above the text with `string` ends within the capacity, and `write_over` writes `string`
-        // at its end.
-        self.size = (self.size as usize + string.len()) as u8;
-        // SAFETY: `end + string.as_bytes().len() <= N`: by the test above, and the capacity is at most `N`.
-        unsafe { write_over(&mut self.array, end, string.as_bytes()) };
-    }
-
     /// Appends the longest prefix of the characters that fits.
     ///
     /// # In Rust
@@ -283,5 +195,99 @@ impl<const N: usize> ArrayString<N> {
     #[inline]
     pub fn extend_strs<U: AsRef<str>, I: IntoIterator<Item = U>>(&mut self, pieces: I) {
         let _ = self.add_strs(pieces);
+    }
+}
+
+/// # Unchecked
+///
+/// Most programs need none of these calls. What stands under *Safety* is for the caller to keep. A release build
+/// without the feature `checked` does not test it.
+impl<const N: usize> ArrayString<N> {
+    /// Appends `ch`.
+    ///
+    /// # Safety
+    ///
+    /// The text after the call must fit into the capacity.
+    ///
+    /// # Examples
+    ///
+    /// ```
+    /// use arraystring::ArrayString;
+    ///
+    /// let mut string = ArrayString::<4>::from("abc");
+    /// // SAFETY: there is room for one more byte.
+    /// unsafe { string.push_unchecked('d') };
+    /// assert_eq!(string, "abcd");
+    /// ```
+    ///
+    /// <details><summary>Contract</summary>
+    ///
+    /// ```text
+    /// requires { size self.old.text + width ch ≤ cap N }
+    /// ensures { self.new.text ≡ self.old.text ++ ch ∷ [] }
+    /// ```
+    ///
+    /// [How to read a contract](crate::contracts)
+    ///
+    /// </details>
+    #[expect(clippy::cast_possible_truncation, reason = "the line before the write says why it fits")]
+    #[inline(always)]
+    pub unsafe fn push_unchecked(&mut self, ch: char) {
+        required!(self.len() as usize + ch.len_utf8() <= Self::capacity() as usize);
+        let end = self.end();
+        // SAFETY: `end <= 255`: the text ends within the capacity, as the fields of `ArrayString` say.
+        if !unsafe { Self::has_room(end, ch) } {
+            // SAFETY: `self.len() + ch.len_utf8() <= Self::capacity()`: by this function's `# Safety`.
+            return unsafe { self.compact_and_push(ch) };
+        }
+        // SAFETY: `end + ch.len_utf8() <= N`: `has_room` returned true, and the capacity is at most `N`.
+        let len = unsafe { encode(ch, &mut self.array, end) };
+        // FIELDS: `has_room` returned true for `end`, so the text with `ch` ends within the capacity, and `encode`
+        // wrote `ch` at its end.
+        self.size = (self.size as usize + len) as u8;
+    }
+
+    /// Appends `string`.
+    ///
+    /// # Safety
+    ///
+    /// The text after the call must fit into the capacity.
+    ///
+    /// # Examples
+    ///
+    /// ```
+    /// use arraystring::ArrayString;
+    ///
+    /// let mut string = ArrayString::<4>::from("ab");
+    /// // SAFETY: there is room for two more bytes, and `é` takes two.
+    /// unsafe { string.push_str_unchecked("é") };
+    /// assert_eq!(string, "abé");
+    /// ```
+    ///
+    /// <details><summary>Contract</summary>
+    ///
+    /// ```text
+    /// requires { size self.old.text + size (chars string.now) ≤ cap N }
+    /// ensures { self.new.text ≡ self.old.text ++ chars string.now }
+    /// ```
+    ///
+    /// [How to read a contract](crate::contracts)
+    ///
+    /// </details>
+    #[expect(clippy::cast_possible_truncation, reason = "the line before the write says why it fits")]
+    #[inline]
+    pub unsafe fn push_str_unchecked<S: AsRef<str>>(&mut self, string: S) {
+        let string = string.as_ref();
+        required!(self.len() as usize + string.len() <= Self::capacity() as usize);
+        let end = self.end();
+        if end + string.len() > Self::capacity() as usize {
+            // SAFETY: `self.len() + string.len() <= Self::capacity()`: by this function's `# Safety`.
+            return unsafe { self.compact_and_push_str(string) };
+        }
+        // FIELDS: by the test above the text with `string` ends within the capacity, and `write_over` writes `string`
+        // at its end.
+        self.size = (self.size as usize + string.len()) as u8;
+        // SAFETY: `end + string.as_bytes().len() <= N`: by the test above, and the capacity is at most `N`.
+        unsafe { write_over(&mut self.array, end, string.as_bytes()) };
     }
 }
