@@ -97,11 +97,11 @@ impl Decoration<'_> {
         Ok(others)
     }
 
-    /// Says what the calls of an impl have in common, if it is a block of those that most programs do without.
+    /// Says what the calls of an impl have in common, if it is a block of those that most programs do without: then the first is one.
     fn block(&mut self, item: &Item) {
-        let blocks: Vec<_> = item.items.iter().map(|call| block_of(call.name).filter(|_| call.is_public)).collect();
-        if let Some(Some(block)) = blocks.first().filter(|first| blocks.iter().all(|block| block == *first)) {
-            let Block { title, words, .. } = BLOCKS[*block];
+        let first = item.items.first().filter(|call| call.is_public);
+        if let Some(Block { title, words, .. }) = first.and_then(|call| block_of(call.name)).map(|block| &BLOCKS[block])
+        {
             self.edits.insert(item.lead.docs_end, sections::section("", title, words));
             self.tally.count("blocks of calls that most programs do without");
         }

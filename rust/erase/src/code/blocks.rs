@@ -39,9 +39,9 @@ pub fn parted(code: &str) -> Result<String, Fault> {
     Ok(parts?.concat())
 }
 
-/// An item of a file, which is parted if it is the impl of a type.
+/// An item of a file, which is parted if it is an impl with such calls. (That of a trait has no call with a `pub`.)
 fn parted_impl(item: &str) -> Result<String, Fault> {
-    let Some((head, inner)) = inherent(item)? else { return Ok(item.to_string()) };
+    let Some((lead, head, inner)) = whole_impl(item)? else { return Ok(item.to_string()) };
     let (mut others, mut blocks) = (String::new(), vec![Vec::new(); BLOCKS.len()]);
     for function in items(inner)? {
         match public_name(function)?.and_then(block_of) {
@@ -49,34 +49,25 @@ fn parted_impl(item: &str) -> Result<String, Fault> {
             None => others += function,
         }
     }
-    blocks.retain(|block| !block.is_empty());
-    if blocks.is_empty() {
+    let mut impls: Vec<_> = blocks.iter().filter(|block| !block.is_empty()).map(|block| block.join("\n\n")).collect();
+    if impls.is_empty() {
         return Ok(item.to_string());
     }
-    let lead = &item[..item.len() - item.trim_start().len()];
-    let mut put = Vec::new();
     if !others.trim().is_empty() {
-        put.push(format!("{head}\n{}\n}}", others.trim_matches('\n').trim_end()));
+        impls.insert(0, others.trim_matches('\n').to_string());
     }
-    put.extend(blocks.iter().map(|block| format!("{head}\n{}\n}}", block.join("\n\n"))));
-    Ok(format!("{lead}{}", put.join("\n\n")))
+    let impls: Vec<_> = impls.iter().map(|inner| format!("{head}\n{inner}\n}}")).collect();
+    Ok(format!("{lead}{}", impls.join("\n\n")))
 }
 
-/// The head of an impl that is of no trait, with its bracket, and what is in it.
-fn inherent(item: &str) -> Result<Option<(&str, &str)>, Fault> {
+/// What stands before an impl, its head with the bracket, and what is in it.
+fn whole_impl(item: &str) -> Result<Option<(&str, &str, &str)>, Fault> {
     let mut cursor = Cursor::new(item);
-    if cursor.peek_code()? != "impl" {
-        return Ok(None);
-    }
+    let Some(first) = cursor.next_code()?.filter(|first| cursor.text(first) == "impl") else { return Ok(None) };
     while let Some(token) = cursor.next_code()? {
-        match cursor.text(&token) {
-            "for" => return Ok(None),
-            "{" => {
-                return Ok(item[cursor.at..]
-                    .rsplit_once('}')
-                    .map(|(inner, _)| (item[..cursor.at].trim_start(), inner)));
-            }
-            _ => {}
+        if cursor.text(&token) == "{" {
+            let (before, start) = (&item[..cursor.at], first.at.start);
+            return Ok(item[cursor.at..].rsplit_once('}').map(|(inner, _)| (&item[..start], &before[start..], inner)));
         }
     }
     Ok(None)
@@ -105,6 +96,7 @@ mod tests {
     const IMPL: &str = "\
 use a::b;
 
+// Its calls.
 impl<const N: usize> Text<N> {
     /// First, as `pub fn pop_counted` does.
     pub fn pop(&mut self) {}
@@ -132,6 +124,7 @@ fn f() {}
     const PARTED: &str = "\
 use a::b;
 
+// Its calls.
 impl<const N: usize> Text<N> {
     /// First, as `pub fn pop_counted` does.
     pub fn pop(&mut self) {}
