@@ -51,7 +51,7 @@ fn cuts() -> Vec<(&'static str, Two)> {
         ("from_chars", Two::from_chars("abc".chars())),
         ("from_iterator", Two::from_iterator(["a", "bc"])),
         ("push_str", left(|string| string.push_str("bc"))),
-        ("+", left(|string| *string = *string + "bc")),
+        ("+", Two::from("a") + "bc"),
         ("+=", left(|string| *string += "bc")),
         ("extend", left(|string| string.extend(["b", "c"]))),
         ("extend_chars", left(|string| string.extend_chars("bc".chars()))),
