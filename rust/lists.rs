@@ -812,7 +812,7 @@ pub const BY_HAND: &[(&str, &str)] = &[
     ("by_hand/paths.rs", "`AsRef<OsStr>` and `AsRef<Path>`, each one call of the text"),
     ("by_hand/room.rs", "`is_full` and `remaining_capacity`"),
     ("by_hand/write.rs", "`try_write`, over `write_str` and `truncate`"),
-    ("by_hand/constant.rs", "`arraystring!`, and what it is made of. A fault in it could break UTF-8"),
+    ("by_hand/constant.rs", "`arraystring!`, over `const_try_from_str`"),
     ("by_hand/simd.rs", "the vectors of the sources, as arrays or words. A fault in it could break UTF-8"),
     (
         "by_hand/access.rs",

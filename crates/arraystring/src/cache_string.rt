@@ -18,8 +18,8 @@ use arraystring_core::ArrayString;
 
 mod traits;
 
-/// A string of at most 63 bytes of UTF-8. Calls that it lacks are made on the `ArrayString<63>` in
-/// its field `0`.
+/// A string of at most 63 bytes of UTF-8, under a name of its own. Its field `0` is an
+/// `ArrayString<63>`, which has the calls that it lacks.
 ///
 /// # Examples
 ///

@@ -1,5 +1,8 @@
-//! `ArrayString`, a string of bounded size in an array inside the value, under all its paths.
-//! Its tests are in `crates/arraystring_tests`.
+//! `ArrayString<N>` is a string of at most `N` bytes of UTF-8, stored inline in the value. What does
+//! not fit is refused or cut, as the call's name says.
+//!
+//! Callers name this crate alone: it has each public path of `arraystring_base` and
+//! `arraystring_core`, where the code is. Its tests are in `crates/arraystring_tests`.
 #![tactic(auto)]
 
 mod cache_string;

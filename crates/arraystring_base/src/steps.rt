@@ -3,8 +3,9 @@ ghost use Rattle.std.specs.Prelude.{◌≡◌, ◌+◌, ◌-◌, ◌^◌, ◌<�
 
 use std::marker::Model;
 
-/// Counts of looks and of moves. A look is one call of `look`, and a move is one byte that `shift`
-/// takes to another offset. What calls read otherwise is not counted.
+/// Most programs need no counter. It has the looks and the moves of the calls that end in
+/// `_counted`. A look is one call of `look`, and a move is one byte that `shift` takes to another
+/// offset. What calls read otherwise is not counted.
 ///
 /// # Examples
 ///
@@ -91,7 +92,8 @@ impl Steps {
     }
 }
 
-/// Returns the byte at the index `at`, counted as one look.
+/// Most programs need no look, and write `bytes[at]`. Returns the byte at the index `at`, counted
+/// as one look.
 ///
 /// # Precondition
 ///

@@ -102,13 +102,15 @@ impl<const N: usize> ArrayString<N> {
         }
     }
 
-    /// Returns the capacity in bytes: the lesser of `N` and 255.
+    /// Returns the capacity in bytes: the lesser of `N` and 255. So a string whose `N` is over 255
+    /// takes more memory and holds no more.
     ///
     /// # Examples
     ///
     /// ```
     /// assert_eq!(ArrayString::<8>::capacity(), 8);
-    /// assert_eq!(ArrayString::<1000>::capacity(), 255);
+    /// assert_eq!(ArrayString::<1024>::capacity(), 255);
+    /// assert_eq!(size_of::<ArrayString<1024>>(), 1026);
     /// ```
     #[inline]
     pub const fn capacity() -> u8
@@ -119,6 +121,9 @@ impl<const N: usize> ArrayString<N> {
 
     /// Returns the length of the text in bytes, which is at most the capacity.
     ///
+    /// It is a `u8`, and so is a sum of such lengths. In a release build of Rust two lengths of 150
+    /// add to 44. Add `usize::from(string.len())`.
+    ///
     /// # Examples
     ///
     /// ```
@@ -126,6 +131,10 @@ impl<const N: usize> ArrayString<N> {
     /// assert_eq!(string.len(), 3);
     /// string.push_str("é"); // two bytes
     /// assert_eq!(string.len(), 5);
+    ///
+    /// let large = MaxString::from("m".repeat(150).as_str());
+    /// assert_eq!(usize::from(large.len()) + usize::from(large.len()), 300);
+    /// assert_eq!(large.len().wrapping_add(large.len()), 44); // as `+` does in a release build
     /// ```
     #[tactic(auto, using(crate::proofs::StoredLaws::opened_size))]
     #[inline]

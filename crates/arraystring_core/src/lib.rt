@@ -1,5 +1,6 @@
-//! `ArrayString`, a string of bounded size in an array inside the value, and its laws. It takes no
-//! memory, except to make a JSON value. Its tests are in `crates/arraystring_tests`.
+//! `ArrayString<N>`, a string of at most `N` bytes of UTF-8 that is stored inline in the value, and
+//! its laws. It takes no memory, except to make a JSON value. Callers name `arraystring`, which has
+//! its paths. Its tests are in `crates/arraystring_tests`.
 #![tactic(auto)]
 
 pub mod array_string;

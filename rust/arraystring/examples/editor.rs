@@ -36,8 +36,9 @@ impl Line {
     fn press(&mut self, key: Key) -> Result<(), Error> {
         match key {
             Key::Char(ch) => {
+                let len = self.text.len();
                 self.text.try_insert(self.cursor, ch)?;
-                self.cursor += ch.len_utf8() as u8;
+                self.cursor += self.text.len() - len;
             }
             Key::Left => self.cursor = self.before_cursor()?,
             Key::Home => self.cursor = 0,
@@ -52,8 +53,8 @@ impl Line {
 
     /// Where the character before the cursor begins.
     fn before_cursor(&self) -> Result<u8, Error> {
-        let ch = self.text[..self.cursor].chars().next_back().ok_or(Error::OutOfBounds)?;
-        Ok(self.cursor - ch.len_utf8() as u8)
+        let (at, _) = self.text[..self.cursor].char_indices().next_back().ok_or(Error::OutOfBounds)?;
+        u8::try_from(at).map_err(|_| Error::OutOfBounds)
     }
 }
 

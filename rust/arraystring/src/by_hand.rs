@@ -1,10 +1,10 @@
 //! What Rust asks beyond erasure: nothing here is proved. The macros of `access` are taken in `unsafe` blocks alone, which rest on the
 //! proofs, or on the comments of bodies by hand, and the calls of its `char` and `str` are `unsafe`, as those of std are. `loan` has an
-//! `unsafe` block, too. The rest has none; but `simd`, `constant` and `constructors` could break UTF-8 all the same.
+//! `unsafe` block, too. The rest has none; but `simd` and `constructors` could break UTF-8 all the same.
 //!
 //! - `access`, a module of the root: what a proved body reads and writes, without a test that it is there, `required!`, which
 //!   tests a clause of a public call, and what is made of `char` and `str` without a test, which the feature `checked` makes.
-//! - `constant`, a module of the string: `arraystring!`, and what it is made of.
+//! - `constant`, a module of the string: `arraystring!`, over the constructor that is `const`.
 //! - `constructors`, a module of the string: those that are `const`, of what a format prints, and of one character.
 //! - `contracts`: a page on how to read one.
 //! - `copies`, behind the feature `alloc`: what `String`, `Box<str>`, `Cow<str>` and `Vec<u8>` take of a string.

@@ -8,8 +8,8 @@ use crate::error::{Error, OutOfBounds, Utf8, Utf16};
 
 mod traits;
 
-/// A string of at most 63 bytes of UTF-8. Calls that it lacks are made on the [`ArrayString<63>`](crate::ArrayString) in
-/// its field `0`.
+/// A string of at most 63 bytes of UTF-8, under a name of its own. Its field `0` is an
+/// [`ArrayString<63>`](crate::ArrayString), which has the calls that it lacks.
 ///
 /// # Examples
 ///
@@ -21,7 +21,16 @@ mod traits;
 /// assert_eq!(key.0.as_str(), "user:42");
 /// ```
 ///
-/// It takes 65 bytes. What an [`ArrayString`](crate::ArrayString) has beside this is called on it too, by `Deref`.
+/// In Rust these calls are made on the string itself, too, by `Deref` and `DerefMut`. It takes 65 bytes.
+///
+/// ```
+/// use arraystring::CacheString;
+///
+/// let (mut key, mut other) = (CacheString::from("user:"), CacheString::from("user:"));
+/// key.push_str("42");
+/// other.0.push_str("42");
+/// assert!(key == other && size_of::<CacheString>() == 65);
+/// ```
 #[derive(Clone, Copy, Debug)]
 pub struct CacheString(pub ArrayString<63>);
 
@@ -135,40 +144,6 @@ impl CacheString {
         CacheString(ArrayString::from_str_truncate(string))
     }
 
-    /// Creates a string from `string`.
-    ///
-    /// # Safety
-    ///
-    /// The text after the call must fit into the capacity.
-    ///
-    /// # Examples
-    ///
-    /// ```
-    /// use arraystring::CacheString;
-    ///
-    /// // SAFETY: the text takes less than 63 bytes.
-    /// let key = unsafe { CacheString::from_str_unchecked("user:42") };
-    /// assert_eq!(key, "user:42");
-    /// ```
-    ///
-    /// <details><summary>Contract</summary>
-    ///
-    /// ```text
-    /// requires { size (chars string.now) ≤ 63 }
-    /// ensures { result.0.text ≡ chars string.now }
-    /// ```
-    ///
-    /// [How to read a contract](crate::contracts)
-    ///
-    /// </details>
-    #[must_use]
-    #[inline]
-    pub unsafe fn from_str_unchecked<S: AsRef<str>>(string: S) -> Self {
-        let string = string.as_ref();
-        // SAFETY: `string.len() <= Self::capacity()`: by this function's `# Safety`.
-        CacheString(unsafe { ArrayString::from_str_unchecked(string) })
-    }
-
     /// Creates a string from all pieces, joined.
     ///
     /// # Errors
@@ -177,8 +152,8 @@ impl CacheString {
     ///
     /// # In Rust
     ///
-    /// An iterator that never ends, or that panics, is allowed. The call stops at the first item that does not fit, so
-    /// only empty pieces without an end keep it. What was taken before a panic is a text.
+    /// An iterator that never ends, or that panics, is allowed. The call stops at the first piece that does not fit. So
+    /// it does not return where empty pieces come without an end.
     ///
     /// # Examples
     ///
@@ -213,8 +188,8 @@ impl CacheString {
     ///
     /// # In Rust
     ///
-    /// An iterator that never ends, or that panics, is allowed. The call stops at the first item that does not fit, so
-    /// only empty pieces without an end keep it. What was taken before a panic is a text.
+    /// An iterator that never ends, or that panics, is allowed. The call stops at the first piece that does not fit. So
+    /// it does not return where empty pieces come without an end.
     ///
     /// # Examples
     ///
@@ -243,43 +218,6 @@ impl CacheString {
         CacheString(ArrayString::from_iterator(pieces))
     }
 
-    /// Creates a string from all pieces, joined.
-    ///
-    /// # Safety
-    ///
-    /// All that the iterator gives must fit into the capacity together, also if it never ends, or panics.
-    ///
-    /// # Examples
-    ///
-    /// ```
-    /// use arraystring::CacheString;
-    ///
-    /// // SAFETY: the pieces take less than 63 bytes together.
-    /// let key = unsafe { CacheString::from_iterator_unchecked(["user", ":", "42"]) };
-    /// assert_eq!(key, "user:42");
-    /// ```
-    ///
-    /// <details><summary>Contract</summary>
-    ///
-    /// ```text
-    /// requires ends { IsFiniteIterable I.into_iter_gives I.IntoIter.can_next I.IntoIter.remaining pieces }
-    /// requires fits { Fits I.into_iter_gives I.IntoIter.next_gives joined_pieces pieces 63 }
-    /// ensures taken { (taken : List (Bor (List ℕ))) × TakesAll I.into_iter_gives I.IntoIter.next_gives pieces taken
-    ///     × (result.0.text ≡ joined_pieces taken) }
-    /// ensures whole { (all : List (List ℕ)) → Gives I.into_iter_gives I.IntoIter.next_gives piece_text pieces all
-    ///     → result.0.text ≡ joined all }
-    /// ```
-    ///
-    /// [How to read a contract](crate::contracts)
-    ///
-    /// </details>
-    #[inline]
-    pub unsafe fn from_iterator_unchecked<U: AsRef<str>, I: IntoIterator<Item = U>>(pieces: I) -> Self {
-        // SAFETY: the items of `pieces` take at most `Self::capacity()` bytes together: by this function's `# Safety`,
-        // also where the iterator does not end.
-        CacheString(unsafe { ArrayString::from_iterator_unchecked(pieces) })
-    }
-
     /// Creates a string from all characters.
     ///
     /// # Errors
@@ -288,8 +226,8 @@ impl CacheString {
     ///
     /// # In Rust
     ///
-    /// An iterator that never ends, or that panics, is allowed. The call stops at the first item that does not fit, so
-    /// only empty pieces without an end keep it. What was taken before a panic is a text.
+    /// An iterator that never ends, or that panics, is allowed. The call stops at the first character that does not
+    /// fit.
     ///
     /// # Examples
     ///
@@ -324,8 +262,8 @@ impl CacheString {
     ///
     /// # In Rust
     ///
-    /// An iterator that never ends, or that panics, is allowed. The call stops at the first item that does not fit, so
-    /// only empty pieces without an end keep it. What was taken before a panic is a text.
+    /// An iterator that never ends, or that panics, is allowed. The call stops at the first character that does not
+    /// fit.
     ///
     /// # Examples
     ///
@@ -352,43 +290,6 @@ impl CacheString {
     #[inline]
     pub fn from_chars<I: IntoIterator<Item = char>>(characters: I) -> Self {
         CacheString(ArrayString::from_chars(characters))
-    }
-
-    /// Creates a string from all characters.
-    ///
-    /// # Safety
-    ///
-    /// All that the iterator gives must fit into the capacity together, also if it never ends, or panics.
-    ///
-    /// # Examples
-    ///
-    /// ```
-    /// use arraystring::CacheString;
-    ///
-    /// // SAFETY: the letters take a byte each, and there are 26.
-    /// let letters = unsafe { CacheString::from_chars_unchecked('a'..='z') };
-    /// assert_eq!(letters.len(), 26);
-    /// ```
-    ///
-    /// <details><summary>Contract</summary>
-    ///
-    /// ```text
-    /// requires ends { IsFiniteIterable I.into_iter_gives I.IntoIter.can_next I.IntoIter.remaining characters }
-    /// requires fits { Fits I.into_iter_gives I.IntoIter.next_gives (λ cs. cs) characters 63 }
-    /// ensures taken { (taken : List ℕ) × TakesAll I.into_iter_gives I.IntoIter.next_gives characters taken
-    ///     × (result.0.text ≡ taken) }
-    /// ensures whole { (all : List ℕ) → Gives I.into_iter_gives I.IntoIter.next_gives (λ c. c) characters all
-    ///     → result.0.text ≡ all }
-    /// ```
-    ///
-    /// [How to read a contract](crate::contracts)
-    ///
-    /// </details>
-    #[inline]
-    pub unsafe fn from_chars_unchecked<I: IntoIterator<Item = char>>(characters: I) -> Self {
-        // SAFETY: the items of `characters` take at most `Self::capacity()` bytes together: by this function's
-        // `# Safety`, also where the iterator does not end.
-        CacheString(unsafe { ArrayString::from_chars_unchecked(characters) })
     }
 
     /// Creates a string from the UTF-8 in `given`.
@@ -466,42 +367,6 @@ impl CacheString {
     pub fn from_utf8<B: AsRef<[u8]>>(given: B) -> Result<Self, Utf8> {
         let given = given.as_ref();
         Ok(CacheString(ArrayString::from_utf8(given)?))
-    }
-
-    /// Creates a string from the UTF-8 in `given`.
-    ///
-    /// # Safety
-    ///
-    /// The bytes must be well-formed UTF-8. They must fit into the capacity.
-    ///
-    /// # Examples
-    ///
-    /// ```
-    /// use arraystring::CacheString;
-    ///
-    /// // SAFETY: each byte is ASCII, and there are seven.
-    /// let key = unsafe { CacheString::from_utf8_unchecked(b"user:42") };
-    /// assert_eq!(key, "user:42");
-    /// ```
-    ///
-    /// <details><summary>Contract</summary>
-    ///
-    /// ```text
-    /// requires well_formed { IsWellFormed given.now }
-    /// requires fits { length given.now ≤ 63 }
-    /// ensures bytes { bytes result.0.text ≡ given.now }
-    /// ensures text { IsText result.0.text }
-    /// ```
-    ///
-    /// [How to read a contract](crate::contracts)
-    ///
-    /// </details>
-    #[must_use]
-    #[inline]
-    pub unsafe fn from_utf8_unchecked<B: AsRef<[u8]>>(given: B) -> Self {
-        let given = given.as_ref();
-        // SAFETY: `given` is well-formed UTF-8; `given.len() <= Self::capacity()`: by this function's `# Safety`.
-        CacheString(unsafe { ArrayString::from_utf8_unchecked(given) })
     }
 
     /// Creates a string from the UTF-16 in `units`.
@@ -635,5 +500,155 @@ impl CacheString {
     #[inline]
     pub fn split_off(&mut self, at: u8) -> Result<Self, Error> {
         Ok(CacheString(self.0.split_off(at)?))
+    }
+}
+
+/// # Unchecked
+///
+/// Most programs need none of these calls. What stands under *Safety* is for the caller to keep. A release build
+/// without the feature `checked` does not test it.
+impl CacheString {
+    /// Creates a string from `string`.
+    ///
+    /// # Safety
+    ///
+    /// The text after the call must fit into the capacity.
+    ///
+    /// # Examples
+    ///
+    /// ```
+    /// use arraystring::CacheString;
+    ///
+    /// // SAFETY: the text takes less than 63 bytes.
+    /// let key = unsafe { CacheString::from_str_unchecked("user:42") };
+    /// assert_eq!(key, "user:42");
+    /// ```
+    ///
+    /// <details><summary>Contract</summary>
+    ///
+    /// ```text
+    /// requires { size (chars string.now) ≤ 63 }
+    /// ensures { result.0.text ≡ chars string.now }
+    /// ```
+    ///
+    /// [How to read a contract](crate::contracts)
+    ///
+    /// </details>
+    #[must_use]
+    #[inline]
+    pub unsafe fn from_str_unchecked<S: AsRef<str>>(string: S) -> Self {
+        let string = string.as_ref();
+        // SAFETY: `string.len() <= Self::capacity()`: by this function's `# Safety`.
+        CacheString(unsafe { ArrayString::from_str_unchecked(string) })
+    }
+
+    /// Creates a string from all pieces, joined.
+    ///
+    /// # Safety
+    ///
+    /// All that the iterator gives must fit into the capacity together, also if it never ends, or panics.
+    ///
+    /// # Examples
+    ///
+    /// ```
+    /// use arraystring::CacheString;
+    ///
+    /// // SAFETY: the pieces take less than 63 bytes together.
+    /// let key = unsafe { CacheString::from_iterator_unchecked(["user", ":", "42"]) };
+    /// assert_eq!(key, "user:42");
+    /// ```
+    ///
+    /// <details><summary>Contract</summary>
+    ///
+    /// ```text
+    /// requires ends { IsFiniteIterable I.into_iter_gives I.IntoIter.can_next I.IntoIter.remaining pieces }
+    /// requires fits { Fits I.into_iter_gives I.IntoIter.next_gives joined_pieces pieces 63 }
+    /// ensures taken { (taken : List (Bor (List ℕ))) × TakesAll I.into_iter_gives I.IntoIter.next_gives pieces taken
+    ///     × (result.0.text ≡ joined_pieces taken) }
+    /// ensures whole { (all : List (List ℕ)) → Gives I.into_iter_gives I.IntoIter.next_gives piece_text pieces all
+    ///     → result.0.text ≡ joined all }
+    /// ```
+    ///
+    /// [How to read a contract](crate::contracts)
+    ///
+    /// </details>
+    #[inline]
+    pub unsafe fn from_iterator_unchecked<U: AsRef<str>, I: IntoIterator<Item = U>>(pieces: I) -> Self {
+        // SAFETY: the items of `pieces` take at most `Self::capacity()` bytes together: by this function's `# Safety`,
+        // also where the iterator does not end.
+        CacheString(unsafe { ArrayString::from_iterator_unchecked(pieces) })
+    }
+
+    /// Creates a string from all characters.
+    ///
+    /// # Safety
+    ///
+    /// All that the iterator gives must fit into the capacity together, also if it never ends, or panics.
+    ///
+    /// # Examples
+    ///
+    /// ```
+    /// use arraystring::CacheString;
+    ///
+    /// // SAFETY: the letters take a byte each, and there are 26.
+    /// let letters = unsafe { CacheString::from_chars_unchecked('a'..='z') };
+    /// assert_eq!(letters.len(), 26);
+    /// ```
+    ///
+    /// <details><summary>Contract</summary>
+    ///
+    /// ```text
+    /// requires ends { IsFiniteIterable I.into_iter_gives I.IntoIter.can_next I.IntoIter.remaining characters }
+    /// requires fits { Fits I.into_iter_gives I.IntoIter.next_gives (λ cs. cs) characters 63 }
+    /// ensures taken { (taken : List ℕ) × TakesAll I.into_iter_gives I.IntoIter.next_gives characters taken
+    ///     × (result.0.text ≡ taken) }
+    /// ensures whole { (all : List ℕ) → Gives I.into_iter_gives I.IntoIter.next_gives (λ c. c) characters all
+    ///     → result.0.text ≡ all }
+    /// ```
+    ///
+    /// [How to read a contract](crate::contracts)
+    ///
+    /// </details>
+    #[inline]
+    pub unsafe fn from_chars_unchecked<I: IntoIterator<Item = char>>(characters: I) -> Self {
+        // SAFETY: the items of `characters` take at most `Self::capacity()` bytes together: by this function's
+        // `# Safety`, also where the iterator does not end.
+        CacheString(unsafe { ArrayString::from_chars_unchecked(characters) })
+    }
+
+    /// Creates a string from the UTF-8 in `given`.
+    ///
+    /// # Safety
+    ///
+    /// The bytes must be well-formed UTF-8. They must fit into the capacity.
+    ///
+    /// # Examples
+    ///
+    /// ```
+    /// use arraystring::CacheString;
+    ///
+    /// // SAFETY: each byte is ASCII, and there are seven.
+    /// let key = unsafe { CacheString::from_utf8_unchecked(b"user:42") };
+    /// assert_eq!(key, "user:42");
+    /// ```
+    ///
+    /// <details><summary>Contract</summary>
+    ///
+    /// ```text
+    /// requires well_formed { IsWellFormed given.now }
+    /// requires fits { length given.now ≤ 63 }
+    /// ensures bytes { bytes result.0.text ≡ given.now }
+    /// ensures text { IsText result.0.text }
+    /// ```
+    ///
+    /// [How to read a contract](crate::contracts)
+    ///
+    /// </details>
+    #[must_use]
+    #[inline]
+    pub unsafe fn from_utf8_unchecked<B: AsRef<[u8]>>(given: B) -> Self {
+        let given = given.as_ref();
+        // SAFETY: `given` is well-formed UTF-8; `given.len() <= Self::capacity()`: by this function's `# Safety`.
+        CacheString(unsafe { ArrayString::from_utf8_unchecked(given) })
     }
 }

@@ -283,7 +283,7 @@ fn what_was_a_fault() {
 }
 
 /// The columns of the table of what compiles and does something else.
-const SILENT: &str = "| Code | arrayvec | heapless | `String` | Here | To have it as there |";
+const SILENT: &str = "| Code | arrayvec | heapless, read only | `String` | Here | To have it as there |";
 const STRING: usize = 2;
 const HERE: usize = 3;
 const INSTEAD: usize = 4;
@@ -358,6 +358,10 @@ trait Elsewhere: Sized {
     fn into_inner(self) -> Absent {
         Absent
     }
+
+    fn as_mut_vec(&mut self) -> Absent {
+        Absent
+    }
 }
 
 #[derive(Debug, PartialEq)]
@@ -374,6 +378,7 @@ fn what_does_not_compile_is_written_in_another_way() -> Result<(), Box<dyn std::
     let (mut table, at) = (Table::below("| Code | Of | Here |"), 1usize);
     let mut s = Name::from("ab");
     assert_eq!((s.push('c'), s.capacity(), s.into_bytes(), s.into_inner()), (Absent, Absent, Absent, Absent));
+    assert_eq!(s.as_mut_vec(), Absent);
     written!(table.row("s.push('c')"), WRITTEN, s.try_push('c')?);
     written!(table.row("s.push_str(\"c\").unwrap()"), WRITTEN, s.try_push_str("c").unwrap());
     assert_eq!(s, "abcc");
@@ -393,6 +398,8 @@ fn what_does_not_compile_is_written_in_another_way() -> Result<(), Box<dyn std::
     s.trim();
     assert_eq!(s, "ab");
     assert_eq!(written!(table.row("s.into_bytes()"), WRITTEN, s.as_bytes().to_vec()), b"ab");
+    // SAFETY: the bytes are looked at, and stay as they are.
+    assert_eq!(written!(table.row("unsafe { s.as_mut_vec() }"), WRITTEN, unsafe { s.as_bytes_mut() }), b"ab");
     table.assert_all_met();
     Ok(())
 }

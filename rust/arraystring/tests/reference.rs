@@ -204,6 +204,120 @@ fn what_runs_in_place_of_a_proved_body_is_said_below_its_contract() {
     assert_eq!(found, wanted);
 }
 
+/// Pages beside those of the crate, where the repository is around it.
+fn pages_of_the_repository() -> Vec<(String, String)> {
+    let pages = ["../../README.md", "../arraystring_serde/README.md"].map(Path::new).into_iter();
+    let read = |page: &Path| (page.display().to_string(), fs::read_to_string(page).expect("a text"));
+    let mut found: Vec<_> = pages.filter(|page| page.exists()).map(read).collect();
+    found.extend(
+        ["../../docs", "../arraystring_serde/examples"]
+            .map(Path::new)
+            .into_iter()
+            .filter(|it| it.exists())
+            .flat_map(files),
+    );
+    found
+}
+
+/// Whether a line casts to a number. What is copied from there would make 0 of 256.
+fn casts(line: &str) -> bool {
+    let words: Vec<_> = line.split(|ch: char| !ch.is_alphanumeric() && ch != '_').collect();
+    let numbers = ["u8", "u16", "u32", "u64", "usize", "i8", "i16", "i32", "i64", "isize"];
+    words.windows(2).any(|pair| pair[0] == "as" && numbers.contains(&pair[1]))
+}
+
+#[test]
+fn no_example_and_no_page_converts_by_a_cast() {
+    let mut lines = documentation();
+    let more = ["README.md", "TRUST.md", "CHANGELOG.md"]
+        .map(|page| (page.to_string(), fs::read_to_string(page).expect("a text")));
+    let more = files(Path::new("examples")).into_iter().chain(more).chain(pages_of_the_repository());
+    lines.extend(
+        more.flat_map(|(file, text)| text.lines().map(|line| (file.clone(), line.to_string())).collect::<Vec<_>>()),
+    );
+    for (file, line) in &lines {
+        assert!(!casts(line), "{file}: {line}");
+    }
+    for file in ["src/arraystring_core/array_string.rs", "src/by_hand/owned.rs", "examples/editor.rs", "README.md"] {
+        assert!(lines.iter().any(|(found, _)| found == file), "{file} was not read");
+    }
+    assert!(casts("assert_eq!(&string[at as u8 + 1..], \"text\");") && casts("(len as usize)"));
+    assert!(!casts("let at = u8::try_from(at)?; // u8, and `usize::from`"));
+}
+
+#[test]
+fn what_a_feature_adds_names_it() {
+    let (mut named, items) = (0, items());
+    for (file, text) in files(Path::new("src")) {
+        let lines: Vec<_> = text.lines().collect();
+        for pair in lines.windows(2) {
+            let feature = pair[0].strip_prefix("#[cfg(feature = \"").and_then(|rest| rest.strip_suffix("\")]"));
+            let module =
+                pair[1].trim_start_matches("pub ").strip_prefix("mod ").and_then(|rest| rest.strip_suffix(';'));
+            let (Some(feature), Some(module)) = (feature, module) else { continue };
+            let source = format!("{}/{module}.rs", file.trim_end_matches(".rs"));
+            let said = format!("With the feature `{feature}`.");
+            for item in items.iter().filter(|item| item.file == source && item.head.trim_start().starts_with("impl")) {
+                assert!(item.docs.iter().any(|line| line.ends_with(&said)), "{source}: {}", item.head);
+                named += 1;
+            }
+        }
+    }
+    assert_eq!(named, 21, "the impls of `copies`, `owned` and `paths`");
+}
+
+#[test]
+fn what_counts_says_first_that_most_programs_need_none_of_it() {
+    let counts = |item: &&Item| {
+        let head = item.head.trim_start();
+        ["pub struct Steps {", "pub fn look("].iter().any(|known| head.starts_with(known))
+            || head.strip_prefix("pub fn ").is_some_and(|rest| rest.contains("_counted") && !rest.contains("unchecked"))
+    };
+    let items = items();
+    let found: Vec<_> = items.iter().filter(counts).collect();
+    assert_eq!(found.len(), 9, "the counted calls, `look` and `Steps`");
+    for item in found {
+        assert!(item.docs[0].starts_with("Most programs need "), "{}: {}", item.file, item.head);
+    }
+}
+
+#[test]
+fn what_most_programs_do_without_stands_in_blocks_behind_the_other_calls() {
+    let titles = [("_unchecked", "# Unchecked"), ("_counted", "# Counted")];
+    let (mut count, mut file, mut title) = (0, String::new(), None);
+    for item in items() {
+        if item.head.trim_start().starts_with("impl") {
+            let found = item.docs.first().and_then(|line| titles.iter().position(|(_, title)| line == title));
+            // (a file begins with its other calls)
+            assert!(item.file != file || found >= title || item.head.contains(" for "), "{}: {}", item.file, item.head);
+            (file, title) = (item.file, found);
+        } else if let Some(call) = item.head.strip_prefix("    pub ").and_then(|head| head.split_once("fn ")) {
+            let name = call.1.split(['(', '<']).next().unwrap_or_default();
+            let wanted = titles.iter().position(|(ending, _)| name.ends_with(ending));
+            assert_eq!(title, wanted, "{}: {name}", item.file);
+            count += usize::from(wanted.is_some());
+        }
+    }
+    assert_eq!(count, 18, "the calls of the two types with these endings");
+}
+
+#[test]
+fn what_is_said_of_an_iterator_is_true_of_the_call() {
+    let mut count = 0;
+    for item in items() {
+        let said = item.docs.join(" ");
+        if !said.contains("An iterator that never ends, or that panics, is allowed.") {
+            continue;
+        }
+        let (takes_characters, adds) = (item.head.contains("_chars<"), item.head.contains("fn extend_"));
+        assert_eq!(said.contains("first character that does not fit."), takes_characters, "{}", item.head);
+        assert_eq!(said.contains("empty pieces"), !takes_characters, "{}", item.head);
+        assert_eq!(said.contains("Where the iterator panics, the text has"), adds, "{}", item.head);
+        count += 1;
+    }
+    assert_eq!(count, 10, "the safe calls over an iterator");
+}
+
 #[test]
 fn no_link_leaves_the_crate() {
     for (file, line) in documentation() {

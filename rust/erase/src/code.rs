@@ -2,6 +2,7 @@
 //! gives that code, with the comments that stand in the source, and nothing else.
 
 mod access;
+pub mod blocks;
 mod calls;
 mod functions;
 mod heads;
@@ -23,7 +24,7 @@ pub fn code(source: &Source, items: &[Item], known: &Contracts, tally: &mut Tall
     let mut pass = Pass { source, known, tally, edits: Edits::default() };
     pass.items(items)?;
     pass.more()?;
-    let code = pass.edits.apply(source.text);
+    let code = blocks::parted(&pass.edits.apply(source.text))?;
     no_proof_is_left(&code)?;
     Ok(code)
 }

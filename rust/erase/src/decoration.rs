@@ -4,13 +4,14 @@
 mod attributes;
 mod compared;
 mod functions;
-mod order;
+pub mod order;
 pub mod reference;
 pub mod sections;
 mod sentences;
 
 use std::ops::Range;
 
+use crate::code::blocks::{BLOCKS, Block, block_of};
 use crate::contracts::Contracts;
 use crate::cursor::Fault;
 use crate::edits::{Edits, tidied};
@@ -78,6 +79,7 @@ impl Decoration<'_> {
                 What::Impl => {
                     let others = self.items(&item.items)?;
                     self.linked(&docs, "");
+                    self.block(item);
                     let members = self.known.members.get(&item.path).filter(|members| !members.is_empty());
                     if let Some(members) = members {
                         self.folded(item.lead.docs_end, &members.join("\n"), item.lead.has_docs, &others);
@@ -93,6 +95,16 @@ impl Decoration<'_> {
             }
         }
         Ok(others)
+    }
+
+    /// Says what the calls of an impl have in common, if it is a block of those that most programs do without: then the first is one.
+    fn block(&mut self, item: &Item) {
+        let first = item.items.first().filter(|call| call.is_public);
+        if let Some(Block { title, words, .. }) = first.and_then(|call| block_of(call.name)).map(|block| &BLOCKS[block])
+        {
+            self.edits.insert(item.lead.docs_end, sections::section("", title, words));
+            self.tally.count("blocks of calls that most programs do without");
+        }
     }
 
     /// Whether the code has the function, with a contract, whose work std does in the file.

@@ -27,7 +27,7 @@ impl<T> Otherwise for Collected<T> {}
 
 #[test]
 fn what_compiles_in_both_leaves_another_text() {
-    let mut table = Table::below("| Code | arrayvec | heapless | `String` | Here | To have it as there |");
+    let mut table = Table::below("| Code | arrayvec | heapless, read only | `String` | Here | To have it as there |");
     let t = ArrayString::<200>::from(&"m".repeat(150)).expect("it fits");
     let mut s = Name::from("ab").expect("it fits");
     leaves!(table, ARRAYVEC, s.push_str("cde"), |()| s);
@@ -77,5 +77,6 @@ fn what_does_not_compile_beside_it_compiles_here() {
     s = Name::from(" ab ").expect("it fits");
     assert!(is_of!(table, "all three", s.trim() == "ab"));
     table.row("s.into_bytes()").says(0, "heapless, `String`");
+    table.row("unsafe { s.as_mut_vec() }").says(0, "heapless, `String`");
     table.assert_all_met();
 }

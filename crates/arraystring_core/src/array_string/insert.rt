@@ -83,9 +83,10 @@ impl<const N: usize> ArrayString<N> {
         self.try_insert_str_counted(index, string, &mut Steps::new())
     }
 
-    /// Inserts as `try_insert_str` does, with the bytes that it moves counted in `steps`. They are no
-    /// more than the text had. An insertion of at least one character moves at least as many as
-    /// the shorter of the parts before and after the index has. A refused one moves none.
+    /// Most programs need `try_insert_str`, and none of the counted calls. Inserts as
+    /// `try_insert_str` does, with the bytes that it moves counted in `steps`. They are no more than
+    /// the text had. An insertion of at least one character moves at least as many as the shorter of
+    /// the parts before and after the index has. A refused one moves none.
     ///
     /// # Errors
     ///

@@ -102,10 +102,10 @@ impl<const N: usize> ArrayString<N> {
         self.drain_through(range, &mut Steps::new(), &mut Drain::default())
     }
 
-    /// Drains as `drain` does, with the bytes that it moves counted in `steps`. They are no more than
-    /// the part after the range has. If the range is not empty, they are at least as many as the
-    /// shorter of the parts before and after it has. It moves none if the range begins at index 0,
-    /// and none if it is refused.
+    /// Most programs need `drain`, and none of the counted calls. Drains as `drain` does, with the
+    /// bytes that it moves counted in `steps`. They are no more than the part after the range has. If
+    /// the range is not empty, they are at least as many as the shorter of the parts before and after
+    /// it has. It moves none if the range begins at index 0, and none if it is refused.
     ///
     /// # Errors
     ///
@@ -180,10 +180,11 @@ impl<const N: usize> ArrayString<N> {
         self.replace_range_counted(range, with, &mut Steps::new())
     }
 
-    /// Replaces as `replace_range` does, with the bytes that it moves counted in `steps`. They are no
-    /// more than the text had, and no more than the part after the range has if `with` is not
-    /// larger than the range. A replacement that changes the length moves at least as many as the
-    /// shorter of the parts before and after the range has. A refused one moves none.
+    /// Most programs need `replace_range`, and none of the counted calls. Replaces as `replace_range`
+    /// does, with the bytes that it moves counted in `steps`. They are no more than the text had, and
+    /// no more than the part after the range has if `with` is not larger than the range. A
+    /// replacement that changes the length moves at least as many as the shorter of the parts before
+    /// and after the range has. A refused one moves none.
     ///
     /// # Errors
     ///

@@ -54,8 +54,8 @@ impl<const N: usize> ArrayString<N> {
         self.pop_counted(&mut Steps::new())
     }
 
-    /// Pops as `pop` does, counted in `steps`: at most four looks, at least one if there is a
-    /// character, and no moves.
+    /// Most programs need `pop`, and none of the counted calls. Pops as `pop` does, counted in
+    /// `steps`: at most four looks, at least one if there is a character, and no moves.
     ///
     /// # Precondition
     ///
@@ -109,9 +109,10 @@ impl<const N: usize> ArrayString<N> {
         self.remove_counted(index, &mut Steps::new())
     }
 
-    /// Removes as `remove` does, with the bytes that it moves counted in `steps`. They are no more
-    /// than the part after the character has, and at least as many as the shorter of the parts
-    /// before and after it has. It moves none at index 0, and none if it is refused.
+    /// Most programs need `remove`, and none of the counted calls. Removes as `remove` does, with the
+    /// bytes that it moves counted in `steps`. They are no more than the part after the character
+    /// has, and at least as many as the shorter of the parts before and after it has. It moves none
+    /// at index 0, and none if it is refused.
     ///
     /// # Errors
     ///

@@ -26,9 +26,10 @@ impl<const N: usize> ArrayString<N> {
         self.trim_counted(&mut Steps::new());
     }
 
-    /// Trims as `trim` does, with its looks counted in `steps`. It looks at each character that it
-    /// removes at the end and at the one before them: at each at least once, and at most four
-    /// times. It moves no byte.
+    /// Most programs need `trim`, and none of the counted calls. Trims as `trim` does, with its looks
+    /// at the end counted in `steps`: at each character that it removes there and at the one before
+    /// them, each at least once and at most four times. What it reads at the start is not counted.
+    /// It moves no byte.
     ///
     /// # Precondition
     ///

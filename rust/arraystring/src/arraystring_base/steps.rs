@@ -2,8 +2,9 @@
 // Made from crates/arraystring_base/src/steps.rt by rust/erase. The proof is there. A change goes there.
 //! Counting what a call does to bytes.
 
-/// Counts of looks and of moves. A look is one call of [`look`](crate::utils::look), and a move is one byte that [`shift`](crate::utils::shift)
-/// takes to another offset. What calls read otherwise is not counted.
+/// Most programs need no counter. It has the looks and the moves of the calls that end in
+/// `_counted`. A look is one call of [`look`](crate::utils::look), and a move is one byte that [`shift`](crate::utils::shift) takes to another
+/// offset. What calls read otherwise is not counted.
 ///
 /// # Examples
 ///
@@ -128,7 +129,8 @@ impl Steps {
     }
 }
 
-/// Returns the byte at the index `at`, counted as one look.
+/// Most programs need no look, and write `bytes[at]`. Returns the byte at the index `at`, counted
+/// as one look.
 ///
 /// # Panics
 ///

@@ -61,8 +61,9 @@ pub fn truncate_str(text: &str, size: u8) -> &str {
     truncate_str_counted(text, size, &mut Steps::new())
 }
 
-/// Cuts as [`truncate_str`](crate::utils::truncate_str) does, with its looks counted in `steps`. It looks at no more than four
-/// bytes, and at one at least if `size` is not 0 and is below the length. It moves none.
+/// Most programs need [`truncate_str`](crate::utils::truncate_str), and none of the counted calls. Cuts as [`truncate_str`](crate::utils::truncate_str) does,
+/// with its looks counted in `steps`. It looks at no more than four bytes, and at one at least if
+/// `size` is not 0 and is below the length. It moves none.
 ///
 /// # In Rust
 ///

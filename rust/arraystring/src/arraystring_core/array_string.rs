@@ -49,7 +49,8 @@ mod views {
     use super::*;
 
     impl<const N: usize> ArrayString<N> {
-        /// Returns the capacity in bytes: the lesser of `N` and 255.
+        /// Returns the capacity in bytes: the lesser of `N` and 255. So a string whose `N` is over 255
+        /// takes more memory and holds no more.
         ///
         /// # Examples
         ///
@@ -57,7 +58,8 @@ mod views {
         /// use arraystring::ArrayString;
         ///
         /// assert_eq!(ArrayString::<8>::capacity(), 8);
-        /// assert_eq!(ArrayString::<1000>::capacity(), 255);
+        /// assert_eq!(ArrayString::<1024>::capacity(), 255);
+        /// assert_eq!(size_of::<ArrayString<1024>>(), 1026);
         /// ```
         ///
         /// <details><summary>Contract</summary>
@@ -78,15 +80,22 @@ mod views {
 
         /// Returns the length of the text in bytes, which is at most the capacity.
         ///
+        /// It is a `u8`, and so is a sum of such lengths. In a release build of Rust two lengths of 150
+        /// add to 44. Add `usize::from(string.len())`.
+        ///
         /// # Examples
         ///
         /// ```
-        /// use arraystring::ArrayString;
+        /// use arraystring::{ArrayString, MaxString};
         ///
         /// let mut string = ArrayString::<8>::from("abc");
         /// assert_eq!(string.len(), 3);
         /// string.push_str("é"); // two bytes
         /// assert_eq!(string.len(), 5);
+        ///
+        /// let large = MaxString::from("m".repeat(150).as_str());
+        /// assert_eq!(usize::from(large.len()) + usize::from(large.len()), 300);
+        /// assert_eq!(large.len().wrapping_add(large.len()), 44); // as `+` does in a release build
         /// ```
         ///
         /// <details><summary>Contract</summary>
@@ -288,6 +297,18 @@ mod fill;
 /// assert_eq!((name.len(), name.get(..3)), (8, Some("ann")));
 /// ```
 ///
+/// # What else cuts or refuses
+///
+/// `collect`, `extend`, `+=`, `From<char>` and std's `try_from` cut, too. [`const_try_from_str`](Self::const_try_from_str),
+/// [`try_from_format`](Self::try_from_format) and [`try_write`](Self::try_write) refuse.
+///
+/// ```
+/// use arraystring::ArrayString;
+///
+/// assert_eq!(ArrayString::<2>::try_from("abc"), Ok("ab".into())); // cut
+/// assert!(ArrayString::<2>::const_try_from_str("abc").is_err()); // refused
+/// ```
+///
 /// # Size
 ///
 /// A string takes `N + 2` bytes and is aligned to one. At most 255 of them hold text, also where `N` is greater.
@@ -302,7 +323,7 @@ mod fill;
 /// # What is counted in `u8`
 ///
 /// [`len`](Self::len), [`capacity`](Self::capacity), the indices and the ranges of this type are `u8`. What the string has by
-/// `Deref` to `str`, such as `find`, is in `usize`.
+/// `Deref` to `str`, such as `find`, is in `usize`. `usize::from` and `u8::try_from` make one of the other. A cast would make 0 of 256.
 ///
 /// ```
 /// use arraystring::ArrayString;
@@ -310,7 +331,10 @@ mod fill;
 /// let string = ArrayString::<8>::from("key=text");
 /// let at = string.find('=').unwrap(); // a usize
 /// assert_eq!((string.len(), at), (8u8, 3usize));
-/// assert_eq!(&string[at as u8 + 1..], "text");
+/// assert_eq!(usize::from(string.len()) - at, 5);
+/// assert_eq!(&string.as_str()[at + 1..], "text"); // the index of `str` takes a usize
+/// let at = u8::try_from(at).unwrap();
+/// assert_eq!(&string[at + 1..], "text");
 /// ```
 #[derive(Clone, Copy)]
 pub struct ArrayString<const N: usize> {

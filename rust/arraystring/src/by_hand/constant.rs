@@ -2,6 +2,7 @@
 #![deny(unsafe_code)]
 
 use crate::ArrayString;
+use crate::error::OutOfBounds;
 
 /// A string of a text that is known when the program is compiled. One that does not fit never compiles. The capacity is that of
 /// the type that is asked for.
@@ -55,14 +56,9 @@ impl<const N: usize> ArrayString<N> {
     #[must_use]
     #[track_caller]
     pub const fn of_constant(text: &str) -> Self {
-        assert!(text.len() <= Self::capacity() as usize, "the text does not fit into the capacity");
-        let (mut string, mut rest) = (Self::new(), text.as_bytes());
-        while let [byte, others @ ..] = rest {
-            string.array[string.size as usize] = *byte;
-            // FIELDS: so many bytes of the text are there, which fits by the test above. Behind the loop it is all of it.
-            string.size += 1;
-            rest = others;
+        match Self::const_try_from_str(text) {
+            Ok(string) => string,
+            Err(OutOfBounds) => panic!("the text does not fit into the capacity"),
         }
-        string
     }
 }

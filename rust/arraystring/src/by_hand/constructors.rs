@@ -39,6 +39,7 @@ impl<const N: usize> ArrayString<N> {
         let (mut array, mut bytes): (&mut [u8], _) = (&mut made.array, string.as_bytes());
         while let ([place, places @ ..], [byte, others @ ..]) = (array, bytes) {
             *place = *byte;
+            // FIELDS: so many bytes of the text are there, which fits by the test above. Behind the loop it is all of it.
             made.size += 1;
             (array, bytes) = (places, others);
         }

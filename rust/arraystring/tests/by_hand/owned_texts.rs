@@ -62,6 +62,26 @@ fn a_string_of_each_length_is_copied() {
     }
 }
 
+/// As paths `a/` and `./a` are equal, since these are compared by their parts. So what is lent is compared byte by byte.
+#[cfg(feature = "std")]
+#[test]
+fn a_path_has_each_byte_of_the_text() {
+    let of = |pieces: &[&str]| pieces.concat();
+    for front in ["", "/", "./", "//", "../"] {
+        for middle in ["a", "é", "a/b", "a//b", "a/./b", " ", "."] {
+            for back in ["", "/", "//", "/.", "\\", " ", "\0"] {
+                let text = of(&[front, middle, back]);
+                let (string, key) = (behind::<16>(16, &text), CacheString::from(text.as_str()));
+                let (paths, names): ([&Path; 2], [&OsStr; 2]) =
+                    ([string.as_ref(), key.as_ref()], [string.as_ref(), key.as_ref()]);
+                for name in paths.map(Path::as_os_str).into_iter().chain(names) {
+                    assert_eq!(name.as_encoded_bytes(), text.as_bytes());
+                }
+            }
+        }
+    }
+}
+
 #[test]
 fn a_string_is_beside_a_cow() {
     fn at<const N: usize>() {

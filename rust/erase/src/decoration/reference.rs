@@ -83,6 +83,18 @@ pub const MORE: &[More] = &[
         file: "arraystring_core/src/array_string.rt",
         of: "ArrayString",
         lines: "
+# What else cuts or refuses
+
+`collect`, `extend`, `+=`, `From<char>` and std's `try_from` cut, too. [`const_try_from_str`](Self::const_try_from_str),
+[`try_from_format`](Self::try_from_format) and [`try_write`](Self::try_write) refuse.
+
+```
+use arraystring::ArrayString;
+
+assert_eq!(ArrayString::<2>::try_from(\"abc\"), Ok(\"ab\".into())); // cut
+assert!(ArrayString::<2>::const_try_from_str(\"abc\").is_err()); // refused
+```
+
 # Size
 
 A string takes `N + 2` bytes and is aligned to one. At most 255 of them hold text, also where `N` is greater.
@@ -97,7 +109,7 @@ assert_eq!((size_of::<ArrayString<1000>>(), ArrayString::<1000>::capacity()), (1
 # What is counted in `u8`
 
 [`len`](Self::len), [`capacity`](Self::capacity), the indices and the ranges of this type are `u8`. What the string has by
-`Deref` to `str`, such as `find`, is in `usize`.
+`Deref` to `str`, such as `find`, is in `usize`. `usize::from` and `u8::try_from` make one of the other. A cast would make 0 of 256.
 
 ```
 use arraystring::ArrayString;
@@ -105,7 +117,10 @@ use arraystring::ArrayString;
 let string = ArrayString::<8>::from(\"key=text\");
 let at = string.find('=').unwrap(); // a usize
 assert_eq!((string.len(), at), (8u8, 3usize));
-assert_eq!(&string[at as u8 + 1..], \"text\");
+assert_eq!(usize::from(string.len()) - at, 5);
+assert_eq!(&string.as_str()[at + 1..], \"text\"); // the index of `str` takes a usize
+let at = u8::try_from(at).unwrap();
+assert_eq!(&string[at + 1..], \"text\");
 ```
 ",
     },
@@ -113,7 +128,16 @@ assert_eq!(&string[at as u8 + 1..], \"text\");
         file: "arraystring/src/cache_string.rt",
         of: "CacheString",
         lines: "
-It takes 65 bytes. What an [`ArrayString`](crate::ArrayString) has beside this is called on it too, by `Deref`.
+In Rust these calls are made on the string itself, too, by `Deref` and `DerefMut`. It takes 65 bytes.
+
+```
+use arraystring::CacheString;
+
+let (mut key, mut other) = (CacheString::from(\"user:\"), CacheString::from(\"user:\"));
+key.push_str(\"42\");
+other.0.push_str(\"42\");
+assert!(key == other && size_of::<CacheString>() == 65);
+```
 ",
     },
 ];
@@ -143,8 +167,15 @@ pub enum Fate {
 
 use Fate::{Panics, Safe, Unsafe};
 
-const ENDS: &str = "An iterator that never ends, or that panics, is allowed. The call stops at the first item that does not fit, \
-                    so only empty pieces without an end keep it. What was taken before a panic is a text.";
+const OF_CHARS: &str =
+    "An iterator that never ends, or that panics, is allowed. The call stops at the first character that does not fit.";
+const OF_PIECES: &str = "An iterator that never ends, or that panics, is allowed. The call stops at the first piece that does not \
+                         fit. So it does not return where empty pieces come without an end.";
+const ADDS_CHARS: &str = "An iterator that never ends, or that panics, is allowed. The call stops at the first character that does \
+                          not fit. Where the iterator panics, the text has the characters before that.";
+const ADDS_PIECES: &str = "An iterator that never ends, or that panics, is allowed. The call stops at the first piece that does \
+                           not fit. So it does not return where empty pieces come without an end. Where the iterator panics, the \
+                           text has the pieces before that.";
 const COUNTS: &str = "A count that would pass 2^64 - 1 stays there.";
 const LIKE_STR: &str = "Where the range ends before it starts, ends past the text, or has an end inside a character, as the index of \
                         `str` does.";
@@ -277,16 +308,16 @@ pub const FATES: &[(&str, Fate)] = &[
     ("ArrayString::slice", Panics(LIKE_STR)),
     ("ArrayString::make_ascii_uppercase_in", Panics(LIKE_STR)),
     ("ArrayString::make_ascii_lowercase_in", Panics(LIKE_STR)),
-    ("ArrayString::try_from_iterator", Safe(ENDS)),
-    ("ArrayString::from_iterator", Safe(ENDS)),
-    ("ArrayString::try_from_chars", Safe(ENDS)),
-    ("ArrayString::from_chars", Safe(ENDS)),
-    ("ArrayString::extend_chars", Safe(ENDS)),
-    ("ArrayString::extend_strs", Safe(ENDS)),
-    ("CacheString::try_from_iterator", Safe(ENDS)),
-    ("CacheString::from_iterator", Safe(ENDS)),
-    ("CacheString::try_from_chars", Safe(ENDS)),
-    ("CacheString::from_chars", Safe(ENDS)),
+    ("ArrayString::try_from_iterator", Safe(OF_PIECES)),
+    ("ArrayString::from_iterator", Safe(OF_PIECES)),
+    ("ArrayString::try_from_chars", Safe(OF_CHARS)),
+    ("ArrayString::from_chars", Safe(OF_CHARS)),
+    ("ArrayString::extend_chars", Safe(ADDS_CHARS)),
+    ("ArrayString::extend_strs", Safe(ADDS_PIECES)),
+    ("CacheString::try_from_iterator", Safe(OF_PIECES)),
+    ("CacheString::from_iterator", Safe(OF_PIECES)),
+    ("CacheString::try_from_chars", Safe(OF_CHARS)),
+    ("CacheString::from_chars", Safe(OF_CHARS)),
     ("ArrayString::retain", Safe("Any closure is allowed. Where it panics, the text is what it kept until then.")),
     ("ArrayString::pop_counted", Safe(COUNTS)),
     ("ArrayString::trim_counted", Safe(COUNTS)),

@@ -66,6 +66,20 @@ fn what_became_of_a_precondition_replaces_its_section() {
 }
 
 #[test]
+fn a_counted_call_stands_behind_the_others_in_a_block_that_says_so() {
+    let made = made_as("arraystring_core/src/array_string/sample.rt", COUNTED).unwrap();
+    let block = "}\n}\n\n/// # Counted\n///\n/// Most programs need none of these calls. Each does what the call without that ending";
+    let at = |part: &str| made.find(part).unwrap_or_else(|| panic!("{part}\n--- is not in:\n{made}"));
+    let parts = [
+        "    pub fn pop(&mut self)",
+        &block.replacen("}\n", "    }\n", 1),
+        "impl<const N: usize> ArrayString<N> {\n    /// The same",
+    ];
+    assert!(parts.is_sorted_by_key(|part| at(part)) && at("\n    pub fn pop_counted(") > at(parts[2]), "{made}");
+    assert!(!made.contains("# Unchecked"), "{made}");
+}
+
+#[test]
 fn an_example_imports_each_name_once_and_none_behind_a_path() {
     let imports = crate::decoration::sections::imports;
     assert_eq!(

@@ -81,46 +81,6 @@ impl<const N: usize> ArrayString<N> {
         unsafe { Self::from_str_unchecked(truncate_str(string, Self::capacity())) }
     }
 
-    /// Creates a string from `string`.
-    ///
-    /// # Safety
-    ///
-    /// The text after the call must fit into the capacity.
-    ///
-    /// # Examples
-    ///
-    /// ```
-    /// use arraystring::ArrayString;
-    ///
-    /// // SAFETY: the text takes three bytes.
-    /// let string = unsafe { ArrayString::<4>::from_str_unchecked("éa") };
-    /// assert_eq!(string, "éa");
-    /// ```
-    ///
-    /// <details><summary>Contract</summary>
-    ///
-    /// ```text
-    /// requires { size (chars string.now) ≤ cap N }
-    /// ensures { result.text ≡ chars string.now }
-    /// ```
-    ///
-    /// [How to read a contract](crate::contracts)
-    ///
-    /// </details>
-    #[must_use]
-    #[expect(clippy::cast_possible_truncation, reason = "the line before the write says why it fits")]
-    #[inline]
-    pub unsafe fn from_str_unchecked<S: AsRef<str>>(string: S) -> Self {
-        let string = string.as_ref();
-        required!(string.len() <= Self::capacity() as usize);
-        let mut array = [0; N];
-        // SAFETY: `string.as_bytes().len() <= N`: by this function's `# Safety`, since the capacity is at most `N`.
-        unsafe { fill(&mut array, string.as_bytes()) };
-        // FIELDS: `string` lies in front of the array, and its size is at most the capacity by this function's
-        // `# Safety`.
-        ArrayString { array, start: 0, size: string.len() as u8 }
-    }
-
     /// Creates a string from all pieces, joined.
     ///
     /// # Errors
@@ -129,8 +89,8 @@ impl<const N: usize> ArrayString<N> {
     ///
     /// # In Rust
     ///
-    /// An iterator that never ends, or that panics, is allowed. The call stops at the first item that does not fit, so
-    /// only empty pieces without an end keep it. What was taken before a panic is a text.
+    /// An iterator that never ends, or that panics, is allowed. The call stops at the first piece that does not fit. So
+    /// it does not return where empty pieces come without an end.
     ///
     /// # Examples
     ///
@@ -173,8 +133,8 @@ impl<const N: usize> ArrayString<N> {
     ///
     /// # In Rust
     ///
-    /// An iterator that never ends, or that panics, is allowed. The call stops at the first item that does not fit, so
-    /// only empty pieces without an end keep it. What was taken before a panic is a text.
+    /// An iterator that never ends, or that panics, is allowed. The call stops at the first piece that does not fit. So
+    /// it does not return where empty pieces come without an end.
     ///
     /// # Examples
     ///
@@ -211,54 +171,6 @@ impl<const N: usize> ArrayString<N> {
         ArrayString { array, start, size }
     }
 
-    /// Creates a string from all pieces, joined.
-    ///
-    /// # Safety
-    ///
-    /// All that the iterator gives must fit into the capacity together, also if it never ends, or panics.
-    ///
-    /// # Examples
-    ///
-    /// ```
-    /// use arraystring::ArrayString;
-    ///
-    /// // SAFETY: the pieces take four bytes together.
-    /// let string = unsafe { ArrayString::<4>::from_iterator_unchecked(["a", "bcd"]) };
-    /// assert_eq!(string, "abcd");
-    /// ```
-    ///
-    /// <details><summary>Contract</summary>
-    ///
-    /// ```text
-    /// requires ends { IsFiniteIterable I.into_iter_gives I.IntoIter.can_next I.IntoIter.remaining pieces }
-    /// requires fits { Fits I.into_iter_gives I.IntoIter.next_gives joined_pieces pieces (cap N) }
-    /// ensures taken { (taken : List (Bor (List ℕ))) × TakesAll I.into_iter_gives I.IntoIter.next_gives pieces taken
-    ///     × (result.text ≡ joined_pieces taken) }
-    /// ensures whole { (all : List (List ℕ)) → Gives I.into_iter_gives I.IntoIter.next_gives piece_text pieces all
-    ///     → result.text ≡ joined all }
-    /// ```
-    ///
-    /// [How to read a contract](crate::contracts)
-    ///
-    /// </details>
-    #[inline]
-    #[expect(clippy::cast_possible_truncation, reason = "the line before the write says why it fits")]
-    pub unsafe fn from_iterator_unchecked<U: AsRef<str>, I: IntoIterator<Item = U>>(pieces: I) -> Self {
-        let mut array = [0; N];
-        let mut end = 0;
-        for piece in pieces {
-            let piece = piece.as_ref();
-            required!(end + piece.len() <= Self::capacity() as usize);
-            // SAFETY: `end + piece.as_bytes().len() <= N`: by this function's `# Safety` all pieces fit together, and
-            // `end` is the size of those before this one, also where the iterator does not end.
-            unsafe { write_over(&mut array, end, piece.as_bytes()) };
-            end += piece.len();
-        }
-        // FIELDS: the pieces lie in front of the array, and `end` is their size, which is at most the capacity by this
-        // function's `# Safety`, also where the iterator does not end.
-        ArrayString { array, start: 0, size: end as u8 }
-    }
-
     /// Creates a string from all characters.
     ///
     /// # Errors
@@ -267,8 +179,8 @@ impl<const N: usize> ArrayString<N> {
     ///
     /// # In Rust
     ///
-    /// An iterator that never ends, or that panics, is allowed. The call stops at the first item that does not fit, so
-    /// only empty pieces without an end keep it. What was taken before a panic is a text.
+    /// An iterator that never ends, or that panics, is allowed. The call stops at the first character that does not
+    /// fit.
     ///
     /// # Examples
     ///
@@ -310,8 +222,8 @@ impl<const N: usize> ArrayString<N> {
     ///
     /// # In Rust
     ///
-    /// An iterator that never ends, or that panics, is allowed. The call stops at the first item that does not fit, so
-    /// only empty pieces without an end keep it. What was taken before a panic is a text.
+    /// An iterator that never ends, or that panics, is allowed. The call stops at the first character that does not
+    /// fit.
     ///
     /// # Examples
     ///
@@ -346,42 +258,6 @@ impl<const N: usize> ArrayString<N> {
         // FIELDS: `append_chars` leaves the `size` bytes from `start` on as UTF-8 that ends within the capacity,
         // whether or not the iterator ends.
         ArrayString { array, start, size }
-    }
-
-    /// Creates a string from all characters.
-    ///
-    /// # Safety
-    ///
-    /// All that the iterator gives must fit into the capacity together, also if it never ends, or panics.
-    ///
-    /// # Examples
-    ///
-    /// ```
-    /// use arraystring::ArrayString;
-    ///
-    /// // SAFETY: the digits take a byte each, and there are four.
-    /// let string = unsafe { ArrayString::<4>::from_chars_unchecked('6'..='9') };
-    /// assert_eq!(string, "6789");
-    /// ```
-    ///
-    /// <details><summary>Contract</summary>
-    ///
-    /// ```text
-    /// requires ends { IsFiniteIterable I.into_iter_gives I.IntoIter.can_next I.IntoIter.remaining characters }
-    /// requires fits { Fits I.into_iter_gives I.IntoIter.next_gives (λ cs. cs) characters (cap N) }
-    /// ensures taken { (taken : List ℕ) × TakesAll I.into_iter_gives I.IntoIter.next_gives characters taken
-    ///     × (result.text ≡ taken) }
-    /// ensures whole { (all : List ℕ) → Gives I.into_iter_gives I.IntoIter.next_gives (λ c. c) characters all
-    ///     → result.text ≡ all }
-    /// ```
-    ///
-    /// [How to read a contract](crate::contracts)
-    ///
-    /// </details>
-    #[inline]
-    pub unsafe fn from_chars_unchecked<I: IntoIterator<Item = char>>(characters: I) -> Self {
-        required_of_each!(characters fits Self::capacity() as usize);
-        Self::from_chars(characters)
     }
 
     /// Creates a string from the UTF-8 in `given`.
@@ -470,6 +346,136 @@ impl<const N: usize> ArrayString<N> {
             return Err(Utf8);
         };
         Ok(Self::from_str_truncate(string))
+    }
+}
+
+/// # Unchecked
+///
+/// Most programs need none of these calls. What stands under *Safety* is for the caller to keep. A release build
+/// without the feature `checked` does not test it.
+impl<const N: usize> ArrayString<N> {
+    /// Creates a string from `string`.
+    ///
+    /// # Safety
+    ///
+    /// The text after the call must fit into the capacity.
+    ///
+    /// # Examples
+    ///
+    /// ```
+    /// use arraystring::ArrayString;
+    ///
+    /// // SAFETY: the text takes three bytes.
+    /// let string = unsafe { ArrayString::<4>::from_str_unchecked("éa") };
+    /// assert_eq!(string, "éa");
+    /// ```
+    ///
+    /// <details><summary>Contract</summary>
+    ///
+    /// ```text
+    /// requires { size (chars string.now) ≤ cap N }
+    /// ensures { result.text ≡ chars string.now }
+    /// ```
+    ///
+    /// [How to read a contract](crate::contracts)
+    ///
+    /// </details>
+    #[must_use]
+    #[expect(clippy::cast_possible_truncation, reason = "the line before the write says why it fits")]
+    #[inline]
+    pub unsafe fn from_str_unchecked<S: AsRef<str>>(string: S) -> Self {
+        let string = string.as_ref();
+        required!(string.len() <= Self::capacity() as usize);
+        let mut array = [0; N];
+        // SAFETY: `string.as_bytes().len() <= N`: by this function's `# Safety`, since the capacity is at most `N`.
+        unsafe { fill(&mut array, string.as_bytes()) };
+        // FIELDS: `string` lies in front of the array, and its size is at most the capacity by this function's
+        // `# Safety`.
+        ArrayString { array, start: 0, size: string.len() as u8 }
+    }
+
+    /// Creates a string from all pieces, joined.
+    ///
+    /// # Safety
+    ///
+    /// All that the iterator gives must fit into the capacity together, also if it never ends, or panics.
+    ///
+    /// # Examples
+    ///
+    /// ```
+    /// use arraystring::ArrayString;
+    ///
+    /// // SAFETY: the pieces take four bytes together.
+    /// let string = unsafe { ArrayString::<4>::from_iterator_unchecked(["a", "bcd"]) };
+    /// assert_eq!(string, "abcd");
+    /// ```
+    ///
+    /// <details><summary>Contract</summary>
+    ///
+    /// ```text
+    /// requires ends { IsFiniteIterable I.into_iter_gives I.IntoIter.can_next I.IntoIter.remaining pieces }
+    /// requires fits { Fits I.into_iter_gives I.IntoIter.next_gives joined_pieces pieces (cap N) }
+    /// ensures taken { (taken : List (Bor (List ℕ))) × TakesAll I.into_iter_gives I.IntoIter.next_gives pieces taken
+    ///     × (result.text ≡ joined_pieces taken) }
+    /// ensures whole { (all : List (List ℕ)) → Gives I.into_iter_gives I.IntoIter.next_gives piece_text pieces all
+    ///     → result.text ≡ joined all }
+    /// ```
+    ///
+    /// [How to read a contract](crate::contracts)
+    ///
+    /// </details>
+    #[inline]
+    #[expect(clippy::cast_possible_truncation, reason = "the line before the write says why it fits")]
+    pub unsafe fn from_iterator_unchecked<U: AsRef<str>, I: IntoIterator<Item = U>>(pieces: I) -> Self {
+        let mut array = [0; N];
+        let mut end = 0;
+        for piece in pieces {
+            let piece = piece.as_ref();
+            required!(end + piece.len() <= Self::capacity() as usize);
+            // SAFETY: `end + piece.as_bytes().len() <= N`: by this function's `# Safety` all pieces fit together, and
+            // `end` is the size of those before this one, also where the iterator does not end.
+            unsafe { write_over(&mut array, end, piece.as_bytes()) };
+            end += piece.len();
+        }
+        // FIELDS: the pieces lie in front of the array, and `end` is their size, which is at most the capacity by this
+        // function's `# Safety`, also where the iterator does not end.
+        ArrayString { array, start: 0, size: end as u8 }
+    }
+
+    /// Creates a string from all characters.
+    ///
+    /// # Safety
+    ///
+    /// All that the iterator gives must fit into the capacity together, also if it never ends, or panics.
+    ///
+    /// # Examples
+    ///
+    /// ```
+    /// use arraystring::ArrayString;
+    ///
+    /// // SAFETY: the digits take a byte each, and there are four.
+    /// let string = unsafe { ArrayString::<4>::from_chars_unchecked('6'..='9') };
+    /// assert_eq!(string, "6789");
+    /// ```
+    ///
+    /// <details><summary>Contract</summary>
+    ///
+    /// ```text
+    /// requires ends { IsFiniteIterable I.into_iter_gives I.IntoIter.can_next I.IntoIter.remaining characters }
+    /// requires fits { Fits I.into_iter_gives I.IntoIter.next_gives (λ cs. cs) characters (cap N) }
+    /// ensures taken { (taken : List ℕ) × TakesAll I.into_iter_gives I.IntoIter.next_gives characters taken
+    ///     × (result.text ≡ taken) }
+    /// ensures whole { (all : List ℕ) → Gives I.into_iter_gives I.IntoIter.next_gives (λ c. c) characters all
+    ///     → result.text ≡ all }
+    /// ```
+    ///
+    /// [How to read a contract](crate::contracts)
+    ///
+    /// </details>
+    #[inline]
+    pub unsafe fn from_chars_unchecked<I: IntoIterator<Item = char>>(characters: I) -> Self {
+        required_of_each!(characters fits Self::capacity() as usize);
+        Self::from_chars(characters)
     }
 
     /// Creates a string from the UTF-8 in `given`.

@@ -57,6 +57,97 @@ impl<const N: usize> ArrayString<N> {
         Ok(())
     }
 
+    /// Inserts `string` at the byte index `index`.
+    ///
+    /// # Errors
+    ///
+    /// The first of these whose condition holds is returned, and the text is then unchanged:
+    ///
+    /// - [`Err(Error::OutOfBounds)`](crate::Error::OutOfBounds) if the index is past the text;
+    /// - [`Err(Error::OutOfBounds)`](crate::Error::OutOfBounds) if not all of `string` fits;
+    /// - [`Err(Error::Utf8)`](crate::Error::Utf8) if the index is inside a character.
+    ///
+    /// # Examples
+    ///
+    /// ```
+    /// use arraystring::{ArrayString, Error};
+    ///
+    /// let mut string = ArrayString::<8>::from("é-");
+    /// assert_eq!(string.try_insert_str(2, "abc"), Ok(()));
+    /// assert_eq!(string.as_str(), "éabc-");
+    /// assert_eq!(string.try_insert_str(9, "d"), Err(Error::OutOfBounds)); // past the text
+    /// assert_eq!(string.try_insert_str(0, "def"), Err(Error::OutOfBounds)); // two bytes are left
+    /// assert_eq!(string.try_insert_str(1, "d"), Err(Error::Utf8)); // inside `é`
+    /// ```
+    ///
+    /// <details><summary>Contract</summary>
+    ///
+    /// ```text
+    /// ensures { Makes (insertion self.old.text index (chars string.now) (cap N)) self.old.text result self.new.text }
+    /// ```
+    ///
+    /// [How to read a contract](crate::contracts)
+    ///
+    /// </details>
+    #[inline]
+    pub fn try_insert_str<S: AsRef<str>>(&mut self, index: u8, string: S) -> Result<(), Error> {
+        let string = string.as_ref();
+        self.try_insert_str_counted(index, string, &mut Steps::new())
+    }
+
+    /// Inserts the longest prefix of whole characters of `string` that fits at the byte index
+    /// `index`.
+    ///
+    /// # Errors
+    ///
+    /// The first of these whose condition holds is returned, and the text is then unchanged:
+    ///
+    /// - [`Err(Error::OutOfBounds)`](crate::Error::OutOfBounds) if the index is past the text;
+    /// - [`Err(Error::Utf8)`](crate::Error::Utf8) if the index is inside a character.
+    ///
+    /// # Examples
+    ///
+    /// ```
+    /// use arraystring::{ArrayString, Error};
+    ///
+    /// let mut string = ArrayString::<4>::from("aé");
+    /// assert_eq!(string.insert_str(1, "xyz"), Ok(())); // there is room for one byte
+    /// assert_eq!(string.as_str(), "axé");
+    /// assert_eq!(string.insert_str(9, "z"), Err(Error::OutOfBounds)); // past the text
+    /// assert_eq!(string.insert_str(3, "z"), Err(Error::Utf8)); // inside `é`
+    /// ```
+    ///
+    /// <details><summary>Contract</summary>
+    ///
+    /// ```text
+    /// ensures { Makes (insertion_of_cut self.old.text index (chars string.now) (cap N)) self.old.text result self.new.text }
+    /// ```
+    ///
+    /// [How to read a contract](crate::contracts)
+    ///
+    /// </details>
+    #[inline]
+    pub fn insert_str<S: AsRef<str>>(&mut self, index: u8, string: S) -> Result<(), Error> {
+        let string = string.as_ref();
+        if index > self.len() {
+            return Err(Error::OutOfBounds);
+        }
+        if !self.is_boundary(index as usize) {
+            return Err(Error::Utf8);
+        }
+        let room = Self::capacity() - self.len();
+        // SAFETY: `index` is a boundary of `self`; `self.len() + truncate_str(string, room).len() <= Self::capacity()`:
+        // by the test above, and since `truncate_str` returns at most `room` bytes.
+        unsafe { self.insert_str_unchecked(index, truncate_str(string, room)) };
+        Ok(())
+    }
+}
+
+/// # Unchecked
+///
+/// Most programs need none of these calls. What stands under *Safety* is for the caller to keep. A release build
+/// without the feature `checked` does not test it.
+impl<const N: usize> ArrayString<N> {
     /// Inserts `ch` at the byte index `index`.
     ///
     /// # Safety
@@ -96,45 +187,53 @@ impl<const N: usize> ArrayString<N> {
 
     /// Inserts `string` at the byte index `index`.
     ///
-    /// # Errors
+    /// # Safety
     ///
-    /// The first of these whose condition holds is returned, and the text is then unchanged:
-    ///
-    /// - [`Err(Error::OutOfBounds)`](crate::Error::OutOfBounds) if the index is past the text;
-    /// - [`Err(Error::OutOfBounds)`](crate::Error::OutOfBounds) if not all of `string` fits;
-    /// - [`Err(Error::Utf8)`](crate::Error::Utf8) if the index is inside a character.
+    /// The index must be a boundary of the text. The text after the call must fit into the capacity.
     ///
     /// # Examples
     ///
     /// ```
-    /// use arraystring::{ArrayString, Error};
+    /// use arraystring::ArrayString;
     ///
-    /// let mut string = ArrayString::<8>::from("é-");
-    /// assert_eq!(string.try_insert_str(2, "abc"), Ok(()));
-    /// assert_eq!(string.as_str(), "éabc-");
-    /// assert_eq!(string.try_insert_str(9, "d"), Err(Error::OutOfBounds)); // past the text
-    /// assert_eq!(string.try_insert_str(0, "def"), Err(Error::OutOfBounds)); // two bytes are left
-    /// assert_eq!(string.try_insert_str(1, "d"), Err(Error::Utf8)); // inside `é`
+    /// let mut string = ArrayString::<4>::from("ad");
+    /// // SAFETY: `d` begins at index 1, and there is room for two more bytes.
+    /// unsafe { string.insert_str_unchecked(1, "bc") };
+    /// assert_eq!(string, "abcd");
     /// ```
     ///
     /// <details><summary>Contract</summary>
     ///
     /// ```text
-    /// ensures { Makes (insertion self.old.text index (chars string.now) (cap N)) self.old.text result self.new.text }
+    /// requires boundary { IsTrue (boundary self.old.text index) }
+    /// requires room { size self.old.text + size (chars string.now) ≤ cap N }
+    /// ensures { self.new.text ≡ front self.old.text index ++ (chars string.now ++ back self.old.text index) }
     /// ```
     ///
     /// [How to read a contract](crate::contracts)
     ///
     /// </details>
     #[inline]
-    pub fn try_insert_str<S: AsRef<str>>(&mut self, index: u8, string: S) -> Result<(), Error> {
+    pub unsafe fn insert_str_unchecked<S: AsRef<str>>(&mut self, index: u8, string: S) {
         let string = string.as_ref();
-        self.try_insert_str_counted(index, string, &mut Steps::new())
+        required!(self.is_boundary(index as usize));
+        required!(self.len() as usize + string.len() <= Self::capacity() as usize);
+        let start = index as usize;
+        // SAFETY: `start` is a boundary of `self`; `self.len() - (start - start) + string.len() <= Self::capacity()`:
+        // by this function's `# Safety`.
+        unsafe { self.splice(start, start, string, &mut Steps::new()) };
     }
+}
 
-    /// Inserts as [`try_insert_str`](crate::ArrayString::try_insert_str) does, with the bytes that it moves counted in `steps`. They are no
-    /// more than the text had. An insertion of at least one character moves at least as many as
-    /// the shorter of the parts before and after the index has. A refused one moves none.
+/// # Counted
+///
+/// Most programs need none of these calls. Each does what the call without that ending does, and counts in a
+/// [`Steps`](crate::utils::Steps) what it looks at or moves.
+impl<const N: usize> ArrayString<N> {
+    /// Most programs need [`try_insert_str`](crate::ArrayString::try_insert_str), and none of the counted calls. Inserts as
+    /// [`try_insert_str`](crate::ArrayString::try_insert_str) does, with the bytes that it moves counted in `steps`. They are no more than
+    /// the text had. An insertion of at least one character moves at least as many as the shorter of
+    /// the parts before and after the index has. A refused one moves none.
     ///
     /// # Errors
     ///
@@ -189,91 +288,5 @@ impl<const N: usize> ArrayString<N> {
         // by the tests above, whatever was counted.
         unsafe { self.splice(start, start, string, steps) };
         Ok(())
-    }
-
-    /// Inserts the longest prefix of whole characters of `string` that fits at the byte index
-    /// `index`.
-    ///
-    /// # Errors
-    ///
-    /// The first of these whose condition holds is returned, and the text is then unchanged:
-    ///
-    /// - [`Err(Error::OutOfBounds)`](crate::Error::OutOfBounds) if the index is past the text;
-    /// - [`Err(Error::Utf8)`](crate::Error::Utf8) if the index is inside a character.
-    ///
-    /// # Examples
-    ///
-    /// ```
-    /// use arraystring::{ArrayString, Error};
-    ///
-    /// let mut string = ArrayString::<4>::from("aé");
-    /// assert_eq!(string.insert_str(1, "xyz"), Ok(())); // there is room for one byte
-    /// assert_eq!(string.as_str(), "axé");
-    /// assert_eq!(string.insert_str(9, "z"), Err(Error::OutOfBounds)); // past the text
-    /// assert_eq!(string.insert_str(3, "z"), Err(Error::Utf8)); // inside `é`
-    /// ```
-    ///
-    /// <details><summary>Contract</summary>
-    ///
-    /// ```text
-    /// ensures { Makes (insertion_of_cut self.old.text index (chars string.now) (cap N)) self.old.text result self.new.text }
-    /// ```
-    ///
-    /// [How to read a contract](crate::contracts)
-    ///
-    /// </details>
-    #[inline]
-    pub fn insert_str<S: AsRef<str>>(&mut self, index: u8, string: S) -> Result<(), Error> {
-        let string = string.as_ref();
-        if index > self.len() {
-            return Err(Error::OutOfBounds);
-        }
-        if !self.is_boundary(index as usize) {
-            return Err(Error::Utf8);
-        }
-        let room = Self::capacity() - self.len();
-        // SAFETY: `index` is a boundary of `self`; `self.len() + truncate_str(string, room).len() <= Self::capacity()`:
-        // by the test above, and since `truncate_str` returns at most `room` bytes.
-        unsafe { self.insert_str_unchecked(index, truncate_str(string, room)) };
-        Ok(())
-    }
-
-    /// Inserts `string` at the byte index `index`.
-    ///
-    /// # Safety
-    ///
-    /// The index must be a boundary of the text. The text after the call must fit into the capacity.
-    ///
-    /// # Examples
-    ///
-    /// ```
-    /// use arraystring::ArrayString;
-    ///
-    /// let mut string = ArrayString::<4>::from("ad");
-    /// // SAFETY: `d` begins at index 1, and there is room for two more bytes.
-    /// unsafe { string.insert_str_unchecked(1, "bc") };
-    /// assert_eq!(string, "abcd");
-    /// ```
-    ///
-    /// <details><summary>Contract</summary>
-    ///
-    /// ```text
-    /// requires boundary { IsTrue (boundary self.old.text index) }
-    /// requires room { size self.old.text + size (chars string.now) ≤ cap N }
-    /// ensures { self.new.text ≡ front self.old.text index ++ (chars string.now ++ back self.old.text index) }
-    /// ```
-    ///
-    /// [How to read a contract](crate::contracts)
-    ///
-    /// </details>
-    #[inline]
-    pub unsafe fn insert_str_unchecked<S: AsRef<str>>(&mut self, index: u8, string: S) {
-        let string = string.as_ref();
-        required!(self.is_boundary(index as usize));
-        required!(self.len() as usize + string.len() <= Self::capacity() as usize);
-        let start = index as usize;
-        // SAFETY: `start` is a boundary of `self`; `self.len() - (start - start) + string.len() <= Self::capacity()`:
-        // by this function's `# Safety`.
-        unsafe { self.splice(start, start, string, &mut Steps::new()) };
     }
 }

@@ -47,43 +47,6 @@ impl<const N: usize> ArrayString<N> {
         }
     }
 
-    /// Appends `ch`.
-    ///
-    /// # Safety
-    ///
-    /// The text after the call must fit into the capacity.
-    ///
-    /// # Examples
-    ///
-    /// ```
-    /// use arraystring::ArrayString;
-    ///
-    /// let mut string = ArrayString::<4>::from("abc");
-    /// // SAFETY: there is room for one more byte.
-    /// unsafe { string.push_unchecked('d') };
-    /// assert_eq!(string, "abcd");
-    /// ```
-    ///
-    /// <details><summary>Contract</summary>
-    ///
-    /// ```text
-    /// requires { size self.old.text + width ch ≤ cap N }
-    /// ensures { self.new.text ≡ self.old.text ++ ch ∷ [] }
-    /// ```
-    ///
-    /// [How to read a contract](crate::contracts)
-    ///
-    /// </details>
-    #[inline(always)]
-    pub unsafe fn push_unchecked(&mut self, ch: char) {
-        required!(self.len() as usize + ch.len_utf8() <= Self::capacity() as usize);
-        let Ok(()) = self.try_push(ch) else {
-            // SAFETY: this is not reached: by this function's `# Safety` the text with `ch` fits, and `try_push`
-            // refuses nothing else.
-            unsafe { unreachable_unchecked!() };
-        };
-    }
-
     /// Appends `string`.
     ///
     /// # Errors
@@ -153,6 +116,122 @@ impl<const N: usize> ArrayString<N> {
         unsafe { self.push_str_unchecked(truncate_str(string, room)) };
     }
 
+    /// Appends the longest prefix of the characters that fits.
+    ///
+    /// # In Rust
+    ///
+    /// An iterator that never ends, or that panics, is allowed. The call stops at the first character that does not
+    /// fit. Where the iterator panics, the text has the characters before that.
+    ///
+    /// # Examples
+    ///
+    /// ```
+    /// use arraystring::ArrayString;
+    ///
+    /// let mut string = ArrayString::<4>::from("a");
+    /// string.extend_chars('b'..='z');
+    /// assert_eq!(string.as_str(), "abcd");
+    /// ```
+    ///
+    /// <details><summary>Contract</summary>
+    ///
+    /// ```text
+    /// requires { IsFiniteIterable I.into_iter_gives I.IntoIter.can_next I.IntoIter.remaining characters }
+    /// ensures taken { (taken : List ℕ) × Takes I.into_iter_gives I.IntoIter.next_gives (λ cs. cs) characters (cap N - size self.old.text) taken
+    ///     × Makes (addition_of_cut self.old.text taken (cap N)) self.old.text (Ok result) self.new.text }
+    /// ensures whole { (all : List ℕ) → Gives I.into_iter_gives I.IntoIter.next_gives (λ c. c) characters all
+    ///     → Makes (addition_of_cut self.old.text all (cap N)) self.old.text (Ok result) self.new.text }
+    /// ```
+    ///
+    /// [How to read a contract](crate::contracts)
+    ///
+    /// </details>
+    #[doc(alias = "extend")]
+    #[inline]
+    pub fn extend_chars<I: IntoIterator<Item = char>>(&mut self, characters: I) {
+        let _ = self.add_chars(characters);
+    }
+
+    /// Appends the longest prefix of whole characters of the joined pieces that fits.
+    ///
+    /// # In Rust
+    ///
+    /// An iterator that never ends, or that panics, is allowed. The call stops at the first piece that does not fit. So
+    /// it does not return where empty pieces come without an end. Where the iterator panics, the text has the pieces
+    /// before that.
+    ///
+    /// # Examples
+    ///
+    /// ```
+    /// use arraystring::ArrayString;
+    ///
+    /// let mut string = ArrayString::<8>::from("one");
+    /// string.extend_strs([" two", " three"]);
+    /// assert_eq!(string.as_str(), "one two ");
+    /// ```
+    ///
+    /// <details><summary>Contract</summary>
+    ///
+    /// ```text
+    /// requires { IsFiniteIterable I.into_iter_gives I.IntoIter.can_next I.IntoIter.remaining pieces }
+    /// ensures taken { (taken : List (Bor (List ℕ))) × Takes I.into_iter_gives I.IntoIter.next_gives joined_pieces pieces (cap N - size self.old.text) taken
+    ///     × Makes (addition_of_cut self.old.text (joined_pieces taken) (cap N)) self.old.text (Ok result) self.new.text }
+    /// ensures whole { (all : List (List ℕ)) → Gives I.into_iter_gives I.IntoIter.next_gives piece_text pieces all
+    ///     → Makes (addition_of_cut self.old.text (joined all) (cap N)) self.old.text (Ok result) self.new.text }
+    /// ```
+    ///
+    /// [How to read a contract](crate::contracts)
+    ///
+    /// </details>
+    #[doc(alias = "extend")]
+    #[inline]
+    pub fn extend_strs<U: AsRef<str>, I: IntoIterator<Item = U>>(&mut self, pieces: I) {
+        let _ = self.add_strs(pieces);
+    }
+}
+
+/// # Unchecked
+///
+/// Most programs need none of these calls. What stands under *Safety* is for the caller to keep. A release build
+/// without the feature `checked` does not test it.
+impl<const N: usize> ArrayString<N> {
+    /// Appends `ch`.
+    ///
+    /// # Safety
+    ///
+    /// The text after the call must fit into the capacity.
+    ///
+    /// # Examples
+    ///
+    /// ```
+    /// use arraystring::ArrayString;
+    ///
+    /// let mut string = ArrayString::<4>::from("abc");
+    /// // SAFETY: there is room for one more byte.
+    /// unsafe { string.push_unchecked('d') };
+    /// assert_eq!(string, "abcd");
+    /// ```
+    ///
+    /// <details><summary>Contract</summary>
+    ///
+    /// ```text
+    /// requires { size self.old.text + width ch ≤ cap N }
+    /// ensures { self.new.text ≡ self.old.text ++ ch ∷ [] }
+    /// ```
+    ///
+    /// [How to read a contract](crate::contracts)
+    ///
+    /// </details>
+    #[inline(always)]
+    pub unsafe fn push_unchecked(&mut self, ch: char) {
+        required!(self.len() as usize + ch.len_utf8() <= Self::capacity() as usize);
+        let Ok(()) = self.try_push(ch) else {
+            // SAFETY: this is not reached: by this function's `# Safety` the text with `ch` fits, and `try_push`
+            // refuses nothing else.
+            unsafe { unreachable_unchecked!() };
+        };
+    }
+
     /// Appends `string`.
     ///
     /// # Safety
@@ -189,77 +268,5 @@ impl<const N: usize> ArrayString<N> {
             // `try_push_str` refuses nothing else.
             unsafe { unreachable_unchecked!() };
         };
-    }
-
-    /// Appends the longest prefix of the characters that fits.
-    ///
-    /// # In Rust
-    ///
-    /// An iterator that never ends, or that panics, is allowed. The call stops at the first item that does not fit, so
-    /// only empty pieces without an end keep it. What was taken before a panic is a text.
-    ///
-    /// # Examples
-    ///
-    /// ```
-    /// use arraystring::ArrayString;
-    ///
-    /// let mut string = ArrayString::<4>::from("a");
-    /// string.extend_chars('b'..='z');
-    /// assert_eq!(string.as_str(), "abcd");
-    /// ```
-    ///
-    /// <details><summary>Contract</summary>
-    ///
-    /// ```text
-    /// requires { IsFiniteIterable I.into_iter_gives I.IntoIter.can_next I.IntoIter.remaining characters }
-    /// ensures taken { (taken : List ℕ) × Takes I.into_iter_gives I.IntoIter.next_gives (λ cs. cs) characters (cap N - size self.old.text) taken
-    ///     × Makes (addition_of_cut self.old.text taken (cap N)) self.old.text (Ok result) self.new.text }
-    /// ensures whole { (all : List ℕ) → Gives I.into_iter_gives I.IntoIter.next_gives (λ c. c) characters all
-    ///     → Makes (addition_of_cut self.old.text all (cap N)) self.old.text (Ok result) self.new.text }
-    /// ```
-    ///
-    /// [How to read a contract](crate::contracts)
-    ///
-    /// </details>
-    #[doc(alias = "extend")]
-    #[inline]
-    pub fn extend_chars<I: IntoIterator<Item = char>>(&mut self, characters: I) {
-        let _ = self.add_chars(characters);
-    }
-
-    /// Appends the longest prefix of whole characters of the joined pieces that fits.
-    ///
-    /// # In Rust
-    ///
-    /// An iterator that never ends, or that panics, is allowed. The call stops at the first item that does not fit, so
-    /// only empty pieces without an end keep it. What was taken before a panic is a text.
-    ///
-    /// # Examples
-    ///
-    /// ```
-    /// use arraystring::ArrayString;
-    ///
-    /// let mut string = ArrayString::<8>::from("one");
-    /// string.extend_strs([" two", " three"]);
-    /// assert_eq!(string.as_str(), "one two ");
-    /// ```
-    ///
-    /// <details><summary>Contract</summary>
-    ///
-    /// ```text
-    /// requires { IsFiniteIterable I.into_iter_gives I.IntoIter.can_next I.IntoIter.remaining pieces }
-    /// ensures taken { (taken : List (Bor (List ℕ))) × Takes I.into_iter_gives I.IntoIter.next_gives joined_pieces pieces (cap N - size self.old.text) taken
-    ///     × Makes (addition_of_cut self.old.text (joined_pieces taken) (cap N)) self.old.text (Ok result) self.new.text }
-    /// ensures whole { (all : List (List ℕ)) → Gives I.into_iter_gives I.IntoIter.next_gives piece_text pieces all
-    ///     → Makes (addition_of_cut self.old.text (joined all) (cap N)) self.old.text (Ok result) self.new.text }
-    /// ```
-    ///
-    /// [How to read a contract](crate::contracts)
-    ///
-    /// </details>
-    #[doc(alias = "extend")]
-    #[inline]
-    pub fn extend_strs<U: AsRef<str>, I: IntoIterator<Item = U>>(&mut self, pieces: I) {
-        let _ = self.add_strs(pieces);
     }
 }

@@ -128,58 +128,6 @@ impl<const N: usize> ArrayString<N> {
         self.drain_through(range, &mut Steps::new(), &mut Drain::default())
     }
 
-    /// Drains as [`drain`](crate::ArrayString::drain) does, with the bytes that it moves counted in `steps`. They are no more than
-    /// the part after the range has. If the range is not empty, they are at least as many as the
-    /// shorter of the parts before and after it has. It moves none if the range begins at index 0,
-    /// and none if it is refused.
-    ///
-    /// # Errors
-    ///
-    /// Those of [`drain`](crate::ArrayString::drain), in the same order.
-    ///
-    /// # In Rust
-    ///
-    /// A count that would pass 2^64 - 1 stays there.
-    ///
-    /// # Examples
-    ///
-    /// ```
-    /// use arraystring::ArrayString;
-    /// use arraystring::utils::Steps;
-    ///
-    /// let mut string = ArrayString::<8>::from("abcdef");
-    /// let mut steps = Steps::new();
-    /// assert!(string.drain_counted(..2, &mut steps).is_ok());
-    /// assert_eq!((string.as_str(), steps.moved()), ("cdef", 0)); // nothing moves at the start
-    /// assert!(string.drain_counted(1..2, &mut steps).is_ok());
-    /// assert!(string.as_str() == "cef" && (1..=2).contains(&steps.moved()));
-    /// ```
-    ///
-    /// <details><summary>Contract</summary>
-    ///
-    /// ```text
-    /// requires looks { steps.old.looked ≤ 2 ^ 63 }
-    /// requires moves { steps.old.moved ≤ 2 ^ 63 }
-    /// // The edit, and then the moves: none at the start, none before the range, and the lesser side at least.
-    /// ensures edit { OfReturnedBounds R.has_bounds R.start_bound R.end_bound range (λ start end.
-    ///     let t = self.old.text in let from = saturated_start start in let to = saturated_end end (size t) in
-    ///     Makes (draining t from to) t (with_left result) self.new.text
-    ///     × (from ≡ 0 → steps.new.moved ≡ steps.old.moved)
-    ///     × (steps.new.moved ≤ steps.old.moved + (size t - to))
-    ///     × OnOk result (from ≢ to → steps.old.moved + min from (size t - to) ≤ steps.new.moved)) }
-    /// ensures refused { OnErr result (steps.new.moved ≡ steps.old.moved) }
-    /// ensures counted { steps.old.moved ≤ steps.new.moved }
-    /// ensures looked { steps.new.looked ≡ steps.old.looked }
-    /// ```
-    ///
-    /// [How to read a contract](crate::contracts)
-    ///
-    /// </details>
-    #[inline(always)]
-    pub fn drain_counted<R: RangeBounds<u8>>(&mut self, range: R, steps: &mut Steps) -> Result<Drain<N>, Error> {
-        self.drain_through(range, steps, &mut Drain::default())
-    }
-
     /// Replaces the part in the range with `with`. The ends are read as in [`drain`](crate::ArrayString::drain).
     ///
     /// # Errors
@@ -219,62 +167,6 @@ impl<const N: usize> ArrayString<N> {
     pub fn replace_range<S: AsRef<str>, R: RangeBounds<u8>>(&mut self, range: R, with: S) -> Result<(), Error> {
         let with = with.as_ref();
         self.replace_range_counted(range, with, &mut Steps::new())
-    }
-
-    /// Replaces as [`replace_range`](crate::ArrayString::replace_range) does, with the bytes that it moves counted in `steps`. They are no
-    /// more than the text had, and no more than the part after the range has if `with` is not
-    /// larger than the range. A replacement that changes the length moves at least as many as the
-    /// shorter of the parts before and after the range has. A refused one moves none.
-    ///
-    /// # Errors
-    ///
-    /// Those of [`replace_range`](crate::ArrayString::replace_range), in the same order.
-    ///
-    /// # In Rust
-    ///
-    /// A count that would pass 2^64 - 1 stays there.
-    ///
-    /// # Examples
-    ///
-    /// ```
-    /// use arraystring::ArrayString;
-    /// use arraystring::utils::Steps;
-    ///
-    /// let mut string = ArrayString::<8>::from("abcd");
-    /// let mut steps = Steps::new();
-    /// assert_eq!(string.replace_range_counted(1..2, "x", &mut steps), Ok(()));
-    /// assert_eq!((string.as_str(), steps.moved()), ("axcd", 0)); // as long as what it replaces
-    /// ```
-    ///
-    /// <details><summary>Contract</summary>
-    ///
-    /// ```text
-    /// requires looks { steps.old.looked ≤ 2 ^ 63 }
-    /// requires moves { steps.old.moved ≤ 2 ^ 63 }
-    /// // The edit, and then the moves: none before the range if it does not grow, and the lesser side at least.
-    /// ensures edit { OfReturnedBounds R.has_bounds R.start_bound R.end_bound range (λ start end.
-    ///     let t = self.old.text in let from = saturated_start start in let to = saturated_end end (size t) in let given = chars with.now in
-    ///     Makes (replacement t from to given (cap N)) t result self.new.text
-    ///     × (size given ≤ to - from → steps.new.moved ≤ steps.old.moved + (size t - to))
-    ///     × OnOk result (to ≢ from + size given → steps.old.moved + min from (size t - to) ≤ steps.new.moved)) }
-    /// ensures refused { OnErr result (steps.new.moved ≡ steps.old.moved) }
-    /// ensures most { steps.new.moved ≤ steps.old.moved + size self.old.text }
-    /// ensures counted { steps.old.moved ≤ steps.new.moved }
-    /// ensures looked { steps.new.looked ≡ steps.old.looked }
-    /// ```
-    ///
-    /// [How to read a contract](crate::contracts)
-    ///
-    /// </details>
-    #[inline]
-    pub fn replace_range_counted<R: RangeBounds<u8>>(
-        &mut self,
-        range: R,
-        with: &str,
-        steps: &mut Steps,
-    ) -> Result<(), Error> {
-        let (start, end) = saturating_ends(range, self.len());
-        self.replace_between(start, end, with, steps)
     }
 
     /// Changes a..z to A..Z in the range. All other characters stay as they are.
@@ -477,5 +369,120 @@ impl<const N: usize> ArrayString<N> {
             return Err(Error::Utf8);
         }
         Ok(())
+    }
+}
+
+/// # Counted
+///
+/// Most programs need none of these calls. Each does what the call without that ending does, and counts in a
+/// [`Steps`](crate::utils::Steps) what it looks at or moves.
+impl<const N: usize> ArrayString<N> {
+    /// Most programs need [`drain`](crate::ArrayString::drain), and none of the counted calls. Drains as [`drain`](crate::ArrayString::drain) does, with the
+    /// bytes that it moves counted in `steps`. They are no more than the part after the range has. If
+    /// the range is not empty, they are at least as many as the shorter of the parts before and after
+    /// it has. It moves none if the range begins at index 0, and none if it is refused.
+    ///
+    /// # Errors
+    ///
+    /// Those of [`drain`](crate::ArrayString::drain), in the same order.
+    ///
+    /// # In Rust
+    ///
+    /// A count that would pass 2^64 - 1 stays there.
+    ///
+    /// # Examples
+    ///
+    /// ```
+    /// use arraystring::ArrayString;
+    /// use arraystring::utils::Steps;
+    ///
+    /// let mut string = ArrayString::<8>::from("abcdef");
+    /// let mut steps = Steps::new();
+    /// assert!(string.drain_counted(..2, &mut steps).is_ok());
+    /// assert_eq!((string.as_str(), steps.moved()), ("cdef", 0)); // nothing moves at the start
+    /// assert!(string.drain_counted(1..2, &mut steps).is_ok());
+    /// assert!(string.as_str() == "cef" && (1..=2).contains(&steps.moved()));
+    /// ```
+    ///
+    /// <details><summary>Contract</summary>
+    ///
+    /// ```text
+    /// requires looks { steps.old.looked ≤ 2 ^ 63 }
+    /// requires moves { steps.old.moved ≤ 2 ^ 63 }
+    /// // The edit, and then the moves: none at the start, none before the range, and the lesser side at least.
+    /// ensures edit { OfReturnedBounds R.has_bounds R.start_bound R.end_bound range (λ start end.
+    ///     let t = self.old.text in let from = saturated_start start in let to = saturated_end end (size t) in
+    ///     Makes (draining t from to) t (with_left result) self.new.text
+    ///     × (from ≡ 0 → steps.new.moved ≡ steps.old.moved)
+    ///     × (steps.new.moved ≤ steps.old.moved + (size t - to))
+    ///     × OnOk result (from ≢ to → steps.old.moved + min from (size t - to) ≤ steps.new.moved)) }
+    /// ensures refused { OnErr result (steps.new.moved ≡ steps.old.moved) }
+    /// ensures counted { steps.old.moved ≤ steps.new.moved }
+    /// ensures looked { steps.new.looked ≡ steps.old.looked }
+    /// ```
+    ///
+    /// [How to read a contract](crate::contracts)
+    ///
+    /// </details>
+    #[inline(always)]
+    pub fn drain_counted<R: RangeBounds<u8>>(&mut self, range: R, steps: &mut Steps) -> Result<Drain<N>, Error> {
+        self.drain_through(range, steps, &mut Drain::default())
+    }
+
+    /// Most programs need [`replace_range`](crate::ArrayString::replace_range), and none of the counted calls. Replaces as [`replace_range`](crate::ArrayString::replace_range)
+    /// does, with the bytes that it moves counted in `steps`. They are no more than the text had, and
+    /// no more than the part after the range has if `with` is not larger than the range. A
+    /// replacement that changes the length moves at least as many as the shorter of the parts before
+    /// and after the range has. A refused one moves none.
+    ///
+    /// # Errors
+    ///
+    /// Those of [`replace_range`](crate::ArrayString::replace_range), in the same order.
+    ///
+    /// # In Rust
+    ///
+    /// A count that would pass 2^64 - 1 stays there.
+    ///
+    /// # Examples
+    ///
+    /// ```
+    /// use arraystring::ArrayString;
+    /// use arraystring::utils::Steps;
+    ///
+    /// let mut string = ArrayString::<8>::from("abcd");
+    /// let mut steps = Steps::new();
+    /// assert_eq!(string.replace_range_counted(1..2, "x", &mut steps), Ok(()));
+    /// assert_eq!((string.as_str(), steps.moved()), ("axcd", 0)); // as long as what it replaces
+    /// ```
+    ///
+    /// <details><summary>Contract</summary>
+    ///
+    /// ```text
+    /// requires looks { steps.old.looked ≤ 2 ^ 63 }
+    /// requires moves { steps.old.moved ≤ 2 ^ 63 }
+    /// // The edit, and then the moves: none before the range if it does not grow, and the lesser side at least.
+    /// ensures edit { OfReturnedBounds R.has_bounds R.start_bound R.end_bound range (λ start end.
+    ///     let t = self.old.text in let from = saturated_start start in let to = saturated_end end (size t) in let given = chars with.now in
+    ///     Makes (replacement t from to given (cap N)) t result self.new.text
+    ///     × (size given ≤ to - from → steps.new.moved ≤ steps.old.moved + (size t - to))
+    ///     × OnOk result (to ≢ from + size given → steps.old.moved + min from (size t - to) ≤ steps.new.moved)) }
+    /// ensures refused { OnErr result (steps.new.moved ≡ steps.old.moved) }
+    /// ensures most { steps.new.moved ≤ steps.old.moved + size self.old.text }
+    /// ensures counted { steps.old.moved ≤ steps.new.moved }
+    /// ensures looked { steps.new.looked ≡ steps.old.looked }
+    /// ```
+    ///
+    /// [How to read a contract](crate::contracts)
+    ///
+    /// </details>
+    #[inline]
+    pub fn replace_range_counted<R: RangeBounds<u8>>(
+        &mut self,
+        range: R,
+        with: &str,
+        steps: &mut Steps,
+    ) -> Result<(), Error> {
+        let (start, end) = saturating_ends(range, self.len());
+        self.replace_between(start, end, with, steps)
     }
 }

@@ -34,48 +34,6 @@ impl<const N: usize> ArrayString<N> {
         self.trim_counted(&mut Steps::new());
     }
 
-    /// Trims as [`trim`](crate::ArrayString::trim) does, with its looks counted in `steps`. It looks at each character that it
-    /// removes at the end and at the one before them: at each at least once, and at most four
-    /// times. It moves no byte.
-    ///
-    /// # In Rust
-    ///
-    /// A count that would pass 2^64 - 1 stays there.
-    ///
-    /// # Examples
-    ///
-    /// ```
-    /// use arraystring::ArrayString;
-    /// use arraystring::utils::Steps;
-    ///
-    /// let mut string = ArrayString::<8>::from("  a ");
-    /// let mut steps = Steps::new();
-    /// string.trim_counted(&mut steps);
-    /// assert_eq!((string.as_str(), steps.moved()), ("a", 0));
-    /// assert!((2..=8).contains(&steps.looked())); // the space at the end, and `a`
-    /// ```
-    ///
-    /// <details><summary>Contract</summary>
-    ///
-    /// ```text
-    /// requires looks { steps.old.looked ≤ 2 ^ 63 }
-    /// requires moves { steps.old.moved ≤ 2 ^ 63 }
-    /// ensures edit { Makes (trimming is_white_space self.old.text) self.old.text (Ok result) self.new.text }
-    /// ensures moved { steps.new.moved ≡ steps.old.moved }
-    /// ensures looked { steps.new.looked ≤ steps.old.looked + 4 * (length self.old.text - length (without_trailing is_white_space self.old.text) + 1) }
-    /// ensures least { steps.old.looked + min (length self.old.text) (length self.old.text - length (without_trailing is_white_space self.old.text) + 1) ≤ steps.new.looked }
-    /// ensures counted { steps.old.looked ≤ steps.new.looked }
-    /// ```
-    ///
-    /// [How to read a contract](crate::contracts)
-    ///
-    /// </details>
-    #[inline]
-    pub fn trim_counted(&mut self, steps: &mut Steps) {
-        self.drop_trailing(is_white_space, steps);
-        self.drop_leading(is_white_space);
-    }
-
     /// Removes all spaces (U+0020) at both ends, and nothing else.
     ///
     /// # Examples
@@ -236,6 +194,55 @@ impl<const N: usize> ArrayString<N> {
             // closure answers.
             unsafe { self.drop_front(ch.len_utf8()) };
         }
+    }
+}
+
+/// # Counted
+///
+/// Most programs need none of these calls. Each does what the call without that ending does, and counts in a
+/// [`Steps`](crate::utils::Steps) what it looks at or moves.
+impl<const N: usize> ArrayString<N> {
+    /// Most programs need [`trim`](crate::ArrayString::trim), and none of the counted calls. Trims as [`trim`](crate::ArrayString::trim) does, with its looks
+    /// at the end counted in `steps`: at each character that it removes there and at the one before
+    /// them, each at least once and at most four times. What it reads at the start is not counted.
+    /// It moves no byte.
+    ///
+    /// # In Rust
+    ///
+    /// A count that would pass 2^64 - 1 stays there.
+    ///
+    /// # Examples
+    ///
+    /// ```
+    /// use arraystring::ArrayString;
+    /// use arraystring::utils::Steps;
+    ///
+    /// let mut string = ArrayString::<8>::from("  a ");
+    /// let mut steps = Steps::new();
+    /// string.trim_counted(&mut steps);
+    /// assert_eq!((string.as_str(), steps.moved()), ("a", 0));
+    /// assert!((2..=8).contains(&steps.looked())); // the space at the end, and `a`
+    /// ```
+    ///
+    /// <details><summary>Contract</summary>
+    ///
+    /// ```text
+    /// requires looks { steps.old.looked ≤ 2 ^ 63 }
+    /// requires moves { steps.old.moved ≤ 2 ^ 63 }
+    /// ensures edit { Makes (trimming is_white_space self.old.text) self.old.text (Ok result) self.new.text }
+    /// ensures moved { steps.new.moved ≡ steps.old.moved }
+    /// ensures looked { steps.new.looked ≤ steps.old.looked + 4 * (length self.old.text - length (without_trailing is_white_space self.old.text) + 1) }
+    /// ensures least { steps.old.looked + min (length self.old.text) (length self.old.text - length (without_trailing is_white_space self.old.text) + 1) ≤ steps.new.looked }
+    /// ensures counted { steps.old.looked ≤ steps.new.looked }
+    /// ```
+    ///
+    /// [How to read a contract](crate::contracts)
+    ///
+    /// </details>
+    #[inline]
+    pub fn trim_counted(&mut self, steps: &mut Steps) {
+        self.drop_trailing(is_white_space, steps);
+        self.drop_leading(is_white_space);
     }
 }
 

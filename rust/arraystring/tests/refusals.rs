@@ -1,0 +1,199 @@
+//! The tables of README.md on what cuts and what refuses, and the list of it at the type: each call that they name is made here with
+//! a text that does not fit, or is none, and answers as they say.
+
+use std::any::type_name;
+use std::fmt::Write;
+use std::fs;
+
+use arraystring::{ArrayString, Error};
+
+/// Most strings here hold `ab`, which fills them.
+type Two = ArrayString<2>;
+
+/// The cells of the rows of a table, by its head.
+fn rows(head: &str) -> Vec<Vec<String>> {
+    let page = fs::read_to_string("README.md").expect("a text");
+    let (_, below) = page.split_once(&format!("\n{head}\n")).expect("a table with this head");
+    let rows = below.lines().skip(1).map_while(|line| line.strip_prefix("| ")?.strip_suffix(" |"));
+    rows.map(|row| row.split('|').map(|cell| cell.trim().to_string()).collect()).collect()
+}
+
+/// What stands between backticks.
+fn codes(text: &str) -> Vec<&str> {
+    text.split('`').skip(1).step_by(2).collect()
+}
+
+/// The codes of a column of a table.
+fn column(head: &str, at: usize) -> Vec<String> {
+    rows(head).iter().flat_map(|row| codes(row.get(at).map_or("", |cell| cell))).map(str::to_string).collect()
+}
+
+/// What a call leaves of a string of `ab`.
+fn left(call: impl FnOnce(&mut Two)) -> Two {
+    let mut string = Two::from("ab");
+    string.truncate(1).expect("it is ASCII");
+    call(&mut string);
+    string
+}
+
+/// The calls that cut, each with what it leaves of `abc`, of which `a` is there before where something is added.
+#[allow(clippy::unnecessary_fallible_conversions, reason = "that it can't fail is what is shown")]
+fn cuts() -> Vec<(&'static str, Two)> {
+    vec![
+        ("from", Two::from("abc")),
+        ("into", "abc".into()),
+        ("try_from", Two::try_from("abc").expect("std's never fails")),
+        ("from_str_truncate", Two::from_str_truncate("abc")),
+        ("from_utf8", Two::from_utf8("abc").expect("UTF-8")),
+        ("from_utf16", Two::from_utf16([0x61, 0x62, 0x63]).expect("UTF-16")),
+        ("from_utf16_lossy", Two::from_utf16_lossy([0x61, 0x62, 0x63])),
+        ("collect", "abc".chars().collect()),
+        ("from_chars", Two::from_chars("abc".chars())),
+        ("from_iterator", Two::from_iterator(["a", "bc"])),
+        ("push_str", left(|string| string.push_str("bc"))),
+        ("+", Two::from("a") + "bc"),
+        ("+=", left(|string| *string += "bc")),
+        ("extend", left(|string| string.extend(["b", "c"]))),
+        ("extend_chars", left(|string| string.extend_chars("bc".chars()))),
+        ("extend_strs", left(|string| string.extend_strs(["b", "c"]))),
+        ("insert_str", left(|string| string.insert_str(1, "bc").expect("a boundary"))),
+    ]
+}
+
+/// What a call refuses: its name, the type of its error, and the `Error` that `?` makes of that.
+type Refusal = (&'static str, &'static str, Error);
+
+fn refusal<T, E: Into<Error>>(call: &'static str, result: Result<T, E>) -> Refusal {
+    let error = result.err().unwrap_or_else(|| panic!("`{call}` is not refused"));
+    (call, type_name::<E>(), error.into())
+}
+
+/// The same of a call on a string, which is as it was.
+fn kept<T, E: Into<Error>>(call: &'static str, text: &str, run: impl FnOnce(&mut Two) -> Result<T, E>) -> Refusal {
+    let mut string = Two::from(text);
+    let refused = refusal(call, run(&mut string));
+    assert_eq!(string, text, "`{call}`");
+    refused
+}
+
+/// The calls that refuse what does not fit.
+fn refuse_what_is_too_large() -> Vec<Refusal> {
+    let wide = "abc".to_string();
+    vec![
+        refusal("try_from_str", Two::try_from_str("abc")),
+        refusal("parse", "abc".parse::<Two>()),
+        refusal("const_try_from_str", Two::const_try_from_str("abc")),
+        refusal("try_from_format", Two::try_from_format(format_args!("{wide}"))),
+        refusal("try_from_utf8", Two::try_from_utf8("abc")),
+        refusal("try_from_utf16", Two::try_from_utf16([0x61, 0x62, 0x63])),
+        refusal("try_from_chars", Two::try_from_chars("abc".chars())),
+        refusal("try_from_iterator", Two::try_from_iterator(["ab", "c"])),
+        kept("try_push", "ab", |string| string.try_push('c')),
+        kept("try_push_str", "a", |string| string.try_push_str("bc")),
+        kept("try_write", "a", |string| string.try_write(format_args!("{wide}"))),
+        kept("try_insert", "ab", |string| string.try_insert(1, 'c')),
+        kept("try_insert_str", "a", |string| string.try_insert_str(0, "bc")),
+        kept("replace_range", "ab", |string| string.replace_range(..1, "cd")),
+        kept("write!", "ab", |string| write!(string, "{wide}")),
+    ]
+}
+
+/// The calls that refuse what is no text, or an index inside a character or past the text.
+fn refuse_what_is_no_text() -> Vec<Refusal> {
+    vec![
+        refusal("from_utf8", Two::from_utf8(b"\xFF")),
+        refusal("try_from_utf8", Two::try_from_utf8(b"\xFF")),
+        refusal("from_utf16", Two::from_utf16([0xD800])),
+        refusal("try_from_utf16", Two::try_from_utf16([0xD800])),
+        kept("truncate", "é", |string| string.truncate(1)),
+        kept("try_insert", "", |string| string.try_insert(1, 'a')),
+        kept("try_insert_str", "é", |string| string.try_insert_str(1, "")),
+        kept("insert_str", "é", |string| string.insert_str(1, "a")),
+        kept("insert_str", "a", |string| string.insert_str(2, "a")),
+        kept("replace_range", "é", |string| string.replace_range(..1, "")),
+        kept("remove", "é", |string| string.remove(1)),
+        kept("remove", "a", |string| string.remove(1)),
+        kept("split_off", "é", |string| string.split_off(1)),
+        kept("split_off", "a", |string| string.split_off(2)),
+        kept("drain", "é", |string| string.drain(1..)),
+        kept("drain", "a", |string| string.drain(..2)),
+    ]
+}
+
+const CUT: &str = "| To | Cuts | Refuses |";
+
+#[test]
+fn what_the_page_says_cuts_leaves_what_fits() {
+    assert_eq!(column(CUT, 1), cuts().iter().map(|(call, _)| *call).collect::<Vec<_>>());
+    for (call, left) in cuts() {
+        assert_eq!(left, "ab", "`{call}`");
+    }
+}
+
+#[test]
+fn what_the_page_says_refuses_is_refused() {
+    let mut listed = column(CUT, 2);
+    // (the page says of it below the table that it keeps pieces)
+    listed.push("write!".to_string());
+    let refused = refuse_what_is_too_large();
+    assert_eq!(listed, refused.iter().map(|(call, ..)| *call).collect::<Vec<_>>());
+    for (call, _, error) in refused {
+        assert_eq!(error, Error::OutOfBounds, "`{call}`");
+    }
+}
+
+/// The name of a type as the table has it.
+fn short(name: &str) -> &str {
+    if name == type_name::<std::fmt::Error>() { "fmt::Error" } else { name.rsplit("::").next().unwrap_or(name) }
+}
+
+#[test]
+fn each_call_refuses_with_what_the_page_says() {
+    let head = "| Refused with | By | Which says |";
+    let mut listed: Vec<(String, String)> = Vec::new();
+    for row in rows(head) {
+        let [error, ..] = codes(&row[0])[..] else { panic!("no error in {row:?}") };
+        listed.extend(codes(&row[1]).iter().map(|call| (call.to_string(), error.to_string())));
+    }
+    let refused = [refuse_what_is_too_large(), refuse_what_is_no_text()].concat();
+    let mut found: Vec<_> = refused.iter().map(|(call, name, _)| (call.to_string(), short(name).to_string())).collect();
+    listed.sort();
+    found.sort();
+    found.dedup();
+    assert_eq!(found, listed);
+    // `?` makes the case of its name of an error of one case.
+    for (call, name, error) in refused.iter().filter(|(_, name, _)| !["Error", "fmt::Error"].contains(&short(name))) {
+        assert_eq!(error.to_string(), short(name), "`{call}`");
+    }
+}
+
+#[test]
+fn the_lists_at_the_type_are_those_of_the_page() {
+    let source = fs::read_to_string("src/arraystring_core/array_string.rs").expect("a text");
+    let (_, list) = source.split_once("/// - **Cut**").expect("what is cut");
+    let (cut, refused) = list.split_once("/// - **Refused**").expect("what is refused");
+    let (refused, behind) = refused.split_once("\n///\n").expect("its end");
+    let (_, more) = behind.split_once("/// # What else cuts or refuses\n").expect("what else is cut or refused");
+    let (more_cut, more_refused) = more.split_once(" cut, too. ").expect("what else is cut");
+    let (more_refused, _) = more_refused.split_once(" refuse.").expect("what else is refused");
+    let listed = |texts: [&str; 2], table: usize| {
+        let mut listed = texts
+            .concat()
+            .replace("From<char>", "from")
+            .split('`')
+            .skip(1)
+            .step_by(2)
+            .map(str::to_string)
+            .collect::<Vec<_>>();
+        let mut wanted = column(CUT, table);
+        if table == 2 {
+            wanted.push("write!".to_string());
+        }
+        listed.sort();
+        listed.dedup();
+        wanted.sort();
+        assert_eq!(listed, wanted);
+    };
+    listed([cut, more_cut], 1);
+    listed([refused, more_refused], 2);
+}
