@@ -1,5 +1,7 @@
 """Times the calls of a driver by the two clocks of clock.rs."""
+import re
 import statistics
+from pathlib import Path
 
 from counting import CAPACITIES, written
 
@@ -26,6 +28,13 @@ def clock(drives, mode, sides):
         title: {key: min(map(statistics.median, places.values())) for key, places in times.items()}
         for title, times in told.items()
     }
+
+
+def processor():
+    """What Linux calls the processor."""
+    told = Path("/proc/cpuinfo")
+    named = re.search(r"(?m)^model name\s*: (.*)", told.read_text()) if told.exists() else None
+    return f"The processor: {named[1] if named else 'unknown'}."
 
 
 def is_slower(time, other):
