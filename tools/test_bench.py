@@ -139,6 +139,14 @@ calls=5 9
         told = [OF_CRATE.marked_times(times, capacity) for capacity in (23, 63, 255)]
         self.assertEqual(told, [["**8.0**", "9.0", "4.0"], ["2.0", "–", "–"], ["–"] * 3])
 
+    def test_a_time_is_the_median_of_the_processes_at_the_best_place(self):
+        times = {"near": iter([5, 1, 9]), "far": iter([4, 8, 3])}
+        self.put(timing, "CAPACITIES", [23])
+        self.put(timing, "PROCESSES", 3)
+        self.put(timing, "written", lambda program, *words: f"`pop`\t{next(times[program])}\t-\n")
+        drives = [counting.Drive(program, self.root, {}) for program in times]
+        self.assertEqual(timing.clock(drives, "in_turn", SIDES), {"`pop`": {(23, "crate"): 4.0}})
+
     def curve(self, **sides):
         return {side.replace("_", " "): dict(enumerate(counts)) for side, counts in sides.items()}
 
