@@ -56,7 +56,7 @@ ROWS = [
     ("`Hash`", "hash", "middle"),
 ]
 LOOKUPS = ["found", "missed"]
-# The sides of a table, and the peers of those that are ours. (The kit's arrayvec is proved, as the port is.)
+# All sides, and the peers of those that are ours. (The kit's arrayvec is proved, as the port is.)
 SIDES = ["port", "crate", "String", "arrayvec", "kit"]
 PEERS = {"port": ["String", "arrayvec", "kit", "plain", "by parts"], "crate": ["String", "arrayvec"]}
 
@@ -65,8 +65,13 @@ def written(*command):
     return subprocess.run(list(map(str, command)), stdout=subprocess.PIPE, text=True, check=True).stdout
 
 
-def version(words):
-    return written(*words).splitlines()[0]
+def tell_versions(*more):
+    """Prints what the counts were made by: what each of these commands prints first, and what every bench needs."""
+    commands = [*more, ["rustc", "--version"], ["valgrind", "--version"]]
+    versions = [written(*command).splitlines()[0] for command in commands]
+    print("; ".join([*versions, *(source.parts[-3] for source in ARRAYVEC), CPU]))
+    if not ARRAYVEC:
+        print("arrayvec is not installed, so its column is empty: see bench/README.md.")
 
 
 def under(tool, out, log, command, given=subprocess.DEVNULL, place=0):
@@ -79,11 +84,11 @@ def under(tool, out, log, command, given=subprocess.DEVNULL, place=0):
     return out.read_text()
 
 
-def rust_library(source, name, edition, folder):
-    """Builds a library of Rust, and returns the words by which a program is built with it."""
+def rust_library(source, name, edition, folder, more=()):
+    """Builds a library of Rust, with more words if need be, and returns the words by which a program is built with it."""
     out = folder / f"lib{name}.rlib"
     words = [f"--edition={edition}", "--crate-type=rlib", f"--crate-name={name}", "--cap-lints=allow", source, "-o", out]
-    subprocess.run([*RUSTC, *words], check=True)
+    subprocess.run([*RUSTC, *words, *more], check=True)
     return ["--extern", f"{name}={out}"]
 
 
@@ -118,10 +123,15 @@ def is_behind(counts, side):
     return None not in (counts.get(side), best(counts, side)) and is_more(counts[side], best(counts, side))
 
 
-def cell(counts):
-    """The counts of sides, side by side, bold where a side is behind its peers. None is no count."""
+def marked(counts):
+    """The counts of sides, bold where a side is behind its peers. None is no count."""
     marks = {side: "**" * is_behind(counts, side) for side in counts}
-    return "/".join("–" if it is None else f"{marks[side]}{it}{marks[side]}" for side, it in counts.items()) or "–"
+    return ["–" if it is None else f"{marks[side]}{it}{marks[side]}" for side, it in counts.items()]
+
+
+def cell(counts):
+    """The same, side by side in one cell."""
+    return "/".join(marked(counts)) or "–"
 
 
 def table(title, columns, rows):
@@ -155,7 +165,11 @@ class Drive:
 
     def count(self, capacity, text, place):
         """The instructions of one call, all that it calls included, by side and name."""
-        command = ["--compress-strings=no", "--compress-pos=no", self.program, str(capacity), text, place, str(TIMES)]
+        return self.counts(str(capacity), text, place, str(TIMES))
+
+    def counts(self, *words):
+        """The same, of a run with these arguments."""
+        command = ["--compress-strings=no", "--compress-pos=no", self.program, *words]
         out, log = self.folder / "callgrind.out", self.folder / "valgrind.log"
         return least([self.counted(under("callgrind", out, log, command, place=it)) for it in STACK_PLACES])
 

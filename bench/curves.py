@@ -15,7 +15,7 @@ CALLS = [
 CAPACITY = 255
 WIDTH, HEIGHT, MARGIN, LEFT, TOP = 250, 170, 14, 40, 34
 FOOT = HEIGHT - 24
-LINES = dict(zip(SIDES, [("#0b5cad", ""), ("#6fa8dc", ""), ("#b3541e", "5 3"), ("#2c7a3f", "2 2"), ("#777777", "8 3 2 3")]))
+LINES = dict(zip(SIDES, [("#0b5cad", ""), ("#0b5cad", ""), ("#b3541e", "5 3"), ("#2c7a3f", "2 2"), ("#777777", "8 3 2 3")]))
 
 
 def curves(drives, folder, names=()):
@@ -106,17 +106,18 @@ def panel(title, sides):
 
 def drawing(found):
     """The drawing, as SVG: a panel for each call."""
+    drawn = {title: found[title][CAPACITY] for title in CALLS}
+    lines = {name: line for name, line in LINES.items() if any(name in curve for curve in drawn.values())}
     panels = []
-    for place, title in enumerate(CALLS):
-        curve = found[title][CAPACITY]
-        sides = [(line, curve[name]) for name, line in LINES.items() if name in curve]
+    for place, (title, curve) in enumerate(drawn.items()):
+        sides = [(line, curve[name]) for name, line in lines.items() if name in curve]
         where = f"translate({WIDTH * (place % 3)},{30 + HEIGHT * (place // 3)})"
         panels.append(f'<g transform="{where}">{panel(title, sides)}</g>\n')
     head = text(LEFT, 18, f"Instructions of a call by length, at {CAPACITY} bytes:")
     keys = "".join(
         text(330 + 80 * place, 18, name, f' fill="{colour}"')
         + f'<path d="M{330 + 80 * place},24 h50" stroke="{colour}" stroke-width="2" stroke-dasharray="{dashes}"/>'
-        for place, (name, (colour, dashes)) in enumerate(LINES.items())
+        for place, (name, (colour, dashes)) in enumerate(lines.items())
     )
     size = f'width="{3 * WIDTH}" height="{30 + HEIGHT * len(CALLS) // 3}"'
     return (

@@ -195,6 +195,7 @@ case $1 in
             *erase*) cat ../erased ;;
             *serde*) cat ../served ;;
             *arrayvec*) cat ../moved ;;
+            *whole*) cat ../run_over_each ;;
             *) cat ../tested ;;
         esac ;;
 esac"""
@@ -208,6 +209,7 @@ esac"""
         "rust/arraystring_serde/LICENSE": "a license",
         "rust/arraystring_serde/Cargo.lock": "of crates.io",
         "rust/moves_from_arrayvec/Cargo.lock": "of crates.io",
+        "rust/whole_programs/Cargo.lock": "of crates.io",
         "rust/compare_tests.rs": TEST.format("sees"),
         "rust/meaning_tests.rs": TEST.format("sees"),
         "rust/erase/src/main.rs": f"mod tests {{\n{TEST.format('erases')}}}\n",
@@ -221,6 +223,8 @@ esac"""
         "rust/arraystring_serde/tests/json.rs": TEST.format("reads"),
         "rust/moves_from_arrayvec/src/lib.rs": "",
         "rust/moves_from_arrayvec/tests/table.rs": TEST.format("leaves"),
+        "rust/whole_programs/src/lib.rs": "",
+        "rust/whole_programs/tests/same.rs": TEST.format("gives"),
         "erased": RUNNING.format("unittests src/main.rs") + "test tests::erases ... ok\n\n"
         + RUNNING.format("tests/main.rs") + "test runs ... ok\ntest result: ok. 1 passed\n",
         "tested": RUNNING.format("tests/model.rs") + "test plays - should panic ... ok\n\n"
@@ -228,6 +232,7 @@ esac"""
         + "   Doc-tests arraystring\n\ntest src/lib.rs - ArrayString::new (line 3) ... ok\ntest result: ok. 1 passed\n",
         "served": RUNNING.format("tests/json.rs") + "test reads ... ok\n",
         "moved": RUNNING.format("tests/table.rs") + "test leaves ... ok\n",
+        "run_over_each": RUNNING.format("tests/same.rs") + "test gives ... ok\n",
     }
     BUILDS = ("", " --release", " --release --features checked,std", " --features alloc --test traits", " in its package")
 
@@ -243,7 +248,7 @@ esac"""
         self.has_reference(self.CONSTRUCTORS)
         self.has_packages()
         counts = ["compare: compare_tests 1", "meaning: meaning_tests 1"]
-        counts += ["erase: main 1", "erase: src 1", "moves_from_arrayvec: table 1"]
+        counts += ["erase: main 1", "erase: src 1", "moves_from_arrayvec: table 1", "whole_programs: same 1"]
         counts += [f"arraystring_serde{build}: json 1" for build in ("", " in its package")]
         for build in self.BUILDS:
             counts += [f"arraystring{build}: {it}" for it in ("every_state 2", "examples 1", "model 1")]
@@ -258,7 +263,7 @@ esac"""
 
     def test_calls(self):
         self.assert_calls(but=["cargo fmt --version", "cargo clippy --version"])
-        for crate in ("arraystring_serde", "moves_from_arrayvec"):
+        for crate in ("arraystring_serde", "moves_from_arrayvec", "whole_programs"):
             self.assertFalse((self.root / f"rust/{crate}/Cargo.lock").exists())
 
     def test_it_says_what_was_not_there(self):
@@ -267,16 +272,16 @@ esac"""
             said = self.called(calls.index(f"cargo {name} --version") + 1)[1]
             self.assertIn(f"rust/check: {tool} is not there", said)
             self.assertTrue(said.endswith(f"rust/check: 15 passed, 1 skipped: {tool}\n"), said)
-        for name, crate, packages, not_tested, count in (
+        for name, crates, packages, not_tested, count in (
                 ("serde", "arraystring_serde", "librust-serde-dev and librust-serde-json-dev are", "arraystring_serde.*", 9),
-                ("arrayvec", "moves_from_arrayvec", "librust-arrayvec-dev is", "moves_from_arrayvec", 3)):
+                ("arrayvec", "moves_from_arrayvec|whole_programs", "librust-arrayvec-dev is", "moves_from_arrayvec|whole_programs", 6)):
             self.has_packages(but=name)
             failed, said, fewer = self.called()
             self.assertFalse(failed)
             self.assertIn(f"rust/check: {packages} not there", said)
             self.assertTrue(said.endswith(f"rust/check: 15 passed, 1 skipped: {name}\n"), said)
             # (the form of what is written by hand is looked at without it)
-            without = [it for it in calls if crate not in it or it.startswith(("cargo fmt", "cmp ", "rm -f "))]
+            without = [it for it in calls if not re.search(crates, it) or it.startswith(("cargo fmt", "cmp ", "rm -f "))]
             without = [it.replace("^(none):", f"^(none|{not_tested}):") for it in without]
             self.assertEqual((len(without), [it for it in fewer if is_call(it)]), (len(calls) - count, without))
             said = self.called(calls.index("cargo fmt --version") + 1)[1]
@@ -300,7 +305,8 @@ esac"""
                                (("compared", "tests::sees", "tests::other"), "< compare:compare_tests:sees\n"),
                                (("compared", "tests::sees", "tests::other"), "< meaning:meaning_tests:sees\n"),
                                (("served", "test reads", "test writes"), "< arraystring_serde:json:reads\n"),
-                               (("moved", "test leaves", "test other"), "< moves_from_arrayvec:table:leaves\n")):
+                               (("moved", "test leaves", "test other"), "< moves_from_arrayvec:table:leaves\n"),
+                               (("run_over_each", "test gives", "test other"), "< whole_programs:same:gives\n")):
             with self.subTest(change), self.changed(change):
                 self.assertIn("rust/check: tests of the sources (<)", self.assert_refused(wanted))
 
@@ -319,7 +325,7 @@ esac"""
             self.assertEqual(re.findall("< (.*)", self.assert_refused("(<) is not how many")),
                              [f"arraystring{it}: model 1" for it in (" --features alloc --test traits", " in its package", "")])
         for line in ("erase: src", "arraystring: examples", "arraystring --release: every_state", "arraystring_serde: json",
-                     "arraystring_serde in its package: json", "moves_from_arrayvec: table"):
+                     "arraystring_serde in its package: json", "moves_from_arrayvec: table", "whole_programs: same"):
             with self.changed(("rust/tests.txt", rf"^{line} \d", f"{line} 5")):
                 self.assert_refused(f"< {line} 5\n")
 

@@ -1,0 +1,229 @@
+"""What bench/run and rust/bench/run make of counts: tables, drawings and the parts of their pages. Nothing is built or counted."""
+import io
+import re
+import sys
+from contextlib import redirect_stdout
+from importlib.machinery import SourceFileLoader
+from importlib.util import module_from_spec, spec_from_loader
+
+from planted import TreeTest
+from repository import ROOT, read
+
+# (behind the tools, which have modules of the same names)
+sys.path += [str(ROOT / "bench"), str(ROOT / "rust/bench")]
+import codes
+import counting
+import curves
+import pages
+import programs
+import timing
+
+SIDES = ("crate", "String", "arrayvec")
+
+
+def loaded(path):
+    """A command as a module."""
+    loader = SourceFileLoader(path.replace("/", "_"), str(ROOT / path))
+    module = module_from_spec(spec_from_loader(loader.name, loader))
+    loader.exec_module(module)
+    return module
+
+
+OF_CRATE, OF_PORT = loaded("rust/bench/run"), loaded("bench/run")
+
+
+def said_by(tell, *words):
+    with redirect_stdout(io.StringIO()) as said:
+        tell(*words)
+    return said.getvalue()
+
+
+class Pages(TreeTest):
+    PAGE = "# A page\n\n<!-- run: first -->\n|Name|\n|---|\n|one|\n<!-- end -->\n\nWords.\n\n" \
+        "<!-- run: second -->\n2\n<!-- end -->\n\n<!-- other/run: first -->\n3\n<!-- end -->\n"
+    FILES = {"page.md": PAGE, "drawn.svg": "<svg>"}
+
+    def test_parts_of_the_command_alone_are_read_and_written(self):
+        self.assertEqual(pages.parts_of(self.PAGE, "run"), {"first": "|Name|\n|---|\n|one|\n", "second": "2\n"})
+        self.assertEqual(pages.parts_of(self.PAGE, "other/run"), {"first": "3\n"})
+        self.assertEqual(pages.with_parts(self.PAGE, "run", pages.parts_of(self.PAGE, "run")), self.PAGE)
+        self.assertEqual(pages.with_parts(self.PAGE, "run", {"second": "two\n"}), self.PAGE.replace("\n2\n", "\ntwo\n"))
+        # (what stands for a group in an expression is no group here)
+        self.assertIn("\n\\1\n", pages.with_parts(self.PAGE, "run", {"second": "\\1\n"}))
+        pages.write(self.root / "page.md", "other/run", {"first": "three\n"}, {self.root / "drawn.svg": "<svg/>"})
+        self.assertEqual(read(self.root / "page.md"), self.PAGE.replace("\n3\n", "\nthree\n"))
+        self.assertEqual(read(self.root / "drawn.svg"), "<svg/>")
+
+    def test_what_differs_is_told(self):
+        same, page, drawing = pages.parts_of(self.PAGE, "run"), self.root / "page.md", self.root / "drawn.svg"
+        changed = same | {"first": same["first"].replace("one", "two")}
+        longer = same | {"first": same["first"].replace("|one|", "|one|1|")}
+        for told, timed, wanted in (
+            (same, [], ""), (changed, [], "+|two|"), (changed, ["first"], "+two"), (longer, [], "+|one|1|"), (longer, ["first"], ""),
+            ({"first": same["first"]}, [], "-2"), (same | {"third": "3\n"}, [], "+3"),
+        ):
+            found = list(pages.differences(self.PAGE, "run", told, timed))
+            self.assertEqual((bool(found), wanted in found or not wanted), (bool(wanted), True), found)
+            self.assertIn(wanted, said_by(pages.tell_differences, page, "run", told, {}, timed))
+        for drawn, differs in ({drawing: "<svg>"}, False), ({drawing: "<other>"}, True), ({self.root / "none.svg": ""}, True):
+            self.put(sys, "stdout", io.StringIO())
+            self.assertEqual(pages.tell_differences(page, "run", same, drawn), differs)
+
+    def test_a_part_that_is_not_on_the_page_is_refused(self):
+        for words, fault in ((["--only", "codes,code"], "the page has no part code"), (["--check", "--only", "codes"], "of all parts"),
+                             (["--check", "--write"], "not allowed")):
+            self.put(sys, "argv", ["run", *words])
+            self.put(sys, "stderr", io.StringIO())
+            self.assertRaises(SystemExit, OF_CRATE.arguments)
+            self.assertIn(fault, sys.stderr.getvalue())
+        self.put(sys, "argv", ["run", "--write", "--only", "codes,small"])
+        self.assertEqual(OF_CRATE.arguments().only, ["codes", "small"])
+
+    def test_each_page_has_the_parts_that_its_command_makes_in_their_order(self):
+        due = list(OF_CRATE.Bench(self.root).parts())
+        self.assertEqual(list(pages.parts_of(read(OF_CRATE.PAGE), "rust/bench/run")), due)
+        made = []
+        for name in ("build", "curves", "drawing"):
+            self.put(OF_PORT, name, lambda *words: [None])
+        self.put(OF_PORT.pages, "told_by", lambda parts, prints: made.extend(parts) or {})
+        OF_PORT.tell_all(self.root, False)
+        self.assertEqual(list(pages.parts_of(read(OF_PORT.PAGE), "bench/run")), made)
+        for page in (OF_CRATE.PAGE, OF_PORT.PAGE):
+            self.assertEqual(read(page).count("<!-- end -->"), read(page).count(" -->\n") // 2, page)
+            for drawing in re.findall(r"!\[.*\]\((.*)\)", read(page)):
+                self.assertTrue((page.parent / drawing).exists())
+
+
+class Counts(TreeTest):
+    TOLD = """\
+fn=main::peers::answer::<crate::Text>
+7 100
+cfn=main::peers::counted_pop::<crate::Text<23>>
+calls=4 9
+7 40
+8 500
+cfn=memcpy
+calls=4 9
+7 1000
+fn=main::peers::other
+cfn=main::peers::counted_pop::<crate::Text<23>>
+calls=1 9
+7 13
+cfn=main::peers::counted_pop::<string::Limited<23>>
+calls=5 9
+7 61
+"""
+
+    def test_what_a_call_takes_is_the_mean_over_all_of_its_callers(self):
+        drive = counting.Drive("program", self.root, {"crate": "crate::", "String": "string::"})
+        self.assertEqual(drive.counted(self.TOLD), {("crate", "pop"): 11, ("String", "pop"): 12})
+        self.assertEqual(counting.least([{"a": 3, "b": 5}, {"a": 4, "b": 2}]), {"a": 3, "b": 2})
+
+    def test_behind_is_a_tenth_and_three_instructions_above_the_best_peer(self):
+        for ours, peers, is_behind in ((14, (10, 50), False), (15, (10, 50), True), (15, (50, 10), True), (113, (100, None), False),
+                                       (114, (100, None), True), (114, (None, 100), True), (114, (None, None), False)):
+            counts = dict(zip(SIDES, (ours, *peers)))
+            self.assertEqual(counting.is_behind(counts, "crate"), is_behind, counts)
+            self.assertEqual(counting.marked(counts)[0], f"**{ours}**" if is_behind else str(ours))
+            self.assertEqual(counting.cell(counts), "/".join(counting.marked(counts)))
+        self.assertFalse(counting.is_behind({"crate": None, "String": 1}, "crate"))
+        self.assertEqual([timing.is_slower(it, 4.0) for it in (6.0, 6.1)], [False, True])
+
+    def test_a_cell_of_the_page_of_the_crate_has_one_number(self):
+        rows = [("`pop`", [{"crate": 20, "String": 10, "arrayvec": None}, {}])]
+        said = said_by(OF_CRATE.table_by_side, "Call", [23, 63], rows)
+        self.assertEqual(said, "\n|Call|23 crate|String|arrayvec|63 crate|String|arrayvec|\n"
+                               "|---|---|---|---|---|---|---|\n|`pop`|**20**|10|–|–|–|–|\n")
+        self.assertEqual(said_by(OF_CRATE.tell_behind_in, rows, "cells"), "\nBehind the best peer: the crate in 1 of 1 cells.\n")
+        times = {(23, "crate"): 8.04, (23, "String"): 9.0, (23, "arrayvec"): 4.0, (63, "crate"): 2.0}
+        told = [OF_CRATE.marked_times(times, capacity) for capacity in (23, 63, 255)]
+        self.assertEqual(told, [["**8.0**", "9.0", "4.0"], ["2.0", "–", "–"], ["–"] * 3])
+
+    def test_a_time_is_the_median_of_the_processes_at_the_best_place(self):
+        times = {"near": iter([5, 1, 9]), "far": iter([4, 8, 3])}
+        self.put(timing, "CAPACITIES", [23])
+        self.put(timing, "PROCESSES", 3)
+        self.put(timing, "written", lambda program, *words: f"`pop`\t{next(times[program])}\t-\n")
+        drives = [counting.Drive(program, self.root, {}) for program in times]
+        self.assertEqual(timing.clock(drives, "in_turn", SIDES), {"`pop`": {(23, "crate"): 4.0}})
+
+    def curve(self, **sides):
+        return {side.replace("_", " "): dict(enumerate(counts)) for side, counts in sides.items()}
+
+    def test_curves_tell_means_and_where_they_are_worst(self):
+        late = self.curve(crate=[30, 10, 30], String=[10, 20, 20], arrayvec=[12, 10, 10])
+        found = {"`pop`": {23: self.curve(crate=[1], String=[1]), 63: late, 255: late}}
+        self.assertEqual(curves.means(late, SIDES), {"crate": 23, "String": 17, "arrayvec": 11})
+        self.assertEqual((curves.worst(late, "crate"), curves.behind(late, "crate")), ("3.00@0", 2))
+        said = said_by(OF_CRATE.tell_where_behind, found)
+        self.assertIn("|`pop`, 63|2|3|3.00|0|\n|`pop`, 255|2|3|3.00|0|\n", said)
+        self.assertNotIn("`pop`, 23", said)
+        self.assertIn("the crate in 4 of 7 lengths", said)
+        self.assertIn("|`pop`|1|1|–|**23**|17|11|**23**|17|11|\n", said_by(OF_CRATE.tell_means, found))
+
+    def test_a_drawing_has_a_panel_for_each_call_and_a_key_for_each_side_that_is_there(self):
+        curve = self.curve(crate=[30, 10], String=[10, 20])
+        drawn = curves.drawing({title: {curves.CAPACITY: curve} for title in curves.CALLS})
+        self.assertEqual((drawn.count("<polyline"), drawn.count("<g ")), (2 * len(curves.CALLS), len(curves.CALLS)))
+        self.assertEqual([f">{side}<" in drawn for side in counting.SIDES], [False, True, True, False, False])
+        self.assertNotIn("<,", drawn)
+
+
+class Codes(TreeTest):
+    def test_bytes_are_those_of_the_text_and_a_library_exports_its_calls(self):
+        size = "lib.so  :\nsection     size    addr\n.rela.text    11       0\n.text         3580    6016\n.text.hot    7    0\n"
+        names = "0000 T pop_23\n0001 T pop_63\n0002 D data\n     U memcpy\n0003 t hidden\n"
+        self.put(codes, "written", lambda *words: size if words[0] == "size" else names)
+        self.put(codes.subprocess, "run", lambda *words, check: None)
+        self.assertEqual((codes.text_bytes("lib.so"), codes.exports("lib.so")), (3580, 2))
+        for words, calls, capacities, is_due in (([], 1, 2, True), ([], 2, 1, True), ([], 1, 3, False), ([], 1, 0, False),
+                                                 (["over_string"], 2, 8, True), (["over_string"], 2, 0, False)):
+            due = lambda: codes.library_of_calls(self.root, words, calls, capacities)
+            if is_due:
+                self.assertEqual(due(), 3580)
+            else:
+                self.assertRaisesRegex(SystemExit, f"{calls} calls at {capacities} capacities exports 2 functions", due)
+
+    def test_what_the_empty_library_has_is_taken_off(self):
+        for sides in (SIDES, SIDES[:2]):
+            self.put(codes, "sides_at", lambda folder, level, sides=sides: {it: [it, level] for it in sides})
+            self.put(codes, "library_of_calls", lambda folder, words, calls, capacities:
+                     7000 + 100 * calls * capacities + sides.index(words[0]) + (500 if capacities and words == ["crate", "z"] else 0))
+            said = said_by(codes.tell_codes, self.root)
+            self.assertIn(f"|3 {'|'.join(sides)}|s {'|'.join(sides)}|z {'|'.join(sides)}|\n", said)
+            bytes_of = ["|".join(["2400"] * len(sides))] * 2 + ["|".join(["**2900**", *["2400"] * (len(sides) - 1)])]
+            self.assertIn(f"|three calls at eight|{'|'.join(bytes_of)}|\n", said)
+            self.assertEqual(said.count("\n|"), 2 + len(codes.CALLS) * len(codes.CAPACITIES))
+
+    def test_the_library_has_the_calls_and_the_capacities_that_the_table_tells(self):
+        source = read(ROOT / "rust/bench/sizes.rs")
+        for capacities in filter(None, codes.CAPACITIES):
+            listed = re.search(rf'capacities = "{capacities}", not\(over_string\)\)\)\]\nexported!\(([\d ]+)\)', source)[1]
+            self.assertEqual(len(listed.split()), capacities)
+            self.assertIn("23", listed.split())
+        for calls, more in ((1, 1), (3, 2), (8, 5)):
+            self.assertIn(calls, codes.CALLS)
+            condition = {1: "", 3: '#[cfg(not(calls = "1"))]', 8: '#[cfg(calls = "8")]'}[calls]
+            names = re.findall(rf"(?m)^ *{re.escape(condition)}\n *#\[unsafe\((?:export_name|no_mangle).*\]\n *pub fn (\w+)", source)
+            self.assertEqual(len(names), 2 * more, names)
+
+
+class Programs(TreeTest):
+    def test_a_number_is_that_of_a_row_and_a_side_may_be_missing(self):
+        for sides in (SIDES, SIDES[:2]):
+            counts = {(side, name): 40_000 * (at + 1) for at, side in enumerate(sides) for name in programs.PROGRAMS}
+            counts["crate", "sort"] = 120_000
+            drive = type("Drive", (), {"program": "", "counts": lambda self, counts=counts: counts})
+            self.put(programs, "build", lambda folder, drive=drive: drive())
+            self.put(programs, "written", lambda program: "4000\n")
+            said = said_by(programs.tell_programs, self.root)
+            self.assertIn(f"|4,000 rows of three texts are|{'|'.join(sides)}|\n", said)
+            self.assertIn("|sorted|**30**|20|" + "30|\n" * (len(sides) == 3), said)
+            self.assertIn("the crate in 1 of 7 programs", said)
+
+    def test_each_program_is_counted_and_run(self):
+        source = read(ROOT / "rust/whole_programs/src/programs.rs")
+        self.assertEqual(re.findall(r"(?m)^pub fn counted_(\w+)", source), list(programs.PROGRAMS))
+        for name in programs.PROGRAMS:
+            for file, form in (("src/programs.rs", r"(?s)fn run_all.*counted_{}::<S>\("), ("tests/same.rs", r"counted_{}::<S>\(")):
+                self.assertRegex(read(ROOT / "rust/whole_programs" / file), form.format(name))
