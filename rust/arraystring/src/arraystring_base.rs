@@ -1,4 +1,3 @@
-// NOT PROVED: rust/proved.txt does not have the sources of this crate as they are.
 // Made from crates/arraystring_base/src/lib.rt by rust/erase. The proof is there. A change goes there.
 //! The lowest crate of the bounded string: its errors, the UTF-8 of characters, where a text may be
 //! cut, and how UTF-16 is read. It uses `std` alone and takes no memory. Its

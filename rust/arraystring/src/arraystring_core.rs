@@ -1,4 +1,3 @@
-// NOT PROVED: rust/proved.txt does not have the sources of this crate as they are.
 // Made from crates/arraystring_core/src/lib.rt by rust/erase. The proof is there. A change goes there.
 //! `ArrayString<N>`, a string of at most `N` bytes of UTF-8 that is stored inline in the value, and
 //! its laws. It takes no memory, except to make a JSON value. Callers name `arraystring`, which has

@@ -1,4 +1,3 @@
-// NOT PROVED: rust/proved.txt does not have the sources of this crate as they are.
 // Made from crates/arraystring/src/lib.rt by rust/erase. The proof is there. A change goes there.
 #![doc = include_str!("../README.md")]
 //!

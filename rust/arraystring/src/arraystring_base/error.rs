@@ -1,4 +1,3 @@
-// NOT PROVED: rust/proved.txt does not have the sources of this crate as they are.
 // Made from crates/arraystring_base/src/error.rt by rust/erase. The proof is there. A change goes there.
 //! What a call refuses, and the conversions to `Error`. A width and a precision in the format of a
 //! printed form are ignored.

@@ -1,4 +1,3 @@
-// NOT PROVED: rust/proved.txt does not have the sources of this crate as they are.
 // Made from crates/arraystring_base/src/utf16.rt by rust/erase. The proof is there. A change goes there.
 //! UTF-16, read as characters and lone surrogates (the Unicode Standard, section 3.9).
 

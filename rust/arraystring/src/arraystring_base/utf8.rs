@@ -1,4 +1,3 @@
-// NOT PROVED: rust/proved.txt does not have the sources of this crate as they are.
 // Made from crates/arraystring_base/src/utf8.rt by rust/erase. The proof is there. A change goes there.
 //! The UTF-8 of texts and characters: boundaries, cuts, the last character of a text, and the bytes of a
 //! character. Sizes and indices count bytes of UTF-8.

@@ -1,4 +1,3 @@
-// NOT PROVED: rust/proved.txt does not have the sources of this crate as they are.
 // Made from crates/arraystring_base/src/utils.rt by rust/erase. The proof is there. A change goes there.
 //! Boundaries, cuts and moves of bytes, under the paths of the Rust crate. Sizes and indices count bytes of
 //! UTF-8.

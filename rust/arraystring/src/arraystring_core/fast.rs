@@ -1,4 +1,3 @@
-// NOT PROVED: rust/proved.txt does not have the sources of this crate as they are.
 // Made from crates/arraystring_core/src/fast.rt by rust/erase. The proof is there. A change goes there.
 //! What std does too, by words and by blocks of bytes: whether texts are equal, how they are ordered,
 //! and whether bytes are UTF-8.

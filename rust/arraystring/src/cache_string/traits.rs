@@ -1,4 +1,3 @@
-// NOT PROVED: rust/proved.txt does not have the sources of this crate as they are.
 // Made from crates/arraystring/src/cache_string/traits.rt by rust/erase. The proof is there. A change goes there.
 //! The traits of a `CacheString`, each as the string inside has it. The comparisons and `Default` are
 //! written out and not derived, so that a caller's proof can cite what each call returns.

@@ -1,4 +1,3 @@
-// NOT PROVED: rust/proved.txt does not have the sources of this crate as they are.
 // Made from crates/arraystring_core/src/array_string/append.rt by rust/erase. The proof is there. A change goes there.
 //! The private calls that append: a character, a text, or what an iterator gives. Room behind the text is one
 //! test and one write, in `append_char` and `append_str`. All else is one function, `append_at_front`, which moves

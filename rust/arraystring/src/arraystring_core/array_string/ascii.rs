@@ -1,4 +1,3 @@
-// NOT PROVED: rust/proved.txt does not have the sources of this crate as they are.
 // Made from crates/arraystring_core/src/array_string/ascii.rt by rust/erase. The proof is there. A change goes there.
 //! The ASCII letters of a string, made upper or lower case.
 

@@ -1,4 +1,3 @@
-// NOT PROVED: rust/proved.txt does not have the sources of this crate as they are.
 // Made from crates/arraystring_core/src/array_string/push.rt by rust/erase. The proof is there. A change goes there.
 //! What is appended: characters, texts, and what an iterator gives.
 

@@ -1,4 +1,3 @@
-// NOT PROVED: rust/proved.txt does not have the sources of this crate as they are.
 // Made from crates/arraystring_core/src/array_string/range.rt by rust/erase. The proof is there. A change goes there.
 //! Parts of a string by a range of bytes. The contracts speak of the bounds that the range's
 //! methods return. If `has_bounds` holds of the range, they are its own; else no contract says

@@ -1,4 +1,3 @@
-// NOT PROVED: rust/proved.txt does not have the sources of this crate as they are.
 // Made from crates/arraystring_core/src/array_string/replaced_part.rt by rust/erase. The proof is there. A change goes there.
 //! A part of a text that is replaced by another text. The gap for it is opened in two ways: behind the
 //! text, or, where there is no room, by moving the front of the text too.

@@ -1,4 +1,3 @@
-// NOT PROVED: rust/proved.txt does not have the sources of this crate as they are.
 // Made from crates/arraystring_core/src/array_string/traits.rt by rust/erase. The proof is there. A change goes there.
 //! The traits of a string: how it is printed, made, compared, hashed and appended to.
 

@@ -1,4 +1,3 @@
-// NOT PROVED: rust/proved.txt does not have the sources of this crate as they are.
 // Made from crates/arraystring_core/src/drain/traits.rt by rust/erase. The proof is there. A change goes there.
 //! The traits of a drain: its iterators, and how what is left is printed, compared and hashed.
 

@@ -1,4 +1,3 @@
-// NOT PROVED: rust/proved.txt does not have the sources of this crate as they are.
 // Made from crates/arraystring_core/src/fast/equal.rt by rust/erase. The proof is there. A change goes there.
 //! Whether two texts are equal, which std tells here.
 
