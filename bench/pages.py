@@ -1,8 +1,12 @@
 """The parts of a page that a command writes: each begins with a line that names the command and the part, and has an end."""
+import argparse
 import difflib
 import io
+import os
 import re
+import tempfile
 from contextlib import redirect_stdout
+from pathlib import Path
 
 
 def told_by(parts, prints):
@@ -58,3 +62,21 @@ def write(file, command, told, drawings):
     file.write_text(with_parts(file.read_text(), command, told))
     for drawing, drawn in drawings.items():
         drawing.write_text(drawn)
+
+
+def arguments(says, folder, parts):
+    """What a command that makes these parts is told to do, and where to build: in a folder of its own if none is named."""
+    parser = argparse.ArgumentParser(description=says, formatter_class=argparse.RawDescriptionHelpFormatter)
+    what = parser.add_mutually_exclusive_group()
+    for flag in ["--check", "--write"]:
+        what.add_argument(flag, action="store_true")
+    what.add_argument("--curves", metavar="NAMES", type=lambda names: [] if names == "all" else names.split(","))
+    parser.add_argument("--only", metavar="PARTS", type=lambda names: names.split(","))
+    parser.add_argument("folder", nargs="?", type=Path, default=Path(tempfile.gettempdir()) / f"{folder}-{os.getuid()}")
+    given = parser.parse_args()
+    unknown = set(given.only or []) - set(parts)
+    if unknown:
+        parser.error(f"the page has no part {', '.join(sorted(unknown))}")
+    if given.check and given.only:
+        parser.error("--check is of all parts")
+    return given

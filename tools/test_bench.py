@@ -74,20 +74,30 @@ class Pages(TreeTest):
                              (["--check", "--write"], "not allowed")):
             self.put(sys, "argv", ["run", *words])
             self.put(sys, "stderr", io.StringIO())
-            self.assertRaises(SystemExit, OF_CRATE.arguments)
-            self.assertIn(fault, sys.stderr.getvalue())
+            for command in (OF_CRATE, OF_PORT):
+                self.assertRaises(SystemExit, command.arguments)
+                self.assertIn(fault, sys.stderr.getvalue())
         self.put(sys, "argv", ["run", "--write", "--only", "codes,small"])
-        self.assertEqual(OF_CRATE.arguments().only, ["codes", "small"])
+        given = OF_CRATE.arguments()
+        self.assertEqual((given.check, given.write, given.curves, given.only), (False, True, None, ["codes", "small"]))
+
+    def test_a_part_alone_is_written_and_the_drawing_with_the_curves(self):
+        self.put(OF_CRATE.Bench, "curves", None)
+        parts = {it: lambda: print("told") for it in ("small", "means", "curves")}
+        self.put(OF_CRATE.Bench, "parts", lambda bench: parts)
+        self.put(OF_PORT, "parts_and_curves", lambda folder: (parts, lambda: None))
+        self.put(sys, "stdout", io.StringIO())
+        for command, part, drawings in ((OF_CRATE, "small", 0), (OF_CRATE, "means", 1), (OF_PORT, "small", 0), (OF_PORT, "curves", 1)):
+            written = []
+            self.put(command, "drawing", lambda found: "<svg/>")
+            self.put(pages, "write", lambda page, name, told, drawn: written.append((page, told, len(drawn))))
+            self.put(sys, "argv", ["run", "--write", "--only", part])
+            self.assertFalse(command.main())
+            self.assertEqual(written, [(command.PAGE, {part: "told\n"}, drawings)])
 
     def test_each_page_has_the_parts_that_its_command_makes_in_their_order(self):
-        due = list(OF_CRATE.Bench(self.root).parts())
-        self.assertEqual(list(pages.parts_of(read(OF_CRATE.PAGE), "rust/bench/run")), due)
-        made = []
-        for name in ("build", "curves", "drawing"):
-            self.put(OF_PORT, name, lambda *words: [None])
-        self.put(OF_PORT.pages, "told_by", lambda parts, prints: made.extend(parts) or {})
-        OF_PORT.tell_all(self.root, False)
-        self.assertEqual(list(pages.parts_of(read(OF_PORT.PAGE), "bench/run")), made)
+        self.assertEqual(list(pages.parts_of(read(OF_CRATE.PAGE), "rust/bench/run")), list(OF_CRATE.Bench(self.root).parts()))
+        self.assertEqual(list(pages.parts_of(read(OF_PORT.PAGE), "bench/run")), list(OF_PORT.parts_and_curves(self.root)[0]))
         for page in (OF_CRATE.PAGE, OF_PORT.PAGE):
             self.assertEqual(read(page).count("<!-- end -->"), read(page).count(" -->\n") // 2, page)
             for drawing in re.findall(r"!\[.*\]\((.*)\)", read(page)):
