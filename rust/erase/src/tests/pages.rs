@@ -157,7 +157,8 @@ fn the_calls_of_a_file_stand_in_modules_in_the_order_of_the_reference() {
     let made = made_as(path, FILE).unwrap();
     let at = |part: &str| made.find(part).unwrap_or_else(|| panic!("{part}\n--- is not in:\n{made}"));
     let parts = ["struct ArrayString", "fn new()", "mod construct;", "mod utf16;", "fn as_bytes(", "fn end("];
-    let parts = [&parts[..], &["mod room;", "mod push;", "mod replaced_part;", "impl<const N: usize> Default"]].concat();
+    let parts =
+        [&parts[..], &["mod room;", "mod push;", "mod replaced_part;", "impl<const N: usize> Default"]].concat();
     assert!(parts.is_sorted_by_key(|part| at(part)), "{made}");
     assert_eq!(made.matches("impl<const N: usize> ArrayString<N> {\n").count(), 2);
     for (from, to, why) in [
