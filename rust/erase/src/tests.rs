@@ -369,11 +369,7 @@ pub fn slice<R: RangeBounds<u8>>(&self, range: R) -> &str
 ";
     let made =
         made_as("arraystring_core/src/array_string/range.rt", &format!("impl ArrayString {{\n{text}}}\n")).unwrap();
-    assert!(
-        made.contains("\npub fn slice<")
-            && made.contains("\n    &self.as_str()[start..end]\n"),
-        "{made}"
-    );
+    assert!(made.contains("\npub fn slice<") && made.contains("\n    &self.as_str()[start..end]\n"), "{made}");
 }
 
 #[test]
