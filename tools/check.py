@@ -1,8 +1,9 @@
 """What a change has to pass before anything is proved: the tests of the tools; specs/ has definitions alone, with comments, and
 the page has those of `run`; something cites each lemma; callers are told of each law that crates above the string import; `==`
 is derived, and tested, where it is not listed as written by hand; the pages are as the files that they quote; what stands in two
-places is the same in both; a wrong body touches each public function and impl; and each control and each source of the Rust crate
-is as it was when it proved.
+places is the same in both; a wrong body touches each public function and impl; each control and each source of the Rust crate is
+as it was when it proved; and the reasons of the Rust crate were read since what they stand on changed. The last line says how many
+seconds each part took.
 
 tools/run check             writes nothing
 tools/run check --write     first lays out each crate by `rt fmt`, makes the Rust crate by rust/erase/run where cargo is there,
@@ -13,6 +14,7 @@ import io
 import re
 import shutil
 import subprocess
+import time
 import unittest
 from collections import Counter
 from contextlib import redirect_stdout
@@ -25,6 +27,7 @@ import evidence
 import imported
 import proved
 import quotes
+import reasons
 import repository
 import trusted
 
@@ -58,7 +61,7 @@ def tests(arguments, root):
 # The parts, each with the words of its call, and how much it has to say at least that it looked at. A search that finds less than
 # there is fails at nothing else. So these are near what there is: what grows by more than a tenth is written here again.
 PARTS = [
-    (tests, [], {"{} tests of the tools": 140}),
+    (tests, [], {"{} tests of the tools": 150}),
     (trusted.main, [], {"run: {} definitions": 65, "all public contracts: {} definitions": 200}),
     (dead.main, [], {"{} lemmas and laws are cited": 760}),
     (imported.main, ["--check"], {"{} laws that crates above import": 41}),
@@ -67,6 +70,7 @@ PARTS = [
     (calls.main, [], {"{} names stand in two places": 325, "{} public calls": 58, "{} traits": 18}),
     (evidence.main, [], {"wrong bodies try {} functions": 190}),
     (controls.main, ["--check"], {"{} controls are as they were": 144}),
+    (reasons.main, ["--check"], {"the reasons of {} functions": 105}),
     (proved.main, ["--check"], {"{} sources of the Rust crate are as they were proved": 240}),
 ]
 
@@ -111,6 +115,16 @@ def fails(root, part, words, least):
     return failed
 
 
+def timed(root, part, words, least):
+    """Whether a part fails, its name, and how many seconds it took."""
+    begins = time.perf_counter()
+    failed = fails(root, part, words, least)
+    name = part.__module__ if part.__name__ == "main" else part.__name__
+    return failed, name, time.perf_counter() - begins
+
+
 def main(arguments, root):
     is_done = arguments != ["--write"] or is_written(root)
-    return any([fails(root, *part) for part in PARTS]) or not is_done
+    told = [timed(root, *part) for part in PARTS]
+    print("seconds:", ", ".join(f"{name} {seconds:.1f}" for _, name, seconds in told))
+    return any(failed for failed, *_ in told) or not is_done

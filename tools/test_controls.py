@@ -75,14 +75,20 @@ class Controls(TreeTest):
         self.told(controls)
         self.assert_finds(
             controls,
-            (STALE, (FILE, END, "\n")),
-            (STALE, (FILE, "^    1", "    2")),
+            (STALE, (FILE, r"fn twice\(value: u8\)", "fn twice(value: u16)")),
+            (STALE, (FILE, r"^    value \+ value", "    let value = value;\n    value + value")),
             (STALE, (CONTROL, "{ value }", "{ { value } }")),
             (STALE, (f"{FOLDER}/proofs/twice/Answers.antt", "a", "b")),
             # (the stored proof of a caller, and of what has become one)
             (STALE, (f"{FOLDER}/proofs/quadrupled/Answers.antt", "b", "a")),
             (STALE, (f"{FOLDER}/proofs/quadrupled/Invariants.antt", "new\n")),
             (STALE, (f"{FOLDER}/src/more.rt", "^    2", "    twice(1)"), (f"{FOLDER}/proofs/more/Answers.antt", "new\n")),
+            # (the contract of what the control alone names)
+            (STALE, (CONTROL, "{ value }", "more(value)"), (f"{FOLDER}/src/more.rt", "fn more", "fn more<A>")),
+            # (other functions of the file, and one that calls it)
+            ("", (FILE, END, "\nfn new() -> u8 {\n    3\n}\n")),
+            ("", (FILE, "^    1", "    2")),
+            ("", (FILE, r"^    twice\(once\)", "    once")),
             ("", (f"{FOLDER}/proofs/more/Answers.antt", "new\n")),
             ("", (f"{FOLDER}/src/more.rt", "^    2", "    3")),
             ("", (OTHER, r"\+ 0", "- value")),
@@ -97,6 +103,34 @@ class Controls(TreeTest):
         )
         self.put(repository, "logic", lambda: "another logic")
         self.assertEqual(self.told(controls, "--check"), (True, STALE))
+
+    def test_one_that_changes_what_stands_beside_functions_depends_on_all_of_them(self):
+        """So does one of a trait's impl, but for the bodies of its functions."""
+        edit = "file: src/more.rt\nold:     ghost {0} = 1;\nnew:     ghost {0} = 2;\n# right:     ghost {0} = { 1 };\n"
+        impl = "impl Add for u8 {\n    ghost one = 1;\n    fn add() -> u8 {\n        4\n    }\n    fn sub() {\n        5\n    }\n}\n"
+        self.write(f"{FOLDER}/src/more.rt", f"fn more() -> u8 {{\n    2\n}}\n\n{impl}")
+        self.write(CONTROL, edit.replace("{0}", "one"))
+        self.told(controls)
+        for text, other in (("^    2", "    3"), ("^        4", "        6"), ("fn sub", "fn subtract")):
+            self.assert_finds(controls, (STALE, (f"{FOLDER}/src/more.rt", text, other)), words=["--check"])
+        self.assert_finds(controls, ("", (FILE, "^    1", "    2")), words=["--check"])
+        self.write(CONTROL, "file: src/more.rt\nold:         4\nnew:         5\n# right:         { 4 }\n")
+        self.told(controls)
+        self.assert_finds(
+            controls,
+            (STALE, (f"{FOLDER}/src/more.rt", "one = 1", "one = 2")),
+            (STALE, (f"{FOLDER}/src/more.rt", "^        4", "        2 + 4")),
+            ("", (f"{FOLDER}/src/more.rt", "^        5", "        6")),
+            ("", (f"{FOLDER}/src/more.rt", "^    2", "    3")),
+            words=["--check"],
+        )
+
+    def test_one_that_changes_a_stored_proof_depends_on_it(self):
+        proof = f"{FOLDER}/proofs/more/Answers.antt"
+        self.write(proof, "one : ℕ\none = 1\n\ntwo : ℕ\ntwo = 2\n")
+        self.write(CONTROL, f"{EDIT}{RIGHT}file: proofs/more/Answers.antt\nold: one = 1\nnew: one = 0\n# right: one = two\n")
+        self.told(controls)
+        self.assert_finds(controls, (STALE, (proof, "two = 2", "two = 3")), words=["--check"])
 
     def test_a_line_without_a_control_goes(self):
         self.told(controls)
