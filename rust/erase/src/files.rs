@@ -162,6 +162,9 @@ pub fn write(made: &Made, target: &Path) -> Result<(), String> {
     }
     for (path, text) in made {
         let path = target.join(path);
+        if fs::read_to_string(&path).is_ok_and(|found| found == *text) {
+            continue;
+        }
         let folder = path.parent().unwrap_or(target);
         fs::create_dir_all(folder).map_err(|error| format!("{}: {error}", folder.display()))?;
         fs::write(&path, text).map_err(|error| format!("{}: {error}", path.display()))?;

@@ -9,7 +9,7 @@
 //!
 //! Without `--check` it writes `rust/arraystring/src`; with it, it says whether that is as the sources say. The folder is
 //! the repository, by default the one that the eraser was built in. What it can't read stops it, and so does a source that is
-//! not as it was when it was proved. With `--unproved` each file that is made says so instead.
+//! not as it was when it was proved. With `--unproved` what is made of such a source says so instead.
 
 mod body;
 mod checksum;
