@@ -61,13 +61,13 @@ def tests(arguments, root):
 # The parts, each with the words of its call, and how much it has to say at least that it looked at. A search that finds less than
 # there is fails at nothing else. So these are near what there is: what grows by more than a tenth is written here again.
 PARTS = [
-    (tests, [], {"{} tests of the tools": 150}),
+    (tests, [], {"{} tests of the tools": 155}),
     (trusted.main, [], {"run: {} definitions": 65, "all public contracts: {} definitions": 200}),
     (dead.main, [], {"{} lemmas and laws are cited": 760}),
     (imported.main, ["--check"], {"{} laws that crates above import": 41}),
     (equality.main, [], {"{} types have == by a derive": 14}),
     (quotes.main, [], {"{} blocks are as in the files": 37}),
-    (calls.main, [], {"{} names stand in two places": 325, "{} public calls": 58, "{} traits": 18}),
+    (calls.main, [], {"{} names stand in two places": 490, "{} public calls": 58, "{} traits": 18}),
     (evidence.main, [], {"wrong bodies try {} functions": 190}),
     (controls.main, ["--check"], {"{} controls are as they were": 144}),
     (reasons.main, ["--check"], {"the reasons of {} functions": 105}),
