@@ -22,9 +22,10 @@ use crate::width;
 /// Each file of the Rust crate that is made, by its path in `src`.
 pub type Made = BTreeMap<String, String>;
 
-/// Makes all files out of the sources in a folder of crates.
-pub fn made(crates: &Path) -> Result<(Made, Tally), String> {
-    let (mut known, mut tally) = (Contracts::default(), Tally::of(reasons::all()?));
+/// Makes all files out of the sources of a repository.
+pub fn made(root: &Path) -> Result<(Made, Tally), String> {
+    let (mut known, mut tally) = (Contracts::default(), Tally::of(reasons::all(root)?));
+    let crates = &root.join("crates");
     let texts = texts(crates)?;
     let mut all = Vec::new();
     for Text { krate, path, text, .. } in &texts {

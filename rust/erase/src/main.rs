@@ -22,7 +22,6 @@ mod edits;
 mod erase;
 mod files;
 mod items;
-mod listed;
 // (the comparison reads the rest)
 #[allow(dead_code)]
 #[path = "../../lists.rs"]
@@ -33,6 +32,7 @@ mod places;
 mod proved;
 mod reasons;
 mod rules;
+mod trust_page;
 mod uses;
 mod width;
 mod words;
@@ -66,17 +66,17 @@ fn main() -> ExitCode {
 
 /// Makes or compares the files of the crate, and tells what was erased.
 fn run(root: &std::path::Path, is_check: bool, is_unproved_allowed: bool) -> Result<(), String> {
-    let (mut made, tally) = files::made(&root.join("crates"))?;
+    let (mut made, tally) = files::made(root)?;
     let proved = proved::told(&mut made, root, is_unproved_allowed)?;
     let is_formatted = files::format(&mut made, &root.join("rust"))?;
     let target = root.join("rust/arraystring/src");
     let explained = words::explained(&made, &files::read(&target.join(words::PAGE))?)?;
     if is_check {
         files::compare(&made, &target, is_formatted)?;
-        listed::compare(root)?;
+        trust_page::compare(root)?;
     } else {
         files::write(&made, &target)?;
-        listed::write(root)?;
+        trust_page::write(root)?;
     }
     for (what, count) in &tally.counts {
         println!("{count:5} {what}");

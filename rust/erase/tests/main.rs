@@ -44,7 +44,8 @@ impl Tree {
             copy(&Path::new(ROOT).join(krate).join("src"), &folder.join(krate).join("src"));
         }
         copy(&Path::new(ROOT).join(WRITTEN), &folder.join(WRITTEN));
-        for file in ["rust/rustfmt.toml", "rust/arraystring/TRUST.md"] {
+        fs::create_dir_all(folder.join("rust/erase/src")).unwrap();
+        for file in ["rust/rustfmt.toml", "rust/arraystring/TRUST.md", "rust/erase/src/reasons.txt"] {
             fs::copy(Path::new(ROOT).join(file), folder.join(file)).unwrap();
         }
         Tree(folder)
@@ -197,6 +198,17 @@ fn what_is_made_of_an_unproved_source_alone_is_written_anew() {
     assert_eq!(same.len() + 1, files.len());
     let is_untouched = before.iter().zip(times()).filter(|(before, after)| *before == after).count();
     assert_eq!(is_untouched, same.len());
+}
+
+#[test]
+fn reasons_are_those_of_the_folder() {
+    let tree = Tree::new("reasons");
+    let page = tree.0.join("rust/erase/src/reasons.txt");
+    fs::write(&page, format!("{}what\n", fs::read_to_string(&page).unwrap())).unwrap();
+    let (status, _, fault) = tree.told(&["--unproved"]);
+    assert_eq!((status, fault.starts_with("erase: rust/erase/src/reasons.txt:")), (Some(1), true), "{fault}");
+    fs::remove_file(page).unwrap();
+    assert!(tree.told(&["--unproved"]).2.contains("reasons.txt: No such file"));
 }
 
 #[test]
