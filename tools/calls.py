@@ -12,7 +12,8 @@ import re
 from collections import namedtuple
 
 import neighbours
-from repository import crates, inline_code, read, section, sources
+from page_parts import inline_code, section
+from repository import crates, read, sources
 
 STRING_CRATES = ("arraystring_base", "arraystring_core", "arraystring")
 TYPES = "ArrayString|CacheString|Drain"

@@ -8,6 +8,8 @@ seconds each part took.
 tools/run check             writes nothing
 tools/run check --write     first lays out each crate by `rt fmt`, makes the Rust crate by rust/erase/run where cargo is there,
                             and writes lines and counts into the pages by `quotes --write`
+tools/run check --record    before all that tries the controls without a fresh line, by `controls`, and proves the sources of the Rust
+                            crate, by `proved`; it takes minutes where much has changed
 """
 import ast
 import io
@@ -61,7 +63,7 @@ def tests(arguments, root):
 # The parts, each with the words of its call, and how much it has to say at least that it looked at. A search that finds less than
 # there is fails at nothing else. So these are near what there is: what grows by more than a tenth is written here again.
 PARTS = [
-    (tests, [], {"{} tests of the tools": 155}),
+    (tests, [], {"{} tests of the tools": 158}),
     (trusted.main, [], {"run: {} definitions": 65, "all public contracts: {} definitions": 200}),
     (dead.main, [], {"{} lemmas and laws are cited": 760}),
     (imported.main, ["--check"], {"{} laws that crates above import": 41}),
@@ -91,6 +93,11 @@ def is_written(root):
     statuses = [status_of(*it) for it in commands]
     quotes.main(["--write"], root)
     return not any(statuses)
+
+
+def is_recorded(root):
+    """Tries and proves what is not recorded as it is; whether all of it proves. Where a control does not, nothing more is tried."""
+    return not controls.main([], root) and not proved.main([], root)
 
 
 def fault_of_count(form, found, least):
@@ -124,7 +131,8 @@ def timed(root, part, words, least):
 
 
 def main(arguments, root):
-    is_done = arguments != ["--write"] or is_written(root)
+    is_proved = arguments != ["--record"] or is_recorded(root)
+    is_done = is_proved and (arguments not in (["--write"], ["--record"]) or is_written(root))
     told = [timed(root, *part) for part in PARTS]
     print("seconds:", ", ".join(f"{name} {seconds:.1f}" for _, name, seconds in told))
     return any(failed for failed, *_ in told) or not is_done

@@ -7,16 +7,18 @@ tools/run controls --check               tries none, and fails where a control h
 A control stands in the edit of its wrong body, crates/CRATE/must-fail/NAME.edit, by lines `# right:`. Each edit is put into a
 copy of the repository among the temporary files, and checked there with what earlier checks kept in out/; no other `rt` may
 write there while the copy is made. Of each control that proves .ci/controls.txt gets a line: its name and a checksum of what it
-stands on. That is the edit, and the grounds of the functions that it changes, as tools/grounds.py says: a control goes stale with
-them, and with no other function. Where an edit changes what stands beside functions, these are all of that file. The line is fresh
-while the checksum is the same.
+stands on. That is the edit, and the grounds of the functions that it changes, as tools/grounds.py says, with the stored proofs of
+their callers where it changes a contract: a control goes stale with these, and with no other function. Where an edit changes what
+stands beside functions, these are all of that file. The line is fresh while the checksum is the same.
 
 It fails where a control is refused, where a wrong body proves or its crate does not, and where an edit cannot be read.
 """
 import re
 
 import edits
+import kit
 import repository
+import repository_copy
 from grounds import Grounds, code_of
 
 RECORD = ".ci/controls.txt"
@@ -35,6 +37,17 @@ def record(root, known):
     (root / RECORD).write_text("".join(lines), encoding="utf-8")
 
 
+def grounds_at(file, line):
+    """What a control stands on that changes a line of a source file."""
+    changed = [it for it in file.functions if line in it.span]
+    if changed:
+        callers = {("callers", it.name) for it in changed if not file.is_in_body(it, line)}
+        return callers.union(("function", file, it) for it in changed)
+    # (what is put in the place of a comment changes no contract that is there)
+    callers = {("callers", it.name) for it in file.functions if code_of([file.lines[line]])}
+    return callers.union((("function", file, it) for it in file.functions), (("unit", file, it) for it in file.units))
+
+
 def grounds_of(edit, files):
     """What a control stands on, among the source files of the repository; None where it cannot be applied."""
     try:
@@ -46,11 +59,7 @@ def grounds_of(edit, files):
         # (a file that is no source is one of proofs)
         found.add(("edit", files[path], code) if path in files else ("proof", path))
     for path, line in places:
-        file = files.get(path)
-        changed = [it for it in file.functions if line in it.span] or file.functions if file else []
-        found |= {("function", file, it) for it in changed}
-        if file and not any(line in it.span for it in changed):
-            found |= {("unit", file, it) for it in file.units}
+        found |= grounds_at(files[path], line) if path in files else set()
     return found
 
 
@@ -64,7 +73,7 @@ def try_controls(root, controls, sums, known):
     """Tries controls, and writes a line of each that proves beside those known; whether one does not."""
     record(root, known)
     failed = 0
-    with repository.copied(root) as copy:
+    with repository_copy.copied(root) as copy:
         for name, edit in controls.items():
             is_right, told = edits.tried(copy / edit.relative_to(root), is_right=True)
             known[name] = sums[name] if is_right else None
@@ -78,8 +87,8 @@ def try_controls(root, controls, sums, known):
 def try_wrong_bodies(root, crate, function):
     """Tries the wrong bodies of a function; what is wrong, or whether one proves."""
     outcomes = []
-    with repository.copied(root) as copy:
-        is_proved, message = repository.check(copy / "crates" / crate)
+    with repository_copy.copied(root) as copy:
+        is_proved, message = kit.check(copy / "crates" / crate)
         if not is_proved:
             return f"{crate} is not proved: {message}"
         for edit in sorted((copy / "crates" / crate).glob(f"must-fail/{function}.*.edit")):
@@ -96,7 +105,7 @@ def main(arguments, root):
     if unknown or is_of_edits:
         return unknown or try_wrong_bodies(root, names[0], arguments[2])
     known = dict(line.split(" ") for line in repository.read(root / RECORD).splitlines())
-    grounds, controls = Grounds(root, repository.logic()), controls_of(root, names or repository.crates(root))
+    grounds, controls = Grounds(root, kit.logic()), controls_of(root, names or repository.crates(root))
     sums = {name: checksum_of(edit, grounds) for name, edit in controls.items()}
     stale = {name: edit for name, edit in controls.items() if sums[name] is None or known.get(name) != sums[name]}
     if is_checking:

@@ -27,7 +27,7 @@ from pathlib import Path
 import edits
 import repository
 import sources
-from repository import closed
+from closure import closed
 
 # Only tests call test_support, and memory_tests is one: what is wrong there its own tests and theirs see, or `tools/run refused`.
 FOR_TESTS = {"test_support", "memory_tests"}

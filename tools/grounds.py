@@ -1,11 +1,14 @@
 """What a function of src/ stands on: the grounds of a control of it, and of the reasons why its `unsafe` calls are right.
 
 The grounds of a function are its text without comments, and what is read with it:
-- its stored proofs, and those of the functions of its crate that name it;
+- its stored proofs;
 - the contracts of all functions that it names, and the types, traits and constants that it or one of these names. A type comes with
   the impls of its traits but for their bodies, since an operator or a loop calls them without their name;
 - the definitions, lemmas and rulesets that these name, and those that those name;
 - what its file imports for its words, and the attributes at the top of its file.
+
+Where its contract changes, too, the stored proofs of the functions of its crate that name it are its grounds: the check of a crate
+reads those again then, and where a body changes it does not.
 
 A name is all that is looked at: of two functions of one name both are grounds, so that there may be more grounds than needed and not
 fewer. What is not read here as an item is a ground of each function of its file.
@@ -15,7 +18,8 @@ import re
 
 import sources
 from modules import IMPORT, NAME, Modules, imports, module_of
-from repository import closed, crates, read
+from closure import closed
+from repository import crates, read
 
 WORD = re.compile(r"\w+")
 COMMENT = re.compile(r"\s*(//|--)")
@@ -52,12 +56,13 @@ class Unit:
     found; there are none where it is not known what it is."""
 
     def __init__(self, lines):
-        self.text, self.comment = code_of(lines), "\n".join(line for line in lines if COMMENT.match(line))
+        self.text, self.comment = code_of(lines), ""
         heads = [line for line in lines if line.strip() and line[0] not in " #/})"]
         head = heads[0] if heads else ""
         item = NAMED.match(head)
         if item:
             self.names = {item[1] or item[2]}
+            self.comment = "\n".join(line for line in lines if COMMENT.match(line))
         else:
             self.names = set(WORD.findall(head)) - {"impl", "for", "const", "unsafe", "N", "usize"} if IMPL.match(head) else set()
 
@@ -85,6 +90,8 @@ class File:
         for line in without.split("\n"):
             begins = line and line[0] not in " })" and not line.startswith("#![")
             is_head = begins and not line.startswith(("//", "#["))
+            # (what stands above a function, which was taken out, is no part of the next unit)
+            block = block if line or has_head else []
             if begins and has_head:
                 yield Unit(block)
                 block, has_head = [], False
@@ -99,6 +106,12 @@ class File:
     def contract_of(self, function):
         """The lines of a function before its body, without attributes; of one on a single line all."""
         return code_of(function.header.split("\n")) if function.header else self.text_of(function)
+
+    def is_in_body(self, function, line):
+        """Whether a line of a function stands in its body."""
+        before = [number for number in function.span if self.lines[number].lstrip().startswith("#[")]
+        first = function.span.start + len(before) + len(function.header.split("\n"))
+        return bool(function.header) and line >= first
 
     def imported(self, words):
         """What the file imports for some words."""
@@ -158,9 +171,12 @@ class Scope:
         text = f"{file.text_of(function)}\n{function.kind} {function.trait}"
         texts, others = self.read_edit(file, text)
         of_file = {("unit", file, unit) for unit in file.units if not unit.names}
-        callers = {it.name for of in self.files if of.crate == self.crate for it in of.functions if function.name in it.words}
-        proofs = [self.proofs_of(it) for it in {function.name, *callers}]
-        return texts | {file.attributes, str(file.path.relative_to(self.root))}, others.union(of_file, *proofs)
+        return texts | {file.attributes, str(file.path.relative_to(self.root))}, others | of_file | self.proofs_of(function.name)
+
+    def read_callers(self, name):
+        """The stored proofs of the functions of the crate that name a function."""
+        callers = {it.name for of in self.files if of.crate == self.crate for it in of.functions if name in it.words}
+        return set(), set().union(*map(self.proofs_of, callers))
 
     def read_contract(self, file, function):
         return self.of_source(file, file.contract_of(function), function.kind)

@@ -11,6 +11,7 @@ reason may rest on what a field says.
 """
 import re
 
+import kit
 import repository
 from grounds import Grounds
 
@@ -34,7 +35,7 @@ def main(arguments, root):
         return "the argument is --check, --read with paths of functions, or none"
     page, record = repository.read(root / PAGE), root / RECORD
     reasons = {it[1]: it[0] for it in BLOCK.finditer(page)}
-    grounds = Grounds(root, repository.logic())
+    grounds = Grounds(root, kit.logic())
     functions = functions_by_path(grounds.files.values())
     missing = sorted(reasons.keys() - functions)
     if missing:

@@ -97,8 +97,21 @@ class Check(TreeTest):
         self.put(check.shutil, "which", lambda name: None)
         self.assertEqual(self.written()[:2], (False, [*formed, ("quotes --write", ".")]))
 
+    def test_what_is_to_be_recorded_is_tried_and_proved_before_it_is_written(self):
+        for failing, wanted in (("", ["controls", "proved", "written"]), ("controls", ["controls"]),
+                                ("proved", ["controls", "proved"]), ("written", ["controls", "proved", "written"])):
+            met = []
+            for module in (check.controls, check.proved):
+                self.put(module, "main", lambda words, root, it=module.__name__: met.append(it) or it == failing)
+            self.put(check, "is_written", lambda root: not met.append("written") and failing != "written")
+            self.parts()
+            failed, said = self.told(check, "--record")
+            self.assertEqual((failed, met), (bool(failing), wanted))
+            self.assertIn(self.SECONDS, said)
+
     def test_nothing_is_written_unasked(self):
-        self.put(check, "is_written", lambda root: self.fail("it wrote"))
+        for name in ("is_written", "is_recorded"):
+            self.put(check, name, lambda root: self.fail("it wrote"))
         self.parts()
         self.assertFalse(self.told(check)[0])
 

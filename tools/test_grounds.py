@@ -157,10 +157,13 @@ uncited n = refl
         f"{NUMBERS}/proofs/other/Answers.antt": "pub returns : ℕ\nreturns = 1\n",
     }
 
-    def sums(self, logic="a logic", **more):
+    def sums(self, logic="a logic", kinds=("function",), **more):
         """The checksum of each function of the tree, by its name."""
         of = grounds.Grounds(self.root, logic)
-        return {function.name: of.checksum(file.crate, [("function", file, function)], **more)
+        def grounds_of(file, function):
+            return [("callers", function.name) if it == "callers" else (it, file, function) for it in kinds]
+
+        return {function.name: of.checksum(file.crate, grounds_of(file, function), **more)
                 for file in of.files.values() for function in file.functions}
 
     def stale_by(self, *changes, **more):
@@ -187,36 +190,49 @@ uncited n = refl
             ("get twice", (SMALL, "≡ self.now", "≡ 1")),
             ("other", (LIB, "^    1$", "    2")),
             ("twice", (LIB, r"^#\[tactic\(auto, using", "#[inline]\n#[tactic(auto, using")),
-            # (a body that begins to name a function stands on its contract, and that on the stored proof of this one)
-            ("get other", (LIB, "^    1$", "    value.get()")),
+            # (a body that begins to name a function stands on its contract)
+            ("other", (LIB, "^    1$", "    value.get()"), (SMALL, "≡ self.now", "≡ self.now")),
         )
 
-    def test_a_stored_proof_makes_its_function_stale_and_those_that_it_names(self):
+    def test_a_stored_proof_makes_its_function_stale(self):
         twice, quadrupled, other = (f"{NUMBERS}/proofs/{it}" for it in ("twice", "quadrupled", "other"))
         self.assert_stale(
-            ("get twice", (f"{twice}/Answers.antt", "for_twice g$", "for_twice c")),
-            ("get twice", (f"{twice}/Invariants.antt", "new : ℕ\nnew = 1\n")),
-            ("quadrupled twice", (f"{quadrupled}/Answers.antt", None)),
-            ("quadrupled twice", (f"{quadrupled}/Invariants.antt", "= refl", "= arith")),
+            ("twice", (f"{twice}/Answers.antt", "for_twice g$", "for_twice c")),
+            ("twice", (f"{twice}/Invariants.antt", "new : ℕ\nnew = 1\n")),
+            ("quadrupled", (f"{quadrupled}/Answers.antt", None)),
+            ("quadrupled", (f"{quadrupled}/Invariants.antt", "= refl", "= arith")),
             ("other", (f"{other}/Answers.antt", "= 1", "= 2")),
             ("", (f"{NUMBERS}/proofs/nothing/Answers.antt", "new : ℕ\nnew = 1\n")),
         )
 
+    def test_the_stored_proofs_of_callers_count_where_they_are_asked_for(self):
+        twice, quadrupled = (f"{NUMBERS}/proofs/{it}/Answers.antt" for it in ("twice", "quadrupled"))
+        self.assert_stale(
+            ("get twice", (twice, "for_twice g$", "for_twice c")),
+            ("get twice", (LEMMAS, "^below n = refl", "below n = arith")),
+            ("quadrupled twice", (quadrupled, None)),
+            # (what has become a caller, with its stored proof)
+            ("get other", (LIB, "^    1$", "    value.get()")),
+            # (one in a crate above has proofs of its own)
+            ("letter", (f"{LETTERS}/proofs/letter/Answers.antt", "new : ℕ\nnew = 1\n")),
+            kinds=("function", "callers"),
+        )
+
     def test_lemmas_and_rulesets_count_with_what_they_cite(self):
         self.assert_stale(
-            ("get twice", (LEMMAS, "^for_twice n = below n", "for_twice n = refl")),
-            ("get twice", (LEMMAS, "^below n = refl", "below n = arith")),
-            ("get twice", (LEMMAS, r"^below : \(n : ℕ\)", "below : {n : ℕ}")),
-            ("quadrupled twice", (LEMMAS, "^  for_quadrupled = refl", "  for_quadrupled = arith")),
-            ("quadrupled twice", (LEMMAS, r"^module _ \(n : ℕ\)", "module _ {n : ℕ}")),
+            ("twice", (LEMMAS, "^for_twice n = below n", "for_twice n = refl")),
+            ("twice", (LEMMAS, "^below n = refl", "below n = arith")),
+            ("twice", (LEMMAS, r"^below : \(n : ℕ\)", "below : {n : ℕ}")),
+            ("quadrupled", (LEMMAS, "^  for_quadrupled = refl", "  for_quadrupled = arith")),
+            ("quadrupled", (LEMMAS, r"^module _ \(n : ℕ\)", "module _ {n : ℕ}")),
             ("twice", (LEMMAS, r"\(sum-same, sum-again\)", "(sum-same)")),
             ("twice", (LEMMAS, "^sum-same n = omega arith", "sum-same n = refl")),
             ("twice", (LEMMAS, "^deep n = refl", "deep n = arith")),
             ("", (LEMMAS, "^uncited n = refl", "uncited n = arith")),
             # (what is imported under a name, and a second lemma of the name)
-            ("get twice", (f"{NUMBERS}/proofs/twice/Answers.antt", r"Lemmas\.\{for_twice\}", "Lemmas.{uncited as for_twice}")),
+            ("twice", (f"{NUMBERS}/proofs/twice/Answers.antt", r"Lemmas\.\{for_twice\}", "Lemmas.{uncited as for_twice}")),
             ("twice", (LEMMAS, r"Common\.\{◌∙◌, arith\}", "Other.{arith}")),
-            ("get twice", (LEMMAS, END, "\nmodule _ (m : ℕ) where\n  below : m ≡ m\n  below = refl\n")),
+            ("twice", (LEMMAS, END, "\nmodule _ (m : ℕ) where\n  below : m ≡ m\n  below = refl\n")),
         )
 
     def test_definitions_count_with_what_they_are_made_of(self):
@@ -282,6 +298,9 @@ uncited n = refl
             (self.OF_SMALL, (SMALL, "^    // At most 9, too.", "    // Below 10, too.")),
             ("", (LIB, "^/// Twice.", "/// Two times.")),
             ("other", (LIB, "^    1$", "    2")),
+            # (comments of functions, in an impl and above a type)
+            ("", (SMALL, "^    pub fn get", "    /// The value.\n    pub fn get")),
+            ("", (SMALL, r"^\n/// At most 9.", "\n/// No type.\nfn ten() {\n    10\n}\n\n/// At most 9.")),
             has_comments=True,
         )
 

@@ -1,6 +1,6 @@
 """When the reasons of a function have to be read again."""
 import reasons
-import repository
+import kit
 from planted import TreeTest
 from repository import read
 
@@ -23,7 +23,7 @@ class Reasons(TreeTest):
 
     def setUp(self):
         super().setUp()
-        self.put(repository, "logic", lambda: "a logic")
+        self.put(kit, "logic", lambda: "a logic")
 
     def test_reasons_that_were_not_read_are_printed_until_they_are(self):
         both = f"{PATHS[1]} (whatever it is)\n    put: by the test above\n    accesses: it is there\n", \
@@ -55,7 +55,7 @@ class Reasons(TreeTest):
             (f"{PATHS[0]}: {reasons.PAGE} does not have it\n", (reasons.PAGE, rf"^{PATHS[0]}\n.*\n", "")),
             words=["--check"],
         )
-        self.put(repository, "logic", lambda: "another logic")
+        self.put(kit, "logic", lambda: "another logic")
         self.assertEqual(self.told(reasons, "--check"), (True, TWICE + GET + WHAT_TO_DO))
 
     def test_a_line_without_reasons_goes(self):

@@ -10,7 +10,7 @@ import evidence
 import proved
 import quotes
 import reasons
-import repository
+import kit
 import trusted
 from planted import PlantedTest
 from repository import crates, read, sources
@@ -100,7 +100,7 @@ class Tree(PlantedTest):
         self.assertIn(": the log does not say that it is refused", said)
 
     def test_what_was_tried_read_and_proved(self):
-        self.put(repository, "logic", lambda: "0a1b2c3d4e5f6789")
+        self.put(kit, "logic", lambda: "0a1b2c3d4e5f6789")
         path = {line: line.split(" ")[0] for line in read(self.root / controls.RECORD).splitlines()}
         edits = {name: f"crates/{name.replace('/', '/must-fail/', 1)}.edit" for name in path.values()}
         self.assertGreater(len(edits), 100)
