@@ -71,21 +71,21 @@ def first_words(page):
 # What has the names: how it is called, its files, and the names.
 Place = namedtuple("Place", "name files names")
 
-# Calls that no row of a table makes as it is: those that make a string have tables of other shapes (rust/arraystring/tests/tables), and
-# `retain` is made as `retain_in_turn` and `retain_without`. Those by hand alone have their tests in rust/arraystring/tests.
+# Calls that no row of a table makes as it is: those that make a string have tables of other shapes (rust/arraystring/tests/tables),
+# and `retain` is made as `retain_in_turn` and `retain_without`. Those by hand alone have their tests in rust/arraystring/tests.
 NOT_IN_TABLES = """
-    new try_from_str from_str_truncate from_str_unchecked try_from_chars from_chars from_chars_unchecked try_from_iterator from_iterator
-    from_iterator_unchecked try_from_utf8 from_utf8 from_utf8_unchecked try_from_utf16 from_utf16 from_utf16_lossy as_str is_empty retain
-    as_mut_str const_try_from_str is_full remaining_capacity try_from_format try_write
+    new try_from_str from_str_truncate from_str_unchecked try_from_chars from_chars from_chars_unchecked try_from_iterator
+    from_iterator from_iterator_unchecked try_from_utf8 from_utf8 from_utf8_unchecked try_from_utf16 from_utf16 from_utf16_lossy
+    as_str is_empty retain as_mut_str const_try_from_str is_full remaining_capacity try_from_format try_write
 """
 # Calls by hand whose tests are in rust/arraystring/tests/by_hand and constants.rs.
 NOT_IN_EVERY_STATE = "as_mut_str const_try_from_str try_from_format"
 # The calls that arraystring 0.3.0 has, too. docs/differences.md names all others.
 OF_THE_CRATE = """
-    new try_from_str from_str_truncate from_str_unchecked try_from_chars from_chars from_chars_unchecked try_from_iterator from_iterator
-    from_iterator_unchecked try_from_utf8 from_utf8 from_utf8_unchecked try_from_utf16 from_utf16 from_utf16_lossy as_str as_mut_str
-    as_bytes len is_empty capacity try_push push_unchecked try_push_str push_str push_str_unchecked try_insert insert_unchecked
-    try_insert_str insert_str insert_str_unchecked remove pop truncate clear trim retain drain replace_range split_off
+    new try_from_str from_str_truncate from_str_unchecked try_from_chars from_chars from_chars_unchecked try_from_iterator
+    from_iterator from_iterator_unchecked try_from_utf8 from_utf8 from_utf8_unchecked try_from_utf16 from_utf16 from_utf16_lossy
+    as_str as_mut_str as_bytes len is_empty capacity try_push push_unchecked try_push_str push_str push_str_unchecked try_insert
+    insert_unchecked try_insert_str insert_str insert_str_unchecked remove pop truncate clear trim retain drain replace_range split_off
 """
 
 

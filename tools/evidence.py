@@ -2,8 +2,8 @@
 
 tools/run evidence                  looks at the files alone
 tools/run evidence --refused LOG    also at what `rt must-fail` said in LOG of each wrong body
-tools/run evidence --kinds          prints how many there are of each kind, by crate: those that change the function of their name, those
-                                    that change one that this names, and those with a control
+tools/run evidence --kinds          prints how many there are of each kind, by crate: those that change the function of their
+                                    name, those that change one that this names, and those with a control
 
 A wrong body is crates/CRATE/must-fail/FUNCTION.WHAT_IS_WRONG.edit. FUNCTION is the name of a function of the crate, as
 `pop`. It has the type in front if two have that name, as `Drain.next_back`, and the trait in the function's place if that
@@ -110,8 +110,8 @@ def show_kinds(crates):
     counts = {crate.folder.name: crate.kinds() for crate in crates if crate.edits}
     counts["all"] = tuple(map(sum, zip(*counts.values())))
     for name, (bodies, functions, itself, controlled) in counts.items():
-        print(f"{name}: {bodies} wrong bodies of {functions} functions: {itself} change the function, {bodies - itself} one that it names; "
-              f"{controlled} have a control")
+        print(f"{name}: {bodies} wrong bodies of {functions} functions: {itself} change the function, {bodies - itself} one that it "
+              f"names; {controlled} have a control")
 
 
 def faults_of(crate, log):

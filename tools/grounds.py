@@ -25,7 +25,8 @@ WORD = re.compile(r"\w+")
 COMMENT = re.compile(r"\s*(//|--)")
 USE = re.compile(r"(?ms)^(?:pub(?:\(\w+\))? )?use ([^;]*);")
 # (the item that a line at the left edge begins, and an impl)
-NAMED = re.compile(r"(?:pub(?:\(\w+\))? )?(?:unsafe )?(?:struct|enum|union|trait|type|const|static) (?:mut )?(\w+)|macro_rules! (\w+)")
+KINDS = "struct|enum|union|trait|type|const|static"
+NAMED = re.compile(rf"(?:pub(?:\(\w+\))? )?(?:unsafe )?(?:{KINDS}) (?:mut )?(\w+)|macro_rules! (\w+)")
 IMPL = re.compile(r"(?:unsafe )?impl\b")
 
 
@@ -120,8 +121,8 @@ class File:
 
 
 class Scope:
-    """What the functions of a crate may stand on: all of it, and of the crates that it needs. A ground is a pair of what it is and what
-    it is of; `read` says what one has, and on which others it stands."""
+    """What the functions of a crate may stand on: all of it, and of the crates that it needs. A ground begins with what it is, and
+    then comes what it is of; `read` says what one has, and on which others it stands."""
 
     def __init__(self, root, tree, crate, files):
         self.root, self.tree, self.crate, self.files, self.known = root, tree, crate, files, {}

@@ -9,7 +9,8 @@ CALL = re.compile(r"(?m)^ *pub (?:const |unsafe )*fn (\w+)(?:<[^(]*>)?(\([^{]*)"
 
 def shapes_of(text):
     """The calls of a text in order, each with what it takes and returns."""
-    return {name: re.sub(r"\s+(requires|ensures|where)\b.*|\s+", " ", shape, flags=re.S).strip() for name, shape in CALL.findall(text)}
+    clauses = re.compile(r"\s+(requires|ensures|where)\b.*|\s+", re.S)
+    return {name: clauses.sub(" ", shape).strip() for name, shape in CALL.findall(text)}
 
 
 def nearest(name, names, shapes):

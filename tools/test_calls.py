@@ -154,7 +154,8 @@ class Calls(TreeTest):
             (EVERY_STATE, "pop_counted", "rust/arraystring/src", [(OTHER_STATES, "::pop_counted", "::popped")]),
             (EVERY_STATE, "pop_unchecked", "rust/arraystring/src", [(OTHER_STATES, "string.pop_unchecked", "text.pop_unchecked")]),
             (DIFFERENCES, "more", "rust/arraystring/src", [(IN_RUST, r"fn pop\(", "fn more(")]),
-            (DIFFERENCES, "slice", "rust/arraystring/src", [(DIFFERENCES, "## Added", "`slice`\n\n## Added"), (DIFFERENCES, "`slice`, `", "`")]),
+            (DIFFERENCES, "slice", "rust/arraystring/src", [(DIFFERENCES, "## Added", "`slice`\n\n## Added"),
+                                                            (DIFFERENCES, "`slice`, `", "`")]),
             (PLAYERS[0], "clear", "rust/arraystring/src", [(IN_RUST, r"fn pop\(", "fn clear(")]),
             (PLAYERS[0], "get", PLAYERS[1], [(PLAYERS[0], r'"get" \| ', "")]),
             (PLAYERS[1], "len", PLAYERS[0], [(PLAYERS[0], '"pop" =>', '"len" =>')]),
@@ -187,8 +188,9 @@ class Calls(TreeTest):
                 (EVERY_STATE, f'{STATES}:1: as `pop` there: made += case.each("pop_front", &popped, |it| it.pop_front());'),
                 (PLAYERS[0], f'{PLAYERS[0]}:5: as `pop` there: "pop_front" => text.pop_front(),'),
             )),
-            (PLAYERS[1], PLAYERS[0], f'{PLAYERS[1]}:1: as `pop` there: const AT_THE_END: &str = "pop pop_front pop_counted pop_unchecked '
-             'slice";', (PLAYERS[0], '^ *"pop" .*\n', '        "pop" => text.pop(),\n        "pop_front" => text.pop_front(),\n'),
+            (PLAYERS[1], PLAYERS[0],
+             f'{PLAYERS[1]}:1: as `pop` there: const AT_THE_END: &str = "pop pop_front pop_counted pop_unchecked slice";',
+             (PLAYERS[0], '^ *"pop" .*\n', '        "pop" => text.pop(),\n        "pop_front" => text.pop_front(),\n'),
              (IN_RUST, "^ *pub fn pop\\(.*\n", front)),
         )))
 

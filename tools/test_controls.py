@@ -120,10 +120,11 @@ class Controls(TreeTest):
         """So does one of a trait's impl, but for the bodies of its functions."""
         edit = "file: src/more.rt\nold:     ghost {0} = 1;\nnew:     ghost {0} = 2;\n# right:     ghost {0} = { 1 };\n"
         impl = "impl Add for u8 {\n    ghost one = 1;\n    fn add() -> u8 {\n        4\n    }\n    fn sub() {\n        5\n    }\n}\n"
-        self.write(f"{FOLDER}/src/more.rt", f"fn more() -> u8 {{\n    2\n}}\n\n{impl}")
+        # (and a constant that none of them names)
+        self.write(f"{FOLDER}/src/more.rt", f"const FAR: u8 = 9;\n\nfn more() -> u8 {{\n    2\n}}\n\n{impl}")
         self.write(CONTROL, edit.replace("{0}", "one"))
         self.told(controls)
-        for text, other in (("^    2", "    3"), ("^        4", "        6"), ("fn sub", "fn subtract")):
+        for text, other in (("^    2", "    3"), ("^        4", "        6"), ("fn sub", "fn subtract"), ("FAR: u8 = 9", "FAR: u8 = 8")):
             self.assert_finds(controls, (STALE, (f"{FOLDER}/src/more.rt", text, other)), words=["--check"])
         caller = f"{FOLDER}/proofs/caller/Answers.antt"
         calls = (f"{FOLDER}/src/caller.rt", "fn caller() {\n    more()\n}\n"), (caller, "new\n")
@@ -151,6 +152,9 @@ class Controls(TreeTest):
         self.write(CONTROL, f"{EDIT}{RIGHT}file: proofs/more/Answers.antt\nold: one = 1\nnew: one = 0\n# right: one = two\n")
         self.told(controls)
         self.assert_finds(controls, (STALE, (proof, "two = 2", "two = 3")), words=["--check"])
+        self.write(CONTROL, "file: proofs/more/Answers.antt\nold: one = 1\nnew: one = 0\n# right: one = two\n")
+        self.told(controls)
+        self.assert_finds(controls, (STALE, (CONTROL, "right: one = two", "right: one = 1 + 0")), words=["--check"])
 
     def test_a_line_without_a_control_goes(self):
         self.told(controls)

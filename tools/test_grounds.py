@@ -1,4 +1,5 @@
-"""What a function stands on: each kind of it is changed in a small tree, and the functions that stand on it are told, and no others."""
+"""What a function stands on: each kind of it is changed in a small tree, and those functions are told that stand on it, and no
+others."""
 import grounds
 from planted import TreeTest
 

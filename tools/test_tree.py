@@ -69,10 +69,10 @@ class Tree(PlantedTest):
         plants = [(f"{source} does not have these lines: {line} ..", (source, f"^{re.escape(line)}$", f"{line} //"))
                   for source, line in dict(quoted).items()]
         self.assert_finds_all(quotes, *plants)
-        tabled = [folder for it in pages for folder, _ in quotes.CALLS.findall(read(self.root / it))]
-        self.assertTrue(tabled)
-        listed = {file for it in pages for _, rows in quotes.CALLS.findall(read(self.root / it)) for file in re.findall(r"`(\w+\.rt)`", rows)}
-        files = [it for folder in tabled for it in self.files(f"{folder}/*.rt") if it.rpartition("/")[2] in listed]
+        tables = [table for it in pages for table in quotes.CALLS.findall(read(self.root / it))]
+        self.assertTrue(tables)
+        listed = {file for _, rows in tables for file in re.findall(r"`(\w+\.rt)`", rows)}
+        files = [it for folder, _ in tables for it in self.files(f"{folder}/*.rt") if it.rpartition("/")[2] in listed]
         self.assert_finds_all(quotes, *((f"the table of calls lacks not_tried of {it.rpartition('/')[2]}", (it, END, CALL))
                                         for it in files))
 
@@ -110,8 +110,9 @@ class Tree(PlantedTest):
             ("there is no such control", (controls.RECORD, END, "arraystring_core/none 0\n")),
             words=["--check"],
         )
-        self.assert_finds_all(reasons, *((f"{it}: its reasons were not read", (reasons.PAGE, f"^{re.escape(it)}$", r"\g<0> (it is so)"))
-                                         for it in re.findall(r"(?m)^\w+::\S+$", read(self.root / reasons.PAGE))), words=["--check"])
+        explained = re.findall(r"(?m)^\w+::\S+$", read(self.root / reasons.PAGE))
+        plants = [(f"{it}: its reasons were not read", (reasons.PAGE, f"^{re.escape(it)}$", r"\g<0> (it is so)")) for it in explained]
+        self.assert_finds_all(reasons, *plants, words=["--check"])
         self.assert_finds_all(proved, *((f"not as it was proved: {it}\n", (it, END, " "))
                                         for crate in proved.CRATES for part in ("src", "specs", "proofs")
                                         for it in self.files(f"crates/{crate}/{part}/**/*.*t")), words=["--check"])
