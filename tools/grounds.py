@@ -17,8 +17,8 @@ import hashlib
 import re
 
 import sources
-from modules import IMPORT, NAME, Modules, imports, module_of
 from closure import closed
+from modules import IMPORT, NAME, Modules, imports, module_of
 from repository import crates, read
 
 WORD = re.compile(r"\w+")
@@ -65,7 +65,9 @@ class Unit:
             self.names = {item[1] or item[2]}
             self.comment = "\n".join(line for line in lines if COMMENT.match(line))
         else:
-            self.names = set(WORD.findall(head)) - {"impl", "for", "const", "unsafe", "N", "usize"} if IMPL.match(head) else set()
+            # (the head of an impl may have several lines)
+            whole = self.text[self.text.find(head):].partition("{")[0] if IMPL.match(head) else ""
+            self.names = set(WORD.findall(whole)) - {"impl", "for", "const", "unsafe", "N", "usize"}
 
 
 class File:

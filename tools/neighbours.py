@@ -38,14 +38,23 @@ def with_name(line, name, other, names):
     return f"{ends}{comma}{re.sub(rf'{other}', name, token)}{line[len(ends):]}"
 
 
+def rank(line, other, known):
+    """How well a line shows where a name stands, 0 where it does not have it: best is a list of names, then the line that says it
+    most often, which does nothing else."""
+    times = len(re.findall(rf"(?<![\w-]){re.escape(other)}(?![\w-])", line))
+    is_list = len(known.intersection(re.findall(r"\w+", line))) > 1
+    return times and times + 100 * is_list
+
+
 def place_of(root, files, name, names, shapes):
     """Where a name would stand in some files, and the line as it would be there; nothing where none of its neighbours is there."""
     lines = [(file, number, line.strip()) for file in files for number, line in enumerate(read(file).split("\n"), 1)]
     lines = [it for it in lines if not it[2].startswith(("//", "#!"))]
+    known = {*names, *shapes}
     for other in nearest(name, names, shapes):
-        times = {it: len(re.findall(rf"(?<![\w-]){re.escape(other)}(?![\w-])", it[2])) for it in lines}
-        # (the line that says it most often does nothing else)
-        file, number, line = best = max(lines, key=times.get, default=None) or (None, 0, "")
-        if times.get(best):
-            return f"{file.relative_to(root)}:{number}: as `{other}` there: {with_name(line, name, other, {*names, *shapes})}"
+        ranks = {it: rank(it[2], other, known) for it in lines}
+        best = max(lines, key=ranks.get, default=None)
+        if ranks.get(best):
+            file, number, line = best
+            return f"{file.relative_to(root)}:{number}: as `{other}` there: {with_name(line, name, other, known)}"
     return ""

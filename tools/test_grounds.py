@@ -255,6 +255,7 @@ uncited n = refl
             (self.OF_SMALL, (SMALL, "c ≡ a", "c ≡ b")),
             ("add", (SMALL, "^        self$", "        other")),
             (self.OF_SMALL, (SMALL, END, "\nimpl Sub for Small {\n    ghost sub_gives = { λ a. a };\n}\n")),
+            (self.OF_SMALL, (SMALL, END, "\nimpl<A: One>\n    Sub<A> for Small\n{\n    ghost sub_gives = { λ a. a };\n}\n")),
             ("quadrupled", (LIB, "near as by", "far as by")),
             (self.OF_TWICE, (LIB, r"small::\{LARGEST, Small", "large::{LARGEST, Small")),
             ("", (LIB, "deep::{self, far", "deep::{self, further")),
