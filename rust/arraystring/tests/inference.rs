@@ -133,8 +133,6 @@ fn texts_are_in_order() {
     ]);
     signs!((t, s, b, c) (*t).borrow() => < [t, &s, &b, &c]);
     signs!((t, s, b, c) (*t).to_owned() => < [s]);
-    signs!((t, s, b, c) (*t).as_ref() => < [c]);
-    signs!((t, s, b, c) &*(*t).as_ref() => < [c]);
     signs!((t, s, b, c) t => < [
         (*t).as_ref(), (*t).borrow(), (*t).into(), &*(*t).as_ref(), t, t.as_ref(), t.borrow(), t.into(),
         t.clone().into(), &*t.as_ref(), s.as_ref(), s.borrow(), &*s.as_ref(), &s, (&s).as_ref(), (&s).borrow(),
@@ -143,8 +141,6 @@ fn texts_are_in_order() {
     ]);
     signs!((t, s, b, c) t.borrow() => < [t, &s, &b, &c]);
     signs!((t, s, b, c) t.to_owned() => < [s]);
-    signs!((t, s, b, c) t.as_ref() => < [c]);
-    signs!((t, s, b, c) &*t.as_ref() => < [c]);
     signs!((t, s, b, c) s => < [
         (*t).into(), (*t).parse().unwrap(), (*t).to_owned(), (*t).chars().collect(), t.into(), t.clone().into(),
         t.parse().unwrap(), t.to_owned(), t.chars().collect(), s, s.clone().into(), s.parse().unwrap(),
@@ -172,9 +168,7 @@ fn texts_are_in_order() {
     signs!((t, s, b, c) &*(&b).as_ref() => < [t, &s, &b, &c]);
     signs!((t, s, b, c) &b => < [b.borrow(), &b, (&b).borrow(), (&b).into()]);
     signs!((t, s, b, c) (&b).to_owned() => < [b]);
-    signs!((t, s, b, c) c => < [
-        (*t).as_ref(), &*(*t).as_ref(), t.as_ref(), &*t.as_ref(), c, c.to_owned(), (&c).to_owned()
-    ]);
+    signs!((t, s, b, c) c => < [c, c.to_owned(), (&c).to_owned()]);
     signs!((t, s, b, c) *c.as_ref() => < [*t]);
     signs!((t, s, b, c) c.as_ref() => < [t, &s, &b, &c]);
     signs!((t, s, b, c) &*c.as_ref() => < [t, &s, &b, &c]);
@@ -184,6 +178,16 @@ fn texts_are_in_order() {
     signs!((t, s, b, c) &*(&c).as_ref() => < [t, &s, &b, &c]);
     signs!((t, s, b, c) (&c).to_owned() => < [c]);
     signs!((t, s, b, c) &c => < [&c, (&c).into()]);
+}
+
+/// These came after the oldest Rust that the crate takes. `rust/check` has them compiled, which is all that is asked of them.
+#[cfg(younger_rust)]
+fn texts_are_in_order_in_a_younger_rust() {
+    signs!((t, s, b, c) (*t).as_ref() => < [c]);
+    signs!((t, s, b, c) &*(*t).as_ref() => < [c]);
+    signs!((t, s, b, c) t.as_ref() => < [c]);
+    signs!((t, s, b, c) &*t.as_ref() => < [c]);
+    signs!((t, s, b, c) c => < [(*t).as_ref(), &*(*t).as_ref(), t.as_ref(), &*t.as_ref()]);
 }
 
 #[test]

@@ -181,7 +181,7 @@ fn the_constructors_of_a_cache_string_require_the_same() {
         refused(|| CacheString::from_str_unchecked(&more));
         refused(|| CacheString::from_utf8_unchecked(&more));
         refused(|| CacheString::from_utf8_unchecked(b"\xC3"));
-        refused_at_the_last(&[&most, "b"], |all| CacheString::from_iterator_unchecked(all));
+        refused_at_the_last(&[most.as_str(), "b"], |all| CacheString::from_iterator_unchecked(all));
         refused_at_the_last(more.as_bytes(), |all| CacheString::from_chars_unchecked(all.map(|byte| *byte as char)));
     }
 }
