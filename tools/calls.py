@@ -80,6 +80,8 @@ NOT_IN_TABLES = """
 """
 # Calls by hand whose tests are in rust/arraystring/tests/by_hand and constants.rs.
 NOT_IN_EVERY_STATE = "as_mut_str const_try_from_str try_from_format"
+# Calls of std that lists of calls name, too.
+OF_STD = ["split_at_mut"]
 # The calls that arraystring 0.3.0 has, too. docs/differences.md names all others.
 OF_THE_CRATE = """
     new try_from_str from_str_truncate from_str_unchecked try_from_chars from_chars from_chars_unchecked try_from_iterator
@@ -198,6 +200,16 @@ def faults_of(root, shapes, what, here, there):
         yield f"{here.name} and {there.name} have no {what} in common"
 
 
+def faults_of_pages(root):
+    """The names with an underscore on pages with lists of calls that are no functions, as of a call that was taken out."""
+    files = ["rust/arraystring/src/**/*.rs", *(f"crates/{it}/src/**/*.rt" for it in STRING_CRATES)]
+    known = {*re.findall(r"fn (\w+)", "".join(text_of(root, it) for it in files)), *crates(root), *OF_STD}
+    for page, heading in (("rust/arraystring/README.md", "The calls"), ("docs/differences.md", "Added")):
+        code = {it.partition("(")[0] for it in inline_code(section(read(root / page), heading))}
+        names = {it for it in code if re.fullmatch(r"[a-z]+(_[a-z0-9]+)+", it)}
+        yield from (f"{page} names {it}, which is no call" for it in sorted(names - known))
+
+
 def faults_of_moves(root):
     """The files outside of tests that name `move_run` and are not in its crate, which has to name it, so that a new name does
     not pass unseen."""
@@ -212,7 +224,8 @@ def main(arguments, root):
     twice = list(places(root))
     files = ["rust/arraystring/src/**/*.rs", *(f"crates/{it}/src/**/*.rt" for it in STRING_CRATES)]
     shapes = neighbours.shapes_of("\n".join(string_blocks(text_of(root, it)) for it in files))
-    faults = [fault for it in twice for fault in faults_of(root, shapes, *it)] + list(faults_of_moves(root))
+    faults = [fault for it in twice for fault in faults_of(root, shapes, *it)]
+    faults += [*faults_of_pages(root), *faults_of_moves(root)]
     counts = [f"{len(here.names)} {what}" for what, here, _ in twice]
     print("\n".join(faults) or f"{sum(len(here.names) for _, here, _ in twice)} names stand in two places: {', '.join(counts)}")
     return bool(faults)

@@ -194,6 +194,15 @@ class Calls(TreeTest):
              (IN_RUST, "^ *pub fn pop\\(.*\n", front)),
         )))
 
+    def test_a_page_that_names_a_call_that_was_taken_out_is_told(self):
+        self.assert_finds(
+            calls,
+            *((f"{page} names pop_front, which is no call\n", (page, heading, rf"{heading}\n`pop`, `pop_front()`, `.._more`"))
+              for page, heading in ((ON_RUST, "## The calls"), (DIFFERENCES, "## Added"))),
+            ("", (ON_RUST, "## The calls", "## The calls\n`pop_counted`, `split_at_mut`, `arraystring_base`, `str`")),
+            ("", (DIFFERENCES, "## Left out", "## Left out\n`pop_front`")),
+        )
+
     def test_a_hidden_call_a_comment_and_a_model_are_none(self):
         with self.changed((IN_RUST, r"^ *#\[doc\(hidden\)\]\n", "")):
             self.assertIn(f"{ON_RUST} lacks of_constant", self.told(calls)[1])
