@@ -2,13 +2,18 @@
 count: every move goes through `shift`.
 
 In two places stand what `places` below lists: public calls of the string and the traits by which it is called, in the sources and
-on the pages that have to name them; the calls that tests, tables and a program without panics make; counted calls, laws, the
-words of commands, and crates. A page names what is in its inline code. A call whose name ends in `_counted` or `_unchecked` is
-named by `.._counted` or `.._unchecked`, too. A trait with arguments is named whole, such as `From<&str>`.
+on the pages that have to name them; the calls of the Rust crate that its tests, tables, benches and a program without panics make;
+counted calls, laws, the words of commands, and crates. A page names what is in its inline code. A call whose name ends in `_counted`
+or `_unchecked` is named by `.._counted` or `.._unchecked`, too. A trait with arguments is named whole, such as `From<&str>`. Of what
+is lacking it says where it would stand: a file and a line, and that line as a neighbour of it stands there.
 """
+import importlib.util
 import re
+from collections import namedtuple
 
-from repository import crates, inline_code, read, section, sources
+import neighbours
+from page_parts import inline_code, section
+from repository import crates, read, sources
 
 STRING_CRATES = ("arraystring_base", "arraystring_core", "arraystring")
 TYPES = "ArrayString|CacheString|Drain"
@@ -35,9 +40,14 @@ def calls_of(text):
     return set(FUNCTION.findall(HIDDEN.sub("", text)))
 
 
+def string_blocks(text):
+    """The impls of `ArrayString` of a text."""
+    return "\n".join(block[0] for block in STRING.finditer(text))
+
+
 def string_calls(text):
-    """Those of `ArrayString`."""
-    return calls_of("\n".join(block[0] for block in STRING.finditer(text)))
+    """The names of the public calls of `ArrayString`."""
+    return calls_of(string_blocks(text))
 
 
 def traits_of(text):
@@ -58,58 +68,146 @@ def first_words(page):
     return {name for cell in re.findall(r"(?m)^\|(`[^|]*)\|", page) for name in re.findall(r"`(\w+)[^`]*`", cell)}
 
 
-def places(root):
-    """All that stands in two places: what it is, the one place with the names that it has, and the other with those it has."""
-    readme, rust_page = read(root / "README.md"), read(root / "rust/arraystring/README.md")
-    base, core, string = (text_of(root, f"crates/{it}/src/**/*.rt") for it in STRING_CRATES)
+# What has the names: how it is called, its files, and the names.
+Place = namedtuple("Place", "name files names")
 
-    calls, pages = string_calls(core) | calls_of(string), section(readme, "The calls") + text_of(root, "crates/*/*.md")
-    listed = [it for heading in ("What cuts, and what refuses", "The calls") for it in inline_code(section(rust_page, heading))]
+# Calls that no row of a table makes as it is: those that make a string have tables of other shapes (rust/arraystring/tests/tables),
+# and `retain` is made as `retain_in_turn` and `retain_without`. Those by hand alone have their tests in rust/arraystring/tests.
+NOT_IN_TABLES = """
+    new try_from_str from_str_truncate from_str_unchecked try_from_chars from_chars from_chars_unchecked try_from_iterator
+    from_iterator from_iterator_unchecked try_from_utf8 from_utf8 from_utf8_unchecked try_from_utf16 from_utf16 from_utf16_lossy
+    as_str is_empty retain as_mut_str const_try_from_str is_full remaining_capacity try_from_format try_write
+"""
+# Calls by hand whose tests are in rust/arraystring/tests/by_hand and constants.rs.
+NOT_IN_EVERY_STATE = "as_mut_str const_try_from_str try_from_format"
+# Calls of std that lists of calls name, too.
+OF_STD = ["split_at_mut"]
+# The calls that arraystring 0.3.0 has, too. docs/differences.md names all others.
+OF_THE_CRATE = """
+    new try_from_str from_str_truncate from_str_unchecked try_from_chars from_chars from_chars_unchecked try_from_iterator
+    from_iterator from_iterator_unchecked try_from_utf8 from_utf8 from_utf8_unchecked try_from_utf16 from_utf16 from_utf16_lossy
+    as_str as_mut_str as_bytes len is_empty capacity try_push push_unchecked try_push_str push_str push_str_unchecked try_insert
+    insert_unchecked try_insert_str insert_str insert_str_unchecked remove pop truncate clear trim retain drain replace_range split_off
+"""
+
+
+def bench_calls(file):
+    """The calls of the string for which rust/bench/calls.py has a program."""
+    spec = importlib.util.spec_from_file_location("bench_calls", file)
+    module = importlib.util.module_from_spec(spec)
+    spec.loader.exec_module(module)
+    return set(re.findall(r"ArrayString::(\w+)(?= |$)(?! behind)", "\n".join(module.expressions()), re.M))
+
+
+def made_in(names, files):
+    """Those of some names that tests of every state try: by `each` with the name, or as a call of the string."""
+    text = "\n".join(map(source, files))
+    made = re.findall(r'each\(\s*"(\w+)"|\b(?:string|ArrayString(?:::<\w+>)?)(?:\.|::)(\w+)\b', text)
+    return names.intersection(name for both in made for name in both)
+
+
+def of_files(root, name, names, *patterns):
+    """What some files have, which are all that match."""
+    return Place(name, [it for pattern in patterns for it in sorted(root.glob(pattern))], names)
+
+
+def call_places(root):
+    """The public calls of the string in its sources, and those of the Rust crate, beside what has to have each of them."""
+    rust_page = "rust/arraystring/README.md"
+    core, string = (text_of(root, f"crates/{it}/src/**/*.rt") for it in STRING_CRATES[1:])
+    calls = string_calls(core) | calls_of(string)
+    pages = section(read(root / "README.md"), "The calls") + text_of(root, "crates/*/*.md")
+    page = read(root / rust_page)
+    listed = [it for heading in ("What cuts, and what refuses", "The calls") for it in inline_code(section(page, heading))]
+    lists = "what lists of calls and pages for callers name"
+    in_source = of_files(root, "src/ of the string", calls, *(f"crates/{it}/src/**/*.rt" for it in STRING_CRATES))
     code = listed + inline_code(pages)
-    yield "public calls", "src/ of the string", calls, "what lists of calls and pages for callers name", named(calls, code)
+    yield "public calls", in_source, of_files(root, lists, named(calls, code), rust_page, "README.md", "crates/*/*.md")
     traits = traits_of(core + string)
-    yield "traits", "src/ of the string", traits, "rust/arraystring/README.md", traits.intersection(listed)
+    yield "traits", in_source._replace(names=traits), of_files(root, rust_page, traits.intersection(listed), rust_page)
 
     calls = string_calls(text_of(root, "rust/arraystring/src/**/*.rs"))
-    yield "Rust calls", "rust/arraystring/src", calls, "rust/arraystring/README.md", named(calls, listed)
+    safe = {it for it in calls if not it.endswith("_unchecked")}
+
+    def rust_calls(but):
+        return of_files(root, "rust/arraystring/src", but, "rust/arraystring/src/**/*.rs")
+
+    yield "Rust calls", rust_calls(calls), of_files(root, rust_page, named(calls, listed), rust_page)
     # (the program links only if none of the calls in it can panic)
-    program = "rust/no_panic/src/main.rs"
-    panicking = set(re.findall(r'"ArrayString::(\w+)": LIKE_STR', read(root / "rust/bench/calls.py")))
-    calls = {it for it in calls - panicking if not it.endswith("_unchecked")}
-    made = calls.intersection(re.findall(r"\b(\w+)\(", source(root / program)))
-    yield "calls without panics", "rust/arraystring/src", calls, program, made
+    program, bench = "rust/no_panic/src/main.rs", "rust/bench/calls.py"
+    panicking = set(re.findall(r'"ArrayString::(\w+)": LIKE_STR', read(root / bench)))
+    made = set(re.findall(r"\b(\w+)\(", source(root / program)))
+    yield "calls without panics", rust_calls(safe - panicking), of_files(root, program, (safe - panicking) & made, program)
+    yield "calls of programs", rust_calls(safe), of_files(root, bench, bench_calls(root / bench), bench)
+    every_state = [*root.glob("rust/arraystring/tests/every_state/*.rs")]
+    tested = calls - {*NOT_IN_EVERY_STATE.split()}
+    yield "calls in every state", rust_calls(tested), \
+        of_files(root, "rust/arraystring/tests/every_state", made_in(tested, every_state), "rust/arraystring/tests/every_state/*.rs")
+    differences = "docs/differences.md"
+    added = calls - {*OF_THE_CRATE.split()}
+    yield "calls that arraystring 0.3.0 lacks", rust_calls(added), \
+        of_files(root, differences, named(added, inline_code(section(read(root / differences), "Added"))), differences)
 
     proved, rust = "crates/arraystring_tests/src/tests/calls.rt", "rust/arraystring/tests/tables/calls.rs"
     arms = set(ARM.findall(source(root / proved).partition("match call {")[2]))
     played = " ".join(re.findall(r'(?m)^const \w+: &str =\s*"([^"]*)";', source(root / rust)))
-    yield "calls of tables", proved, arms, rust, set(re.findall(r"\w+", played))
+    played = of_files(root, rust, set(re.findall(r"\w+", played)), rust)
+    yield "calls of tables", of_files(root, proved, arms, proved), played
+    tabled = calls - {*NOT_IN_TABLES.split()}
+    yield "calls in tables", rust_calls(tabled), of_files(root, proved, tabled & arms, proved)
 
-    counted = {it for it in calls_of(base + core + string) if it.endswith("_counted")}
+
+def places(root):
+    """All that stands in two places: what it is, and the places with the names that they have."""
+    yield from call_places(root)
+    readme = read(root / "README.md")
+    sources_of_string = [f"crates/{it}/src/**/*.rt" for it in STRING_CRATES]
+    all_calls = calls_of("".join(text_of(root, it) for it in sources_of_string))
+    counted = {it for it in all_calls if it.endswith("_counted")}
     bodies = first_words(section(readme, "What a reader checks in the counted calls"))
-    yield "counted calls", "src/ of the string", counted, "the table of bodies in README.md", bodies
+    yield "counted calls", of_files(root, "src/ of the string", counted, *sources_of_string), \
+        of_files(root, "the table of bodies in README.md", bodies, "README.md")
 
     promises, surface = "docs/promises.md", "crates/arraystring_tests/src/tests/surface.rt"
     promised = " ".join(it.removeprefix("laws") for it in inline_code(read(root / promises)) if it.startswith("laws::"))
     laws = calls_of(text_of(root, "crates/*/src/laws.rt"))
-    yield "laws", "crates/*/src/laws.rt", laws, promises, set(re.findall(r"\w+", promised))
-    laws = set().union(*(calls_of(text_of(root, f"crates/{it}/src/laws.rt")) for it in STRING_CRATES))
+    yield "laws", of_files(root, "crates/*/src/laws.rt", laws, "crates/*/src/laws.rt"), \
+        of_files(root, promises, set(re.findall(r"\w+", promised)), promises)
+    files = [f"crates/{it}/src/laws.rt" for it in STRING_CRATES]
+    laws = set().union(*(calls_of(text_of(root, it)) for it in files))
     called = set(re.findall(r"\blaws::(\w+)\(", read(root / surface)))
-    yield "laws of the string", "src/laws.rt of the string", laws, surface, called
+    yield "laws of the string", of_files(root, "src/laws.rt of the string", laws, *files), of_files(root, surface, called, surface)
 
     lines, rows = "crates/arraystring_run/src/line.rt", "docs/scripts.md"
-    yield "commands", lines, set(ARM.findall(source(root / lines))), rows, first_words(read(root / rows))
+    words = set(ARM.findall(source(root / lines)))
+    yield "commands", of_files(root, lines, words, lines), of_files(root, rows, first_words(read(root / rows)), rows)
 
     drawn = re.search(r"```text\n([^`]*)|$", section(readme, "The crates, and what is proved"))[1] or ""
     products = {it for it in crates(root) if "test" not in it}
-    yield "crates", "crates.txt", products, "the drawing in README.md", set(re.findall(r"\w+", drawn))
+    yield "crates", of_files(root, "crates.txt", products, "crates.txt"), \
+        of_files(root, "the drawing in README.md", set(re.findall(r"\w+", drawn)), "README.md")
 
 
-def faults_of(what, here, these, there, those):
-    """What one of two places has and the other has not."""
-    yield from (f"{there} lacks {name}, which {here} has" for name in sorted(these - those))
-    yield from (f"{here} lacks {name}, which {there} has" for name in sorted(those - these))
-    if not these & those:
-        yield f"{here} and {there} have no {what} in common"
+def faults_of(root, shapes, what, here, there):
+    """What one of two places has and the other has not, each with where it would stand; `shapes` are those of calls, in order."""
+    both = here.names & there.names
+    for lacking, having in ((there, here), (here, there)):
+        for name in sorted(having.names - lacking.names):
+            yield f"{lacking.name} lacks {name}, which {having.name} has"
+            place = neighbours.place_of(root, lacking.files, name, both, shapes)
+            yield from [f"    {place}"] * bool(place)
+    if not both:
+        yield f"{here.name} and {there.name} have no {what} in common"
+
+
+def faults_of_pages(root):
+    """The names with an underscore on pages with lists of calls that are no functions, as of a call that was taken out."""
+    files = ["rust/arraystring/src/**/*.rs", *(f"crates/{it}/src/**/*.rt" for it in STRING_CRATES)]
+    known = {*re.findall(r"fn (\w+)", "".join(text_of(root, it) for it in files)), *crates(root), *OF_STD}
+    for page, heading in (("rust/arraystring/README.md", "The calls"), ("docs/differences.md", "Added")):
+        code = {it.partition("(")[0] for it in inline_code(section(read(root / page), heading))}
+        names = {it for it in code if re.fullmatch(r"[a-z]+(_[a-z0-9]+)+", it)}
+        yield from (f"{page} names {it}, which is no call" for it in sorted(names - known))
 
 
 def faults_of_moves(root):
@@ -124,7 +222,10 @@ def faults_of_moves(root):
 
 def main(arguments, root):
     twice = list(places(root))
-    faults = [fault for it in twice for fault in faults_of(*it)] + list(faults_of_moves(root))
-    counts = [f"{len(these)} {what}" for what, _, these, *_ in twice]
-    print("\n".join(faults) or f"{sum(len(it[2]) for it in twice)} names stand in two places: {', '.join(counts)}")
+    files = ["rust/arraystring/src/**/*.rs", *(f"crates/{it}/src/**/*.rt" for it in STRING_CRATES)]
+    shapes = neighbours.shapes_of("\n".join(string_blocks(text_of(root, it)) for it in files))
+    faults = [fault for it in twice for fault in faults_of(root, shapes, *it)]
+    faults += [*faults_of_pages(root), *faults_of_moves(root)]
+    counts = [f"{len(here.names)} {what}" for what, here, _ in twice]
+    print("\n".join(faults) or f"{sum(len(here.names) for _, here, _ in twice)} names stand in two places: {', '.join(counts)}")
     return bool(faults)

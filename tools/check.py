@@ -1,18 +1,22 @@
 """What a change has to pass before anything is proved: the tests of the tools; specs/ has definitions alone, with comments, and
 the page has those of `run`; something cites each lemma; callers are told of each law that crates above the string import; `==`
 is derived, and tested, where it is not listed as written by hand; the pages are as the files that they quote; what stands in two
-places is the same in both; a wrong body touches each public function and impl; and each control and each source of the Rust crate
-is as it was when it proved.
+places is the same in both; a wrong body touches each public function and impl; each control and each source of the Rust crate is
+as it was when it proved; and the reasons of the Rust crate were read since what they stand on changed. The last line says how many
+seconds each part took.
 
 tools/run check             writes nothing
 tools/run check --write     first lays out each crate by `rt fmt`, makes the Rust crate by rust/erase/run where cargo is there,
                             and writes lines and counts into the pages by `quotes --write`
+tools/run check --record    before all that tries the controls without a fresh line, by `controls`, and proves the sources of the Rust
+                            crate, by `proved`; it takes minutes where much has changed
 """
 import ast
 import io
 import re
 import shutil
 import subprocess
+import time
 import unittest
 from collections import Counter
 from contextlib import redirect_stdout
@@ -25,6 +29,7 @@ import evidence
 import imported
 import proved
 import quotes
+import reasons
 import repository
 import trusted
 
@@ -58,15 +63,16 @@ def tests(arguments, root):
 # The parts, each with the words of its call, and how much it has to say at least that it looked at. A search that finds less than
 # there is fails at nothing else. So these are near what there is: what grows by more than a tenth is written here again.
 PARTS = [
-    (tests, [], {"{} tests of the tools": 160}),
+    (tests, [], {"{} tests of the tools": 182}),
     (trusted.main, [], {"run: {} definitions": 65, "all public contracts: {} definitions": 200}),
     (dead.main, [], {"{} lemmas and laws are cited": 760}),
     (imported.main, ["--check"], {"{} laws that crates above import": 41}),
     (equality.main, [], {"{} types have == by a derive": 14}),
     (quotes.main, [], {"{} blocks are as in the files": 37}),
-    (calls.main, [], {"{} names stand in two places": 325, "{} public calls": 58, "{} traits": 18}),
+    (calls.main, [], {"{} names stand in two places": 490, "{} public calls": 58, "{} traits": 18}),
     (evidence.main, [], {"wrong bodies try {} functions": 190}),
     (controls.main, ["--check"], {"{} controls are as they were": 144}),
+    (reasons.main, ["--check"], {"the reasons of {} functions": 105}),
     (proved.main, ["--check"], {"{} sources of the Rust crate are as they were proved": 240}),
 ]
 
@@ -87,6 +93,11 @@ def is_written(root):
     statuses = [status_of(*it) for it in commands]
     quotes.main(["--write"], root)
     return not any(statuses)
+
+
+def is_recorded(root):
+    """Tries and proves what is not recorded as it is; whether all of it proves. Where a control does not, nothing more is tried."""
+    return not controls.main([], root) and not proved.main([], root)
 
 
 def fault_of_count(form, found, least):
@@ -111,6 +122,17 @@ def fails(root, part, words, least):
     return failed
 
 
+def timed(root, part, words, least):
+    """Whether a part fails, its name, and how many seconds it took."""
+    begins = time.perf_counter()
+    failed = fails(root, part, words, least)
+    name = part.__module__ if part.__name__ == "main" else part.__name__
+    return failed, name, time.perf_counter() - begins
+
+
 def main(arguments, root):
-    is_done = arguments != ["--write"] or is_written(root)
-    return any([fails(root, *part) for part in PARTS]) or not is_done
+    is_proved = arguments != ["--record"] or is_recorded(root)
+    is_done = is_proved and (arguments not in (["--write"], ["--record"]) or is_written(root))
+    told = [timed(root, *part) for part in PARTS]
+    print("seconds:", ", ".join(f"{name} {seconds:.1f}" for _, name, seconds in told))
+    return any(failed for failed, *_ in told) or not is_done

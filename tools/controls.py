@@ -6,17 +6,20 @@ tools/run controls --check               tries none, and fails where a control h
 
 A control stands in the edit of its wrong body, crates/CRATE/must-fail/NAME.edit, by lines `# right:`. Each edit is put into a
 copy of the repository among the temporary files, and checked there with what earlier checks kept in out/; no other `rt` may
-write there while the copy is made. Of each control that proves .ci/controls.txt gets a line: its name and a checksum of what was
-tried. That is the edit, the files that it changes without their lines of comments, the stored proofs of the functions that it
-changes and of those that call them, and the logic that `rt version` names. The line is fresh while the checksum is the same.
+write there while the copy is made. Of each control that proves .ci/controls.txt gets a line: its name and a checksum of what it
+stands on. That is the edit, and the grounds of the functions that it changes, as tools/grounds.py says, with the stored proofs of
+their callers where it changes a contract: a control goes stale with these, and with no other function. Where an edit changes what
+stands beside functions, these are all of that file. The line is fresh while the checksum is the same.
 
 It fails where a control is refused, where a wrong body proves or its crate does not, and where an edit cannot be read.
 """
-import hashlib
+import re
 
 import edits
+import kit
 import repository
-import sources
+import repository_copy
+from grounds import Grounds, code_of
 
 RECORD = ".ci/controls.txt"
 
@@ -34,31 +37,43 @@ def record(root, known):
     (root / RECORD).write_text("".join(lines), encoding="utf-8")
 
 
-def proved_part(file):
-    """What a check reads of a file: all but its lines of comments."""
-    return b"".join(it for it in file.read_bytes().splitlines(keepends=True) if not it.lstrip().startswith((b"//", b"--")))
+def grounds_at(file, line):
+    """What a control stands on that changes a line of a source file."""
+    changed = [it for it in file.functions if line in it.span]
+    if changed:
+        callers = {("callers", it.name) for it in changed if not file.is_in_body(it, line)}
+        return callers.union(("function", file, it) for it in changed)
+    # (what is put in the place of a comment changes no contract that is there)
+    callers = {("callers", it.name) for it in file.functions if code_of([file.lines[line]])}
+    return callers.union((("function", file, it) for it in file.functions), (("unit", file, it) for it in file.units))
 
 
-def checksum_of(edit, functions, proofs, logic):
-    """The checksum of what a control depends on in a crate of these functions and proofs; None where it cannot be applied."""
-    digest = hashlib.sha256(logic.encode())
+def grounds_of(edit, files):
+    """What a control stands on, among the source files of the repository; None where it cannot be applied."""
     try:
         texts, places = edits.applied(edit, is_right=True)
     except ValueError:
         return None
-    changed = sources.standing_at(places, functions)
-    callers = [it for of_file in functions.values() for it in of_file if any(other.name in it.words for other in changed)]
-    names = {it.name for it in changed + callers}
-    for file in [edit, *texts, *(it for it in proofs if it.parent.name in names)]:
-        digest.update(hashlib.sha256(proved_part(file)).digest())
-    return digest.hexdigest()[:16]
+    found, code = set(), re.sub(r"(?m)^(file:.*|old:|new:|# right:)", "", repository.read(edit))
+    for path in texts:
+        # (a file that is no source is one of proofs)
+        found.add(("edit", files[path], code) if path in files else ("proof", path))
+    for path, line in places:
+        found |= grounds_at(files[path], line) if path in files else set()
+    return found
+
+
+def checksum_of(edit, grounds):
+    """The checksum of what a control stands on; None where it cannot be applied."""
+    found = grounds_of(edit, grounds.files)
+    return found and grounds.checksum(edit.parent.parent.name, found, more=code_of(repository.read(edit).split("\n")))
 
 
 def try_controls(root, controls, sums, known):
     """Tries controls, and writes a line of each that proves beside those known; whether one does not."""
     record(root, known)
     failed = 0
-    with repository.copied(root) as copy:
+    with repository_copy.copied(root) as copy:
         for name, edit in controls.items():
             is_right, told = edits.tried(copy / edit.relative_to(root), is_right=True)
             known[name] = sums[name] if is_right else None
@@ -72,8 +87,8 @@ def try_controls(root, controls, sums, known):
 def try_wrong_bodies(root, crate, function):
     """Tries the wrong bodies of a function; what is wrong, or whether one proves."""
     outcomes = []
-    with repository.copied(root) as copy:
-        is_proved, message = repository.check(copy / "crates" / crate)
+    with repository_copy.copied(root) as copy:
+        is_proved, message = kit.check(copy / "crates" / crate)
         if not is_proved:
             return f"{crate} is not proved: {message}"
         for edit in sorted((copy / "crates" / crate).glob(f"must-fail/{function}.*.edit")):
@@ -90,12 +105,8 @@ def main(arguments, root):
     if unknown or is_of_edits:
         return unknown or try_wrong_bodies(root, names[0], arguments[2])
     known = dict(line.split(" ") for line in repository.read(root / RECORD).splitlines())
-    logic, controls, sums = repository.logic(), {}, {}
-    for crate in names or repository.crates(root):
-        folder, of_it = root / "crates" / crate, controls_of(root, [crate])
-        functions, proofs = sources.functions(folder), sorted(folder.glob("proofs/**/*.antt"))
-        sums |= {name: checksum_of(edit, functions, proofs, logic) for name, edit in of_it.items()}
-        controls |= of_it
+    grounds, controls = Grounds(root, kit.logic()), controls_of(root, names or repository.crates(root))
+    sums = {name: checksum_of(edit, grounds) for name, edit in controls.items()}
     stale = {name: edit for name, edit in controls.items() if sums[name] is None or known.get(name) != sums[name]}
     if is_checking:
         faults = [f"{it}: {'not as it was when it proved' if it in known else 'not tried'}" for it in stale]

@@ -12,6 +12,7 @@ import subprocess
 import time
 
 import repository
+import repository_copy
 
 
 def first_check(folder):
@@ -39,5 +40,5 @@ def main(arguments, root):
     fault = repository.unknown_crate(root, arguments) if arguments else "name a crate"
     if fault:
         return fault
-    with repository.copied(root) as copy:
+    with repository_copy.copied(root) as copy:
         return any([first_check(copy / "crates" / it) for it in arguments])

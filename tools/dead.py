@@ -15,7 +15,9 @@ inline code names, and families:
 import re
 
 from modules import IMPORT, NAME, Modules, imports
-from repository import closed, crates, inline_code, prose, read
+from closure import closed
+from page_parts import inline_code, prose
+from repository import crates, read
 
 ROW = re.compile(r"[→:] Edit [^→]*$")
 FAMILY = re.compile(r"((?:`[^` ]+-`(?:, | and | ))+)with ((?:`[^`]+`(?:, | and )?)+)")

@@ -8,7 +8,7 @@ A long line is put in piece by piece: a `new:` text ends in the word MORE, which
 import re
 import shutil
 
-import repository
+import kit
 from repository import read
 
 PART = re.compile(r"file: ?(.+)\n|old: ?(.*)\nnew: ?(.*)\n(?:# right: ?(.*)\n)?")
@@ -49,7 +49,7 @@ def tried(edit, is_right):
     shutil.copytree(folder, before, symlinks=True)
     for file, text in texts.items():
         file.write_text(text, encoding="utf-8")
-    is_proved, message = repository.check(folder)
+    is_proved, message = kit.check(folder)
     shutil.rmtree(folder)
     before.rename(folder)
     return is_proved == is_right, "proves" if is_proved else f"REFUSED: {message}"

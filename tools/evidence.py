@@ -2,6 +2,8 @@
 
 tools/run evidence                  looks at the files alone
 tools/run evidence --refused LOG    also at what `rt must-fail` said in LOG of each wrong body
+tools/run evidence --kinds          prints how many there are of each kind, by crate: those that change the function of their
+                                    name, those that change one that this names, and those with a control
 
 A wrong body is crates/CRATE/must-fail/FUNCTION.WHAT_IS_WRONG.edit. FUNCTION is the name of a function of the crate, as
 `pop`. It has the type in front if two have that name, as `Drain.next_back`, and the trait in the function's place if that
@@ -25,7 +27,7 @@ from pathlib import Path
 import edits
 import repository
 import sources
-from repository import closed
+from closure import closed
 
 # Only tests call test_support, and memory_tests is one: what is wrong there its own tests and theirs see, or `tools/run refused`.
 FOR_TESTS = {"test_support", "memory_tests"}
@@ -94,6 +96,24 @@ class Crate:
         return None if is_shown else "refused over a stored proof, and has no control"
 
 
+    def kinds(self):
+        """How many wrong bodies it has, of how many functions, how many change the function of their name, and have a control."""
+        owned = [(edit, self.owner(edit)) for edit in self.edits]
+        owned = [(edit, name) for edit, name in owned if name]
+        itself = [edit for edit, name in owned
+                  if self.asked[name] in sources.standing_at(edits.applied(edit)[1], self.functions)]
+        return len(owned), len({name for _, name in owned}), len(itself), sum(edits.has_control(edit) for edit, _ in owned)
+
+
+def show_kinds(crates):
+    """Prints how many wrong bodies some crates have of each kind."""
+    counts = {crate.folder.name: crate.kinds() for crate in crates if crate.edits}
+    counts["all"] = tuple(map(sum, zip(*counts.values())))
+    for name, (bodies, functions, itself, controlled) in counts.items():
+        print(f"{name}: {bodies} wrong bodies of {functions} functions: {itself} change the function, {bodies - itself} one that it "
+              f"names; {controlled} have a control")
+
+
 def faults_of(crate, log):
     """What is wrong with the edits of a crate, and with their refusals in a log, if there is one."""
     told = {name: said for folder, name, said in VERDICT.findall(log or "") if folder == crate.folder.name}
@@ -109,6 +129,8 @@ def main(arguments, root):
     log = repository.read(Path(arguments[1])) if arguments[:1] == ["--refused"] else None
     crates = [Crate(root / "crates" / it) for it in repository.crates(root)]
     asked = [it for it in crates if it.folder.name not in FOR_TESTS]
+    if arguments == ["--kinds"]:
+        return show_kinds(asked)
     lacking = {f"{crate.folder.name} {name}": count for crate in asked for name, count in crate.lacking()}
     faults = [fault for crate in crates for fault in faults_of(crate, log)]
     faults += [f"wrong bodies of {name} that are missing: {count}" for name, count in lacking.items() if count]

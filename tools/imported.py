@@ -12,7 +12,8 @@ import re
 
 import dead
 from modules import Modules, imports
-from repository import closed, read
+from closure import closed
+from repository import read
 
 STRING = "arraystring"
 MODULE = re.compile(rf"Rattle\.{STRING}(_base|_core)?\.proofs\b")

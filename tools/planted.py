@@ -8,7 +8,8 @@ from contextlib import contextmanager, redirect_stderr, redirect_stdout
 from pathlib import Path
 from unittest import mock
 
-from repository import ROOT, copied, read
+from repository import ROOT, read
+from repository_copy import copied
 
 
 class TreeTest(unittest.TestCase):

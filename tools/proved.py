@@ -12,7 +12,7 @@ rust/erase/run and rust/check stop at a source that it does not have. It is a re
 import hashlib
 import re
 
-import repository
+import kit
 
 RECORD = "rust/proved.txt"
 # What each proof is made of beside its crate: which handles and which crates it may use.
@@ -28,7 +28,7 @@ def due(root):
     folders = [root / "crates" / crate / part for crate in CRATES for part in ("src", "specs", "proofs")]
     files = [root / it for it in FILES] + sorted(it for folder in folders for it in folder.rglob("*") if it.is_file())
     sums = [f"{hashlib.sha256(it.read_bytes()).hexdigest()}  {it.relative_to(root).as_posix()}" for it in files]
-    return [f"# logic {repository.logic().strip()}", *sums]
+    return [f"# logic {kit.logic().strip()}", *sums]
 
 
 def misread(text):
@@ -83,7 +83,7 @@ def main(arguments, root):
     if arguments:
         return "the argument is --check, or none"
     for crate in CRATES:
-        is_proved, message = repository.check(root / "crates" / crate)
+        is_proved, message = kit.check(root / "crates" / crate)
         print(f"proved {crate}: {'proves' if is_proved else 'REFUSED: ' + message}", flush=True)
         if not is_proved:
             return True

@@ -21,7 +21,8 @@ import re
 import subprocess
 
 import calls
-from repository import inline_code, read
+from page_parts import inline_code
+from repository import read
 from sources import functions_of
 
 BLOCK = re.compile(r"(?s)From `([^`\n]+)`:\n+```\w+\n(.*?)\n```")

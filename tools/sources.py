@@ -8,9 +8,9 @@ from repository import public_types, read, sources
 ITEM = re.compile(r"( *)(pub |pub\(\w+\) )?(?:const |unsafe )*(?:fn (\w+)|(impl|trait)\b(.*) \{$)")
 
 
-class Function(namedtuple("Function", "name kind trait is_asked place header body words")):
+class Function(namedtuple("Function", "name kind trait is_asked place span header body words")):
     """A function of a source file: its type and trait, whether a wrong body is asked for, the lines of it or of the impl of a
-    trait that it is in, what stands before its body, the lines of that and their words."""
+    trait that it is in, its own lines with its attributes, what stands before its body, the lines of that and their words."""
 
     def decides(self):
         """Whether the clauses have an equivalence, or it returns a `bool`."""
@@ -47,14 +47,15 @@ def functions_of(text, is_program, public):
             continue
         first = next((i + 1 for i in range(at, last) if re.fullmatch(rf"{indent}(\S.* )?\{{", lines[i])), last)
         header, body = "\n".join(lines[at:first]), tuple(it for it in lines[first:last] if not it.strip().startswith("//"))
+        while lines[at - 1].startswith(f"{indent}#["):
+            at -= 1
+        span = range(at, last + 1)
         if indent and trait:
             is_seen, place = kind in public and has_contract, of_impl
         else:
-            while lines[at - 1].startswith(f"{indent}#["):
-                at -= 1
-            is_seen, place = visibility == "pub " or is_program and name != "main", range(at, last + 1)
+            is_seen, place = visibility == "pub " or is_program and name != "main", span
         owner, words = (kind, trait) if indent else ("", ""), frozenset(re.findall(r"\w+", " ".join(body)))
-        found.append(Function(name, *owner, bool(body and is_seen), place, header, body, words))
+        found.append(Function(name, *owner, bool(body and is_seen), place, span, header, body, words))
     return found
 
 

@@ -10,7 +10,7 @@ pub struct ArrayString<const N: usize> {
 
 impl<const N: usize> ArrayString<N> {
     pub fn pop(&mut self) {}
-    pub fn pop_counted(&mut self) {}
+    pub fn pop_counted(&mut self, steps: &mut Steps) {}
     fn hidden(&self) {}
 }
 
@@ -24,6 +24,7 @@ RUST = """\
 macro_rules! array_string {
     impl<const N: usize> ArrayString<N> {
         pub fn pop(&mut self) {}
+        pub fn pop_counted(&mut self, steps: &mut Steps) {}
         pub unsafe fn pop_unchecked(&mut self) {}
         pub fn slice(&self) {}
         #[doc(hidden)]
@@ -38,12 +39,13 @@ PLAYED = """\
     }
     match call {
         "pop" => text.pop(),
+        "pop_counted" | "pop_unchecked" | "slice" => text.others(),
         "get" | "drain" if is_part => given(" at"),
         _ => return,
     }
 """
 LISTED = """\
-const AT_THE_END: &str = "pop";
+const AT_THE_END: &str = "pop pop_counted pop_unchecked slice";
 const IN_RANGE: &str =
     "drain \\
      get";
@@ -69,7 +71,7 @@ RUST_PAGE = """\
 `pop()`, `slice`
 
 ## The calls
-`.._unchecked`, `Clone`, `Copy`, `From<&str>`
+`.._counted`, `.._unchecked`, `Clone`, `Copy`, `From<&str>`
 
 ## Else
 `clear`
@@ -79,6 +81,19 @@ PLAYERS = "crates/arraystring_tests/src/tests/calls.rt", "rust/arraystring/tests
 SURFACE, LAWS = "crates/arraystring_tests/src/tests/surface.rt", "crates/arraystring_core/src/laws.rt"
 LINES, SCRIPTS, PROMISES = "crates/arraystring_run/src/line.rt", "docs/scripts.md", "docs/promises.md"
 IN_RUST, PROGRAM, PANICS = "rust/arraystring/src/array_string.rs", "rust/no_panic/src/main.rs", "rust/bench/calls.py"
+EVERY_STATE, DIFFERENCES = "rust/arraystring/tests/every_state", "docs/differences.md"
+STATES, OTHER_STATES = f"{EVERY_STATE}/edits.rs", f"{EVERY_STATE}/looks.rs"
+BENCH = """\
+LIKE_STR = "it panics"
+PANICS = {
+    "ArrayString::slice": LIKE_STR,
+}
+
+
+def expressions():
+    names = "pop pop_counted slice"
+    return [f"ArrayString::{it}" for it in names.split()] + ["ArrayString::push behind `pop`", "CacheString::new"]
+"""
 ON_RUST, BODIES = "rust/arraystring/README.md", "the table of bodies in README.md"
 
 
@@ -101,14 +116,18 @@ class Calls(TreeTest):
         PLAYERS[1]: LISTED,
         IN_RUST: RUST,
         ON_RUST: RUST_PAGE,
-        PANICS: '"ArrayString::slice": LIKE_STR,\n',
+        PANICS: BENCH,
+        STATES: 'made += case.each("pop", &popped, |it| it.pop());\n',
+        OTHER_STATES: "made += case.each(\n    \"slice\", it);\nArrayString::<N>::pop_counted(steps);\nstring.pop_unchecked();\n",
+        DIFFERENCES: "## Left out\n`pop`\n\n## Added\n`slice`, `.._counted`, `.._unchecked`\n",
         PROGRAM: "string.pop();\nstring.pop_counted(steps);\n",
     }
 
     def test_what_stands_in_two_places_is_counted(self):
-        counts = "3 public calls, 3 traits, 3 Rust calls, 1 calls without panics, 3 calls of tables, 1 counted calls, 2 laws, " \
+        counts = "3 public calls, 3 traits, 4 Rust calls, 2 calls without panics, 3 calls of programs, 4 calls in every state, " \
+            "3 calls that arraystring 0.3.0 lacks, 6 calls of tables, 4 calls in tables, 1 counted calls, 2 laws, " \
             "1 laws of the string, 2 commands, 3 crates"
-        self.assertEqual(self.told(calls), (False, f"22 names stand in two places: {counts}\n"))
+        self.assertEqual(self.told(calls), (False, f"41 names stand in two places: {counts}\n"))
 
     def test_what_one_of_two_places_lacks_is_told(self):
         here, lists = "src/ of the string", "what lists of calls and pages for callers name"
@@ -116,7 +135,7 @@ class Calls(TreeTest):
         self.assert_finds(calls, *((lacks(*names), *changes) for *names, changes in (
             (lists, "capacity", here, [("crates/arraystring/CALLING.md", "capacity\n\n```rust\n`capacity`\n```\n"),
                                        ("README.md", r"`capacity\(\)`, ", "")]),
-            (lists, "pop_counted", here, [("README.md", r", `\.\._counted`", "")]),
+            (lists, "pop_counted", here, [("README.md", r", `\.\._counted`", ""), (ON_RUST, r"`\.\._counted`, ", "")]),
             (lists, "pop", here, [(ON_RUST, r"`pop\(\)`, ", "")]),
             (lists, "more", here, [(CORE, "fn hidden", "pub fn more")]),
             (ON_RUST, "From<&str>", here, [(ON_RUST, "`From<&str>`", "`From`")]),
@@ -126,6 +145,18 @@ class Calls(TreeTest):
             (PROGRAM, "pop", "rust/arraystring/src", [(PROGRAM, r"string\.pop\(\)", "// string.pop()")]),
             (PROGRAM, "slice", "rust/arraystring/src", [(PANICS, "slice", "trim")]),
             (PROGRAM, "clear", "rust/arraystring/src", [(IN_RUST, "unsafe fn pop_unchecked", "fn clear")]),
+            # (a comment makes no call)
+            (PANICS, "clear", "rust/arraystring/src", [(IN_RUST, r"fn pop\(", "fn clear(")]),
+            ("rust/arraystring/src", "clear", PANICS, [(PANICS, "pop_counted", "clear")]),
+            (EVERY_STATE, "clear", "rust/arraystring/src", [(IN_RUST, r"fn pop\(", "fn clear(")]),
+            (EVERY_STATE, "pop", "rust/arraystring/src", [(STATES, '"pop"', '"popped"')]),
+            (EVERY_STATE, "pop", "rust/arraystring/src", [(STATES, '^', '// ')]),
+            (EVERY_STATE, "pop_counted", "rust/arraystring/src", [(OTHER_STATES, "::pop_counted", "::popped")]),
+            (EVERY_STATE, "pop_unchecked", "rust/arraystring/src", [(OTHER_STATES, "string.pop_unchecked", "text.pop_unchecked")]),
+            (DIFFERENCES, "more", "rust/arraystring/src", [(IN_RUST, r"fn pop\(", "fn more(")]),
+            (DIFFERENCES, "slice", "rust/arraystring/src", [(DIFFERENCES, "## Added", "`slice`\n\n## Added"),
+                                                            (DIFFERENCES, "`slice`, `", "`")]),
+            (PLAYERS[0], "clear", "rust/arraystring/src", [(IN_RUST, r"fn pop\(", "fn clear(")]),
             (PLAYERS[0], "get", PLAYERS[1], [(PLAYERS[0], r'"get" \| ', "")]),
             (PLAYERS[1], "len", PLAYERS[0], [(PLAYERS[0], '"pop" =>', '"len" =>')]),
             (PLAYERS[1], "drain", PLAYERS[0], [(PLAYERS[1], r"drain \\$", r"\\\\")]),
@@ -141,6 +172,36 @@ class Calls(TreeTest):
             ("the drawing in README.md", "records", "crates.txt", [("crates.txt", "_tests:", "_tests:\nrecords:")]),
             ("crates.txt", "uses", "the drawing in README.md", [("README.md", "arraystring_uses", "uses")]),
         )))
+
+    def test_it_says_where_what_is_lacking_would_stand(self):
+        """As the call that stands next among those of its form does."""
+        front = "        pub fn pop(&mut self) {}\n        pub fn pop_front(&mut self) {}\n"
+        proved = "    pub fn pop(&mut self) {}\n    pub fn pop_front(&mut self) {}\n"
+        listed = f"{ON_RUST}:2: as `pop` there: `pop()`, `pop_front()`, `slice`"
+        self.assert_finds(calls, *((f"{lacking} lacks pop_front, which {having} has\n    {place}\n", *changes)
+                                   for lacking, having, place, *changes in (
+            ("what lists of calls and pages for callers name", "src/ of the string", listed, (CORE, "^ *pub fn pop\\(.*\n", proved)),
+            *((lacking, "rust/arraystring/src", place, (IN_RUST, "^ *pub fn pop\\(.*\n", front)) for lacking, place in (
+                (ON_RUST, listed),
+                (PROGRAM, f"{PROGRAM}:1: as `pop` there: string.pop_front();"),
+                (PANICS, f'{PANICS}:8: as `pop` there: names = "pop pop_front pop_counted slice"'),
+                (EVERY_STATE, f'{STATES}:1: as `pop` there: made += case.each("pop_front", &popped, |it| it.pop_front());'),
+                (PLAYERS[0], f'{PLAYERS[0]}:5: as `pop` there: "pop_front" => text.pop_front(),'),
+            )),
+            (PLAYERS[1], PLAYERS[0],
+             f'{PLAYERS[1]}:1: as `pop` there: const AT_THE_END: &str = "pop pop_front pop_counted pop_unchecked slice";',
+             (PLAYERS[0], '^ *"pop" .*\n', '        "pop" => text.pop(),\n        "pop_front" => text.pop_front(),\n'),
+             (IN_RUST, "^ *pub fn pop\\(.*\n", front)),
+        )))
+
+    def test_a_page_that_names_a_call_that_was_taken_out_is_told(self):
+        self.assert_finds(
+            calls,
+            *((f"{page} names pop_front, which is no call\n", (page, heading, rf"{heading}\n`pop`, `pop_front()`, `.._more`"))
+              for page, heading in ((ON_RUST, "## The calls"), (DIFFERENCES, "## Added"))),
+            ("", (ON_RUST, "## The calls", "## The calls\n`pop_counted`, `split_at_mut`, `arraystring_base`, `str`")),
+            ("", (DIFFERENCES, "## Left out", "## Left out\n`pop_front`")),
+        )
 
     def test_a_hidden_call_a_comment_and_a_model_are_none(self):
         with self.changed((IN_RUST, r"^ *#\[doc\(hidden\)\]\n", "")):

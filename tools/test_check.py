@@ -1,7 +1,9 @@
 """What `tools/run check` asks for, that each part of it is enough to fail, and that none looks at too little."""
+import re
 import shutil
 import subprocess
 import sys
+import time
 
 import check
 from planted import TreeTest
@@ -15,15 +17,27 @@ END = r"\Z"
 class Check(TreeTest):
     FILES = {"crates.txt": "numbers:\nletters: numbers\n"}
 
-    def parts(self, failing=None, said="5 letters and 30 numbers are"):
-        """There are two parts, of which each says this, and one may fail."""
-        parts = [lambda words, root, it=it: print(said) or it == failing for it in range(2)]
+    # (what takes no time is told last)
+    SECONDS = "seconds: one 0.0, two 0.0\n"
+
+    def parts(self, failing=None, said="5 letters and 30 numbers are", waits=0):
+        """There are two parts, of which each says this and takes its time, and one may fail."""
+        def part(number, name):
+            def main(words, root):
+                time.sleep(number * waits)
+                print(said)
+                return number == failing
+
+            main.__module__ = name
+            return main
+
+        parts = [part(*it) for it in enumerate(("one", "two"))]
         self.put(check, "PARTS", [(it, [], {"{} letters": 5, "and {} numbers are": 30}) for it in parts])
 
     def test_each_part_is_asked_and_enough_to_fail(self):
         named = [f"{it.__module__}.{it.__name__} {' '.join(words)}".strip() for it, words, _ in check.PARTS]
         due = ["check.tests", "trusted.main", "dead.main", "imported.main --check", "equality.main", "quotes.main", "calls.main",
-               "evidence.main", "controls.main --check", "proved.main --check"]
+               "evidence.main", "controls.main --check", "reasons.main --check", "proved.main --check"]
         self.assertEqual(named, due)
         for failing, told in ((None, False), (0, True), (1, True)):
             self.parts(failing)
@@ -37,11 +51,19 @@ class Check(TreeTest):
             ("5 letters and 34 numbers are", "and 34 numbers are, and tools/check.py asks for 30 alone: write more there\n"),
         ):
             self.parts(said=said)
-            self.assertEqual(self.told(check), (True, f"{said}\n{told}" * 2))
+            self.assertEqual(self.told(check), (True, f"{said}\n{told}" * 2 + self.SECONDS))
         self.parts(said="5 letters and 33 numbers are")
         self.assertFalse(self.told(check)[0])
         self.parts(0, "a fault")
         self.assertEqual(self.told(check)[1].splitlines()[:2], ["a fault"] * 2)
+
+    def test_it_says_how_long_each_part_takes(self):
+        self.parts(waits=0.15)
+        seconds = re.search(r"(?m)^seconds: one (\d+\.\d), two (\d+\.\d)$", self.told(check)[1])
+        self.assertTrue(float(seconds[1]) < 0.15 <= float(seconds[2]) + 0.05, seconds)
+        self.put(check, "PARTS", [(check.tests, [], {})])
+        self.put(check, "fails", lambda root, part, words, least: False)
+        self.assertEqual(self.told(check), (False, "seconds: tests 0.0\n"))
 
     def test_each_part_has_to_say_what_it_looked_at(self):
         self.assertTrue(all(least and min(least.values()) > 0 for _, _, least in check.PARTS))
@@ -75,8 +97,21 @@ class Check(TreeTest):
         self.put(check.shutil, "which", lambda name: None)
         self.assertEqual(self.written()[:2], (False, [*formed, ("quotes --write", ".")]))
 
+    def test_what_is_to_be_recorded_is_tried_and_proved_before_it_is_written(self):
+        for failing, wanted in (("", ["controls", "proved", "written"]), ("controls", ["controls"]),
+                                ("proved", ["controls", "proved"]), ("written", ["controls", "proved", "written"])):
+            met = []
+            for module in (check.controls, check.proved):
+                self.put(module, "main", lambda words, root, it=module.__name__: met.append(it) or it == failing)
+            self.put(check, "is_written", lambda root: not met.append("written") and failing != "written")
+            self.parts()
+            failed, said = self.told(check, "--record")
+            self.assertEqual((failed, met), (bool(failing), wanted))
+            self.assertIn(self.SECONDS, said)
+
     def test_nothing_is_written_unasked(self):
-        self.put(check, "is_written", lambda root: self.fail("it wrote"))
+        for name in ("is_written", "is_recorded"):
+            self.put(check, name, lambda root: self.fail("it wrote"))
         self.parts()
         self.assertFalse(self.told(check)[0])
 

@@ -2,7 +2,7 @@
 import re
 
 import controls
-import repository
+import kit
 from planted import TreeTest
 from repository import read
 
@@ -44,12 +44,12 @@ class Controls(TreeTest):
 
     def setUp(self):
         super().setUp()
-        self.put(repository, "logic", lambda: "a logic")
+        self.put(kit, "logic", lambda: "a logic")
         self.prove_where(lambda folder: True)
 
     def prove_where(self, holds):
         """A check proves where this holds of a crate's folder."""
-        self.put(repository, "check", lambda folder: (holds(folder), OPEN))
+        self.put(kit, "check", lambda folder: (holds(folder), OPEN))
 
     def record(self):
         return read(self.root / controls.RECORD)
@@ -75,14 +75,17 @@ class Controls(TreeTest):
         self.told(controls)
         self.assert_finds(
             controls,
-            (STALE, (FILE, END, "\n")),
-            (STALE, (FILE, "^    1", "    2")),
+            (STALE, (FILE, r"fn twice\(value: u8\)", "fn twice(value: u16)")),
+            (STALE, (FILE, r"^    value \+ value", "    let value = value;\n    value + value")),
             (STALE, (CONTROL, "{ value }", "{ { value } }")),
             (STALE, (f"{FOLDER}/proofs/twice/Answers.antt", "a", "b")),
-            # (the stored proof of a caller, and of what has become one)
-            (STALE, (f"{FOLDER}/proofs/quadrupled/Answers.antt", "b", "a")),
-            (STALE, (f"{FOLDER}/proofs/quadrupled/Invariants.antt", "new\n")),
-            (STALE, (f"{FOLDER}/src/more.rt", "^    2", "    twice(1)"), (f"{FOLDER}/proofs/more/Answers.antt", "new\n")),
+            # (the contract of what the control alone names)
+            (STALE, (CONTROL, "{ value }", "more(value)"), (f"{FOLDER}/src/more.rt", "fn more", "fn more<A>")),
+            # (other functions of the file, and one that calls it, with its stored proof)
+            ("", (f"{FOLDER}/proofs/quadrupled/Answers.antt", "b", "a")),
+            ("", (FILE, END, "\nfn new() -> u8 {\n    3\n}\n")),
+            ("", (FILE, "^    1", "    2")),
+            ("", (FILE, r"^    twice\(once\)", "    once")),
             ("", (f"{FOLDER}/proofs/more/Answers.antt", "new\n")),
             ("", (f"{FOLDER}/src/more.rt", "^    2", "    3")),
             ("", (OTHER, r"\+ 0", "- value")),
@@ -95,8 +98,63 @@ class Controls(TreeTest):
             (f"{NAME}: not tried\n", (controls.RECORD, "")),
             words=["--check"],
         )
-        self.put(repository, "logic", lambda: "another logic")
+        self.put(kit, "logic", lambda: "another logic")
         self.assertEqual(self.told(controls, "--check"), (True, STALE))
+
+    def test_one_that_changes_a_contract_depends_on_the_stored_proofs_of_callers(self):
+        for old, new, right in (("fn twice(value: u8)", "fn twice(value: u16)", "fn twice(value: u8, )"),
+                                ("    ensures { result ≡ 2 }", "    ensures { result ≡ 3 }", "    ensures { 2 ≡ result }")):
+            self.write(FILE, SOURCE.replace("-> u8 {\n    value", "-> u8\n    ensures { result ≡ 2 }\n{\n    value"))
+            self.write(CONTROL, f"file: src/lib.rt\nold: {old}\nnew: {new}\n# right: {right}\n")
+            self.told(controls)
+            self.assert_finds(
+                controls,
+                (STALE, (f"{FOLDER}/proofs/quadrupled/Answers.antt", "b", "a")),
+                (STALE, (f"{FOLDER}/proofs/quadrupled/Invariants.antt", "new\n")),
+                (STALE, (f"{FOLDER}/src/more.rt", "^    2", "    twice(1)"), (f"{FOLDER}/proofs/more/Answers.antt", "new\n")),
+                ("", (f"{FOLDER}/proofs/other/Answers.antt", "c", "d")),
+                words=["--check"],
+            )
+
+    def test_one_that_changes_what_stands_beside_functions_depends_on_all_of_them(self):
+        """So does one of a trait's impl, but for the bodies of its functions."""
+        edit = "file: src/more.rt\nold:     ghost {0} = 1;\nnew:     ghost {0} = 2;\n# right:     ghost {0} = { 1 };\n"
+        impl = "impl Add for u8 {\n    ghost one = 1;\n    fn add() -> u8 {\n        4\n    }\n    fn sub() {\n        5\n    }\n}\n"
+        # (and a constant that none of them names)
+        self.write(f"{FOLDER}/src/more.rt", f"const FAR: u8 = 9;\n\nfn more() -> u8 {{\n    2\n}}\n\n{impl}")
+        self.write(CONTROL, edit.replace("{0}", "one"))
+        self.told(controls)
+        for text, other in (("^    2", "    3"), ("^        4", "        6"), ("fn sub", "fn subtract"), ("FAR: u8 = 9", "FAR: u8 = 8")):
+            self.assert_finds(controls, (STALE, (f"{FOLDER}/src/more.rt", text, other)), words=["--check"])
+        caller = f"{FOLDER}/proofs/caller/Answers.antt"
+        calls = (f"{FOLDER}/src/caller.rt", "fn caller() {\n    more()\n}\n"), (caller, "new\n")
+        self.assert_finds(controls, ("", (FILE, "^    1", "    2")), (STALE, *calls), words=["--check"])
+        # (what is put in the place of a comment leaves the contracts that are there)
+        self.write(f"{FOLDER}/src/more.rt", f"fn more() -> u8 {{\n    2\n}}\n\n// A comment.\n\n{impl}")
+        self.write(CONTROL, "file: src/more.rt\nold: // A comment.\nnew: fn new() {}\n# right: fn right() {}\n")
+        self.told(controls)
+        self.assert_finds(controls, ("", *calls), (STALE, (f"{FOLDER}/src/more.rt", "^    2", "    3")), words=["--check"])
+        self.write(f"{FOLDER}/src/more.rt", f"fn more() -> u8 {{\n    2\n}}\n\n{impl}")
+        self.write(CONTROL, "file: src/more.rt\nold:         4\nnew:         5\n# right:         { 4 }\n")
+        self.told(controls)
+        self.assert_finds(
+            controls,
+            (STALE, (f"{FOLDER}/src/more.rt", "one = 1", "one = 2")),
+            (STALE, (f"{FOLDER}/src/more.rt", "^        4", "        2 + 4")),
+            ("", (f"{FOLDER}/src/more.rt", "^        5", "        6")),
+            ("", (f"{FOLDER}/src/more.rt", "^    2", "    3")),
+            words=["--check"],
+        )
+
+    def test_one_that_changes_a_stored_proof_depends_on_it(self):
+        proof = f"{FOLDER}/proofs/more/Answers.antt"
+        self.write(proof, "one : ℕ\none = 1\n\ntwo : ℕ\ntwo = 2\n")
+        self.write(CONTROL, f"{EDIT}{RIGHT}file: proofs/more/Answers.antt\nold: one = 1\nnew: one = 0\n# right: one = two\n")
+        self.told(controls)
+        self.assert_finds(controls, (STALE, (proof, "two = 2", "two = 3")), words=["--check"])
+        self.write(CONTROL, "file: proofs/more/Answers.antt\nold: one = 1\nnew: one = 0\n# right: one = two\n")
+        self.told(controls)
+        self.assert_finds(controls, (STALE, (CONTROL, "right: one = two", "right: one = 1 + 0")), words=["--check"])
 
     def test_a_line_without_a_control_goes(self):
         self.told(controls)

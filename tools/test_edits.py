@@ -1,6 +1,6 @@
 """How an edit is read, applied and tried."""
 import edits
-import repository
+import kit
 from planted import TreeTest
 from repository import read
 
@@ -87,7 +87,7 @@ class Edits(TreeTest):
             (folder / "out/new").touch()
             return outcome
 
-        self.put(repository, "check", check)
+        self.put(kit, "check", check)
         self.write(EDIT, f"{PAIR}# right:     {{ 1 }}\n")
         for outcome, is_right, told in (((False, "src/lib.rt:1:1: open"), False, (True, "REFUSED: src/lib.rt:1:1: open")),
                                         ((False, "no"), True, (False, "REFUSED: no")),

@@ -121,6 +121,20 @@ class Evidence(TreeTest):
                 said = self.told(evidence)[1]
         self.assertEqual(said, MISSING("numbers Number.Debug", 1) + MISSING("numbers Number.Display", 1))
 
+    def test_the_kinds_are_counted_by_crate(self):
+        """One changes the function of its name, and one what that names; one of them has a control."""
+        def kinds(name, controlled):
+            return f"{name}: 2 wrong bodies of 2 functions: 1 change the function, 1 one that it names; {controlled} have a control\n"
+
+        for controlled in (0, 1):
+            self.assertEqual(self.told(evidence, "--kinds"), (False, kinds("numbers", controlled) + kinds("all", controlled)))
+            self.write(f"{FOLDER}/doubled.is_once.edit", f"{ONCE}# right:     value + {{ value }}\n")
+        self.write("crates/program/must-fail/print.is_one.edit", "file: src/main.rt\nold:     2\nnew:     1\n")
+        self.write(PROGRAM, "fn main() {\n    print()\n}\n\nfn print() {\n    2\n}\n")
+        self.assertEqual(self.told(evidence, "--kinds")[1].splitlines()[1:], [
+            "program: 1 wrong bodies of 1 functions: 1 change the function, 0 one that it names; 0 have a control",
+            "all: 3 wrong bodies of 3 functions: 2 change the function, 1 one that it names; 1 have a control"])
+
     def test_what_decides_has_one_for_each_direction(self):
         edit = f"{FOLDER}/doubled.is_thrice.edit"
         for decides in ((FILE, r"pub fn doubled\(&self\) -> u8$", "pub fn doubled(&self) -> bool"),

@@ -3,7 +3,7 @@ import shutil
 import subprocess
 
 import proved
-import repository
+import kit
 from planted import TreeTest
 from repository import read
 
@@ -44,12 +44,12 @@ class Proved(TreeTest):
 
     def setUp(self):
         super().setUp()
-        self.put(repository, "logic", lambda: "0a1b2c3d4e5f6789\n")
+        self.put(kit, "logic", lambda: "0a1b2c3d4e5f6789\n")
         self.checked = []
         self.prove_where(lambda folder: True)
 
     def prove_where(self, holds):
-        self.put(repository, "check", lambda folder: (self.checked.append(folder.name) or holds(folder), OPEN))
+        self.put(kit, "check", lambda folder: (self.checked.append(folder.name) or holds(folder), OPEN))
 
     def record(self):
         return read(self.root / proved.RECORD)
@@ -155,7 +155,7 @@ class Proved(TreeTest):
 
     def test_a_kit_that_names_its_logic_in_another_way_is_refused(self):
         for named in ("", "0a1b\n", "0a1b2c3d4e5f6789 ff\n"):
-            self.put(repository, "logic", lambda named=named: named)
+            self.put(kit, "logic", lambda named=named: named)
             for words in ([], ["--check"]):
                 failed, said = self.told(proved, *words)
                 self.assertEqual((failed, said, self.checked),

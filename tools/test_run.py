@@ -17,8 +17,8 @@ class Door(unittest.TestCase):
             status, said = self.called(*words)
             self.assertEqual(status, 2)
             commands = re.search(r"The commands are (.*)\.", said)[1].split(", ")
-            wanted = {"check", "trusted", "dead", "imported", "equality", "quotes", "calls", "evidence", "controls", "proved",
-                      "cost", "refused"}
+            wanted = {"check", "trusted", "dead", "imported", "equality", "quotes", "calls", "evidence", "controls", "reasons",
+                      "proved", "cost", "refused"}
             self.assertEqual({*commands}, wanted)
 
     def test_each_command_says_what_it_does(self):

@@ -1,5 +1,6 @@
-"""That the commands read the files of this repository as they are laid out: mistakes of several kinds are planted in one copy of
-it, and each is told. All other tests of the commands have small trees."""
+"""That the commands read the files of this repository as they are laid out: in a copy of it each meets a mistake that it has to tell.
+Where it is planted is looked for in the copy, so that no honest change of the repository is in its way. All other tests of the
+commands have small trees."""
 import re
 
 import calls
@@ -8,21 +9,31 @@ import dead
 import evidence
 import proved
 import quotes
+import reasons
+import kit
 import trusted
 from planted import PlantedTest
-from repository import read
+from repository import crates, read, sources
 
-BASE, CORE, STRING, USES = (f"crates/arraystring{it}" for it in ("_base", "_core", "", "_uses"))
-TEXT, CUTS, LEMMAS = f"{BASE}/specs/Text.antt", f"{BASE}/proofs/CutLaws.antt", f"{CORE}/proofs/GapLemmas.antt"
-REMOVE, PARTS, ANSWERS = f"{CORE}/src/array_string/remove.rt", f"{USES}/src/parts.rt", f"{CORE}/proofs/array_string/ArrayString"
-PAGE, README, RUST_PAGE, LAWS = "docs/definitions.md", "README.md", "rust/arraystring/README.md", f"{STRING}/LAWS.md"
 END = r"\Z"  # where something is added to a file
-LEMMA = "\npub {0} : (n : ℕ) → n ≡ n\n{0} n = {1} n\n"
+LAW = "\npub not_cited : (n : ℕ) → n ≡ n\nnot_cited n = refl\n"
+DEFINITION = "\n-- it is not used\nabbrev pub not_used : ℕ → ℕ\nnot_used n = n\n"
+CALL = "\npub fn not_tried(value: u8) -> bool {\n    value == 1\n}\n"
+BODY = "refused, as it must be: the machine stopped"
 
 
 class Tree(PlantedTest):
-    FOLDER = f"{CORE}/must-fail"
-    CONTROLLED = f"{FOLDER}/ArrayString.as_str.borrows_from_offset_0.edit"
+    def files(self, pattern):
+        """The paths of files in the repository, each of which is there."""
+        found = [str(it.relative_to(self.root)) for it in sorted(self.root.glob(pattern))]
+        self.assertTrue(found, pattern)
+        return found
+
+    def first(self, path, form):
+        """What an expression finds first in a file."""
+        found = re.search(form, read(self.root / path), re.M)
+        self.assertTrue(found, (path, form))
+        return found[0]
 
     def assert_finds_all(self, command, *plants, words=()):
         """Of all these changes together the command says what stands before each."""
@@ -34,97 +45,74 @@ class Tree(PlantedTest):
                 self.assertIn(wanted, said)
 
     def test_trusted(self):
+        specs, page = self.files("crates/arraystring*/specs/[A-Z]*s.antt"), trusted.PAGE
+        row = self.first(page, r"^\|`[^`]*`\|.*\n")
         self.assert_finds_all(
             trusted,
-            ("in the place of", (PAGE, r"^\|`first_tight_from.*\n", "")),
-            ("none is a proof: it belongs in", (TEXT, END, "\npub none : size [] ≡ 0\nnone = omega arith\n")),
-            ("width calls a tactic: search", (TEXT, "^width c = .*", "width c = search rules")),
-            ("Text imports from proofs: Rattle.x.proofs.Order", (TEXT, r"^use Rattle.std", r"use Rattle.x.proofs.Order\n\g<0>")),
-            ("unused is reached by no contract and no law", (TEXT, END, "\nabbrev pub unused : ℕ → ℕ\nunused n = n\n")),
-            ("IsWholeOrRefused has no comment", (f"{CORE}/specs/Construct.antt", r"^-- the whole text t.*\n", "")),
+            ("in the place of", (page, re.escape(row), "")),
+            *((f"{it}:", (it, END, DEFINITION)) for it in specs if "GhostProofs" not in it),
+            ("not_cited is a proof: it belongs in", (specs[0], END, LAW)),
         )
 
     def test_dead(self):
-        passed = (f"{STRING}/proofs/LoopLaws.antt", END, "\npub use Rattle.arraystring_core.proofs.EditLaws.{inside-so}\n")
-        self.assert_finds_all(
-            dead,
-            ("unused is cited by nothing", (LEMMAS, END, LEMMA.format("unused", "unused"))),
-            ("opened_end is cited by nothing", (f"{CORE}/src/array_string.rt", r"^ *#\[.*StoredLaws::opened_end.*\n", "")),
-            ("small is cited by nothing", (f"{ANSWERS}/pop_counted/Answers.antt", END, "\nsmall : 1 ≤ 2\nsmall = omega arith\n")),
-            ("chars_empty is cited by nothing", (f"{BASE}/src/utf8.rt", r"^#\[.*(crate::proofs::.*::chars_empty).*", r"// \1")),
-            ("its helper go is cited by nothing", (f"{STRING}/proofs/RemovalLaws.antt", r"b, go \(", "b, b, (")),
-            ("cut-again is cited by nothing", (CUTS, END, LEMMA.format("cut-again", "refl"))),
-            ("names cut-more, which is no law for callers", (LAWS, "`cut-fits", "`cut-more")),
-            ("names front-middle, which is no law", (LAWS, "with `start t`, ", r"\g<0>`middle t`, ")),
-            ("CALLING.md names split-cut, which is no law", (f"{STRING}/CALLING.md", "`split-made i m`", "`split-cut i m`")),
-            ("passes on inside-so, which no page names and nothing imports", passed),
-            ("Answers.antt imports unused and does not use it",
-             (f"{ANSWERS}/remove_counted/Answers.antt", r"\A", "use Rattle.arraystring_core.proofs.GapLemmas.{unused}\n")),
-        )
+        plants = [(it, END, LAW) for it in self.files("crates/*/proofs/*Laws.antt") + self.files("crates/*/proofs/*Lemmas.antt")]
+        self.assert_finds_all(dead, *((f"{it[0]}:", it) for it in plants))
+        with self.changed(*plants):
+            self.assertEqual(self.told(dead)[1].count("not_cited is cited by nothing"), len(plants))
 
     def test_quotes(self):
-        printed = re.search("Printed by.*\n\n```text\n([^`]*)", read(self.root / PAGE))[1]
-        self.put(quotes, "printed", lambda root, command: printed)
-        self.assert_finds_all(
-            quotes,
-            ("does not have these lines", (f"{USES}/src/greeting.rt", r"greeting\.push_str", "greeting.push")),
-            ("does not define widths", (PAGE, r"^\|`width c`", "|`widths c`")),
-            ("would write: run: ", (PAGE, r"^run: \d+", "run: 5")),
-            ("pop has no answers", ("CONTRIBUTING.md", "`pop_counted` have goals", "`pop` have goals")),
-            ("no wrong body is named pop.drops_all", ("docs/review.md", END, "\nSee `pop.drops_all`.\n")),
-            ("the list of Text and the module differ in cap", (f"{STRING}/CALLING.md", "`cap`, ", "")),
-            ("the table of calls lacks popped of remove.rt", (REMOVE, r"pub fn pop\(", "pub fn popped(")),
-            ("the error of `truncate(i)` is not `Utf8`", (REMOVE, "Result<\\(\\), Utf8>", "Result<(), Error>")),
-            ("the contract of `split_off(i)` has no split", (REMOVE, r"Makes \(split ", "Makes (parted ")),
-            ("no module is named CuttingLaws", (LAWS, "`CutLaws`", "`CuttingLaws`")),
-            ("there is no crates/bounded_records_usage", ("crates/bounded_records/CALLING.md", "records_uses`", "records_usage`")),
-        )
+        """Each page that quotes a file is read, and the tables of calls."""
+        self.put(quotes, "printed", lambda root, command: "what it prints\n")
+        pages = {it: quotes.BLOCK.findall(read(self.root / it)) for it in self.files("**/*.md")}
+        quoted = [(source, block.split("\n")[0]) for blocks in pages.values() for source, block in blocks]
+        self.assertGreater(len(quoted), 20)
+        plants = [(f"{source} does not have these lines: {line} ..", (source, f"^{re.escape(line)}$", f"{line} //"))
+                  for source, line in dict(quoted).items()]
+        self.assert_finds_all(quotes, *plants)
+        tables = [table for it in pages for table in quotes.CALLS.findall(read(self.root / it))]
+        self.assertTrue(tables)
+        listed = {file for _, rows in tables for file in re.findall(r"`(\w+\.rt)`", rows)}
+        files = [it for folder, _ in tables for it in self.files(f"{folder}/*.rt") if it.rpartition("/")[2] in listed]
+        self.assert_finds_all(quotes, *((f"the table of calls lacks not_tried of {it.rpartition('/')[2]}", (it, END, CALL))
+                                        for it in files))
 
     def test_calls(self):
-        surface, proved_calls = (f"crates/arraystring_tests/src/tests/{it}.rt" for it in ("surface", "calls"))
-        rust, program = "rust/arraystring/tests/tables/calls.rs", "rust/no_panic/src/main.rs"
-        rust_remove, scripts = "rust/arraystring/src/arraystring_core/array_string/remove.rs", "docs/scripts.md"
-        self.assert_finds_all(
-            calls,
-            (" lacks popped, which src/ of the string has", (REMOVE, "pub fn pop\\(", "pub fn popped(")),
-            (" lacks FusedIterator, which src/", (RUST_PAGE, "`FusedIterator`", "`Fused`")),
-            (" lacks Zeroable, which src/", (f"{STRING}/src/cache_string.rt", r"Copy, Debug\)", "Copy, Debug, Zeroable)")),
-            (f"{program} lacks popped, which rust/", (rust_remove, r"pub fn pop\(", "pub fn popped(")),
-            (f"{program} lacks make_ascii_uppercase_in", ("rust/bench/calls.py", "ArrayString::make_ascii_uppercase_in", "none")),
-            (f"{proved_calls} lacks pop, which", (proved_calls, '^( *)"pop" =>', r'\1"popp" =>')),
-            (f"{rust} lacks pop_counted, which", (rust, '"pop_counted ', '"')),
-            (f"{surface} lacks parts, which", (surface, r"^ *laws::parts\(\);\n", "")),
-            (f"{scripts} lacks drain_back, which", (scripts, r"^\|`drain_back.*\n", "")),
-            (" lacks records, which crates.txt has", ("crates.txt", "^arraystring_run:", r"records:\n\g<0>")),
-            (f"{PARTS} names move_run: move by shift", (PARTS, END, "\nfn moved() {\n    move_run();\n}\n")),
-        )
+        """Each call of each file of the string is read."""
+        head = "impl<const N: usize> ArrayString<N> {"
+        files = [it for it in self.files("crates/arraystring_core/src/**/*.rt") if f"\n{head}\n" in read(self.root / it)]
+        self.assertGreater(len(files), 5)
+        plants = [(f"lacks new_{number}, which src/ of the string has",
+                   (it, f"^{re.escape(head)}$", f"{head}\n    pub fn new_{number}(&self) {{\n    }}\n"))
+                  for number, it in enumerate(files)]
+        self.assert_finds_all(calls, *plants)
 
     def test_evidence(self):
-        new = "\n{} is_even(value: u8) -> {} {{\n    if value > 1 {{ 1 }} else {{ value }}\n}}\n"
-        shown = "\nimpl Display for Drain<4> {\n    ghost output = { 0 };\n    fn fmt() {\n        1\n    }\n}\n"
-        split = read(self.root / self.FOLDER / "split_off.returns_the_empty_string.edit")
-        missing = "wrong bodies of {} that are missing: {}\n"
-        self.assert_finds_all(
-            evidence,
-            (missing.format("arraystring_uses is_even", 2), (PARTS, END, new.format("pub fn", "bool"))),
-            (missing.format("arraystring_core Drain.fmt", 1), (f"{CORE}/src/drain/traits.rt", END, shown)),
-            (missing.format("arraystring_cli is_even", 1), ("crates/arraystring_cli/src/main.rt", END, new.format("fn", "u8"))),
-            (missing.format("arraystring_core remove", 1), (REMOVE, r"^( *)self\.remove_counted\(", r"\1let it = 1;\n\g<0>")),
-            ("trim.drops: it does not touch trim, nor what that names", (f"{self.FOLDER}/trim.drops.edit", split)),
-            ("remove.rt does not have this once", (REMOVE, r"self.as_str\(\), steps\)\?", "self.as_str())?")),
-        )
-        self.write("log", "must-fail arraystring_core/pop.takes_two.edit: refused, as it must be: the machine stopped\n")
+        asked = [it for it in crates(self.root) if it not in evidence.FOR_TESTS]
+        asked = [it for it in asked if sources(self.root / "crates" / it) and not (self.root / f"crates/{it}/src/main.rt").exists()]
+        plants = [(f"wrong bodies of {it} not_tried that are missing: 2\n", (f"crates/{it}/src/lib.rt", END, CALL)) for it in asked]
+        self.assertGreater(len(plants), 5)
+        self.assert_finds_all(evidence, *plants)
+        edit = next(it for it in self.files("crates/*/must-fail/*.edit"))
+        _, crate, _, name = edit.removesuffix(".edit").split("/")
+        self.write("log", f"must-fail {crate}/{name}.edit: {BODY}\n")
         said = self.told(evidence, "--refused", str(self.root / "log"))[1]
-        self.assertIn("arraystring_core pop.takes_two: refused neither by a goal of src/", said)
-        self.assertIn("arraystring_core remove_counted.accepts_the_length: the log does not say that it is refused", said)
+        self.assertIn(f"{crate} {name}: refused neither by a goal of src/", said)
+        self.assertIn(": the log does not say that it is refused", said)
 
-    def test_controls_and_what_was_proved(self):
-        stale = "ArrayString.as_str.borrows_from_offset_0: not as it was when it proved"
+    def test_what_was_tried_read_and_proved(self):
+        self.put(kit, "logic", lambda: "0a1b2c3d4e5f6789")
+        path = {line: line.split(" ")[0] for line in read(self.root / controls.RECORD).splitlines()}
+        edits = {name: f"crates/{name.replace('/', '/must-fail/', 1)}.edit" for name in path.values()}
+        self.assertGreater(len(edits), 100)
         self.assert_finds_all(
             controls,
-            (stale, (self.CONTROLLED, "^# right: ", "# right:  ")),
+            *((f"{name}: not as it was when it proved", (edit, "^# right: ", "# right:  ")) for name, edit in edits.items()),
             ("there is no such control", (controls.RECORD, END, "arraystring_core/none 0\n")),
             words=["--check"],
         )
-        plants = [(f"not as it was proved: {it}\n", (it, END, " ")) for it in (REMOVE, TEXT, LEMMAS)]
-        self.assert_finds_all(proved, *plants, words=["--check"])
+        explained = re.findall(r"(?m)^\w+::\S+$", read(self.root / reasons.PAGE))
+        plants = [(f"{it}: its reasons were not read", (reasons.PAGE, f"^{re.escape(it)}$", r"\g<0> (it is so)")) for it in explained]
+        self.assert_finds_all(reasons, *plants, words=["--check"])
+        self.assert_finds_all(proved, *((f"not as it was proved: {it}\n", (it, END, " "))
+                                        for crate in proved.CRATES for part in ("src", "specs", "proofs")
+                                        for it in self.files(f"crates/{crate}/{part}/**/*.*t")), words=["--check"])

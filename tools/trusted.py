@@ -23,7 +23,8 @@ from collections import namedtuple
 from itertools import zip_longest
 
 from modules import NAME, Modules, imports
-from repository import closed, crates, public_types, read, sources
+from closure import closed
+from repository import crates, public_types, read, sources
 
 LIBRARIES = ["arraystring_base", "arraystring_core", "arraystring", "arraystring_run", "bounded_records"]
 PAGE = "docs/definitions.md"

@@ -22,9 +22,10 @@ use crate::width;
 /// Each file of the Rust crate that is made, by its path in `src`.
 pub type Made = BTreeMap<String, String>;
 
-/// Makes all files out of the sources in a folder of crates.
-pub fn made(crates: &Path) -> Result<(Made, Tally), String> {
-    let (mut known, mut tally) = (Contracts::default(), Tally::of(reasons::all()?));
+/// Makes all files out of the sources of a repository.
+pub fn made(root: &Path) -> Result<(Made, Tally), String> {
+    let (mut known, mut tally) = (Contracts::default(), Tally::of(reasons::all(root)?));
+    let crates = &root.join("crates");
     let texts = texts(crates)?;
     let mut all = Vec::new();
     for Text { krate, path, text, .. } in &texts {
@@ -161,6 +162,9 @@ pub fn write(made: &Made, target: &Path) -> Result<(), String> {
     }
     for (path, text) in made {
         let path = target.join(path);
+        if fs::read_to_string(&path).is_ok_and(|found| found == *text) {
+            continue;
+        }
         let folder = path.parent().unwrap_or(target);
         fs::create_dir_all(folder).map_err(|error| format!("{}: {error}", folder.display()))?;
         fs::write(&path, text).map_err(|error| format!("{}: {error}", path.display()))?;

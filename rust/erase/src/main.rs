@@ -9,7 +9,7 @@
 //!
 //! Without `--check` it writes `rust/arraystring/src`; with it, it says whether that is as the sources say. The folder is
 //! the repository, by default the one that the eraser was built in. What it can't read stops it, and so does a source that is
-//! not as it was when it was proved. With `--unproved` each file that is made says so instead.
+//! not as it was when it was proved. With `--unproved` what is made of such a source says so instead.
 
 mod body;
 mod checksum;
@@ -22,7 +22,6 @@ mod edits;
 mod erase;
 mod files;
 mod items;
-mod listed;
 // (the comparison reads the rest)
 #[allow(dead_code)]
 #[path = "../../lists.rs"]
@@ -33,6 +32,7 @@ mod places;
 mod proved;
 mod reasons;
 mod rules;
+mod trust_page;
 mod uses;
 mod width;
 mod words;
@@ -66,17 +66,17 @@ fn main() -> ExitCode {
 
 /// Makes or compares the files of the crate, and tells what was erased.
 fn run(root: &std::path::Path, is_check: bool, is_unproved_allowed: bool) -> Result<(), String> {
-    let (mut made, tally) = files::made(&root.join("crates"))?;
+    let (mut made, tally) = files::made(root)?;
     let proved = proved::told(&mut made, root, is_unproved_allowed)?;
     let is_formatted = files::format(&mut made, &root.join("rust"))?;
     let target = root.join("rust/arraystring/src");
     let explained = words::explained(&made, &files::read(&target.join(words::PAGE))?)?;
     if is_check {
         files::compare(&made, &target, is_formatted)?;
-        listed::compare(root)?;
+        trust_page::compare(root)?;
     } else {
         files::write(&made, &target)?;
-        listed::write(root)?;
+        trust_page::write(root)?;
     }
     for (what, count) in &tally.counts {
         println!("{count:5} {what}");

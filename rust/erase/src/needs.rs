@@ -11,7 +11,7 @@ use crate::cursor::Fault;
 use crate::erase::{Source, Tally};
 use crate::items::Item;
 use crate::places::{Running, functions, laws, twins};
-use crate::reasons::{ACCESSES, CASTS, Reasons, WRITES};
+use crate::reasons::{ACCESSES, CASTS, PAGE, Reasons, WRITES};
 
 /// What a call, an access or a write of a body needs, or its casts.
 pub struct Need {
@@ -144,7 +144,9 @@ impl Here<'_> {
         // (each write has its own, and calls of a worker may share one)
         let number = if whys.len() == 1 && worker != WRITES { 0 } else { number };
         let (Some(why), Some(reasons)) = (whys.get(number), self.reasons) else {
-            let why = format!("`{path}`: src/reasons.txt does not say why what `{worker}` requires is true there");
+            let why = format!(
+                "`{path}`: {PAGE} does not say why what `{worker}` requires is true there: below that path it needs a line `    {worker}: ..`"
+            );
             return Err(Fault::new(at, why));
         };
         tally.used.insert(format!("reason {path} {worker} {number}"));
@@ -158,9 +160,8 @@ impl Here<'_> {
             return Ok(why.to_string());
         }
         if reasons.anyway.is_empty() {
-            let why = format!(
-                "`{path}`: Rust gives up a clause of it, and src/reasons.txt does not say why `{worker}` needs none"
-            );
+            let why =
+                format!("`{path}`: Rust gives up a clause of it, and {PAGE} does not say why `{worker}` needs none");
             return Err(Fault::new(at, why));
         }
         tally.used.insert(format!("anyway {path}"));

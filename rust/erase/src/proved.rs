@@ -20,43 +20,76 @@ const FILES: [&str; 2] = ["HANDLES", "crates.txt"];
 /// The folders of a crate that its proof is made of.
 const PARTS: [&str; 3] = ["src", "specs", "proofs"];
 
-/// The first line of each file that is made of sources which the record does not have.
-const MARK: &str = "// NOT PROVED: rust/proved.txt does not have the sources of this crate as they are.\n";
+/// The first line of a file whose source the record does not have as it is.
+const MARK: &str = "// NOT PROVED: rust/proved.txt does not have the source of this file as it is.\n";
 
 /// Compares the sources with the record, and returns what is to be said of it. Where they differ, that is an error; if it is
-/// allowed, each file that is made says it instead.
+/// allowed, each file that is made of a source that differs says it instead. No file is made of `specs` and `proofs`: what differs
+/// there is said alone. Where the record can't be read, or what each proof is made of differs, each file says it.
 pub fn told(made: &mut Made, root: &Path, is_unproved_allowed: bool) -> Result<String, String> {
-    match as_recorded(root) {
-        Err(why) if is_unproved_allowed => {
-            made.values_mut().for_each(|text| text.insert_str(0, MARK));
-            Ok(format!("NOT PROVED, as the first line of each file says: {why}"))
+    let (differing, is_of_each) = match compared(root) {
+        Ok(Compared { differing, count, logic }) if differing.is_empty() => {
+            return Ok(format!("{count:5} files are as in {RECORD}, proved by logic {logic}"));
         }
-        Err(why) => Err(format!(
+        Ok(Compared { differing, .. }) => {
+            let is_of_each = differing.iter().any(|differs| FILES.contains(&differs.path.as_str()));
+            (differing, is_of_each)
+        }
+        Err(why) => (vec![Differs { path: String::new(), why }], true),
+    };
+    let why = &differing[0].why;
+    if !is_unproved_allowed {
+        return Err(format!(
             "{why}. `tools/run proved` proves the sources and writes the record; --unproved takes them as they are"
-        )),
-        told => told,
+        ));
     }
+    let is_made_of =
+        |text: &str| differing.iter().any(|differs| text.starts_with(&format!("// Made from {} by ", differs.path)));
+    let mut marked = 0;
+    for text in made.values_mut().filter(|text| is_of_each || is_made_of(text)) {
+        text.insert_str(0, MARK);
+        marked += 1;
+    }
+    let which = if is_of_each { "each file".to_string() } else { format!("{marked} files") };
+    let all: Vec<_> = differing.iter().map(|differs| differs.why.as_str()).collect();
+    Ok(format!("NOT PROVED, as the first line of {which} says: {}", all.join("; ")))
 }
 
-/// How many files are as in the record; the first that is not is an error.
-fn as_recorded(root: &Path) -> Result<String, String> {
+/// The sources beside the record.
+struct Compared {
+    differing: Vec<Differs>,
+    /// How many files the record has, and by which logic.
+    count: usize,
+    logic: String,
+}
+
+/// A file that is not as in the record.
+struct Differs {
+    path: String,
+    why: String,
+}
+
+/// Compares each file with the record. That there is none which can be read is an error, and so is one of another logic.
+fn compared(root: &Path) -> Result<Compared, String> {
     let text = read(&root.join(RECORD))?;
     let (logic, mut left) = recorded(&text)?;
     let of_kit = logic_of_kit(root)?;
     if logic != of_kit {
         return Err(format!("{RECORD}:1: the logic is `{logic}`, and {KIT} names `{of_kit}`"));
     }
-    let count = left.len();
+    let (count, mut differing) = (left.len(), Vec::new());
     for path in due(root)? {
         let bytes = fs::read(root.join(&path)).map_err(|error| format!("{path}: {error}"))?;
         if left.remove(path.as_str()) != Some(&sha256(&bytes)) {
-            return Err(format!("{path} is not as in {RECORD}"));
+            let why = format!("{path} is not as in {RECORD}");
+            differing.push(Differs { path, why });
         }
     }
-    match left.first_key_value() {
-        Some((path, _)) => Err(format!("{path} is in {RECORD}, and is not there")),
-        None => Ok(format!("{count:5} files are as in {RECORD}, proved by logic {logic}")),
-    }
+    differing.extend(
+        left.into_keys()
+            .map(|path| Differs { path: path.to_string(), why: format!("{path} is in {RECORD}, and is not there") }),
+    );
+    Ok(Compared { differing, count, logic: logic.to_string() })
 }
 
 /// The paths that the record has to have.
@@ -162,27 +195,48 @@ mod tests {
             fs::read_to_string(self.0.join(RECORD)).unwrap()
         }
 
-        /// What is said of the sources, and what becomes of a file that is made.
-        fn told(&self, is_unproved_allowed: bool) -> (Result<String, String>, String) {
-            let mut made = Made::from([("a.rs".to_string(), "fn f() {}\n".to_string())]);
-            (told(&mut made, &self.0, is_unproved_allowed), made.remove("a.rs").unwrap())
+        /// What is said of the sources, and the sources of the files that say they are not proved, of all that are made.
+        fn told(&self, is_unproved_allowed: bool) -> (Result<String, String>, Vec<&'static str>) {
+            let made_of = |path: &str| format!("// Made from {path} by rust/erase.\nfn f() {{}}\n");
+            let mut made: Made = sources_of_files().map(|path| (path.to_string(), made_of(path))).collect();
+            let told = told(&mut made, &self.0, is_unproved_allowed);
+            let marked = sources_of_files().filter(|path| made[*path] != made_of(path)).collect();
+            for (path, text) in &made {
+                assert_eq!(text.strip_prefix(MARK).unwrap_or(text), &made_of(path));
+            }
+            (told, marked)
         }
 
-        /// That this is what differs: it stops the eraser, or is said in each file that is made.
-        fn assert_differs(&self, why: &str) {
-            let (told, file) = self.told(false);
+        /// That this is what differs: it stops the eraser, or is said in the files of some sources.
+        fn assert_marks(&self, why: &str, wanted: &[&str]) {
+            let (told, marked) = self.told(false);
             assert!(
                 told.as_ref().is_err_and(|told| told.starts_with(&format!("{why}. "))),
                 "{told:?}, where {why} is due"
             );
-            assert_eq!(file, "fn f() {}\n");
-            let (told, file) = self.told(true);
-            assert!(
-                told.as_ref().is_ok_and(|told| told.ends_with(&format!(": {why}"))),
-                "{told:?}, where {why} is due"
-            );
-            assert_eq!(file, format!("{MARK}fn f() {{}}\n"));
+            assert!(marked.is_empty());
+            let (told, marked) = self.told(true);
+            let which = if wanted.len() == 3 { "each file".to_string() } else { format!("{} files", wanted.len()) };
+            let due = format!("NOT PROVED, as the first line of {which} says: {why}");
+            assert_eq!((told, marked.as_slice()), (Ok(due), wanted));
         }
+
+        /// That this differs, of which nobody can tell what is made.
+        fn assert_differs(&self, why: &str) {
+            self.assert_marks(why, &sources_of_files().collect::<Vec<_>>());
+        }
+
+        /// That a file differs: what is made of it says so. Nothing is made of a proof, and all of a file at the top.
+        fn assert_file_differs(&self, path: &str, why: &str) {
+            let is_of_all = FILES.contains(&path);
+            let wanted: Vec<_> = sources_of_files().filter(|source| is_of_all || *source == path).collect();
+            self.assert_marks(why, &wanted);
+        }
+    }
+
+    /// The sources of which files are made.
+    fn sources_of_files() -> impl Iterator<Item = &'static str> {
+        SOURCES.iter().map(|(path, _)| *path).filter(|path| path.ends_with(".rt"))
     }
 
     impl Drop for Repository {
@@ -198,7 +252,7 @@ mod tests {
         repository.write("crates/arraystring_run/src/lib.rt", "no source of the Rust crate");
         let due = "   11 files are as in rust/proved.txt, proved by logic 0a1b2c3d4e5f6789".to_string();
         for is_unproved_allowed in [false, true] {
-            assert_eq!(repository.told(is_unproved_allowed), (Ok(due.clone()), "fn f() {}\n".to_string()));
+            assert_eq!(repository.told(is_unproved_allowed), (Ok(due.clone()), Vec::new()));
         }
     }
 
@@ -209,7 +263,7 @@ mod tests {
             for changed in [format!("{text} "), text.replace('c', "d"), text.replace('a', "")] {
                 if changed != text {
                     repository.write(path, &changed);
-                    repository.assert_differs(&format!("{path} is not as in rust/proved.txt"));
+                    repository.assert_file_differs(path, &format!("{path} is not as in rust/proved.txt"));
                     repository.write(path, text);
                 }
             }
@@ -218,22 +272,40 @@ mod tests {
     }
 
     #[test]
+    fn all_that_were_changed_are_named_and_what_is_made_of_them_says_so() {
+        let repository = Repository::new("several");
+        let changed = [
+            "crates/arraystring_base/src/lib.rt",
+            "crates/arraystring_core/proofs/Lib.antt",
+            "crates/arraystring/src/lib.rt",
+        ];
+        for path in changed {
+            repository.write(path, "other");
+        }
+        let (told, marked) = repository.told(true);
+        let why = changed.map(|path| format!("{path} is not as in rust/proved.txt")).join("; ");
+        assert_eq!(told, Ok(format!("NOT PROVED, as the first line of 2 files says: {why}")));
+        assert_eq!(marked, [changed[0], changed[2]]);
+        assert!(repository.told(false).0.unwrap_err().starts_with(&format!("{} is not as in", changed[0])));
+    }
+
+    #[test]
     fn a_source_that_only_one_of_them_has_is_named() {
         let repository = Repository::new("one-of-them");
         let record = repository.record();
         for (line, (path, text)) in record.lines().skip(1).zip(SOURCES) {
             repository.write(RECORD, &record.replace(&format!("{line}\n"), ""));
-            repository.assert_differs(&format!("{path} is not as in rust/proved.txt"));
+            repository.assert_file_differs(path, &format!("{path} is not as in rust/proved.txt"));
             repository.write(RECORD, &record);
             if FILES.contains(&path) {
                 continue;
             }
             fs::remove_file(repository.0.join(path)).unwrap();
-            repository.assert_differs(&format!("{path} is in rust/proved.txt, and is not there"));
+            repository.assert_file_differs(path, &format!("{path} is in rust/proved.txt, and is not there"));
             repository.write(path, text);
             let other = format!("{path}.more");
             repository.write(&other, text);
-            repository.assert_differs(&format!("{other} is not as in rust/proved.txt"));
+            repository.assert_file_differs(&other, &format!("{other} is not as in rust/proved.txt"));
             fs::remove_file(repository.0.join(&other)).unwrap();
         }
         assert!(repository.told(false).0.is_ok());
@@ -357,8 +429,8 @@ mod tests {
         let repository = Repository::new("no-record");
         fs::remove_file(repository.0.join(RECORD)).unwrap();
         for (is_unproved_allowed, is_marked) in [(false, false), (true, true)] {
-            let (told, file) = repository.told(is_unproved_allowed);
-            assert_eq!((told.is_ok(), file.starts_with(MARK)), (is_unproved_allowed, is_marked));
+            let (told, marked) = repository.told(is_unproved_allowed);
+            assert_eq!((told.is_ok(), marked.len() == 3), (is_unproved_allowed, is_marked));
             assert!(told.unwrap_or_else(|why| why).contains("rust/proved.txt: No such file"));
         }
     }

@@ -1,6 +1,12 @@
 //! Why what workers require is true, as `reasons.txt` says.
 
+use std::path::Path;
+
+use crate::files;
 use crate::lists::CRATES;
+
+/// The page, from the top of the repository.
+pub const PAGE: &str = "rust/erase/src/reasons.txt";
 
 /// The reasons of a function.
 pub struct Reasons {
@@ -21,16 +27,16 @@ pub const WRITES: &str = "writes";
 /// In place of a worker: the casts of the function to a number of fewer bits.
 pub const CASTS: &str = "casts";
 
-/// The reasons of all functions.
-pub fn all() -> Result<&'static [Reasons], String> {
-    read(include_str!("reasons.txt"))
+/// The reasons of all functions of a repository.
+pub fn all(root: &Path) -> Result<&'static [Reasons], String> {
+    read(files::read(&root.join(PAGE))?.leak())
 }
 
 /// The reasons of a page.
 pub fn read(page: &'static str) -> Result<&'static [Reasons], String> {
     let mut all = Vec::<Reasons>::new();
     for (at, line) in page.lines().enumerate().filter(|(_, line)| !line.is_empty() && !line.starts_with('#')) {
-        let fault = |why: &str| Err(format!("rust/erase/src/reasons.txt:{}: {why}: `{line}`", at + 1));
+        let fault = |why: &str| Err(format!("{PAGE}:{}: {why}: `{line}`", at + 1));
         match (line.strip_prefix("    "), all.last_mut()) {
             (Some(reason), Some(last)) => match reason.split_once(": ") {
                 Some((worker, why)) if !worker.trim().is_empty() && !why.trim().is_empty() => {
@@ -95,7 +101,7 @@ mod tests {
             ("arraystring::a::B::h", "", &[("a::g", "no")]),
         ];
         assert_eq!(told, wanted);
-        assert!(all().is_ok());
+        assert!(all(Path::new(concat!(env!("CARGO_MANIFEST_DIR"), "/../.."))).is_ok());
     }
 
     #[test]

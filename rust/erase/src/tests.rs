@@ -6,14 +6,20 @@ use super::*;
 
 #[path = "tests/accesses.rs"]
 mod accesses;
+#[path = "tests/compared_files.rs"]
+mod compared_files;
+#[path = "tests/known_names.rs"]
+mod known_names;
 #[path = "tests/odd.rs"]
 mod odd;
 #[path = "tests/pages.rs"]
 mod pages;
-#[path = "tests/refused.rs"]
-mod refused;
-#[path = "tests/ruled.rs"]
-mod ruled;
+#[path = "tests/preconditions.rs"]
+mod preconditions;
+#[path = "tests/rule_samples.rs"]
+mod rule_samples;
+#[path = "tests/unread_sources.rs"]
+mod unread_sources;
 #[path = "tests/writes.rs"]
 mod writes;
 
@@ -79,7 +85,7 @@ arraystring_core::array_string::range::ArrayString::make_ascii_uppercase_in (so 
 /// What is known of functions that samples call.
 fn known() -> (Contracts, Tally) {
     let (mut known, mut tally) = (Contracts::default(), Tally::of(reasons::read(REASONS).unwrap()));
-    let source = Source { krate: "arraystring_base", path: "arraystring_base/src/steps.rt", text: ruled::STEPS };
+    let source = Source { krate: "arraystring_base", path: "arraystring_base/src/steps.rt", text: rule_samples::STEPS };
     Read::new(source, &mut known, &mut tally).unwrap();
     (known, tally)
 }

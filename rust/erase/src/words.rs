@@ -23,9 +23,10 @@ pub fn explained(made: &Made, page: &str) -> Result<usize, String> {
             let of_head: BTreeSet<&str> = words(&head).into_iter().collect();
             for word in free_words(&contract).into_iter().filter(|word| !of_head.contains(word)) {
                 let Some(word) = known.get(word) else {
-                    let head = head.trim();
+                    let (head, near) = (head.trim(), near(page, word));
                     return Err(format!(
-                        "rust/arraystring/src/{file}: {PAGE} does not have the word `{word}` of `{head}`"
+                        "rust/arraystring/src/{PAGE}:{near}: no row has the word `{word}` of `{head}` in {file}: \
+                         add `//! | `{word} ..` | .. | .. |` there"
                     ));
                 };
                 used.insert(*word);
@@ -41,6 +42,13 @@ pub fn explained(made: &Made, page: &str) -> Result<usize, String> {
         }
         None => Ok(count),
     }
+}
+
+/// The line of the page behind whose row a word would stand: its first word begins as this one does.
+fn near(page: &str, word: &str) -> usize {
+    let alike = |row: &str| row.chars().zip(word.chars()).take_while(|(one, other)| one == other).count();
+    let rows = page.lines().enumerate().filter_map(|(at, line)| Some((at + 1, line.strip_prefix("//! | `")?)));
+    rows.max_by_key(|(_, row)| alike(row)).map_or(1, |(line, _)| line)
 }
 
 /// The words of the first column of each row of the tables of a page, without those that a row only names by `λ x.`.
@@ -178,8 +186,14 @@ mod tests {
             ("output = { λ s. size s };", "output"),
             ("ensures { result ≡ (let) }", "let"),
         ] {
+            // (the line of the row that begins alike, and else the last)
+            let line = match word {
+                "requires" => 4,
+                _ => 5,
+            };
             let why = format!(
-                "rust/arraystring/src/sample.rs: {PAGE} does not have the word `{word}` of `pub fn f(t: u8) {{`"
+                "rust/arraystring/src/{PAGE}:{line}: no row has the word `{word}` of `pub fn f(t: u8) {{` in sample.rs: \
+                 add `//! | `{word} ..` | .. | .. |` there"
             );
             assert_eq!(explained(&with(contract, "pub fn f(t: u8) {"), ROWS), Err(why));
         }

@@ -1,5 +1,6 @@
 //! The program as it is called: what it prints, what it ends with, and which files it leaves.
 
+use std::collections::BTreeMap;
 use std::fs;
 use std::path::{Path, PathBuf};
 use std::process::{Command, Output};
@@ -22,10 +23,15 @@ fn copy(from: &Path, to: &Path) {
     }
 }
 
+/// All files below a folder.
+fn files_below(folder: &Path) -> Vec<PathBuf> {
+    let paths = fs::read_dir(folder).unwrap().map(|entry| entry.unwrap().path());
+    paths.flat_map(|path| if path.is_dir() { files_below(&path) } else { vec![path] }).collect()
+}
+
 /// The texts of all files below a folder.
 fn texts(folder: &Path) -> Vec<String> {
-    let paths = fs::read_dir(folder).unwrap().map(|entry| entry.unwrap().path());
-    paths.flat_map(|path| if path.is_dir() { texts(&path) } else { vec![fs::read_to_string(&path).unwrap()] }).collect()
+    files_below(folder).iter().map(|path| fs::read_to_string(path).unwrap()).collect()
 }
 
 /// A copy of the tree without the record of what was proved, which goes when it is dropped.
@@ -38,10 +44,32 @@ impl Tree {
             copy(&Path::new(ROOT).join(krate).join("src"), &folder.join(krate).join("src"));
         }
         copy(&Path::new(ROOT).join(WRITTEN), &folder.join(WRITTEN));
-        for file in ["rust/rustfmt.toml", "rust/arraystring/TRUST.md"] {
+        fs::create_dir_all(folder.join("rust/erase/src")).unwrap();
+        for file in ["rust/rustfmt.toml", "rust/arraystring/TRUST.md", "rust/erase/src/reasons.txt"] {
             fs::copy(Path::new(ROOT).join(file), folder.join(file)).unwrap();
         }
         Tree(folder)
+    }
+
+    /// Records the sources as they are.
+    fn record(&self) {
+        let mut record = "# logic 0a1b2c3d4e5f6789\n".to_string();
+        fs::write(self.0.join("README.md"), "The kit is `a-kit logic 0a1b2c3d4e5f6789`.\n").unwrap();
+        fs::write(self.0.join("HANDLES"), "").unwrap();
+        fs::write(self.0.join("crates.txt"), "").unwrap();
+        for part in ["specs", "proofs"] {
+            READ.iter().for_each(|krate| fs::create_dir_all(self.0.join(krate).join(part)).unwrap());
+        }
+        let command = "sha256sum HANDLES crates.txt $(find crates -name '*.rt')";
+        let told = Command::new("sh").args(["-c", command]).current_dir(&self.0).output().unwrap();
+        record += &String::from_utf8(told.stdout).unwrap();
+        fs::write(self.0.join("rust/proved.txt"), record).unwrap();
+    }
+
+    /// The text of each file that is written, by its path.
+    fn files(&self) -> BTreeMap<PathBuf, String> {
+        let paths = files_below(&self.0.join(WRITTEN)).into_iter();
+        paths.map(|path| (path.clone(), fs::read_to_string(path).unwrap())).collect()
     }
 
     fn command(&self, words: &[&str]) -> Command {
@@ -90,7 +118,7 @@ fn a_stale_file_is_told_and_made_anew() {
     assert_eq!((status, &faults), (Some(0), &none));
     assert!(printed.ends_with(" files are as in rust/arraystring/src"), "{printed}");
 
-    fs::write(&file, fresh.replace("from != to", "from == to")).unwrap();
+    fs::write(&file, format!("{fresh}\nfn more() {{}}\n")).unwrap();
     let why = "erase: rust/arraystring/src/arraystring_base/moves.rs is not as its source says: run rust/erase/run";
     assert_eq!(tree.told(&check), (Some(1), none.clone(), why.to_string()));
 
@@ -115,7 +143,8 @@ fn a_made_file_is_compared_to_its_end_with_rustfmt_and_without() {
     let (shorter, _) = fresh.rsplit_once("\n/// ").unwrap();
     let why = "erase: rust/arraystring/src/arraystring_base/moves.rs is not as its source says: run rust/erase/run";
     let differs = (Some(1), String::new(), why.to_string());
-    for other in [&format!("{fresh}\nfn more() {{}}\n"), shorter, &fresh.replacen("from != to", "from == to", 1)] {
+    // (of a sign that stands anywhere in code)
+    for other in [&format!("{fresh}\nfn more() {{}}\n"), shorter, &fresh.replacen(") -> ", ") => ", 1)] {
         assert_ne!(fresh, other);
         fs::write(&file, other).unwrap();
         assert_eq!([tree.told(&check), tree.told_alone(&check)], [differs.clone(), differs.clone()]);
@@ -146,6 +175,40 @@ fn unproved_sources_stop_it_or_are_told_in_each_file() {
     assert!(made.iter().all(|text| text.starts_with("// NOT PROVED: ")));
     assert!(by_hand.iter().all(|text| !text.contains("NOT PROVED")));
     assert_eq!(tree.told(&["--check", "--unproved"]).0, Some(0));
+}
+
+#[test]
+fn what_is_made_of_an_unproved_source_alone_is_written_anew() {
+    let tree = Tree::new("one-unproved");
+    let (source, made) = ("crates/arraystring_core/src/drain.rt", "arraystring_core/drain.rs");
+    tree.record();
+    assert_eq!(tree.told(&[]).0, Some(0));
+    let files = tree.files();
+    let times = || files.keys().map(|path| fs::metadata(path).unwrap().modified().unwrap()).collect::<Vec<_>>();
+    let before = times();
+    let text = fs::read_to_string(tree.0.join(source)).unwrap();
+    fs::write(tree.0.join(source), format!("{text}\n// Some more words.\n")).unwrap();
+    let (status, _, fault) = tree.told(&[]);
+    assert_eq!((status, fault.starts_with(&format!("erase: {source} is not as in rust/proved.txt"))), (Some(1), true));
+    assert_eq!((tree.told(&["--unproved"]).0, tree.told(&["--check", "--unproved"]).0), (Some(0), Some(0)));
+    let (changed, same): (Vec<_>, Vec<_>) = tree.files().into_iter().partition(|(path, text)| files[path] != *text);
+    let paths: Vec<_> = changed.iter().map(|(path, _)| path.strip_prefix(tree.0.join(WRITTEN)).unwrap()).collect();
+    assert_eq!(paths, [Path::new(made)]);
+    assert!(changed[0].1.starts_with("// NOT PROVED: "));
+    assert_eq!(same.len() + 1, files.len());
+    let is_untouched = before.iter().zip(times()).filter(|(before, after)| *before == after).count();
+    assert_eq!(is_untouched, same.len());
+}
+
+#[test]
+fn reasons_are_those_of_the_folder() {
+    let tree = Tree::new("reasons");
+    let page = tree.0.join("rust/erase/src/reasons.txt");
+    fs::write(&page, format!("{}what\n", fs::read_to_string(&page).unwrap())).unwrap();
+    let (status, _, fault) = tree.told(&["--unproved"]);
+    assert_eq!((status, fault.starts_with("erase: rust/erase/src/reasons.txt:")), (Some(1), true), "{fault}");
+    fs::remove_file(page).unwrap();
+    assert!(tree.told(&["--unproved"]).2.contains("reasons.txt: No such file"));
 }
 
 #[test]

@@ -230,8 +230,8 @@ mod tests {
 
     #[test]
     fn each_public_call_says_what_its_clauses_require() {
-        let crates = Path::new(env!("CARGO_MANIFEST_DIR")).join("../../crates");
-        let (made, _) = crate::files::made(&crates).unwrap();
+        let root = Path::new(env!("CARGO_MANIFEST_DIR")).join("../..");
+        let (made, _) = crate::files::made(&root).unwrap();
         let found = made.iter().flat_map(|(file, text)| calls(text).into_iter().map(move |call| (file.clone(), call)));
         let wanted = READ.iter().map(|(file, name, requires, safety)| {
             let requires = requires.iter().map(|clause| clause.to_string()).collect();

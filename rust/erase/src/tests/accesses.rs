@@ -167,7 +167,7 @@ fn {worker}(all: &mut [u8], at: usize)
         )
     };
     let given_up = "steps.old.moved ≤ 2 ^ 63";
-    let why = "`arraystring_base::sample::f`: Rust gives up a clause of it, and src/reasons.txt does not say why `sample::put` needs none";
+    let why = "`arraystring_base::sample::f`: Rust gives up a clause of it, and rust/erase/src/reasons.txt does not say why `sample::put` needs none";
     assert_eq!(made(&source("f", "put", given_up)).unwrap_err(), format!("4: {why}"));
     assert!(made(&source("f", "put", "0 < 3")).unwrap().contains("unsafe { put(all, 0) };"));
     let listed = made(&source("counted", "put", given_up)).unwrap();
@@ -188,7 +188,7 @@ fn a_call_of_a_worker_has_a_reason_or_stops_the_eraser() {
     let made_of = |name: &str, count: usize| made(&calling(name, count));
     let missing = |name: &str| {
         format!(
-            "`arraystring_base::sample::{name}`: src/reasons.txt does not say why what `sample::put` requires is true there"
+            "`arraystring_base::sample::{name}`: rust/erase/src/reasons.txt does not say why what `sample::put` requires is true there: below that path it needs a line `    sample::put: ..`"
         )
     };
     assert_eq!(made_of("without", 1).unwrap_err(), format!("2: {}", missing("without")));
@@ -212,8 +212,7 @@ fn an_access_has_a_reason_or_stops_the_eraser() {
                 // SAFETY: this is within: by the test above.\n    *unsafe { get_unchecked_mut!(all, 0) } = 2;\n";
     let listed = made(&source("f", "")).unwrap();
     assert!(listed.contains(line), "{listed}");
-    let why =
-        "`arraystring_base::sample::without`: src/reasons.txt does not say why what `accesses` requires is true there";
+    let why = "`arraystring_base::sample::without`: rust/erase/src/reasons.txt does not say why what `accesses` requires is true there: below that path it needs a line `    accesses: ..`";
     assert_eq!(made(&source("without", "")).unwrap_err(), format!("3: {why}"));
     assert_eq!(made(&source("without", "    requires { at < length all.old }\n")).unwrap_err(), format!("4: {why}"));
     let not_reached = made("fn f() {\n    unreachable!();\n}\n").unwrap();
@@ -223,8 +222,11 @@ fn an_access_has_a_reason_or_stops_the_eraser() {
 #[test]
 fn a_reason_is_that_of_one_function_by_its_whole_path() {
     let access = |name: &str| format!("fn {name}(all: &mut [u8]) {{\n    all[0] = 1;\n}}\n");
-    let missing =
-        |path: &str| format!("`{path}`: src/reasons.txt does not say why what `accesses` requires is true there");
+    let missing = |path: &str| {
+        format!(
+            "`{path}`: rust/erase/src/reasons.txt does not say why what `accesses` requires is true there: below that path it needs a line `    accesses: ..`"
+        )
+    };
     let of = |path: &str, text: &str| made_as(path, text);
     let at = "arraystring_base/src/sample.rt";
     assert!(of(at, &access("f")).is_ok());

@@ -4,7 +4,9 @@ use super::*;
 
 /// Why a function of the sample stops the eraser.
 fn without_a_reason(name: &str) -> String {
-    format!("`arraystring_base::sample::{name}`: src/reasons.txt does not say why what `writes` requires is true there")
+    format!(
+        "`arraystring_base::sample::{name}`: rust/erase/src/reasons.txt does not say why what `writes` requires is true there: below that path it needs a line `    writes: ..`"
+    )
 }
 
 #[test]

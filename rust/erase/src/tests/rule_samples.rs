@@ -308,3 +308,33 @@ impl<const N: usize> Ord for ArrayString<N> {
     let why = "`ArrayString::compare` calls `order`, and is not among the calls whose work std does";
     assert_eq!(made_as("arraystring_core/src/array_string/traits.rt", &other).unwrap_err(), why);
 }
+
+#[test]
+fn a_rule_that_matches_nothing_is_told() {
+    use crate::contracts::given_up;
+    use crate::decoration::reference::{ALIASES, BY_STD, FATES, MORE, ONCE, OTHERS};
+    use crate::files::{all_used, entries};
+    use crate::lists::{ADDED, LEFT_OUT, PLACES, REQUIRED};
+    use crate::names::named;
+    use crate::places::twins;
+    use crate::rules::{ORDER, WIDER};
+    let root = concat!(env!("CARGO_MANIFEST_DIR"), "/../..");
+    let (_, mut tally) = crate::files::made(std::path::Path::new(root)).unwrap();
+    let reasons = tally.reasons.iter().map(|reasons| reasons.entries().len()).sum::<usize>();
+    let named = named().iter().map(|named| named.paths.len()).sum::<usize>();
+    let of_std = BY_STD.iter().map(|rule| rule.calls.len()).sum::<usize>();
+    let wider = WIDER.iter().map(|(_, calls)| calls.len()).sum::<usize>();
+    let lists = [FATES.len(), wider, PLACES.len(), OTHERS.len(), BY_STD.len(), of_std, reasons, named];
+    let more = [ADDED.len(), ALIASES.len(), ONCE.len(), ORDER.len(), MORE.len(), LEFT_OUT.len(), REQUIRED.len()];
+    let more = [more.iter().sum(), twins().count(), given_up().len()];
+    let all = lists.iter().chain(&more).sum::<usize>();
+    let names = entries(tally.reasons);
+    assert_eq!(names.len(), all);
+    for name in names {
+        assert!(tally.used.remove(&name), "{name}");
+        let why = format!("rust/erase/src: nothing in the sources matches the entry `{name}`");
+        assert_eq!(all_used(&tally), Err(why));
+        tally.used.insert(name);
+    }
+    assert_eq!(all_used(&tally), Ok(()));
+}

@@ -1,0 +1,60 @@
+"""Where a name that a file lacks would stand, and how: as a neighbour of it does, which the file has."""
+import os
+import re
+
+from repository import read
+
+CALL = re.compile(r"(?m)^ *pub (?:const |unsafe )*fn (\w+)(?:<[^(]*>)?(\([^{]*)")
+
+
+def shapes_of(text):
+    """The calls of a text in order, each with what it takes and returns."""
+    clauses = re.compile(r"\s+(requires|ensures|where)\b.*|\s+", re.S)
+    return {name: clauses.sub(" ", shape).strip() for name, shape in CALL.findall(text)}
+
+
+def nearest(name, names, shapes):
+    """Some names, the best neighbour of a name first: a call that takes and returns the same, then one that stands close to it. Where
+    the name is no call, one that begins alike."""
+    order = {it: at for at, it in enumerate(shapes)}
+
+    def distance(other):
+        is_other_shape = shapes.get(other) != shapes.get(name)
+        apart = order[name] - order[other] if name in order and other in order else len(order)
+        return is_other_shape, abs(apart), apart < 0, -len(os.path.commonprefix([name, other])), other
+
+    return sorted(names, key=distance)
+
+
+def with_name(line, name, other, names):
+    """The line in which the other name stands, as it would be with this one: in a list of names behind it, else in its place."""
+    if len(names.intersection(re.findall(r"\w+", line))) < 2:
+        return re.sub(rf"\b{other}\b", name, line)
+    found = re.search(rf"[^\s,|(\[]*\b{other}\b(?:\([^()]*\))?[^\s,|)\]]*", line)
+    # (in code, in a text and on a page names stand one behind the other, with or without a comma)
+    comma = ", " if line[found.end():].startswith(",") or line[:found.start()].endswith(", ") else " "
+    token = found[0].strip('"')
+    ends = line[:found.end()].removesuffix('"')
+    return f"{ends}{comma}{re.sub(rf'{other}', name, token)}{line[len(ends):]}"
+
+
+def rank(line, other, known):
+    """How well a line shows where a name stands, 0 where it does not have it: best is a list of names, then the line that says it
+    most often, which does nothing else."""
+    times = len(re.findall(rf"(?<![\w-]){re.escape(other)}(?![\w-])", line))
+    is_list = len(known.intersection(re.findall(r"\w+", line))) > 1
+    return times and times + 100 * is_list
+
+
+def place_of(root, files, name, names, shapes):
+    """Where a name would stand in some files, and the line as it would be there; nothing where none of its neighbours is there."""
+    lines = [(file, number, line.strip()) for file in files for number, line in enumerate(read(file).split("\n"), 1)]
+    lines = [it for it in lines if not it[2].startswith(("//", "#!"))]
+    known = {*names, *shapes}
+    for other in nearest(name, names, shapes):
+        ranks = {it: rank(it[2], other, known) for it in lines}
+        best = max(lines, key=ranks.get, default=None)
+        if ranks.get(best):
+            file, number, line = best
+            return f"{file.relative_to(root)}:{number}: as `{other}` there: {with_name(line, name, other, known)}"
+    return ""
