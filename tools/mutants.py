@@ -9,8 +9,8 @@ tools/run mutants --list FILE..         prints the changes and runs nothing
 
 The rules: a comparison, `and`, `or` and a sum for its neighbour; a number by one, a text to the empty one; a condition to either
 value, and without its `not`; a statement out; a returned value to None; two arguments swapped; a bound of a part out; a word for its
-opposite. The tools are copied, with the repository that their tests read. Each change is tried on the tests of its tool, then on the
-rest. One that runs too long is ended, and counts as seen.
+opposite. The tools are copied, with the repository that their tests read. Each change is tried on the tests named as its tool, then on
+those of what imports it, however far, and on those of `tools/run`. One that runs too long is ended, and counts as seen.
 """
 import ast
 import random
@@ -21,10 +21,11 @@ from collections import Counter
 from concurrent.futures import ThreadPoolExecutor
 from pathlib import Path
 
+import repository
 from repository import copied, read
 
 LISTED = "rust/equivalent.txt"
-WORKERS = 2
+WORKERS = 1
 LONGEST = 600
 
 COMPARISONS = {
@@ -202,10 +203,13 @@ def imported_by(file):
 
 
 def tests_of(root, file):
-    """The files of tests, in the order in which they are asked: those named as the tool, those that import it, the others."""
-    tool = Path(file).stem
-    rank = lambda it: (tool not in it.stem, tool not in imported_by(it), it.name)
-    return [it.stem for it in sorted((root / "tools").glob("test_*.py"), key=rank)]
+    """The files of tests that may see a change of a tool, in the order in which they are asked: those named as the tool, those that
+    import it, those that import what imports it, and those of tools/run, which runs them as programs."""
+    tool, folder = Path(file).stem, root / "tools"
+    files = {it.stem: it for it in folder.glob("*.py")}
+    reached = lambda name: repository.closed([name], lambda it: imported_by(files[it]) & files.keys())
+    asked = [it for name, it in files.items() if name.startswith("test_") and (tool in reached(name) or name == "test_run")]
+    return [it.stem for it in sorted(asked, key=lambda it: (tool not in it.stem, tool not in imported_by(it), it.stem == "test_run", it.name))]
 
 
 def seen_by(tree, file, text, tests):
