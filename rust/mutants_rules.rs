@@ -221,6 +221,7 @@ impl<'a> Source<'a> {
                 depth += match self.word(from) {
                     "<" => 1,
                     ">" => -1,
+                    ">>" => -2,
                     _ => 0,
                 };
                 from += 1;
@@ -246,7 +247,7 @@ impl<'a> Source<'a> {
             let end = self.next_of(behind, self.all.len(), &["{", ";"]).unwrap_or(self.all.len() - 1);
             return if self.is(end, "{") { self.partner[end] + 1 } else { end + 1 };
         }
-        if !FREE.contains(&name) {
+        if !FREE.contains(&name) && name != "$" {
             let function = format!("{owner}::attribute").trim_start_matches(':').to_string();
             regions.push(Region {
                 function,
