@@ -187,6 +187,7 @@ const SUBJECTS: &[Subject] = &[
         builds: &[
             Build { name: "first tests", arguments: FIRST },
             Build { name: "debug", arguments: &["--features", "checked,std"] },
+            Build { name: "plain debug", arguments: &[] },
             Build { name: "release", arguments: &["--release", "--features", "std"] },
             Build { name: "release checked", arguments: &["--release", "--features", "checked,std"] },
         ],
@@ -216,17 +217,8 @@ const SUBJECTS: &[Subject] = &[
 ];
 
 /// The tests that see most changes of what is by hand.
-const FIRST: &[&str] = &[
-    "--features",
-    "checked,std",
-    "--lib",
-    "--test",
-    "by_hand",
-    "--test",
-    "traits",
-    "--test",
-    "constants",
-];
+const FIRST: &[&str] =
+    &["--features", "checked,std", "--lib", "--test", "by_hand", "--test", "traits", "--test", "constants"];
 
 impl Subject {
     fn chosen(&self, root: &Path) -> Result<BTreeMap<String, Chosen>, String> {
@@ -337,11 +329,7 @@ impl Tree {
             command
         };
         command.current_dir(self.folder.join(subject.folder)).env("CARGO_TARGET_DIR", &self.target);
-        command
-            .env("RUSTC_BOOTSTRAP", "1")
-            .env("RUSTFLAGS", "--cap-lints allow")
-            .env("CARGO_PROFILE_DEV_OPT_LEVEL", "1");
-        command.env("CARGO_INCREMENTAL", "1");
+        command.env("RUSTC_BOOTSTRAP", "1").env("RUSTFLAGS", "--cap-lints allow");
         let output = command.output().map_err(|error| format!("{command:?}: {error}"))?;
         Ok((output.status.success(), String::from_utf8_lossy(&output.stderr).to_string()))
     }
@@ -432,7 +420,8 @@ impl Unit {
 
     /// Runs the tests under a change. `Some` is what saw it.
     fn seen_by(&self, number: usize) -> Option<String> {
-        let log = self.path.with_extension(format!("{number}.log"));
+        static LOGS: AtomicUsize = AtomicUsize::new(0);
+        let log = self.path.with_extension(format!("{}.log", LOGS.fetch_add(1, Ordering::Relaxed)));
         let mut command = self.command();
         command.arg("--exact").args(&self.tests).env("MUTANT", number.to_string()).stdout(File::create(&log).ok()?);
         let status = self.status(&mut command);
@@ -482,34 +471,55 @@ fn without_parents(path: &str) -> String {
     parts.join("/")
 }
 
+/// How many processes run at a time.
+const WORKERS: usize = 2;
+
+/// What some work gives for each number below a count, by a few threads.
+fn of_each<T: Send>(count: usize, work: impl Fn(usize) -> T + Sync) -> Vec<(usize, T)> {
+    let (next, found) = (AtomicUsize::new(0), Mutex::new(Vec::new()));
+    let one = || loop {
+        let at = next.fetch_add(1, Ordering::Relaxed);
+        if at >= count {
+            return;
+        }
+        let made = work(at);
+        found.lock().expect("no thread panics").push((at, made));
+    };
+    std::thread::scope(|scope| (0..WORKERS).for_each(|_| _ = scope.spawn(one)));
+    found.into_inner().expect("no thread panics")
+}
+
 /// The tests of programs, the quick ones first, those of a program that take next to no time together. One that fails where nothing
 /// is changed is not asked.
 fn units(programs: &[(String, PathBuf)], folder: &Path) -> Vec<Unit> {
+    let unit = |(program, path): &(String, PathBuf), tests: Vec<String>| Unit {
+        program: program.clone(),
+        path: path.clone(),
+        folder: folder.to_path_buf(),
+        tests,
+        limit: Duration::from_secs(300),
+    };
+    let names = programs.iter().flat_map(|it| unit(it, Vec::new()).names().into_iter().map(move |name| (it, name)));
+    let ones: Vec<_> = names.map(|(it, name)| (it, unit(it, vec![name]))).collect();
+    let times = of_each(ones.len(), |at| {
+        let start = Instant::now();
+        (ones[at].1.seen_by(0), start.elapsed())
+    });
     let mut timed = Vec::new();
-    for (program, path) in programs {
-        let unit = |tests: Vec<String>, limit: Duration| Unit {
-            program: program.clone(),
-            path: path.clone(),
-            folder: folder.to_path_buf(),
-            tests,
-            limit,
-        };
-        let mut together = (Duration::ZERO, Vec::new());
-        for name in unit(Vec::new(), Duration::ZERO).names() {
-            let one = unit(vec![name.clone()], Duration::from_secs(300));
-            let start = Instant::now();
-            if let Some(by) = one.seen_by(0) {
-                eprintln!("mutants: {by} fails where nothing is changed, and is not asked");
-            } else if start.elapsed() < Duration::from_millis(30) {
-                together = (together.0 + start.elapsed(), [together.1, vec![name]].concat());
-            } else {
-                timed.push((start.elapsed(), one));
-            }
-        }
-        if !together.1.is_empty() {
-            timed.push((together.0, unit(together.1, Duration::from_secs(10))));
+    let mut together = BTreeMap::<&str, (Duration, Unit)>::new();
+    for (at, (seen, time)) in times {
+        let (program, one) = &ones[at];
+        if let Some(by) = seen {
+            eprintln!("mutants: {by} fails where nothing is changed, and is not asked");
+        } else if time < Duration::from_millis(30) {
+            let all = together.entry(&program.0).or_insert_with(|| (Duration::ZERO, unit(program, Vec::new())));
+            all.0 += time;
+            all.1.tests.extend(one.tests.iter().cloned());
+        } else {
+            timed.push((time, unit(program, one.tests.clone())));
         }
     }
+    timed.extend(together.into_values());
     timed.sort_by_key(|(time, _)| *time);
     let limited = timed.into_iter().map(|(time, unit)| Unit { limit: time * 10 + Duration::from_secs(5), ..unit });
     limited.collect()
@@ -541,7 +551,8 @@ impl Run<'_> {
         let folder = format!("{}/tests", self.subject.folder);
         for entry in fs::read_dir(self.root.join(&folder)).into_iter().flatten().flatten() {
             let name = entry.file_name().to_string_lossy().to_string();
-            let file = if name.ends_with(".rs") { format!("{folder}/{name}") } else { format!("{folder}/{name}/main.rs") };
+            let file =
+                if name.ends_with(".rs") { format!("{folder}/{name}") } else { format!("{folder}/{name}/main.rs") };
             let Ok(text) = read(&self.root.join(&file)) else { continue };
             if text.lines().any(|line| line.starts_with("#[path = \"../") && line.contains("/src/")) {
                 tree.write(&file, &format!("{FEATURES}{text}{SWITCH}"))?;
@@ -618,10 +629,8 @@ impl Run<'_> {
             let test: Vec<&str> = ["test", "--no-run"].iter().chain(build.arguments).copied().collect();
             self.built(tree, &test, &Fate::Seen("(the build of the tests)".to_string()))?
         } else {
-            let file = self.subject.root_file.trim_start_matches("rust/");
-            fs::create_dir_all(&tree.target).map_err(|error| error.to_string())?;
-            let output = tree.target.join(self.subject.name).display().to_string();
-            self.built(tree, &["--test", file, "-o", &output], &Fate::NotCompiled)?
+            let (words, _) = self.program(tree)?;
+            self.built(tree, &words.iter().map(String::as_str).collect::<Vec<_>>(), &Fate::NotCompiled)?
         };
         Ok(units(&tree.programs(self.subject, &said), &tree.folder.join(self.subject.folder)))
     }
@@ -631,32 +640,28 @@ impl Run<'_> {
         let units = self.tests(tree, build)?;
         let left = self.left();
         eprintln!("mutants: {} {}: {} changes in one build", self.subject.name, build.name, left.len());
-        let next = AtomicUsize::new(0);
-        let (found, helpful) = (Mutex::new(Vec::new()), Mutex::new(BTreeMap::<&str, Vec<usize>>::new()));
-        let work = || {
-            while let Some(&at) = left.get(next.fetch_add(1, Ordering::Relaxed)) {
-                if self.is_over() {
-                    return;
-                }
-                let function = self.mutants[at].function.as_str();
-                let mut order = helpful.lock().expect("no thread panics").get(function).cloned().unwrap_or_default();
-                order.extend((0..units.len()).filter(|unit| !order.contains(unit)).collect::<Vec<_>>());
-                let seen = order.into_iter().find_map(|unit| Some((unit, units[unit].seen_by(at + 1)?)));
-                if let Some((unit, _)) = seen {
-                    let mut helpful = helpful.lock().expect("no thread panics");
-                    let first = helpful.entry(function).or_default();
-                    first.retain(|other| *other != unit);
-                    first.insert(0, unit);
-                }
-                found.lock().expect("no thread panics").push((at, seen.map(|(_, by)| by)));
+        let helpful = Mutex::new(BTreeMap::<&str, Vec<usize>>::new());
+        let found = of_each(left.len(), |index| {
+            let at = left[index];
+            if self.is_over() {
+                return self.fates[at].clone();
             }
-        };
-        std::thread::scope(|scope| {
-            scope.spawn(work);
-            scope.spawn(work);
+            let function = self.mutants[at].function.as_str();
+            let mut order = helpful.lock().expect("no thread panics").get(function).cloned().unwrap_or_default();
+            order.extend((0..units.len()).filter(|unit| !order.contains(unit)).collect::<Vec<_>>());
+            let Some((unit, by)) = order.into_iter().find_map(|unit| Some((unit, units[unit].seen_by(at + 1)?))) else {
+                eprintln!("mutants: {}: not seen by {}", self.mutants[at].name(), build.name);
+                return Fate::Survived;
+            };
+            let mut helpful = helpful.lock().expect("no thread panics");
+            let first = helpful.entry(function).or_default();
+            first.retain(|other| *other != unit);
+            first.insert(0, unit);
+            eprintln!("mutants: {}: {by}", self.mutants[at].name());
+            Fate::Seen(format!("{}: {by}", build.name))
         });
-        for (at, seen) in found.into_inner().expect("no thread panics") {
-            self.fates[at] = seen.map_or(Fate::Survived, |by| Fate::Seen(format!("{}: {by}", build.name)));
+        for (index, fate) in found {
+            self.fates[left[index]] = fate;
         }
         Ok(())
     }
@@ -672,11 +677,7 @@ impl Run<'_> {
             let mut command = Command::new("cargo");
             command.args([words[0], "--offline", "-j", "2"]).args(&words[1..]).env("MUTANT", number);
             command.current_dir(tree.folder.join(self.subject.folder)).env("CARGO_TARGET_DIR", &tree.target);
-            command
-                .env("RUSTC_BOOTSTRAP", "1")
-                .env("RUSTFLAGS", "--cap-lints allow")
-                .env("CARGO_PROFILE_DEV_OPT_LEVEL", "1");
-            command.env("CARGO_INCREMENTAL", "1");
+            command.env("RUSTC_BOOTSTRAP", "1").env("RUSTFLAGS", "--cap-lints allow");
             let output = command.output().map_err(|error| format!("{command:?}: {error}"))?;
             if !output.status.success() {
                 let said = String::from_utf8_lossy(&output.stdout).to_string();
@@ -704,9 +705,28 @@ impl Run<'_> {
         Ok(())
     }
 
+    /// The arguments that build a program's tests, and where they are then.
+    fn program(&self, tree: &Tree) -> Result<(Vec<String>, PathBuf), String> {
+        fs::create_dir_all(&tree.target).map_err(|error| error.to_string())?;
+        let (file, path) = (self.subject.root_file.trim_start_matches("rust/"), tree.target.join(self.subject.name));
+        let words = ["--test", file, "-o"].map(str::to_string).into_iter().chain([path.display().to_string()]);
+        Ok((words.collect(), path))
+    }
+
+    fn fate_of_program(&self, tree: &Tree) -> Result<Fate, String> {
+        let (words, path) = self.program(tree)?;
+        if !tree.build(self.subject, &words.iter().map(String::as_str).collect::<Vec<_>>())?.0 {
+            return Ok(Fate::NotCompiled);
+        }
+        let (program, folder) = (self.subject.name.to_string(), tree.folder.join(self.subject.folder));
+        let all = Unit { program, path, folder, tests: Vec::new(), limit: Duration::from_secs(600) };
+        let all = Unit { tests: all.names(), ..all };
+        Ok(all.seen_by(0).map_or(Fate::Survived, Fate::Seen))
+    }
+
     fn fate_alone(&self, tree: &Tree) -> Result<Fate, String> {
         if !self.subject.is_crate {
-            return Ok(Fate::NotCompiled);
+            return self.fate_of_program(tree);
         }
         let with = |first: &[&'static str], build: &Build| -> Vec<&str> {
             first.iter().chain(build.arguments).copied().collect()
@@ -754,7 +774,12 @@ impl Run<'_> {
         for file in self.mutants.iter().map(|mutant| mutant.file.as_str()).chain([self.subject.root_file]) {
             tree.write(file, &read(&self.root.join(file))?)?;
         }
-        self.try_alone(tree)
+        self.try_alone(tree)?;
+        if self.is_over() {
+            // (what no test has seen yet, others were not asked of)
+            self.fates.iter_mut().filter(|fate| **fate == Fate::Survived).for_each(|fate| *fate = Fate::NotTried);
+        }
+        Ok(())
     }
 }
 
@@ -775,6 +800,7 @@ fn equivalent(root: &Path) -> Result<BTreeMap<String, String>, String> {
                     is_listed = false;
                 }
                 reason.push_str(line);
+                reason.push(' ');
             }
         }
     }
@@ -840,12 +866,15 @@ fn asked() -> Option<Asked> {
     Some(asked)
 }
 
+/// How many changes a sample has: so many are built in less than a minute.
+const SAMPLE: usize = 60;
+
 /// A part of the changes in a random order, of as many as are tried in a sample.
 fn sample_of(mut mutants: Vec<Mutant>, day: u64) -> Vec<Mutant> {
     mutants.retain(|mutant| mutant.body.is_some());
     let mut state = day.wrapping_mul(0x9E37_79B9_7F4A_7C15) | 1;
     let mut chosen = Vec::new();
-    while !mutants.is_empty() && chosen.len() < 200 {
+    while !mutants.is_empty() && chosen.len() < SAMPLE {
         let at = (next_random(&mut state) % mutants.len() as u64) as usize;
         chosen.push(mutants.swap_remove(at));
     }
@@ -854,7 +883,7 @@ fn sample_of(mut mutants: Vec<Mutant>, day: u64) -> Vec<Mutant> {
 
 fn run_all(root: &Path, asked: &Asked) -> Result<bool, String> {
     let (listed, mut met, mut is_well) = (equivalent(root)?, BTreeSet::new(), true);
-    let mut read_files = BTreeSet::new();
+    let (mut read_files, mut tried) = (BTreeSet::new(), 0);
     let start = Instant::now();
     for (number, subject) in SUBJECTS.iter().enumerate() {
         if asked.sample.is_some_and(|(day, _)| day % SUBJECTS.len() as u64 != number as u64) {
@@ -882,6 +911,7 @@ fn run_all(root: &Path, asked: &Asked) -> Result<bool, String> {
         let end = asked.sample.map(|(_, seconds)| start + Duration::from_secs(seconds));
         let mut run = Run { root, subject, mutants, fates, end };
         run.all()?;
+        tried += run.fates.iter().filter(|fate| matches!(fate, Fate::Seen(_) | Fate::Survived)).count();
         is_well &= told(&run, &listed, &mut met);
     }
     if asked.sample.is_none() && !asked.is_list {
@@ -891,7 +921,9 @@ fn run_all(root: &Path, asked: &Asked) -> Result<bool, String> {
                 is_well = false;
             }
         }
-        println!("mutants: {} seconds", start.elapsed().as_secs());
+    }
+    if !asked.is_list {
+        println!("mutants: {tried} changes were tried in {} seconds", start.elapsed().as_secs());
     }
     Ok(is_well)
 }

@@ -240,6 +240,7 @@ def tried(root, asked, end):
         while waiting and (end is None or time.monotonic() < end):
             file, name, text = waiting.pop()
             fates[name] = seen_by(tree, file, text, tests_of(root, file))
+            print(f"{name}: {fates[name] or 'not seen'}", file=sys.stderr, flush=True)
 
     with ThreadPoolExecutor(WORKERS) as pool:
         for it in [pool.submit(in_copy, root, work) for _ in range(WORKERS)]:
