@@ -881,24 +881,37 @@ fn sample_of(mut mutants: Vec<Mutant>, day: u64) -> Vec<Mutant> {
     chosen
 }
 
+/// The changes of a subject that are asked for, and the files that were read for them.
+fn those_of(root: &Path, subject: &Subject, asked: &Asked) -> Result<(Vec<Mutant>, Vec<String>), String> {
+    let (mut mutants, mut files) = (Vec::new(), Vec::new());
+    for (file, chosen) in subject.chosen(root)? {
+        if asked.files.is_empty() || asked.files.contains(&file) {
+            mutants.extend(mutants_of(root, &file, &chosen)?);
+            files.push(file);
+        }
+    }
+    Ok((mutants, files))
+}
+
+/// Prints what the list has and no longer survives in some files; whether there is none.
+fn is_fresh(listed: &BTreeMap<String, String>, met: &BTreeSet<String>, files: &BTreeSet<String>) -> bool {
+    let of_files = |name: &&String| files.iter().any(|file| name.starts_with(&format!("{file}: ")));
+    let stale: Vec<&String> = listed.keys().filter(of_files).filter(|name| !met.contains(*name)).collect();
+    stale.iter().for_each(|name| println!("no longer survives, or is no longer there: {name}"));
+    stale.is_empty()
+}
+
 fn run_all(root: &Path, asked: &Asked) -> Result<bool, String> {
     let (listed, mut met, mut is_well) = (equivalent(root)?, BTreeSet::new(), true);
-    let (mut read_files, mut tried) = (BTreeSet::new(), 0);
-    let start = Instant::now();
+    let (mut read_files, mut tried, start) = (BTreeSet::new(), 0, Instant::now());
     for (number, subject) in SUBJECTS.iter().enumerate() {
         if asked.sample.is_some_and(|(day, _)| day % SUBJECTS.len() as u64 != number as u64) {
             continue;
         }
-        let mut mutants = Vec::new();
-        for (file, chosen) in subject.chosen(root)? {
-            if asked.files.is_empty() || asked.files.contains(&file) {
-                mutants.extend(mutants_of(root, &file, &chosen)?);
-                read_files.insert(file);
-            }
-        }
+        let (mut mutants, files) = those_of(root, subject, asked)?;
+        read_files.extend(files);
         if asked.is_list {
-            mutants.iter().for_each(|mutant| println!("{}", mutant.name()));
-            continue;
+            mutants.drain(..).for_each(|mutant| println!("{}", mutant.name()));
         }
         if let Some((day, _)) = asked.sample {
             mutants = sample_of(mutants, day);
@@ -914,18 +927,14 @@ fn run_all(root: &Path, asked: &Asked) -> Result<bool, String> {
         tried += run.fates.iter().filter(|fate| matches!(fate, Fate::Seen(_) | Fate::Survived)).count();
         is_well &= told(&run, &listed, &mut met);
     }
-    if asked.sample.is_none() && !asked.is_list {
-        for name in listed.keys().filter(|name| read_files.iter().any(|file| name.starts_with(file.as_str()))) {
-            if !met.contains(name) {
-                println!("no longer survives, or is no longer there: {name}");
-                is_well = false;
-            }
-        }
+    if let Some(file) = asked.files.iter().find(|file| !read_files.contains(*file)) {
+        return Err(format!("{file} is no file of what is changed, as --list names them"));
     }
-    if !asked.is_list {
-        println!("mutants: {tried} changes were tried in {} seconds", start.elapsed().as_secs());
+    if asked.is_list {
+        return Ok(true);
     }
-    Ok(is_well)
+    println!("mutants: {tried} changes were tried in {} seconds", start.elapsed().as_secs());
+    Ok(is_well && (asked.sample.is_some() || is_fresh(&listed, &met, &read_files)))
 }
 
 fn main() -> ExitCode {
