@@ -18,7 +18,7 @@ class Door(unittest.TestCase):
             self.assertEqual(status, 2)
             commands = re.search(r"The commands are (.*)\.", said)[1].split(", ")
             wanted = {"check", "trusted", "dead", "imported", "equality", "quotes", "calls", "evidence", "controls", "reasons",
-                      "proved", "cost", "refused"}
+                      "proved", "cost", "refused", "mutants"}
             self.assertEqual({*commands}, wanted)
 
     def test_each_command_says_what_it_does(self):

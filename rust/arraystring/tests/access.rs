@@ -365,23 +365,30 @@ mod checked {
     #[test]
     fn a_number_that_is_no_character_panics() {
         // What is made is not compared: a place for none in an `Option` is a number that is no character.
-        let is_made = |number: u32| {
+        let refused = |number: u32| {
             let number = black_box(number);
             // SAFETY: a number that is none panics.
-            catch_unwind(|| _ = black_box(unsafe { access::char::from_u32_unchecked(number) })).is_ok()
+            words_of(|| _ = black_box(unsafe { access::char::from_u32_unchecked(number) }))
         };
         for number in [0, 0xD7FF, 0xE000, 0x10_FFFF] {
-            assert!(is_made(number), "{number:X}");
+            assert_eq!(refused(number), None, "{number:X}");
         }
         for number in [0xD800, 0xDBFF, 0xDC00, 0xDFFF, 0x11_0000, 0x11_0001, 0x20_0000, u32::MAX] {
-            assert!(!is_made(number), "{number:X}");
+            assert_eq!(refused(number), Some("a character is no scalar value"), "{number:X}");
         }
+    }
+
+    /// The words of the panic of a call, or none where there is no panic.
+    fn words_of(call: impl FnOnce() + std::panic::UnwindSafe) -> Option<&'static str> {
+        Some(catch_unwind(call).err()?.downcast_ref::<&str>().expect("words"))
     }
 
     /// Whether bytes are taken for a text.
     fn is_taken(bytes: &[u8]) -> bool {
         // SAFETY: bytes that are no text panic.
-        catch_unwind(|| unsafe { access::str::from_utf8_unchecked(black_box(bytes)) }.len()).is_ok()
+        let words = words_of(|| _ = black_box(unsafe { access::str::from_utf8_unchecked(black_box(bytes)) }.len()));
+        assert!(matches!(words, None | Some("a text is not UTF-8")), "{words:?}");
+        words.is_none()
     }
 
     /// Each byte at which the rules for the bytes of a character change, in each place of a character, behind each length.

@@ -116,3 +116,28 @@ fn what_is_required_is_tested_before_a_call_moves_a_long_run() {
     }
     assert_eq!(moved(usize::MAX - 200, 201).as_deref(), why);
 }
+
+/// No text has a byte of 255: whoever writes one into what was lent is told where the text is lent again, to be read or written.
+#[test]
+fn a_text_with_a_byte_of_none_panics_where_it_is_lent() {
+    let text = "aé€🤔";
+    let mut count = 0;
+    for offset in 0..=6 {
+        for at in 0..text.len() {
+            let mut string = ArrayString::<16>::from((".".repeat(offset) + text).as_str());
+            assert!(string.drain(..offset as u8).is_ok());
+            assert_eq!((string.as_mut_str().len(), string.as_str()), (text.len(), text));
+            // SAFETY: the text is lent no more: each call below has to end before it could do harm.
+            unsafe { string.as_mut_str().as_bytes_mut()[at] = 0xFF };
+            let calls: [(&str, &dyn Fn() -> usize); 4] = [
+                ("read", &|| { string }.as_str().len()),
+                ("written", &|| { string }.as_mut_str().len()),
+                ("written as a `str`", &|| { string }.split_at_mut(0).1.len()),
+                ("written in part", &|| { string }[..0].len()),
+            ];
+            assert_eq!(without_panic(&calls), [""; 0], "{offset} {at}");
+            count += calls.len();
+        }
+    }
+    assert_eq!(count, 7 * 10 * 4);
+}

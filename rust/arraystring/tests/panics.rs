@@ -71,6 +71,7 @@ fn parts_panic_as_those_of_str() {
             let mut other = string;
             assert_eq!(words!(string.slice(start..end)), wanted);
             assert_eq!(words!(&string[start..end]), wanted);
+            assert_eq!(words!(&mut other[start..end]), wanted);
             assert_eq!(words!(other.make_ascii_uppercase_in(start..end)), wanted);
             assert_eq!(words!(other.make_ascii_lowercase_in(start..end)), wanted);
             assert_eq!(other, string);

@@ -64,13 +64,22 @@ fn panics<T>(call: impl FnOnce() -> T) -> bool {
     catch_unwind(AssertUnwindSafe(call)).is_err()
 }
 
+/// The words of the panic of a call.
+fn words<T>(call: impl FnOnce() -> T) -> &'static str {
+    // (without the frames of each)
+    set_hook(Box::new(|panic| eprintln!("{panic}")));
+    let why = catch_unwind(AssertUnwindSafe(|| _ = call())).expect_err("a panic");
+    why.downcast_ref::<&str>().expect("words")
+}
+
 #[test]
 fn fewer_bytes_than_a_vector_has_panic() {
     fn at<const K: usize>() {
-        let source = bytes();
+        let (source, why) = (bytes(), "fewer bytes than a vector has");
         for len in 0..K {
-            assert!(panics(|| Simd::<u8, K>::from_slice(&source[..len])), "{len} of {K}");
-            assert!(panics(|| Simd::<u8, K>::from_slice(&source).copy_to_slice(&mut [0; SIZE][..len])), "{len} of {K}");
+            assert_eq!(words(|| Simd::<u8, K>::from_slice(&source[..len])), why, "{len} of {K}");
+            let write = || Simd::<u8, K>::from_slice(&source).copy_to_slice(&mut [0; SIZE][..len]);
+            assert_eq!(words(write), why, "{len} of {K}");
         }
     }
     at_each_size!(at);

@@ -1,0 +1,962 @@
+//! Changes each place of what has no proof, once, by rules, and says which test sees the change. What no test sees has to stand in
+//! `equivalent.txt` with the reason why nobody can see it; a line there that no longer applies is refused, too.
+//!
+//!     rust/mutants                        all files, some hours: before a release
+//!     rust/mutants FILE..                 these, some minutes each: who changes one
+//!     rust/mutants --sample DAY SECONDS   as many as fit into the time, chosen by the number DAY
+//!     rust/mutants --list FILE..          prints the changes and runs nothing
+//!
+//! The files are those by hand, those of the crate for serde, the made files of the places that `lists.rs` says run another body than
+//! was proved, and the two programs that compare. Status 1: something survived, or a line of the list is stale. `tools/mutants.py` does
+//! the same for the tools.
+//!
+//! The rules: a comparison, `&&`, `||` and a sum for its neighbour; a number by one, a text to the empty one; a condition to either
+//! value, and without its `!`; a statement, an arm or a `?` out; a range with its other end, or without one; a returned value by its
+//! default; two arguments swapped; a cast narrowed; a word for its opposite; a derived trait, a `cfg` and an attribute out. What does
+//! not compile is no change. An attribute that changes no result (`FREE`) is left.
+//!
+//! A body stands in the program once for each change and once as it is, and `MUTANT` in the environment says which runs, so all
+//! changes share a build. What is outside of bodies has a build of its own, and so has what survives in a `const fn`, since a constant
+//! is made of the body as it is. The repository is copied first, and never written. A change that runs too long is ended, and counts as
+//! seen. Nothing but tests is asked: what clippy says of a change is not heard.
+//!
+//! The file for serde takes one processor minute. One by hand takes some, most of them for the builds, and those that stand in each
+//! access (`access.rs`, `simd.rs`) more. `compare.rs` and `meaning.rs` have some thousand changes each. A sample has `SAMPLE` changes of
+//! one of the four parts, which follow each other day by day; what its time has no room for is counted as not tried.
+
+use std::collections::{BTreeMap, BTreeSet};
+use std::fmt::Write as _;
+use std::fs::{self, File};
+use std::ops::Range;
+use std::path::{Path, PathBuf};
+use std::process::{Command, ExitCode, Stdio};
+use std::sync::Mutex;
+use std::sync::atomic::{AtomicUsize, Ordering};
+use std::time::{Duration, Instant};
+
+use compare::lists::{ADDED, PLACES, REQUIRED};
+use compare::{Language, tokens};
+
+// (what compares is not called here)
+#[allow(dead_code)]
+#[path = "compare.rs"]
+mod compare;
+
+#[path = "mutants_rules.rs"]
+mod rules;
+
+use rules::{Edit, Region, Source};
+
+// ---- What is changed ----
+
+/// A change of a file.
+struct Mutant {
+    file: String,
+    function: String,
+    /// As `equivalent.txt` names it, after the file and the function.
+    change: String,
+    edit: Edit,
+    /// The body that stands in the program once for each of its changes, or none where the change has a build of its own.
+    body: Option<Range<usize>>,
+}
+
+impl Mutant {
+    fn name(&self) -> String {
+        format!("{}: {}: {}", self.file, self.function, self.change)
+    }
+}
+
+/// Which functions of a file are changed.
+#[derive(Default)]
+struct Chosen {
+    is_whole: bool,
+    functions: BTreeSet<String>,
+    /// Those of which only the lines that test what a caller has to keep are by hand.
+    required: BTreeSet<String>,
+}
+
+impl Chosen {
+    fn has(&self, region: &Region, edit: &Edit, source: &Source) -> bool {
+        let name = region.function.rsplit("::").next().unwrap_or_default();
+        self.is_whole
+            || self.functions.contains(name)
+            || self.required.contains(name) && source.is_required(edit.at.start, edit.at.end)
+    }
+}
+
+/// The changes of a file, each name once.
+fn mutants_of(root: &Path, file: &str, chosen: &Chosen) -> Result<Vec<Mutant>, String> {
+    let text = read(&root.join(file))?;
+    // (the words of proofs are names in the programs that compare)
+    let plain = ["ghost", "requires", "ensures"]
+        .iter()
+        .fold(text.clone(), |text, word| text.replace(word, &"x".repeat(word.len())));
+    let mut all = tokens(&plain, Language::Rust).map_err(|fault| format!("{file}:{}: {}", fault.line, fault.why))?;
+    all.iter_mut().for_each(|token| token.text = text[token.at.0..token.at.1].to_string());
+    let source = Source::new(&text, &all);
+    let mut met = BTreeMap::<String, usize>::new();
+    let mut mutants = Vec::new();
+    for region in source.regions() {
+        for edit in source.edits(&region) {
+            if !chosen.has(&region, &edit, &source) {
+                continue;
+            }
+            let mut change = source.shown(&edit);
+            let times = met.entry(format!("{}: {change}", region.function)).or_default();
+            *times += 1;
+            if *times > 1 {
+                let _ = write!(change, " #{times}");
+            }
+            let function = region.function.clone();
+            mutants.push(Mutant { file: file.to_string(), function, change, edit, body: region.body.clone() });
+        }
+    }
+    Ok(mutants)
+}
+
+/// The made file of a path of an item, and the name of the item.
+fn place(root: &Path, path: &str) -> (String, String) {
+    let words: Vec<&str> = path.split("::").collect();
+    let name = words.last().copied().unwrap_or_default().to_string();
+    let made = |count: usize| format!("rust/arraystring/src/{}.rs", words[..count].join("/"));
+    let count = (1..=words.len()).rev().find(|&count| root.join(made(count)).is_file());
+    (count.map_or("rust/arraystring/src/lib.rs".to_string(), made), name)
+}
+
+/// The functions of a text.
+fn functions_of(items: &str) -> Vec<String> {
+    let all = tokens(items, Language::Rust).unwrap_or_default();
+    all.windows(2).filter(|pair| pair[0].is("fn")).map(|pair| pair[1].text.clone()).collect()
+}
+
+/// The files of the crate of strings, with what of each is changed.
+fn chosen_of_strings(root: &Path) -> Result<BTreeMap<String, Chosen>, String> {
+    let mut all = BTreeMap::<String, Chosen>::new();
+    let folder = "rust/arraystring/src/by_hand";
+    let mut files = vec![format!("{folder}.rs")];
+    for entry in fs::read_dir(root.join(folder)).map_err(|error| format!("{folder}: {error}"))? {
+        let name = entry.map_err(|error| error.to_string())?.file_name().to_string_lossy().to_string();
+        if !matches!(name.as_str(), "count_tests.rs" | "contracts.rs") {
+            files.push(format!("{folder}/{name}"));
+        }
+    }
+    for file in files {
+        all.entry(file).or_default().is_whole = true;
+    }
+    for entry in PLACES {
+        let (file, name) = place(root, entry.path);
+        all.entry(file).or_default().functions.insert(name);
+    }
+    for entry in ADDED.iter().filter(|added| !added.module.is_empty()) {
+        let (file, _) = place(root, entry.module);
+        all.entry(file).or_default().functions.extend(functions_of(entry.items));
+    }
+    for entry in REQUIRED.iter().filter(|required| !required.lines.is_empty()) {
+        let (file, name) = place(root, entry.path);
+        all.entry(file).or_default().required.insert(name);
+    }
+    Ok(all)
+}
+
+// ---- What is built ----
+
+/// A way to build tests.
+struct Build {
+    name: &'static str,
+    /// What cargo or rustc is told.
+    arguments: &'static [&'static str],
+}
+
+/// What has tests of its own.
+struct Subject {
+    name: &'static str,
+    folder: &'static str,
+    /// The file that has the number of the change that runs.
+    root_file: &'static str,
+    builds: &'static [Build],
+    is_crate: bool,
+}
+
+const DEBIAN: [&str; 4] = [
+    "--config",
+    "source.crates-io.replace-with='debian'",
+    "--config",
+    "source.debian.directory='/usr/share/cargo/registry'",
+];
+
+const SUBJECTS: &[Subject] = &[
+    Subject {
+        name: "arraystring",
+        folder: "rust/arraystring",
+        root_file: "rust/arraystring/src/lib.rs",
+        builds: &[
+            Build { name: "first tests", arguments: FIRST },
+            Build { name: "debug", arguments: &["--features", "checked,std"] },
+            Build { name: "plain debug", arguments: &[] },
+            Build { name: "release", arguments: &["--release", "--features", "std"] },
+            Build { name: "release checked", arguments: &["--release", "--features", "checked,std"] },
+        ],
+        is_crate: true,
+    },
+    Subject {
+        name: "arraystring_serde",
+        folder: "rust/arraystring_serde",
+        root_file: "rust/arraystring_serde/src/lib.rs",
+        builds: &[Build { name: "debug", arguments: &[DEBIAN[0], DEBIAN[1], DEBIAN[2], DEBIAN[3]] }],
+        is_crate: true,
+    },
+    Subject {
+        name: "compare",
+        folder: "rust",
+        root_file: "rust/compare.rs",
+        builds: &[Build { name: "tests", arguments: &[] }],
+        is_crate: false,
+    },
+    Subject {
+        name: "meaning",
+        folder: "rust",
+        root_file: "rust/meaning.rs",
+        builds: &[Build { name: "tests", arguments: &[] }],
+        is_crate: false,
+    },
+];
+
+/// The tests that see most changes of what is by hand.
+const FIRST: &[&str] =
+    &["--features", "checked,std", "--lib", "--test", "by_hand", "--test", "traits", "--test", "constants"];
+
+impl Subject {
+    fn chosen(&self, root: &Path) -> Result<BTreeMap<String, Chosen>, String> {
+        if self.name == "arraystring" {
+            return chosen_of_strings(root);
+        }
+        let whole = Chosen { is_whole: true, ..Chosen::default() };
+        Ok(BTreeMap::from([(self.root_file.to_string(), whole)]))
+    }
+}
+
+/// What stands in the changed program: the number of the change that runs. In a constant none does.
+const SWITCH: &str = "
+#[doc(hidden)]
+#[allow(warnings)]
+pub mod mutant_switch {
+    extern crate std;
+    use std::sync::atomic::{AtomicU32, Ordering};
+    static NUMBER: AtomicU32 = AtomicU32::new(u32::MAX);
+    fn number() -> u32 {
+        match NUMBER.load(Ordering::Relaxed) {
+            u32::MAX => {
+                let told = std::env::var(\"MUTANT\").ok().and_then(|told| told.parse().ok()).unwrap_or(0);
+                NUMBER.store(told, Ordering::Relaxed);
+                told
+            }
+            told => told,
+        }
+    }
+    const fn none() -> u32 {
+        0
+    }
+    pub const fn mutant() -> u32 {
+        core::intrinsics::const_eval_select((), none, number)
+    }
+}
+";
+const FEATURES: &str = "#![feature(core_intrinsics, const_eval_select)]\n#![allow(internal_features)]\n";
+
+/// The changed file, and at which of its lines each change stands. `numbers` are those of the changes that are in.
+fn switched(text: &str, mutants: &[(usize, &Mutant)]) -> (String, Vec<(Range<usize>, usize)>) {
+    let mut bodies = BTreeMap::<usize, (usize, Vec<(usize, &Mutant)>)>::new();
+    for (number, mutant) in mutants {
+        if let Some(body) = &mutant.body {
+            bodies.entry(body.start).or_insert((body.end, Vec::new())).1.push((*number, mutant));
+        }
+    }
+    let (mut made, mut lines, mut done) = (String::new(), Vec::new(), 0);
+    let line = |made: &str| made.matches('\n').count() + 1;
+    for (start, (end, changes)) in bodies {
+        made.push_str(&text[done..start]);
+        // (what is unchanged comes first, since it says which type the others have to have)
+        let numbers = others_than(changes.iter().map(|(number, _)| *number));
+        let _ = writeln!(made, " match crate::mutant_switch::mutant() {{ {numbers} => {{ {} }}", &text[start..end]);
+        for (number, mutant) in changes {
+            let (edit, from) = (&mutant.edit, line(&made));
+            let (before, behind) = (&text[start..edit.at.start], &text[edit.at.end..end]);
+            let _ = writeln!(made, "{number}u32 => {{ {before}{}{behind} }}", edit.text);
+            lines.push((from..line(&made), number));
+        }
+        made.push_str("} ");
+        done = end;
+    }
+    made.push_str(&text[done..]);
+    (made, lines)
+}
+
+/// The pattern of all numbers but some.
+fn others_than(numbers: impl Iterator<Item = usize>) -> String {
+    let (mut parts, mut from) = (Vec::new(), 0);
+    for number in numbers.collect::<BTreeSet<usize>>() {
+        if from < number {
+            parts.push(format!("{from}..{number}"));
+        }
+        from = number + 1;
+    }
+    parts.push(format!("{from}.."));
+    parts.join(" | ")
+}
+
+/// A copy of the repository in which things are changed.
+struct Tree {
+    folder: PathBuf,
+    target: PathBuf,
+}
+
+impl Tree {
+    fn new(root: &Path, name: &str) -> Result<Self, String> {
+        let work = std::env::temp_dir().join(format!("mutants-{}", std::process::id()));
+        let tree = Tree { folder: work.join(name), target: work.join(format!("{name}-target")) };
+        copy(root, &tree.folder).map_err(|error| format!("{}: {error}", tree.folder.display()))?;
+        Ok(tree)
+    }
+
+    fn write(&self, file: &str, text: &str) -> Result<(), String> {
+        fs::write(self.folder.join(file), text).map_err(|error| format!("{file}: {error}"))
+    }
+
+    /// Builds, and returns whether that worked, and what was said.
+    fn build(&self, subject: &Subject, words: &[&str]) -> Result<(bool, String), String> {
+        let mut command = if subject.is_crate {
+            let mut command = Command::new("cargo");
+            command.args([words[0], "--offline", "-j", "2", "--message-format", "short"]).args(&words[1..]);
+            command
+        } else {
+            let mut command = Command::new("rustc");
+            command.args(["--edition", "2024", "-O", "--cap-lints", "allow", "--error-format", "short"]).args(words);
+            command
+        };
+        command.current_dir(self.folder.join(subject.folder)).env("CARGO_TARGET_DIR", &self.target);
+        command.env("RUSTC_BOOTSTRAP", "1").env("RUSTFLAGS", "--cap-lints allow");
+        let output = command.output().map_err(|error| format!("{command:?}: {error}"))?;
+        Ok((output.status.success(), String::from_utf8_lossy(&output.stderr).to_string()))
+    }
+
+    /// The programs with tests of a build, by their names.
+    fn programs(&self, subject: &Subject, said: &str) -> Vec<(String, PathBuf)> {
+        if !subject.is_crate {
+            return vec![(subject.name.to_string(), self.target.join(subject.name))];
+        }
+        let named = said.lines().filter_map(|line| line.trim().strip_prefix("Executable "));
+        let mut programs: Vec<(String, PathBuf)> = named
+            .filter_map(|line| {
+                let (name, path) = line.rsplit_once(" (")?;
+                let path = path.strip_suffix(")")?;
+                let folder = self.folder.join(subject.folder);
+                let name = name.trim_start_matches("unittests ").trim_start_matches("tests/");
+                Some((name.replace("/main.rs", "").replace(".rs", ""), folder.join(path)))
+            })
+            .collect();
+        programs.sort_by_key(|(name, _)| (name != "src/lib" && name != "by_hand", name.clone()));
+        programs
+    }
+}
+
+fn read(path: &Path) -> Result<String, String> {
+    fs::read_to_string(path).map_err(|error| format!("{}: {error}", path.display()))
+}
+
+/// Copies what git has and what it would have: all but what is built.
+fn copy(from: &Path, to: &Path) -> std::io::Result<()> {
+    fs::create_dir_all(to)?;
+    for entry in fs::read_dir(from)? {
+        let entry = entry?;
+        let (name, kind) = (entry.file_name(), entry.file_type()?);
+        if matches!(name.to_str(), Some(".git" | "out" | "target")) {
+            continue;
+        }
+        if kind.is_dir() {
+            copy(&entry.path(), &to.join(name))?;
+        } else if kind.is_file() {
+            fs::copy(entry.path(), to.join(name))?;
+        }
+    }
+    Ok(())
+}
+
+// ---- What is run ----
+
+/// How a change ended.
+#[derive(Clone, PartialEq)]
+enum Fate {
+    NotTried,
+    /// It is no program.
+    NotCompiled,
+    /// The test that saw it.
+    Seen(String),
+    Survived,
+}
+
+/// Some tests of a program that run together.
+struct Unit {
+    program: String,
+    path: PathBuf,
+    folder: PathBuf,
+    tests: Vec<String>,
+    limit: Duration,
+}
+
+/// What a process of a change may take of memory, in KB: a loop may ask for all there is.
+const MEMORY: &str = "ulimit -v 6000000; exec \"$0\" \"$@\"";
+
+impl Unit {
+    fn command(&self) -> Command {
+        let mut command = Command::new("sh");
+        command.args(["-c", MEMORY]).arg(&self.path).current_dir(&self.folder).env("CARGO_MANIFEST_DIR", &self.folder);
+        command.env("RUST_TEST_THREADS", "1").env("RUST_BACKTRACE", "0").stdin(Stdio::null()).stderr(Stdio::null());
+        command
+    }
+
+    /// The names of all tests of the program.
+    fn names(&self) -> Vec<String> {
+        let said = self.command().arg("--list").output().map(|output| output.stdout).unwrap_or_default();
+        let said = String::from_utf8_lossy(&said).to_string();
+        let names = said.lines().filter_map(|line| line.strip_suffix(": test").map(str::to_string));
+        // (what compares is a module of what reads the meaning, and has its tests there, too)
+        names.filter(|name| self.program != "meaning" || !name.starts_with("compare::")).collect()
+    }
+
+    /// Runs the tests under a change. `Some` is what saw it.
+    fn seen_by(&self, number: usize) -> Option<String> {
+        static LOGS: AtomicUsize = AtomicUsize::new(0);
+        let log = self.path.with_extension(format!("{}.log", LOGS.fetch_add(1, Ordering::Relaxed)));
+        let mut command = self.command();
+        command.arg("--exact").args(&self.tests).env("MUTANT", number.to_string()).stdout(File::create(&log).ok()?);
+        let status = self.status(&mut command);
+        let text = String::from_utf8_lossy(&fs::read(&log).unwrap_or_default()).to_string();
+        let _ = fs::remove_file(&log);
+        let failed = first_failed(&text).or(self.tests.first().map(String::as_str)).unwrap_or("");
+        match status {
+            Some(true) => None,
+            Some(false) => Some(format!("{}::{failed}", self.program)),
+            None => Some(format!("{}::{failed} (it ran too long)", self.program)),
+        }
+    }
+
+    /// Whether a process ended well, or none where it did not end.
+    fn status(&self, command: &mut Command) -> Option<bool> {
+        let (mut child, start) = (command.spawn().ok()?, Instant::now());
+        loop {
+            match child.try_wait() {
+                Ok(Some(status)) => return Some(status.success()),
+                Ok(None) if start.elapsed() < self.limit => std::thread::sleep(Duration::from_millis(2)),
+                _ => {
+                    let _ = child.kill();
+                    let _ = child.wait();
+                    return None;
+                }
+            }
+        }
+    }
+}
+
+fn first_failed(said: &str) -> Option<&str> {
+    said.lines().find_map(|line| line.strip_prefix("test ")?.strip_suffix(" ... FAILED")).or_else(|| {
+        // (what ends the program has no verdict behind its name)
+        said.lines().last()?.strip_prefix("test ")?.strip_suffix(" ... ")
+    })
+}
+
+/// A path without `FOLDER/..` in it.
+fn without_parents(path: &str) -> String {
+    let mut parts = Vec::new();
+    for part in path.split('/') {
+        match part {
+            ".." => _ = parts.pop(),
+            _ => parts.push(part),
+        }
+    }
+    parts.join("/")
+}
+
+/// How many processes run at a time.
+const WORKERS: usize = 2;
+
+/// What some work gives for each number below a count, by a few threads.
+fn of_each<T: Send>(count: usize, work: impl Fn(usize) -> T + Sync) -> Vec<(usize, T)> {
+    let (next, found) = (AtomicUsize::new(0), Mutex::new(Vec::new()));
+    let one = || loop {
+        let at = next.fetch_add(1, Ordering::Relaxed);
+        if at >= count {
+            return;
+        }
+        let made = work(at);
+        found.lock().expect("no thread panics").push((at, made));
+    };
+    std::thread::scope(|scope| (0..WORKERS).for_each(|_| _ = scope.spawn(one)));
+    found.into_inner().expect("no thread panics")
+}
+
+/// The tests of programs, the quick ones first, those of a program that take next to no time together. One that fails where nothing
+/// is changed is not asked.
+fn units(programs: &[(String, PathBuf)], folder: &Path) -> Vec<Unit> {
+    let unit = |(program, path): &(String, PathBuf), tests: Vec<String>| Unit {
+        program: program.clone(),
+        path: path.clone(),
+        folder: folder.to_path_buf(),
+        tests,
+        limit: Duration::from_secs(300),
+    };
+    let names = programs.iter().flat_map(|it| unit(it, Vec::new()).names().into_iter().map(move |name| (it, name)));
+    let ones: Vec<_> = names.map(|(it, name)| (it, unit(it, vec![name]))).collect();
+    let times = of_each(ones.len(), |at| {
+        let start = Instant::now();
+        (ones[at].1.seen_by(0), start.elapsed())
+    });
+    let mut timed = Vec::new();
+    let mut together = BTreeMap::<&str, (Duration, Unit)>::new();
+    for (at, (seen, time)) in times {
+        let (program, one) = &ones[at];
+        if let Some(by) = seen {
+            eprintln!("mutants: {by} fails where nothing is changed, and is not asked");
+        } else if time < Duration::from_millis(30) {
+            let all = together.entry(&program.0).or_insert_with(|| (Duration::ZERO, unit(program, Vec::new())));
+            all.0 += time;
+            all.1.tests.extend(one.tests.iter().cloned());
+        } else {
+            timed.push((time, unit(program, one.tests.clone())));
+        }
+    }
+    timed.extend(together.into_values());
+    timed.sort_by_key(|(time, _)| *time);
+    let limited = timed.into_iter().map(|(time, unit)| Unit { limit: time * 20 + Duration::from_secs(20), ..unit });
+    limited.collect()
+}
+
+/// The changes of a subject, and how each ended.
+struct Run<'a> {
+    root: &'a Path,
+    subject: &'a Subject,
+    mutants: Vec<Mutant>,
+    fates: Vec<Fate>,
+    end: Option<Instant>,
+}
+
+impl Run<'_> {
+    fn is_over(&self) -> bool {
+        self.end.is_some_and(|end| Instant::now() > end)
+    }
+
+    /// The changes that are in a build: those that share it, and are not seen yet.
+    fn left(&self) -> Vec<usize> {
+        let is_left =
+            |at: &usize| self.mutants[*at].body.is_some() && matches!(self.fates[*at], Fate::NotTried | Fate::Survived);
+        (0..self.mutants.len()).filter(is_left).collect()
+    }
+
+    /// Files of tests that take a changed file as a module, and so need the number of the change, too.
+    fn write_tests(&self, tree: &Tree) -> Result<(), String> {
+        let folder = format!("{}/tests", self.subject.folder);
+        for entry in fs::read_dir(self.root.join(&folder)).into_iter().flatten().flatten() {
+            let name = entry.file_name().to_string_lossy().to_string();
+            let file =
+                if name.ends_with(".rs") { format!("{folder}/{name}") } else { format!("{folder}/{name}/main.rs") };
+            let Ok(text) = read(&self.root.join(&file)) else { continue };
+            if text.lines().any(|line| line.starts_with("#[path = \"../") && line.contains("/src/")) {
+                tree.write(&file, &format!("{FEATURES}{text}{SWITCH}"))?;
+            }
+        }
+        Ok(())
+    }
+
+    /// Writes the changed files, and returns where each change stands in them.
+    fn write(&self, tree: &Tree) -> Result<BTreeMap<String, Vec<(Range<usize>, usize)>>, String> {
+        self.write_tests(tree)?;
+        let mut lines = BTreeMap::new();
+        let mut files: BTreeSet<&str> = self.mutants.iter().map(|mutant| mutant.file.as_str()).collect();
+        files.insert(self.subject.root_file);
+        for file in files {
+            let left = self.left();
+            let changes: Vec<(usize, &Mutant)> =
+                left.iter().map(|&at| (at + 1, &self.mutants[at])).filter(|(_, mutant)| mutant.file == file).collect();
+            let (mut text, mut at) = switched(&read(&self.root.join(file))?, &changes);
+            // (a body that stands there fifty times is not put into each caller)
+            text = text.replace("#[inline(always)]", "#[inline(never)]");
+            if file == self.subject.root_file {
+                // (the features stand before all, and move each line)
+                text = format!("{FEATURES}{text}{SWITCH}");
+                let moved = FEATURES.matches('\n').count();
+                at.iter_mut().for_each(|(range, _)| *range = range.start + moved..range.end + moved);
+            }
+            tree.write(file, &text)?;
+            lines.insert(file.to_string(), at);
+        }
+        Ok(lines)
+    }
+
+    /// The numbers of the changes that a compiler's errors name.
+    fn refused(&self, said: &str, lines: &BTreeMap<String, Vec<(Range<usize>, usize)>>) -> BTreeSet<usize> {
+        let mut numbers = BTreeSet::new();
+        for error in said.lines().filter(|line| line.contains(": error")) {
+            let mut parts = error.split(':');
+            let (Some(path), Some(Ok(line))) = (parts.next(), parts.next().map(str::parse::<usize>)) else { continue };
+            let path = without_parents(path);
+            let Some((_, changes)) = lines.iter().find(|(file, _)| file.ends_with(&format!("/{path}"))) else {
+                continue;
+            };
+            numbers.extend(changes.iter().filter(|(range, _)| range.contains(&line)).map(|(_, number)| *number));
+        }
+        numbers
+    }
+
+    /// Builds without the changes that do not compile. `what` becomes of those. Returns what the last build said.
+    fn built(&mut self, tree: &Tree, words: &[&str], what: &Fate) -> Result<String, String> {
+        loop {
+            let lines = self.write(tree)?;
+            let (is_built, said) = tree.build(self.subject, words)?;
+            if is_built {
+                return Ok(said);
+            }
+            let refused = self.refused(&said, &lines);
+            if refused.is_empty() {
+                return Err(format!("what is unchanged does not compile:\n{said}"));
+            }
+            eprintln!("mutants: {}: {} changes do not compile", self.subject.name, refused.len());
+            for number in refused {
+                self.fates[number - 1] = what.clone();
+            }
+        }
+    }
+
+    /// The tests of a build with all changes that share it.
+    fn tests(&mut self, tree: &Tree, build: &Build) -> Result<Vec<Unit>, String> {
+        let said = if self.subject.is_crate {
+            let no_tests = build.arguments.iter().position(|word| *word == "--lib").unwrap_or(build.arguments.len());
+            let check: Vec<&str> = ["check", "--lib"].iter().chain(&build.arguments[..no_tests]).copied().collect();
+            self.built(tree, &check, &Fate::NotCompiled)?;
+            let test: Vec<&str> = ["test", "--no-run"].iter().chain(build.arguments).copied().collect();
+            self.built(tree, &test, &Fate::Seen("(the build of the tests)".to_string()))?
+        } else {
+            let (words, _) = self.program(tree)?;
+            self.built(tree, &words.iter().map(String::as_str).collect::<Vec<_>>(), &Fate::NotCompiled)?
+        };
+        Ok(units(&tree.programs(self.subject, &said), &tree.folder.join(self.subject.folder)))
+    }
+
+    /// Tries the changes that share a build, two at a time. What saw another change of the function is asked first.
+    fn try_switched(&mut self, tree: &Tree, build: &Build) -> Result<(), String> {
+        let units = self.tests(tree, build)?;
+        let left = self.left();
+        eprintln!("mutants: {} {}: {} changes in one build", self.subject.name, build.name, left.len());
+        let helpful = Mutex::new(BTreeMap::<&str, Vec<usize>>::new());
+        let found = of_each(left.len(), |index| {
+            let at = left[index];
+            if self.is_over() {
+                return self.fates[at].clone();
+            }
+            let function = self.mutants[at].function.as_str();
+            let mut order = helpful.lock().expect("no thread panics").get(function).cloned().unwrap_or_default();
+            order.extend((0..units.len()).filter(|unit| !order.contains(unit)).collect::<Vec<_>>());
+            let Some((unit, by)) = order.into_iter().find_map(|unit| Some((unit, units[unit].seen_by(at + 1)?))) else {
+                eprintln!("mutants: {}: not seen by {}", self.mutants[at].name(), build.name);
+                return Fate::Survived;
+            };
+            let mut helpful = helpful.lock().expect("no thread panics");
+            let first = helpful.entry(function).or_default();
+            first.retain(|other| *other != unit);
+            first.insert(0, unit);
+            eprintln!("mutants: {}: {by}", self.mutants[at].name());
+            Fate::Seen(format!("{}: {by}", build.name))
+        });
+        for (index, fate) in found {
+            self.fates[left[index]] = fate;
+        }
+        Ok(())
+    }
+
+    /// Asks the examples in the documentation of the changes that survived.
+    fn try_examples(&mut self, tree: &Tree, build: &Build) -> Result<(), String> {
+        let words: Vec<&str> = ["test", "--doc"].iter().chain(build.arguments).copied().collect();
+        for at in self.left() {
+            if self.is_over() {
+                return Ok(());
+            }
+            let number = (at + 1).to_string();
+            let mut command = Command::new("cargo");
+            command.args([words[0], "--offline", "-j", "2"]).args(&words[1..]).env("MUTANT", number);
+            command.current_dir(tree.folder.join(self.subject.folder)).env("CARGO_TARGET_DIR", &tree.target);
+            command.env("RUSTC_BOOTSTRAP", "1").env("RUSTFLAGS", "--cap-lints allow");
+            let output = command.output().map_err(|error| format!("{command:?}: {error}"))?;
+            if !output.status.success() {
+                let said = String::from_utf8_lossy(&output.stdout).to_string();
+                self.fates[at] = Fate::Seen(format!("examples: {}", first_failed(&said).unwrap_or("(no name)")));
+            }
+        }
+        Ok(())
+    }
+
+    /// Tries what has a build of its own, and what survived in a `const fn`, which the shared build runs as it is in a constant.
+    fn try_alone(&mut self, tree: &Tree) -> Result<(), String> {
+        for at in 0..self.mutants.len() {
+            let is_due =
+                self.mutants[at].body.is_none() || self.mutants[at].edit.is_const && self.fates[at] == Fate::Survived;
+            if is_due && !self.is_over() {
+                let file = self.mutants[at].file.clone();
+                let text = read(&self.root.join(&file))?;
+                let edit = &self.mutants[at].edit;
+                tree.write(&file, &format!("{}{}{}", &text[..edit.at.start], edit.text, &text[edit.at.end..]))?;
+                self.fates[at] = self.fate_alone(tree)?;
+                eprintln!("mutants: {}: {}", self.mutants[at].name(), self.shown(at));
+                tree.write(&file, &text)?;
+            }
+        }
+        Ok(())
+    }
+
+    /// The arguments that build a program's tests, and where they are then.
+    fn program(&self, tree: &Tree) -> Result<(Vec<String>, PathBuf), String> {
+        fs::create_dir_all(&tree.target).map_err(|error| error.to_string())?;
+        let (file, path) = (self.subject.root_file.trim_start_matches("rust/"), tree.target.join(self.subject.name));
+        let words = ["--test", file, "-o"].map(str::to_string).into_iter().chain([path.display().to_string()]);
+        Ok((words.collect(), path))
+    }
+
+    fn fate_of_program(&self, tree: &Tree) -> Result<Fate, String> {
+        let (words, path) = self.program(tree)?;
+        if !tree.build(self.subject, &words.iter().map(String::as_str).collect::<Vec<_>>())?.0 {
+            return Ok(Fate::NotCompiled);
+        }
+        let (program, folder) = (self.subject.name.to_string(), tree.folder.join(self.subject.folder));
+        let all = Unit { program, path, folder, tests: Vec::new(), limit: Duration::from_secs(600) };
+        let all = Unit { tests: all.names(), ..all };
+        Ok(all.seen_by(0).map_or(Fate::Survived, Fate::Seen))
+    }
+
+    fn fate_alone(&self, tree: &Tree) -> Result<Fate, String> {
+        if !self.subject.is_crate {
+            return self.fate_of_program(tree);
+        }
+        let with = |first: &[&'static str], build: &Build| -> Vec<&str> {
+            first.iter().chain(build.arguments).copied().collect()
+        };
+        let whole = self.subject.builds.last().expect("a build");
+        if !tree.build(self.subject, &with(&["check", "--lib"], whole))?.0 {
+            return Ok(Fate::NotCompiled);
+        }
+        for build in self.subject.builds {
+            let (is_green, said) = tree.build(self.subject, &with(&["test"], build))?;
+            if !is_green {
+                let by = said.lines().find_map(|line| line.trim().strip_prefix("error: test failed, to rerun pass "));
+                return Ok(Fate::Seen(format!("{}: {}", build.name, by.unwrap_or("(the build of the tests)"))));
+            }
+        }
+        Ok(Fate::Survived)
+    }
+
+    fn shown(&self, at: usize) -> String {
+        match &self.fates[at] {
+            Fate::NotTried => "not tried".to_string(),
+            Fate::NotCompiled => "does not compile".to_string(),
+            Fate::Seen(by) => format!("seen by {by}"),
+            Fate::Survived => "SURVIVED".to_string(),
+        }
+    }
+
+    fn all(&mut self) -> Result<(), String> {
+        let tree = Tree::new(self.root, self.subject.name)?;
+        let outcome = self.all_in(&tree);
+        let _ = fs::remove_dir_all(&tree.folder);
+        let _ = fs::remove_dir_all(&tree.target);
+        outcome
+    }
+
+    fn all_in(&mut self, tree: &Tree) -> Result<(), String> {
+        for build in self.subject.builds {
+            if !self.left().is_empty() && !self.is_over() {
+                self.try_switched(tree, build)?;
+            }
+        }
+        if self.subject.is_crate && !self.is_over() {
+            self.try_examples(tree, self.subject.builds.last().expect("a build"))?;
+        }
+        for file in self.mutants.iter().map(|mutant| mutant.file.as_str()).chain([self.subject.root_file]) {
+            tree.write(file, &read(&self.root.join(file))?)?;
+        }
+        self.try_alone(tree)?;
+        if self.is_over() {
+            // (what no test has seen yet, others were not asked of)
+            self.fates.iter_mut().filter(|fate| **fate == Fate::Survived).for_each(|fate| *fate = Fate::NotTried);
+        }
+        Ok(())
+    }
+}
+
+// ---- What is told ----
+
+/// The list of changes that nobody can see: each name with its reason, which stands above it.
+fn equivalent(root: &Path) -> Result<BTreeMap<String, String>, String> {
+    let (mut all, mut reason, mut is_listed) = (BTreeMap::new(), String::new(), true);
+    for line in read(&root.join("rust/equivalent.txt"))?.lines().filter(|line| !line.trim().is_empty()) {
+        match line.strip_prefix("    ") {
+            Some(name) => {
+                all.insert(name.to_string(), reason.clone());
+                is_listed = true;
+            }
+            None => {
+                if is_listed {
+                    reason.clear();
+                    is_listed = false;
+                }
+                reason.push_str(line);
+                reason.push(' ');
+            }
+        }
+    }
+    Ok(all)
+}
+
+/// Prints the count of each file and what survived; whether all is well.
+fn told(run: &Run, listed: &BTreeMap<String, String>, met: &mut BTreeSet<String>) -> bool {
+    let mut files = BTreeMap::<&str, BTreeMap<String, usize>>::new();
+    let mut is_well = true;
+    let each = (0..run.mutants.len()).map(|at| format!("{}: {}\n", run.mutants[at].name(), run.shown(at)));
+    let log = std::env::temp_dir().join(format!("mutants-{}.txt", run.subject.name));
+    let _ = fs::write(&log, each.collect::<String>());
+    for (at, mutant) in run.mutants.iter().enumerate() {
+        let is_listed = listed.contains_key(&mutant.name());
+        let kind = match &run.fates[at] {
+            Fate::NotCompiled => continue,
+            Fate::NotTried => "not tried".to_string(),
+            Fate::Seen(by) => format!("by {}", by.rsplit_once("::").map_or(by.as_str(), |(program, _)| program)),
+            Fate::Survived if is_listed => "equivalent".to_string(),
+            Fate::Survived => "SURVIVED".to_string(),
+        };
+        if run.fates[at] == Fate::Survived {
+            met.insert(mutant.name());
+            if !is_listed {
+                println!("survived: {}", mutant.name());
+                is_well = false;
+            }
+        }
+        *files.entry(&mutant.file).or_default().entry(kind).or_default() += 1;
+    }
+    for (file, kinds) in files {
+        let shown: Vec<String> = kinds.iter().map(|(kind, count)| format!("{count} {kind}")).collect();
+        println!("{file}: {} changes: {}", kinds.values().sum::<usize>(), shown.join(", "));
+    }
+    is_well
+}
+
+/// The next number of a sequence that looks random (xorshift).
+fn next_random(state: &mut u64) -> u64 {
+    *state ^= *state << 13;
+    *state ^= *state >> 7;
+    *state ^= *state << 17;
+    *state
+}
+
+/// What is asked for.
+struct Asked {
+    files: Vec<String>,
+    sample: Option<(u64, u64)>,
+    is_list: bool,
+}
+
+fn asked() -> Option<Asked> {
+    let words: Vec<String> = std::env::args().skip(1).collect();
+    let mut asked = Asked { files: Vec::new(), sample: None, is_list: false };
+    match words.first().map(String::as_str) {
+        Some("--sample") => asked.sample = Some((words.get(1)?.parse().ok()?, words.get(2)?.parse().ok()?)),
+        Some("--list") => (asked.is_list, asked.files) = (true, words[1..].to_vec()),
+        Some(word) if word.starts_with('-') => return None,
+        _ => asked.files = words,
+    }
+    Some(asked)
+}
+
+/// How many changes a sample has: so many are built in less than a minute.
+const SAMPLE: usize = 60;
+
+/// A part of the changes in a random order, of as many as are tried in a sample.
+fn sample_of(mut mutants: Vec<Mutant>, day: u64) -> Vec<Mutant> {
+    mutants.retain(|mutant| mutant.body.is_some());
+    let mut state = day.wrapping_mul(0x9E37_79B9_7F4A_7C15) | 1;
+    let mut chosen = Vec::new();
+    while !mutants.is_empty() && chosen.len() < SAMPLE {
+        let at = (next_random(&mut state) % mutants.len() as u64) as usize;
+        chosen.push(mutants.swap_remove(at));
+    }
+    chosen
+}
+
+/// The changes of a subject that are asked for, and the files that were read for them.
+fn those_of(root: &Path, subject: &Subject, asked: &Asked) -> Result<(Vec<Mutant>, Vec<String>), String> {
+    let (mut mutants, mut files) = (Vec::new(), Vec::new());
+    for (file, chosen) in subject.chosen(root)? {
+        if asked.files.is_empty() || asked.files.contains(&file) {
+            mutants.extend(mutants_of(root, &file, &chosen)?);
+            files.push(file);
+        }
+    }
+    Ok((mutants, files))
+}
+
+/// Prints what the list has and no longer survives in some files; whether there is none.
+fn is_fresh(listed: &BTreeMap<String, String>, met: &BTreeSet<String>, files: &BTreeSet<String>) -> bool {
+    let of_files = |name: &&String| files.iter().any(|file| name.starts_with(&format!("{file}: ")));
+    let stale: Vec<&String> = listed.keys().filter(of_files).filter(|name| !met.contains(*name)).collect();
+    stale.iter().for_each(|name| println!("no longer survives, or is no longer there: {name}"));
+    stale.is_empty()
+}
+
+fn run_all(root: &Path, asked: &Asked) -> Result<bool, String> {
+    let (listed, mut met, mut is_well) = (equivalent(root)?, BTreeSet::new(), true);
+    let (mut read_files, mut tried, start) = (BTreeSet::new(), 0, Instant::now());
+    for (number, subject) in SUBJECTS.iter().enumerate() {
+        if asked.sample.is_some_and(|(day, _)| day % SUBJECTS.len() as u64 != number as u64) {
+            continue;
+        }
+        let (mut mutants, files) = those_of(root, subject, asked)?;
+        read_files.extend(files);
+        if asked.is_list {
+            mutants.drain(..).for_each(|mutant| println!("{}", mutant.name()));
+        }
+        if let Some((day, _)) = asked.sample {
+            mutants = sample_of(mutants, day);
+            mutants.retain(|mutant| !listed.contains_key(&mutant.name()));
+        }
+        if mutants.is_empty() {
+            continue;
+        }
+        let fates = vec![Fate::NotTried; mutants.len()];
+        let end = asked.sample.map(|(_, seconds)| start + Duration::from_secs(seconds));
+        let mut run = Run { root, subject, mutants, fates, end };
+        run.all()?;
+        tried += run.fates.iter().filter(|fate| matches!(fate, Fate::Seen(_) | Fate::Survived)).count();
+        is_well &= told(&run, &listed, &mut met);
+    }
+    if let Some(file) = asked.files.iter().find(|file| !read_files.contains(*file)) {
+        return Err(format!("{file} is no file of what is changed, as --list names them"));
+    }
+    if asked.is_list {
+        return Ok(true);
+    }
+    println!("mutants: {tried} changes were tried in {} seconds", start.elapsed().as_secs());
+    Ok(is_well && (asked.sample.is_some() || is_fresh(&listed, &met, &read_files)))
+}
+
+fn main() -> ExitCode {
+    let Some(asked) = asked() else {
+        eprintln!("mutants: the arguments are FILE.., --list FILE.. or --sample DAY SECONDS");
+        return ExitCode::from(2);
+    };
+    match std::env::current_dir().map_err(|error| error.to_string()).and_then(|root| run_all(&root, &asked)) {
+        Ok(true) => ExitCode::SUCCESS,
+        Ok(false) => ExitCode::FAILURE,
+        Err(why) => {
+            eprintln!("mutants: {why}");
+            ExitCode::from(2)
+        }
+    }
+}
+
+#[cfg(test)]
+#[path = "mutants_tests.rs"]
+mod mutants_tests;

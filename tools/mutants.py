@@ -1,0 +1,294 @@
+"""Changes each place of the tools, once, by rules, and says which test sees the change. What no test sees has to stand in
+rust/equivalent.txt with the reason why nobody can see it; a line there that no longer applies is a fault, too. rust/mutants does the
+same for what Rust has without a proof.
+
+tools/run mutants                       all tools, some hours: before a release
+tools/run mutants FILE..                these, some minutes each: who changes one (tools/quotes.py)
+tools/run mutants --sample DAY SECONDS  as many as fit into the time, chosen by the number DAY
+tools/run mutants --list FILE..         prints the changes and runs nothing
+
+The rules: a comparison, `and`, `or` and a sum for its neighbour; a number by one, a text to the empty one; a condition to either
+value, and without its `not`; a statement out; a returned value to None; two arguments swapped; a bound of a part out; a word for its
+opposite. The tools are copied, with the repository that their tests read. Each change is tried on the tests named as its tool, then on
+those of what imports it, however far, and on those of `tools/run`. One that runs too long is ended, and counts as seen.
+"""
+import ast
+import random
+import subprocess
+import sys
+import time
+from collections import Counter
+from concurrent.futures import ThreadPoolExecutor
+from pathlib import Path
+
+import repository
+from repository import copied, read
+
+LISTED = "rust/equivalent.txt"
+WORKERS = 1
+LONGEST = 600
+
+COMPARISONS = {
+    ast.Lt: ["<=", ">="], ast.LtE: ["<", ">"], ast.Gt: [">=", "<="], ast.GtE: [">", "<"], ast.Eq: ["!="], ast.NotEq: ["=="],
+    ast.In: ["not in"], ast.NotIn: ["in"], ast.Is: ["is not"], ast.IsNot: ["is"],
+}
+SUMS = {ast.Add: "-", ast.Sub: "+", ast.Mult: "+", ast.BitOr: "&", ast.BitAnd: "|", ast.FloorDiv: "*", ast.Mod: "*"}
+PAIRS = [("any", "all"), ("min", "max"), ("startswith", "endswith"), ("removeprefix", "removesuffix"), ("partition", "rpartition"),
+         ("find", "rfind"), ("match", "search"), ("continue", "break"), ("append", "remove"), ("rglob", "glob")]
+OPPOSITES = {**dict(PAIRS), **{other: one for one, other in PAIRS}}
+
+
+class Places(ast.NodeVisitor):
+    """The changes of a file: where each begins and ends, in bytes, what is put there, and in which function it is."""
+
+    def __init__(self, text):
+        self.text = text.encode()
+        lines = self.text.splitlines(keepends=True)
+        self.starts = [sum(map(len, lines[:it])) for it in range(len(lines) + 1)]
+        self.around, self.found = [], []
+        self.visit(ast.parse(text))
+
+    def span(self, node):
+        return (self.starts[node.lineno - 1] + node.col_offset, self.starts[node.end_lineno - 1] + node.end_col_offset)
+
+    def part(self, node):
+        start, end = self.span(node)
+        return self.text[start:end].decode()
+
+    def put(self, start, end, text):
+        if self.text[start:end] != text.encode():
+            self.found.append((start, end, text, ".".join(self.around) or "the file"))
+
+    def put_at(self, node, *texts):
+        for text in texts:
+            self.put(*self.span(node), text)
+
+    def between(self, one, other, word, texts):
+        """Changes the sign that stands between two parts."""
+        start, end = self.span(one)[1], self.span(other)[0]
+        at = self.text.find(word.encode(), start, end)
+        for text in texts if at >= 0 else []:
+            self.put(at, at + len(word), text)
+
+    def generic_visit(self, node):
+        for field in ("body", "orelse", "finalbody"):
+            statements = getattr(node, field, None)
+            for it in statements if isinstance(statements, list) else []:
+                self.statement(it)
+        super().generic_visit(node)
+
+    def statement(self, node):
+        is_doc = isinstance(node, ast.Expr) and isinstance(node.value, ast.Constant)
+        kept = (ast.Import, ast.ImportFrom, ast.FunctionDef, ast.ClassDef, ast.Pass, ast.Return)
+        if not is_doc and not isinstance(node, kept):
+            self.put_at(node, "pass")
+
+    def inside(self, node):
+        self.around.append(node.name)
+        self.generic_visit(node)
+        self.around.pop()
+
+    visit_FunctionDef = visit_ClassDef = inside
+
+    def visit_Expr(self, node):
+        if not isinstance(node.value, ast.Constant):
+            self.generic_visit(node)
+
+    def visit_Return(self, node):
+        if node.value is not None:
+            self.put_at(node.value, "None")
+        self.generic_visit(node)
+
+    def visit_Compare(self, node):
+        words = {ast.Lt: "<", ast.LtE: "<=", ast.Gt: ">", ast.GtE: ">=", ast.Eq: "==", ast.NotEq: "!=", ast.In: "in",
+                 ast.NotIn: "not in", ast.Is: "is", ast.IsNot: "is not"}
+        operands = [node.left, *node.comparators]
+        for one, other, sign in zip(operands, operands[1:], node.ops):
+            self.between(one, other, words[type(sign)], COMPARISONS[type(sign)])
+        self.generic_visit(node)
+
+    def visit_BoolOp(self, node):
+        word, other = ("and", "or") if isinstance(node.op, ast.And) else ("or", "and")
+        for one, two in zip(node.values, node.values[1:]):
+            self.between(one, two, word, [other])
+        self.generic_visit(node)
+
+    def visit_BinOp(self, node):
+        words = {ast.Add: "+", ast.Sub: "-", ast.Mult: "*", ast.BitOr: "|", ast.BitAnd: "&", ast.FloorDiv: "//", ast.Mod: "%"}
+        if type(node.op) in words:
+            self.between(node.left, node.right, words[type(node.op)], [SUMS[type(node.op)]])
+        self.generic_visit(node)
+
+    def visit_UnaryOp(self, node):
+        if isinstance(node.op, ast.Not):
+            self.put_at(node, f"bool({self.part(node.operand)})")
+        self.generic_visit(node)
+
+    def condition(self, node):
+        self.put_at(node.test, "True", "False")
+        self.generic_visit(node)
+
+    visit_If = visit_While = visit_IfExp = condition
+
+    def visit_comprehension(self, node):
+        for it in node.ifs:
+            self.put_at(it, "True", "False")
+        self.generic_visit(node)
+
+    def visit_Constant(self, node):
+        if isinstance(node.value, bool):
+            self.put_at(node, str(not node.value))
+        elif isinstance(node.value, int):
+            self.put_at(node, str(node.value + 1), str(node.value - 1))
+        elif isinstance(node.value, str) and node.value:
+            self.put_at(node, '""')
+
+    def visit_JoinedStr(self, node):
+        self.put_at(node, '""')
+        for it in node.values if sys.version_info >= (3, 12) else []:
+            if isinstance(it, ast.FormattedValue):
+                self.visit(it)
+
+    def visit_Call(self, node):
+        for one, other in zip(node.args, node.args[1:]):
+            between = self.text[self.span(one)[1]:self.span(other)[0]].decode()
+            self.put(self.span(one)[0], self.span(other)[1], self.part(other) + between + self.part(one))
+        self.generic_visit(node)
+
+    def visit_Slice(self, node):
+        for it in (node.lower, node.upper):
+            if it:
+                self.put_at(it, "")
+        self.generic_visit(node)
+
+    def visit_Name(self, node):
+        if node.id in OPPOSITES:
+            self.put_at(node, OPPOSITES[node.id])
+
+    def visit_Attribute(self, node):
+        if node.attr in OPPOSITES:
+            end = self.span(node)[1]
+            self.put(end - len(node.attr), end, OPPOSITES[node.attr])
+        self.generic_visit(node)
+
+
+def shown(text, start, end, new):
+    """The lines of a change after it, and as they are."""
+    first, last = text.rfind(b"\n", 0, start) + 1, text.find(b"\n", end)
+    before, behind = text[first:start].decode(), text[end:last].decode()
+    old, new = (" ".join(it.split()) for it in (text[start:end].decode(), new))
+    cut = [f"{it[:70]}.." if len(it) > 70 else it for it in (new, old)]
+    return " for ".join(f"`{before.lstrip()}{it}{behind.rstrip()}`" for it in cut)
+
+
+def mutants(root, file):
+    """The changes of a file: the name of each, and the file's text after it."""
+    places, met = Places(read(root / file)), Counter()
+    for start, end, new, function in sorted(set(places.found)):
+        text = places.text[:start] + new.encode() + places.text[end:]
+        name = f"{file}: {function}: {shown(places.text, start, end, new)}"
+        met[name] += 1
+        try:
+            compile(text, file, "exec")
+        except SyntaxError:
+            continue
+        yield name if met[name] == 1 else f"{name} #{met[name]}", text
+
+
+def imported_by(file):
+    """The modules that a file of tests imports."""
+    tree = ast.parse(read(file))
+    names = {name.name for it in ast.walk(tree) if isinstance(it, ast.Import) for name in it.names}
+    return names | {it.module for it in ast.walk(tree) if isinstance(it, ast.ImportFrom)}
+
+
+def tests_of(root, file):
+    """The files of tests that may see a change of a tool, in the order in which they are asked: those named as the tool, those that
+    import it, those that import what imports it, and those of tools/run, which runs them as programs."""
+    tool, folder = Path(file).stem, root / "tools"
+    files = {it.stem: it for it in folder.glob("*.py")}
+    reached = lambda name: repository.closed([name], lambda it: imported_by(files[it]) & files.keys())
+    asked = [it for name, it in files.items() if name.startswith("test_") and (tool in reached(name) or name == "test_run")]
+    return [it.stem for it in sorted(asked, key=lambda it: (tool not in it.stem, tool not in imported_by(it), it.stem == "test_run", it.name))]
+
+
+def seen_by(tree, file, text, tests):
+    """The file of tests that sees a change in a copy of the repository; None where none does."""
+    kept = (tree / file).read_bytes()
+    (tree / file).write_bytes(text)
+    try:
+        for it in tests:
+            command = [sys.executable, "-B", "-m", "unittest", "-f", it]
+            try:
+                run = subprocess.run(command, cwd=tree / "tools", stdin=subprocess.DEVNULL, stdout=subprocess.DEVNULL,
+                                     stderr=subprocess.DEVNULL, timeout=LONGEST)
+            except subprocess.TimeoutExpired:
+                return f"{it} (it ran too long)"
+            if run.returncode:
+                return it
+    finally:
+        (tree / file).write_bytes(kept)
+    return None
+
+
+def tried(root, asked, end):
+    """What saw each change, by its name: a file of tests, or None. Those that the time has no room for are left out."""
+    fates = {}
+    waiting = list(reversed(asked))
+
+    def work(tree):
+        while waiting and (end is None or time.monotonic() < end):
+            file, name, text = waiting.pop()
+            fates[name] = seen_by(tree, file, text, tests_of(root, file))
+            print(f"{name}: {fates[name] or 'not seen'}", file=sys.stderr, flush=True)
+
+    with ThreadPoolExecutor(WORKERS) as pool:
+        for it in [pool.submit(in_copy, root, work) for _ in range(WORKERS)]:
+            it.result()
+    return fates
+
+
+def in_copy(root, work):
+    with copied(root, "out", "target") as tree:
+        work(tree)
+
+
+def listed(root):
+    """The names of the changes that nobody can see."""
+    lines = read(root / LISTED).splitlines()
+    return [it.strip() for it in lines if it.startswith("    ")]
+
+
+def tools(root):
+    files = [it for it in sorted((root / "tools").glob("*.py")) if not it.name.startswith("test_") and it.name != "planted.py"]
+    return [it.relative_to(root).as_posix() for it in files]
+
+
+def told(fates, known):
+    """Prints what saw the changes of each file, and those that nothing saw; whether there are such."""
+    survivors = [name for name, by in fates.items() if by is None and name not in known]
+    for file in sorted({name.partition(":")[0] for name in fates}):
+        kinds = Counter(by or ("equivalent" if name in known else "SURVIVED") for name, by in fates.items() if name.startswith(f"{file}:"))
+        print(f"{file}: {sum(kinds.values())} changes: {', '.join(f'{count} {kind}' for kind, count in kinds.most_common())}")
+    print("".join(f"survived: {it}\n" for it in survivors), end="")
+    return bool(survivors)
+
+
+def main(arguments, root):
+    known, end, start = set(listed(root)), None, time.monotonic()
+    files = [it for it in arguments if it.endswith(".py")] or tools(root)
+    asked = [(file, name, text) for file in files for name, text in mutants(root, file)]
+    if arguments[:1] == ["--list"]:
+        print("".join(f"{name}\n" for _, name, _ in asked), end="")
+        return False
+    if arguments[:1] == ["--sample"]:
+        day, seconds = map(int, arguments[1:3])
+        asked = [it for it in asked if it[1] not in known]
+        random.Random(day).shuffle(asked)
+        end = start + seconds
+    fates = tried(root, asked, end)
+    failed = told(fates, known)
+    stale = [] if end else [it for it in known if it.partition(":")[0] in files and fates.get(it, "it is not there") is not None]
+    print("".join(f"no longer survives, or is no longer there: {it}\n" for it in stale), end="")
+    print(f"{len(fates)} of {len(asked)} changes of the tools were tried in {time.monotonic() - start:.0f} seconds")
+    return failed or bool(stale)
