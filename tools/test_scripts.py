@@ -181,7 +181,7 @@ class Gate(ScriptTest):
 
 
 class RustCheck(ScriptTest):
-    SCRIPT, PASSED, NOTED = "rust/check", "rust/check: 16 passed, 0 skipped\n", "cmp grep rm find"
+    SCRIPT, PASSED, NOTED = "rust/check", "rust/check: 17 passed, 0 skipped\n", "cmp grep rm find"
     PROGRAMS = "bash sh dirname cat wc sed mktemp mkdir paste awk sort cut uniq diff xargs"
     # (what `cargo doc` makes, the number that `cargo pkgid` tells, and what the tests say)
     CARGO = """\
@@ -212,6 +212,7 @@ esac"""
         "rust/whole_programs/Cargo.lock": "of crates.io",
         "rust/compare_tests.rs": TEST.format("sees"),
         "rust/meaning_tests.rs": TEST.format("sees"),
+        "rust/mutants_tests.rs": TEST.format("sees"),
         "rust/erase/src/main.rs": f"mod tests {{\n{TEST.format('erases')}}}\n",
         "rust/erase/tests/main.rs": TEST.format("runs"),
         "rust/arraystring/examples/first.rs": "    one(); // prints: a text\n    two(); // a remark\n    three(); // prints: 7\n",
@@ -247,7 +248,7 @@ esac"""
         self.stand_in("bin/rustc", "PATH=/usr/bin:/bin", "for word; do made=$word; done", 'cp ../compared "$made"')
         self.has_reference(self.CONSTRUCTORS)
         self.has_packages()
-        counts = ["compare: compare_tests 1", "meaning: meaning_tests 1"]
+        counts = [f"{it}: {it}_tests 1" for it in ("compare", "meaning", "mutants")]
         counts += ["erase: main 1", "erase: src 1", "moves_from_arrayvec: table 1", "whole_programs: same 1"]
         counts += [f"arraystring_serde{build}: json 1" for build in ("", " in its package")]
         for build in self.BUILDS:
@@ -271,7 +272,7 @@ esac"""
         for name, tool in (("fmt", "rustfmt"), ("clippy", "clippy")):
             said = self.called(calls.index(f"cargo {name} --version") + 1)[1]
             self.assertIn(f"rust/check: {tool} is not there", said)
-            self.assertTrue(said.endswith(f"rust/check: 15 passed, 1 skipped: {tool}\n"), said)
+            self.assertTrue(said.endswith(f"rust/check: 16 passed, 1 skipped: {tool}\n"), said)
         for name, crates, packages, not_tested, count in (
                 ("serde", "arraystring_serde", "librust-serde-dev and librust-serde-json-dev are", "arraystring_serde.*", 9),
                 ("arrayvec", "moves_from_arrayvec|whole_programs", "librust-arrayvec-dev is", "moves_from_arrayvec|whole_programs", 6)):
@@ -279,7 +280,7 @@ esac"""
             failed, said, fewer = self.called()
             self.assertFalse(failed)
             self.assertIn(f"rust/check: {packages} not there", said)
-            self.assertTrue(said.endswith(f"rust/check: 15 passed, 1 skipped: {name}\n"), said)
+            self.assertTrue(said.endswith(f"rust/check: 16 passed, 1 skipped: {name}\n"), said)
             # (the form of what is written by hand is looked at without it)
             without = [it for it in calls if not re.search(crates, it) or it.startswith(("cargo fmt", "cmp ", "rm -f "))]
             without = [it.replace("^(none):", f"^(none|{not_tested}):") for it in without]
@@ -304,6 +305,7 @@ esac"""
                                (("erased", "tests::erases", "tests::other"), "> erase:src:other\n"),
                                (("compared", "tests::sees", "tests::other"), "< compare:compare_tests:sees\n"),
                                (("compared", "tests::sees", "tests::other"), "< meaning:meaning_tests:sees\n"),
+                               (("compared", "tests::sees", "tests::other"), "< mutants:mutants_tests:sees\n"),
                                (("served", "test reads", "test writes"), "< arraystring_serde:json:reads\n"),
                                (("moved", "test leaves", "test other"), "< moves_from_arrayvec:table:leaves\n"),
                                (("run_over_each", "test gives", "test other"), "< whole_programs:same:gives\n")):
