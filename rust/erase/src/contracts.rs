@@ -16,8 +16,6 @@ use crate::rules::{GIVEN_UP, NO_FACTS};
 /// A clause of a function.
 #[derive(Clone)]
 pub struct Clause {
-    /// Its name, or `""`.
-    pub name: String,
     pub text: String,
     is_given_up: bool,
 }
@@ -33,7 +31,7 @@ pub fn given_up() -> BTreeSet<&'static str> {
 
 impl Clause {
     /// Reads a clause. Fails if it speaks of what is no fact in Rust, and is none that Rust does without.
-    pub fn read(name: &str, text: &str) -> Result<Self, String> {
+    pub fn read(text: &str) -> Result<Self, String> {
         let whole = text.split_whitespace().collect::<Vec<_>>().join(" ");
         let is_given_up = given_up().contains(whole.as_str());
         let mut words = text.split(|ch: char| !ch.is_alphanumeric() && ch != '_');
@@ -41,7 +39,7 @@ impl Clause {
             Some(word) if !is_given_up => {
                 Err(format!("`{whole}`: a clause with `{word}` that is in no list of src/rules.rs"))
             }
-            _ => Ok(Clause { name: name.to_string(), text: text.to_string(), is_given_up }),
+            _ => Ok(Clause { text: text.to_string(), is_given_up }),
         }
     }
 
@@ -272,7 +270,7 @@ impl Contracts {
 fn preconditions(item: &Item, tally: &mut Tally) -> Result<Vec<Clause>, Fault> {
     let mut preconditions = Vec::new();
     for required in &item.required {
-        let clause = Clause::read(&required.name, &required.text);
+        let clause = Clause::read(&required.text);
         let clause = clause.map_err(|why| Fault::new(required.at, why))?;
         if clause.is_given_up() {
             tally.used.insert(format!("given up {}", clause.shown()));

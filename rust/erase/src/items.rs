@@ -40,8 +40,6 @@ pub struct Lead {
 /// A precondition as it is written.
 pub struct Required {
     pub at: usize,
-    /// Its name, or `""`.
-    pub name: String,
     pub text: String,
 }
 
@@ -363,15 +361,15 @@ impl<'a> Reader<'a> {
             };
             match self.cursor.text(&token) {
                 word @ ("requires" | "ensures") => {
-                    let mut name = String::new();
+                    // (its name, where it has one)
                     if self.cursor.peek_code()? != "{" {
-                        name = self.cursor.next_code()?.map_or("", |token| self.cursor.text(&token)).to_string();
+                        self.cursor.next_code()?;
                     }
                     let opened = self.cursor.expect("{")?;
                     self.cursor.pass_clause()?;
                     let text = self.text[opened.at.end..self.cursor.at - 1].trim().to_string();
                     if word == "requires" {
-                        required.push(Required { at: token.at.start, name, text });
+                        required.push(Required { at: token.at.start, text });
                     }
                     found = Some(found.map_or(token.at.start, |at| at.start)..self.cursor.at);
                 }

@@ -13,8 +13,7 @@ const WRITES: &[&str] = &["make_ascii_uppercase", "make_ascii_lowercase"];
 
 /// Rewrites the access that begins at a token, if one does. It gets an `unsafe` block, if it stands in none.
 pub fn rewrite(body: &Body, at: usize, is_outer: bool, edits: &mut Edits, tally: &mut Tally) -> Result<(), Fault> {
-    let whole = body.access(at)?;
-    let (start, end) = (body.at(*whole.start()).start, body.at(*whole.end()).end);
+    let end = body.at(*body.access(at)?.end()).end;
     let block = if is_outer { "unsafe { " } else { "" };
     match body.text(at) {
         "[" => index(body, at, block, edits)?,
