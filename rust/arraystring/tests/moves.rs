@@ -296,10 +296,14 @@ fn what_a_string_of_std_leaves() {
     let [mut s, t] = [Name::from("ab"), "m".repeat(150)];
     leaves!(table, STRING, s.push_str("cde"), |()| s.clone());
     leaves!(table, STRING, Name::try_from("abcde"), made);
+    leaves!(table, STRING, Name::from_utf8(b"abcde".to_vec()), made);
     leaves!(table, STRING, "abcde".chars().collect::<Name>(), |collected| collected);
+    s = Name::from("ab");
+    leaves!(table, STRING, s += "cde", |()| s.clone());
     s = Name::from("ab");
     leaves!(table, STRING, format!("{s:_>4}"), |printed| printed);
     leaves!(table, STRING, format!("{s:?}"), |printed| printed);
+    leaves!(table, STRING, format!("{:?}", s.remove(0)), |printed| printed);
     leaves!(table, STRING, t.len() + t.len(), |sum| sum);
     let mut long = String::with_capacity(1024);
     long.push_str(&"m".repeat(1025));
@@ -309,7 +313,7 @@ fn what_a_string_of_std_leaves() {
 
 #[test]
 #[allow(clippy::unnecessary_fallible_conversions, reason = "that it can't fail is what is shown")]
-fn what_the_same_code_leaves_here() {
+fn what_the_same_code_leaves_here() -> Result<(), Error> {
     type Name = ArrayString<4>;
     let mut table = Table::below(SILENT);
     let mut s = Name::from("ab");
@@ -318,18 +322,77 @@ fn what_the_same_code_leaves_here() {
     assert_eq!((written!(row, INSTEAD, s.try_push_str("cde")), s.as_str()), (Err(OutOfBounds), "ab"));
     let row = leaves!(table, HERE, Name::try_from("abcde"), made);
     assert_eq!(written!(row, INSTEAD, Name::try_from_str("abcde")), Err(OutOfBounds));
+    let row = leaves!(table, HERE, Name::from_utf8(b"abcde".to_vec()), made);
+    assert_eq!(written!(row, INSTEAD, Name::try_from_utf8(b"abcde")), Err(Error::OutOfBounds));
     let row = leaves!(table, HERE, "abcde".chars().collect::<Name>(), |collected| collected);
     assert_eq!(written!(row, INSTEAD, Name::try_from_chars("abcde".chars())), Err(OutOfBounds));
+    let row = leaves!(table, HERE, s += "cde", |()| s);
+    s = Name::from("ab");
+    assert_eq!((written!(row, INSTEAD, s.try_push_str("cde")), s.as_str()), (Err(OutOfBounds), "ab"));
     let row = leaves!(table, HERE, format!("{s:_>4}"), |printed| printed);
     assert_eq!(written!(row, INSTEAD, format!("{:_>4}", s.as_str())), "__ab");
     let row = leaves!(table, HERE, format!("{s:?}"), |printed| printed);
     assert_eq!(written!(row, INSTEAD, format!("{:?}", s.as_str())), "\"ab\"");
+    let row = leaves!(table, HERE, format!("{:?}", s.remove(0)), |printed| printed);
+    s = Name::from("ab");
+    assert_eq!(written!(row, INSTEAD, format!("{:?}", s.remove(0)?)), "'a'");
     lengths_are_added(&mut table);
     let long = ArrayString::<1024>::from("m".repeat(1025).as_str());
     let row = table.row("ArrayString::<1024>");
     row.says(HERE, &format!("holds {} bytes, takes {}", long.len(), size_of_val(&long)));
     row.writes(INSTEAD, "String");
     table.assert_all_met();
+    Ok(())
+}
+
+/// What the page says below the table.
+#[test]
+#[allow(clippy::unnecessary_fallible_conversions, reason = "that it can't fail is what is shown")]
+fn what_the_same_code_leaves_in_other_places() -> Result<(), std::convert::Infallible> {
+    type Name = ArrayString<4>;
+    #[derive(Debug, PartialEq)]
+    struct MyError;
+    assert_eq!(Name::try_from("abcde").ok(), Some(Name::from("abcd")));
+    assert_eq!(Name::try_from("abcde").map_err(|_| MyError), Ok(Name::from("abcd")));
+    let put: Name = "abcde".try_into().unwrap();
+    assert_eq!((put.as_str(), Name::try_from("abcde")?.as_str()), ("abcd", "abcd"));
+    let mut s = Name::from("ab");
+    s.extend("cde".chars());
+    let units: Vec<u16> = "abcde".encode_utf16().collect();
+    assert_eq!((s.as_str(), Name::from_utf16(units).as_deref()), ("abcd", Ok("abcd")));
+    Ok(())
+}
+
+/// A struct that derives `Debug`, and a type of one's own that is printed as its string is.
+#[test]
+fn what_a_string_inside_prints() {
+    #[derive(Debug)]
+    #[allow(dead_code, reason = "it is printed")]
+    struct Guest {
+        name: ArrayString<4>,
+    }
+    struct Shown(ArrayString<4>);
+    impl Display for Shown {
+        fn fmt(&self, f: &mut std::fmt::Formatter) -> std::fmt::Result {
+            Display::fmt(&self.0, f)
+        }
+    }
+    struct Padded(ArrayString<4>);
+    impl Display for Padded {
+        fn fmt(&self, f: &mut std::fmt::Formatter) -> std::fmt::Result {
+            Display::fmt(self.0.as_str(), f)
+        }
+    }
+    impl Debug for Padded {
+        fn fmt(&self, f: &mut std::fmt::Formatter) -> std::fmt::Result {
+            f.debug_struct("Padded").field("name", &self.0.as_str()).finish()
+        }
+    }
+    let name = ArrayString::from("ab");
+    assert_eq!(format!("{:?}", Guest { name }), r#"Guest { name: ArrayString { array: "ab", size: 2 } }"#);
+    assert_eq!(format!("{:?}", Some(name)), r#"Some(ArrayString { array: "ab", size: 2 })"#);
+    assert_eq!(format!("{:?} {:?}", Some(name).as_deref(), Padded(name)), r#"Some("ab") Padded { name: "ab" }"#);
+    assert_eq!(format!("{:_>4} {:_>4}", Shown(name), Padded(name)), "ab __ab");
 }
 
 fn lengths_are_added(table: &mut Table) {
@@ -362,6 +425,14 @@ trait Elsewhere: Sized {
     fn as_mut_vec(&mut self) -> Absent {
         Absent
     }
+
+    fn insert(&mut self, _at: usize, _ch: char) -> Absent {
+        Absent
+    }
+
+    fn from_byte_string(_bytes: &[u8; 4]) -> Absent {
+        Absent
+    }
 }
 
 #[derive(Debug, PartialEq)]
@@ -378,17 +449,28 @@ fn what_does_not_compile_is_written_in_another_way() -> Result<(), Box<dyn std::
     let (mut table, at) = (Table::below("| Code | Of | Here |"), 1usize);
     let mut s = Name::from("ab");
     assert_eq!((s.push('c'), s.capacity(), s.into_bytes(), s.into_inner()), (Absent, Absent, Absent, Absent));
-    assert_eq!(s.as_mut_vec(), Absent);
+    assert_eq!((s.as_mut_vec(), s.insert(1, 'c'), Name::from_byte_string(b"abcd")), (Absent, Absent, Absent));
     written!(table.row("s.push('c')"), WRITTEN, s.try_push('c')?);
+    written!(table.row("s.insert(1, 'c')"), WRITTEN, s.try_insert(1, 'c')?);
+    assert_eq!(s, "acbc");
+    s = Name::from("ab");
     written!(table.row("s.push_str(\"c\").unwrap()"), WRITTEN, s.try_push_str("c").unwrap());
-    assert_eq!(s, "abcc");
-    s = written!(table.row("Name::from(\"ab\").unwrap()"), WRITTEN, Name::try_from_str("ab").unwrap());
+    assert_eq!(s, "abc");
+    makes_are_written_in_another_way(&mut table, at)?;
+    s = Name::from("ab");
     assert_eq!(written!(table.row("s.capacity()"), WRITTEN, Name::capacity()), 4);
+    let row = table.row("s.remaining_capacity() == at");
+    assert!(!written!(row, WRITTEN, usize::from(s.remaining_capacity()) == at));
     assert!(!written!(table.row("s.len() == at"), WRITTEN, usize::from(s.len()) == at));
+    let t = ArrayString::<8>::from("ab");
+    assert!(written!(table.row("s == t"), WRITTEN, s.as_str() == t.as_str()));
     assert_eq!(written!(table.row("&s[at..]"), WRITTEN, &s.as_str()[at..]), "b");
     written!(table.row("s.truncate(at)"), WRITTEN, s.truncate(u8::try_from(at)?)?);
     assert_eq!((s.as_str(), Name::from("é").truncate(1)), ("a", Err(Utf8)));
     assert!(written!(table.row("s.remove(0) == 'a'"), WRITTEN, s.remove(0)? == 'a'));
+    s = Name::from("ab");
+    let row = table.row("s.drain(..at).collect::<String>()");
+    assert_eq!(written!(row, WRITTEN, s.drain(..u8::try_from(at)?)?.collect::<String>()), "a");
     s = Name::from("ab");
     assert_eq!((s.insert_str(1, "cde"), s.as_str()), (Ok(()), "acdb"));
     s = Name::from("ab");
@@ -401,5 +483,20 @@ fn what_does_not_compile_is_written_in_another_way() -> Result<(), Box<dyn std::
     // SAFETY: the bytes are looked at, and stay as they are.
     assert_eq!(written!(table.row("unsafe { s.as_mut_vec() }"), WRITTEN, unsafe { s.as_bytes_mut() }), b"ab");
     table.assert_all_met();
+    Ok(())
+}
+
+/// The rows of constructors.
+fn makes_are_written_in_another_way(table: &mut Table, at: usize) -> Result<(), Box<dyn std::error::Error>> {
+    type Name = ArrayString<4>;
+    let text = String::from("ab");
+    let row = table.row("Name::from(\"ab\").unwrap()");
+    assert_eq!(written!(row, WRITTEN, Name::try_from_str("ab").unwrap()), "ab");
+    assert_eq!(written!(table.row("Name::from(text)"), WRITTEN, Name::try_from_str(&text)?), "ab");
+    let row = table.row("Name::from_byte_string(b\"abcd\")");
+    assert_eq!(written!(row, WRITTEN, Name::try_from_utf8(b"abcd")?), "abcd");
+    let row = table.row("Name::try_from(format_args!(\"{at}\"))");
+    assert_eq!(written!(row, WRITTEN, Name::try_from_format(format_args!("{at}"))?), "1");
+    assert_eq!(written!(table.row("Name::try_from(7)"), WRITTEN, Name::try_from_format(format_args!("{}", 7))?), "7");
     Ok(())
 }

@@ -1,6 +1,7 @@
 //! The column of arrayvec in the tables of moves of `rust/arraystring/README.md`. The other columns are run by tests/moves.rs there.
 
 use std::marker::PhantomData;
+use std::ops::AddAssign;
 
 use arrayvec::ArrayString;
 use page::{Table, made, outcome};
@@ -25,6 +26,27 @@ trait Otherwise {
 
 impl<T> Otherwise for Collected<T> {}
 
+/// Whether a `str` is added to a type by `+=`.
+struct Added<T>(PhantomData<T>);
+
+impl<T: for<'a> AddAssign<&'a str>> Added<T> {
+    const IS_THERE: bool = true;
+}
+
+impl<T> Otherwise for Added<T> {}
+
+/// Whether a type has a call: this one is called only where it has none of its own.
+trait Elsewhere: Sized {
+    fn from_utf8(_bytes: Vec<u8>) -> Absent {
+        Absent
+    }
+}
+
+#[derive(Debug, PartialEq)]
+struct Absent;
+
+impl Elsewhere for Name {}
+
 #[test]
 fn what_compiles_in_both_leaves_another_text() {
     let mut table = Table::below("| Code | arrayvec | heapless, read only | `String` | Here | To have it as there |");
@@ -32,11 +54,16 @@ fn what_compiles_in_both_leaves_another_text() {
     let mut s = Name::from("ab").expect("it fits");
     leaves!(table, ARRAYVEC, s.push_str("cde"), |()| s);
     leaves!(table, ARRAYVEC, Name::try_from("abcde"), made);
+    assert_eq!(Name::from_utf8(b"abcde".to_vec()), Absent);
+    table.row("Name::from_utf8(b\"abcde\".to_vec())").says(ARRAYVEC, "none");
     assert_eq!((Collected::<String>::IS_THERE, Collected::<Name>::IS_THERE), (true, false));
     table.row("\"abcde\".chars().collect::<Name>()").says(ARRAYVEC, "none");
+    assert_eq!((Added::<String>::IS_THERE, Added::<Name>::IS_THERE), (true, false));
+    table.row("s += \"cde\"").says(ARRAYVEC, "none");
     s = Name::from("ab").expect("it fits");
     leaves!(table, ARRAYVEC, format!("{s:_>4}"), |printed| printed);
     leaves!(table, ARRAYVEC, format!("{s:?}"), |printed| printed);
+    leaves!(table, ARRAYVEC, format!("{:?}", s.remove(0)), |printed| printed);
     leaves!(table, ARRAYVEC, t.len() + t.len(), |sum| sum);
     let mut long = ArrayString::<1024>::new();
     while long.try_push('m').is_ok() {}
@@ -57,11 +84,18 @@ fn what_does_not_compile_beside_it_compiles_here() {
     let mut table = Table::below("| Code | Of | Here |");
     let (mut s, at) = (Name::new(), 1usize);
     is_of!(table, "all three", s.push('c'));
+    table.row("s.insert(1, 'c')").says(0, "String");
     table.row("s.push_str(\"c\").unwrap()").says(0, "heapless");
     let () = s.push_str("c");
     s = is_of!(table, "arrayvec", Name::from("ab").unwrap());
+    table.row("Name::from(text)").says(0, "String");
+    assert_eq!(is_of!(table, "arrayvec", Name::from_byte_string(b"abcd")).as_deref(), Ok("abcd"));
+    assert_eq!(is_of!(table, "arrayvec", Name::try_from(format_args!("{at}"))).as_deref(), Ok("1"));
+    table.row("Name::try_from(7)").says(0, "heapless");
     assert_eq!(is_of!(table, "all three", s.capacity()), 4);
+    assert!(!is_of!(table, "arrayvec", s.remaining_capacity() == at));
     assert!(!is_of!(table, "all three", s.len() == at));
+    table.row("s == t").says(0, "heapless");
     assert_eq!(is_of!(table, "all three", &s[at..]), "b");
     is_of!(table, "all three", s.truncate(at));
     let mut wide = Name::from("é").expect("it fits");
@@ -73,6 +107,7 @@ fn what_does_not_compile_beside_it_compiles_here() {
         "panics"
     );
     assert!(is_of!(table, "all three", s.remove(0) == 'a'));
+    table.row("s.drain(..at).collect::<String>()").says(0, "String");
     table.row("s.insert_str(1, \"c\")").says(0, "String");
     s = Name::from(" ab ").expect("it fits");
     assert!(is_of!(table, "all three", s.trim() == "ab"));
