@@ -312,7 +312,11 @@ fn what_a_string_of_std_leaves() {
 }
 
 #[test]
-#[allow(clippy::unnecessary_fallible_conversions, reason = "that it can't fail is what is shown")]
+#[allow(
+    clippy::unnecessary_fallible_conversions,
+    clippy::unnecessary_to_owned,
+    reason = "the code is what one writes for another string"
+)]
 fn what_the_same_code_leaves_here() -> Result<(), Error> {
     type Name = ArrayString<4>;
     let mut table = Table::below(SILENT);
