@@ -72,7 +72,7 @@ PARTS = [
     (calls.main, [], {"{} names stand in two places": 490, "{} public calls": 58, "{} traits": 18}),
     (evidence.main, [], {"wrong bodies try {} functions": 190}),
     (controls.main, ["--check"], {"{} controls are as they were": 144}),
-    (reasons.main, ["--check"], {"the reasons of {} functions": 105}),
+    (reasons.main, ["--check"], {"the reasons of {} functions": 97}),
     (proved.main, ["--check"], {"{} sources of the Rust crate are as they were proved": 240}),
 ]
 

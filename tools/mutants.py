@@ -21,8 +21,9 @@ from collections import Counter
 from concurrent.futures import ThreadPoolExecutor
 from pathlib import Path
 
-import repository
-from repository import copied, read
+from closure import closed
+from repository import read
+from repository_copy import copied
 
 LISTED = "rust/equivalent.txt"
 WORKERS = 1
@@ -207,7 +208,7 @@ def tests_of(root, file):
     import it, those that import what imports it, and those of tools/run, which runs them as programs."""
     tool, folder = Path(file).stem, root / "tools"
     files = {it.stem: it for it in folder.glob("*.py")}
-    reached = lambda name: repository.closed([name], lambda it: imported_by(files[it]) & files.keys())
+    reached = lambda name: closed([name], lambda it: imported_by(files[it]) & files.keys())
     asked = [it for name, it in files.items() if name.startswith("test_") and (tool in reached(name) or name == "test_run")]
     return [it.stem for it in sorted(asked, key=lambda it: (tool not in it.stem, tool not in imported_by(it), it.stem == "test_run", it.name))]
 
