@@ -286,7 +286,7 @@ esac"""
             without = [it.replace("^(none):", f"^(none|{not_tested}):") for it in without]
             self.assertEqual((len(without), [it for it in fewer if is_call(it)]), (len(calls) - count, without))
             said = self.called(calls.index("cargo fmt --version") + 1)[1]
-            self.assertTrue(said.endswith(f"rust/check: 14 passed, 2 skipped: rustfmt {name}\n"), said)
+            self.assertTrue(said.endswith(f"rust/check: 15 passed, 2 skipped: rustfmt {name}\n"), said)
 
     def test_the_first_program_prints_what_its_comments_say(self):
         for printed in ("", "a text\n", "a text\n8\n", "a text\n7\nmore\n"):
